@@ -1,5 +1,6 @@
 -- Paths in byte order of their texts.
-use Rattle.std.proofs.Common.{◌≡◌, ℕ, true, false, List, [], ◌∷◌, ◌++◌, ◌⊎◌, inl, inr, refl, sym, ap, ◌∙◌, subst, append_assoc, Ordering, Less, Equal, Greater, append-nil}
+use Rattle.std.proofs.Common.{◌≡◌, ℕ, true, false, List, [], ◌∷◌, ◌++◌, ◌⊎◌, inl, inr, refl, sym, ap, ◌∙◌, subst, append_assoc, Ordering}
+use Rattle.std.proofs.Common.{Less, Equal, Greater, append-nil}
 use Rattle.std.specs.Ordering.{is_lt, nat_cmp, ordering_then}
 use Rattle.std.specs.Cmp.Lexicographic.{slice_cmp}
 use Rattle.std.proofs.lemmas.Bool.{false≢true}
@@ -11,12 +12,14 @@ use Rattle.abs_path.proofs.Prefixes.{prefix_and_rest}
 
 pub tail-append : (front rest : Path) → tail_of (front ++ rest) ≡ tail_of front ++ tail_of rest
 tail-append [] rest = refl
-tail-append (part ∷ front) rest = ap (λ text. (47 ∷ part) ++ text) (tail-append front rest) ∙ sym (append_assoc (47 ∷ part) (tail_of front) (tail_of rest))
+tail-append (part ∷ front) rest = ap (λ text. (47 ∷ part) ++ text) (tail-append front rest)
+    ∙ sym (append_assoc (47 ∷ part) (tail_of front) (tail_of rest))
 
 -- a text comes before itself with more behind it
 longer_is_later : (xs ys : List ℕ) (y : ℕ) → slice_cmp nat_cmp xs (xs ++ y ∷ ys) ≡ Less
 longer_is_later [] ys y = refl
-longer_is_later (x ∷ xs) ys y = ap (λ o. ordering_then o (slice_cmp nat_cmp xs (xs ++ y ∷ ys))) (tied_itself nat_cmp_total x) ∙ longer_is_later xs ys y
+longer_is_later (x ∷ xs) ys y = ap (λ o. ordering_then o (slice_cmp nat_cmp xs (xs ++ y ∷ ys))) (tied_itself nat_cmp_total x)
+    ∙ longer_is_later xs ys y
 
 -- no path comes before itself
 pub not_before_itself : (path : Path) → is_before path path ≡ false
@@ -37,7 +40,8 @@ prefix_before front path h = by (rest_of front path) (prefix_and_rest front path
   where
     by : (rest : Path) → front ++ rest ≡ path → (front ≡ path) ⊎ (is_before front path ≡ true)
     by [] e = inl (sym (append-nil front) ∙ e)
-    by (part ∷ rest) e = inr (subst (λ (p : Path). is_before front p ≡ true) e (rw tail-append (ap is_lt (longer_is_later (tail_of front) (part ++ tail_of rest) 47))))
+    by (part ∷ rest) e = inr (subst (λ (p : Path). is_before front p ≡ true) e
+        (rw tail-append (ap is_lt (longer_is_later (tail_of front) (part ++ tail_of rest) 47))))
 
 -- a path's text is that of its prefix, and then that of the rest
 pub text_then_rest : (front path : Path) → is_prefix front path ≡ true → tail_of path ≡ tail_of front ++ tail_of (rest_of front path)

@@ -11,9 +11,12 @@ use Rattle.abs_path.proofs.Placed.{in_byte_order_is, in_byte_order_was}
 each_of : (paths : List Path) → AllByRecursion (Contains paths) paths
 each_of paths = recursion_from_All (Contains paths) paths (All-contains_itself paths)
 
-pub has_the_given : (paths : List Path) (path : Path) → AllByRecursion (λ one. is_normal one ≡ true) paths → (Contains (in_byte_order paths) path ↔ Contains paths path)
+pub has_the_given : (paths : List Path) (path : Path) → AllByRecursion (λ one. is_normal one ≡ true) paths
+    → (Contains (in_byte_order paths) path ↔ Contains paths path)
 has_the_given paths path normal =
     let sorted : List Path = in_byte_order paths in (
-      λ among. All-contains (Contains paths) sorted path (All-from_recursion (Contains paths) sorted (in_byte_order_is (Contains paths) paths (each_of paths))) among,
-      λ among. All-contains (Contains sorted) paths path (All-from_recursion (Contains sorted) paths (in_byte_order_was (Contains sorted) paths normal (each_of sorted))) among,
+      λ among. All-contains (Contains paths) sorted path
+          (All-from_recursion (Contains paths) sorted (in_byte_order_is (Contains paths) paths (each_of paths))) among,
+      λ among. All-contains (Contains sorted) paths path
+          (All-from_recursion (Contains sorted) paths (in_byte_order_was (Contains sorted) paths normal (each_of sorted))) among,
     )

@@ -1,5 +1,6 @@
 -- What one more node, and one more number, change of a tree's nodes.
-use Rattle.std.proofs.Common.{◌≡◌, ◌<◌, ◌≤◌, ◌+◌, ◌⊎◌, inl, inr, ℕ, zero, suc, Bool, true, false, cond, List, [], ◌∷◌, ◌++◌, length, get_or, set, take, Option, Some, None, refl, sym, ap, ◌∙◌, subst, arith}
+use Rattle.std.proofs.Common.{◌≡◌, ◌<◌, ◌≤◌, ◌+◌, ◌⊎◌, inl, inr, ℕ, zero, suc, Bool, true, false, cond, List, [], ◌∷◌, ◌++◌, length, get_or}
+use Rattle.std.proofs.Common.{set, take, Option, Some, None, refl, sym, ap, ◌∙◌, subst, arith}
 use Rattle.std.specs.Prelude.{◌==◌, ◌&&◌, option_and_then}
 use Rattle.std.specs.List.{slice_get, AllByRecursion}
 use Rattle.std.specs.Option.{IsSome}
@@ -15,7 +16,8 @@ use Rattle.abs_path.specs.Prefix.{is_same}
 use Rattle.abs_path.proofs.Prefixes.{same_path, same_itself}
 use Rattle.abs_path.specs.declared.place_tree.node.Node.{Node}
 use Rattle.abs_path.specs.place_tree.Places.{last_at}
-use Rattle.abs_path.specs.place_tree.Arena.{walk, child_at, number_at, node_at, kept_at, IsArena, IsNumbered, IsTree, Grows, HasSameWays, HasNodes}
+use Rattle.abs_path.specs.place_tree.Arena.{walk, child_at, number_at, node_at, kept_at, IsArena, IsNumbered, IsTree, Grows, HasSameWays}
+use Rattle.abs_path.specs.place_tree.Arena.{HasNodes}
 use Rattle.abs_path.proofs.Ways.{walk-append, walk_same, OneMore, way_was, stays, came, apart_still}
 use Rattle.abs_path.proofs.Lasts.{has_last, last_push}
 
@@ -102,14 +104,17 @@ numbers_written nodes at node lt from = elim (cases_eq from at) [
       )
 ]
 
-own_ways : (nodes : List Node) (at : ℕ) (node : Node) → at < length nodes → node ≡ get_or nodes at node → (part : List ℕ) → child_at nodes at part ≡ get_by_text node.children part
-own_ways nodes at node lt e part = ap (option_and_then (λ node. get_by_text node.children part)) (slice_get_read nodes (length nodes) at node refl lt e)
+own_ways : (nodes : List Node) (at : ℕ) (node : Node) → at < length nodes → node ≡ get_or nodes at node → (part : List ℕ)
+    → child_at nodes at part ≡ get_by_text node.children part
+own_ways nodes at node lt e part = ap (option_and_then (λ node. get_by_text node.children part))
+    (slice_get_read nodes (length nodes) at node refl lt e)
 
 own_number : (nodes : List Node) (at : ℕ) (node : Node) → at < length nodes → node ≡ get_or nodes at node → number_at nodes at ≡ node.last
 own_number nodes at node lt e = ap (option_and_then (λ node. node.last)) (slice_get_read nodes (length nodes) at node refl lt e)
 
 -- where a node is written with the ways that it had, all ways stay
-pub ways_stay : (nodes : List Node) (at : ℕ) (node next : Node) → at < length nodes → node ≡ get_or nodes at node → ((part : List ℕ) → get_by_text next.children part ≡ get_by_text node.children part) → HasSameWays nodes (set nodes at next)
+pub ways_stay : (nodes : List Node) (at : ℕ) (node next : Node) → at < length nodes → node ≡ get_or nodes at node
+    → ((part : List ℕ) → get_by_text next.children part ≡ get_by_text node.children part) → HasSameWays nodes (set nodes at next)
 ways_stay nodes at node next lt e same from part = ways_written nodes at next lt from part ∙ by (from == at) (eqb-true from at)
   where
     by : (b : Bool) → (b ≡ true → from ≡ at) → cond b (get_by_text next.children part) (child_at nodes from part) ≡ child_at nodes from part
@@ -117,7 +122,8 @@ ways_stay nodes at node next lt e same from part = ways_written nodes at next lt
     by false is = refl
 
 -- where a node is written with the number that it had, all numbers stay
-pub numbers_stay : (nodes : List Node) (at : ℕ) (node next : Node) → at < length nodes → node ≡ get_or nodes at node → next.last ≡ node.last → (from : ℕ) → number_at (set nodes at next) from ≡ number_at nodes from
+pub numbers_stay : (nodes : List Node) (at : ℕ) (node next : Node) → at < length nodes → node ≡ get_or nodes at node
+    → next.last ≡ node.last → (from : ℕ) → number_at (set nodes at next) from ≡ number_at nodes from
 numbers_stay nodes at node next lt e same from = numbers_written nodes at next lt from ∙ by (from == at) (eqb-true from at)
   where
     by : (b : Bool) → (b ≡ true → from ≡ at) → cond b next.last (number_at nodes from) ≡ number_at nodes from
@@ -135,7 +141,8 @@ arena_same old new h longer same = record {
   apart = λ one other at e f. h.apart one other at (sym (same_nodes old new same one) ∙ e) (sym (same_nodes old new same other) ∙ f);
 }
 
-pub grows_same : (old new : List Node) → IsArena old → length old ≤ length new → HasSameWays old new → ((at : ℕ) → number_at new at ≡ number_at old at) → Grows old new
+pub grows_same : (old new : List Node) → IsArena old → length old ≤ length new → HasSameWays old new
+    → ((at : ℕ) → number_at new at ≡ number_at old at) → Grows old new
 grows_same old new h longer same numbers = record {
   arena = arena_same old new h longer same;
   numbers_stay = λ path. ap (option_and_then (number_at new)) (same_nodes old new same path) ∙ by (node_at old path);
@@ -157,11 +164,13 @@ grows_on one two three h g = record {
 }
 
 -- a new node with a way to it
-grows_more : (old new : List Node) (at : ℕ) (part : List ℕ) → IsArena old → OneMore (child_at old) (child_at new) at part (length old) → length old < length new →
+grows_more : (old new : List Node) (at : ℕ) (part : List ℕ) → IsArena old → OneMore (child_at old) (child_at new) at part (length old)
+    → length old < length new →
     ((from : ℕ) → number_at new from ≡ number_at old from) → Grows old new
 grows_more old new at part h more longer numbers = record {
   arena = record { has_root = omega (arith, h.has_root); in_range = in_range; apart = apart_still (child_at old) (child_at new) at part (length old) more h.has_root h.apart };
-  numbers_stay = λ path. by path (node_at new path) (node_at old path) (came_to path) (stays (child_at old) (child_at new) at part (length old) more 0) refl refl;
+  numbers_stay = λ path. by path (node_at new path) (node_at old path) (came_to path)
+      (stays (child_at old) (child_at new) at part (length old) more 0) refl refl;
   nodes_stay = λ path to e. stays (child_at old) (child_at new) at part (length old) more 0 to path e;
 }
   where
@@ -171,24 +180,28 @@ grows_more old new at part h more longer numbers = record {
       | inr new ↦ let same = new.2 in omega arith
     ]
 
-    came_to : (path : Path) (to : ℕ) → node_at new path ≡ Some to → (node_at old path ≡ Some to) ⊎ ((to ≡ length old) × (node_at old path ≡ None))
+    came_to : (path : Path) (to : ℕ) → node_at new path ≡ Some to
+        → (node_at old path ≡ Some to) ⊎ ((to ≡ length old) × (node_at old path ≡ None))
     came_to path to e = elim (came (child_at old) (child_at new) at part (length old) more 0 to path h.has_root e) [
       | inl old ↦ inl old.1
       | inr new ↦ inr (
         new.0,
-        ap (node_at old) new.2 ∙ walk-append (child_at old) 0 new.1 (part ∷ []) ∙ ap (option_and_then (λ node. walk (child_at old) node (part ∷ []))) new.3
+        ap (node_at old) new.2 ∙ walk-append (child_at old) 0 new.1 (part ∷ [])
+            ∙ ap (option_and_then (λ node. walk (child_at old) node (part ∷ []))) new.3
             ∙ ap (option_and_then (λ child. Some child)) more.none,
       )
     ]
 
-    by : (path : Path) (o was : Option ℕ) → ((to : ℕ) → o ≡ Some to → (was ≡ Some to) ⊎ ((to ≡ length old) × (was ≡ None))) → ((to : ℕ) (path : Path) → node_at old path ≡ Some to → node_at new path ≡ Some to) →
+    by : (path : Path) (o was : Option ℕ) → ((to : ℕ) → o ≡ Some to → (was ≡ Some to) ⊎ ((to ≡ length old) × (was ≡ None)))
+        → ((to : ℕ) (path : Path) → node_at old path ≡ Some to → node_at new path ≡ Some to) →
         node_at new path ≡ o → node_at old path ≡ was → option_and_then (number_at new) o ≡ option_and_then (number_at old) was
     by path None None to stay e f = refl
     by path None (Some node) to stay e f = let there = stay node path f in cc
     by path (Some node) was to stay e f = elim (to node refl) [
       | inl same ↦ numbers node ∙ sym (ap (option_and_then (number_at old)) same)
       | inr fresh ↦ (
-          numbers node ∙ ap (number_at old) fresh.0 ∙ ap (option_and_then (λ node. node.last)) (slice_get_past old (length old) (omega arith))
+          numbers node ∙ ap (number_at old) fresh.0 ∙ ap (option_and_then (λ node. node.last))
+          (slice_get_past old (length old) (omega arith))
           ∙ sym (ap (option_and_then (number_at old)) fresh.1)
           )
     ]
@@ -201,9 +214,11 @@ pub record Made (old pushed : List Node) (bare node next : Node) (at : ℕ) (par
   pub none : child_at old at part ≡ None
   pub node_is : node ≡ get_or pushed at node
   pub number : next.last ≡ node.last
-  pub ways : (step : List ℕ) → get_by_text next.children step ≡ cond (bytes_eq part step) (Some (length old)) (get_by_text node.children step)
+  pub ways : (step : List ℕ) → get_by_text next.children step
+      ≡ cond (bytes_eq part step) (Some (length old)) (get_by_text node.children step)
 
-one_more : (old pushed : List Node) (bare node next : Node) (at : ℕ) (part : List ℕ) → Made old pushed bare node next at part → OneMore (child_at old) (child_at (set pushed at next)) at part (length old)
+one_more : (old pushed : List Node) (bare node next : Node) (at : ℕ) (part : List ℕ) → Made old pushed bare node next at part
+    → OneMore (child_at old) (child_at (set pushed at next)) at part (length old)
 one_more old pushed bare node next at part h = record {
   below = h.in_range;
   none = h.none;
@@ -218,21 +233,27 @@ one_more old pushed bare node next at part h = record {
     was : (from : ℕ) (step : List ℕ) → child_at pushed from step ≡ child_at old from step
     was from step = ap (λ nodes. child_at nodes from step) h.pushed_is ∙ bare_ways old bare h.is_bare from step
 
-    by : (from : ℕ) (step : List ℕ) (b : Bool) → (b ≡ true → from ≡ at) → cond b (get_by_text next.children step) (child_at pushed from step) ≡ cond (b && bytes_eq part step) (Some (length old)) (child_at old from step)
+    by : (from : ℕ) (step : List ℕ) (b : Bool) → (b ≡ true → from ≡ at)
+        → cond b (get_by_text next.children step) (child_at pushed from step)
+        ≡ cond (b && bytes_eq part step) (Some (length old)) (child_at old from step)
     by from step false is = was from step
     by from step true is =
         h.ways step
-        ∙ ap (λ o. cond (bytes_eq part step) (Some (length old)) o) (sym (own_ways pushed at node below_pushed h.node_is step) ∙ ap (λ n. child_at pushed n step) (sym (is refl)) ∙ was from step)
+        ∙ ap (λ o. cond (bytes_eq part step) (Some (length old)) o)
+        (sym (own_ways pushed at node below_pushed h.node_is step) ∙ ap (λ n. child_at pushed n step) (sym (is refl)) ∙ was from step)
 
-pub made_grows : (old pushed : List Node) (bare node next : Node) (at : ℕ) (part : List ℕ) → Made old pushed bare node next at part → Grows old (set pushed at next)
+pub made_grows : (old pushed : List Node) (bare node next : Node) (at : ℕ) (part : List ℕ) → Made old pushed bare node next at part
+    → Grows old (set pushed at next)
 made_grows old pushed bare node next at part h =
     let longer = ap length h.pushed_is ∙ length_push old bare in
     let lt = h.in_range in
     let same = length-set pushed at next in
     grows_more old (set pushed at next) at part h.arena (one_more old pushed bare node next at part h) (omega arith)
-    (λ from. numbers_stay pushed at node next (omega arith) h.node_is h.number from ∙ ap (λ nodes. number_at nodes from) h.pushed_is ∙ bare_numbers old bare h.is_bare from)
+    (λ from. numbers_stay pushed at node next (omega arith) h.node_is h.number from ∙ ap (λ nodes. number_at nodes from) h.pushed_is
+    ∙ bare_numbers old bare h.is_bare from)
 
-pub made_way : (old pushed : List Node) (bare node next : Node) (at : ℕ) (part : List ℕ) → Made old pushed bare node next at part → bytes_eq part part ≡ true → child_at (set pushed at next) at part ≡ Some (length old)
+pub made_way : (old pushed : List Node) (bare node next : Node) (at : ℕ) (part : List ℕ) → Made old pushed bare node next at part
+    → bytes_eq part part ≡ true → child_at (set pushed at next) at part ≡ Some (length old)
 made_way old pushed bare node next at part h own =
     let more = one_more old pushed bare node next at part h in
     more.is at part ∙ ap (λ b. cond (b && bytes_eq part part) (Some (length old)) (child_at old at part)) (eq-eqb at at refl)
@@ -245,10 +266,13 @@ pub record Numbers (old new : List Node) (at number : ℕ) (place : Path) : Type
   pub same : HasSameWays old new
   pub numbers : (from : ℕ) → number_at new from ≡ cond (from == at) (Some number) (number_at old from)
 
-pub numbers_place : (old new : List Node) (at number : ℕ) (place path : Path) → Numbers old new at number place → kept_at new path ≡ cond (is_same place path) (Some number) (kept_at old path)
-numbers_place old new at number place path h = ap (option_and_then (number_at new)) (same_nodes old new h.same path) ∙ by (node_at old path) (is_same place path) refl (same_path place path) (λ e. ap (is_same place) (sym e) ∙ same_itself place)
+pub numbers_place : (old new : List Node) (at number : ℕ) (place path : Path) → Numbers old new at number place
+    → kept_at new path ≡ cond (is_same place path) (Some number) (kept_at old path)
+numbers_place old new at number place path h = ap (option_and_then (number_at new)) (same_nodes old new h.same path)
+    ∙ by (node_at old path) (is_same place path) refl (same_path place path) (λ e. ap (is_same place) (sym e) ∙ same_itself place)
   where
-    by : (o : Option ℕ) (b : Bool) → node_at old path ≡ o → (b ≡ true → place ≡ path) → (place ≡ path → b ≡ true) → option_and_then (number_at new) o ≡ cond b (Some number) (option_and_then (number_at old) o)
+    by : (o : Option ℕ) (b : Bool) → node_at old path ≡ o → (b ≡ true → place ≡ path) → (place ≡ path → b ≡ true)
+        → option_and_then (number_at new) o ≡ cond b (Some number) (option_and_then (number_at old) o)
     by None true e is was = let there = ap (node_at old) (sym (is refl)) ∙ h.node in cc
     by None false e is was = refl
     by (Some node) true e is was =
@@ -256,21 +280,26 @@ numbers_place old new at number place path h = ap (option_and_then (number_at ne
         let same : node ≡ at = cc in
         h.numbers node ∙ ap (λ b. cond b (Some number) (number_at old node)) (eq-eqb node at same)
     by (Some node) false e is was =
-        h.numbers node ∙ ap (λ b. cond b (Some number) (number_at old node)) (test_of node at (λ same. false≢true (was (h.arena.apart place path node (h.node ∙ ap Some (sym same)) e))))
+        h.numbers node ∙ ap (λ b. cond b (Some number) (number_at old node))
+        (test_of node at (λ same. false≢true (was (h.arena.apart place path node (h.node ∙ ap Some (sym same)) e))))
 
-pub numbered_push : (old new : List Node) (at : ℕ) (places : List Path) (place : Path) → IsNumbered old places → Numbers old new at (length places) place → IsNumbered new (places ++ place ∷ [])
+pub numbered_push : (old new : List Node) (at : ℕ) (places : List Path) (place : Path) → IsNumbered old places
+    → Numbers old new at (length places) place → IsNumbered new (places ++ place ∷ [])
 numbered_push old new at places place so h path =
-    numbers_place old new at (length places) place path h ∙ ap (cond (is_same place path) (Some (length places))) (so path) ∙ sym (last_push path places place)
+    numbers_place old new at (length places) place path h ∙ ap (cond (is_same place path) (Some (length places))) (so path)
+    ∙ sym (last_push path places place)
 
 -- each place of a tree has a node
-some_node : (nodes : List Node) (places : List Path) (path : Path) (at : ℕ) → IsNumbered nodes places → last_at path places ≡ Some at → IsSome (node_at nodes path)
+some_node : (nodes : List Node) (places : List Path) (path : Path) (at : ℕ) → IsNumbered nodes places → last_at path places ≡ Some at
+    → IsSome (node_at nodes path)
 some_node nodes places path at so e = by (node_at nodes path) (so path ∙ e)
   where
     by : (o : Option ℕ) → option_and_then (number_at nodes) o ≡ Some at → IsSome o
     by None e = absurd (let f : None ≡ Some at = e in cc)
     by (Some node) e = refl
 
-pub place_has_node : (nodes : List Node) (places : List Path) → IsNumbered nodes places → (k : ℕ) (d : Path) → k < length places → IsSome (node_at nodes (get_or places k d))
+pub place_has_node : (nodes : List Node) (places : List Path) → IsNumbered nodes places → (k : ℕ) (d : Path) → k < length places
+    → IsSome (node_at nodes (get_or places k d))
 place_has_node nodes places so k d lt = let own = has_last places k d lt in some_node nodes places (get_or places k d) own.0 so own.1
 
 pub have_nodes : (nodes : List Node) (places : List Path) → IsNumbered nodes places → HasNodes nodes places
@@ -279,7 +308,8 @@ have_nodes nodes places so = recursion_from_All (λ place. IsSome (node_at nodes
 -- nodes with the same ways have a node for the same places
 pub have_same_nodes : (old new : List Node) (places : List Path) → HasSameWays old new → HasNodes old places → HasNodes new places
 have_same_nodes old new [] same h = tt
-have_same_nodes old new (place ∷ places) same h = (subst (λ (o : Option ℕ). IsSome o) (sym (same_nodes old new same place)) h.0, have_same_nodes old new places same h.1)
+have_same_nodes old new (place ∷ places) same h =
+    (subst (λ (o : Option ℕ). IsSome o) (sym (same_nodes old new same place)) h.0, have_same_nodes old new places same h.1)
 
 pub take_all : (P : Path → Type 0) (places : List Path) (n : ℕ) → AllByRecursion P places → AllByRecursion P (take n places)
 take_all P [] zero h = tt
@@ -288,21 +318,26 @@ take_all P (place ∷ places) zero h = tt
 take_all P (place ∷ places) (suc n) h = (h.0, take_all P places n h.1)
 
 -- a new node, and no way to it
-pub unmade_grows : (old pushed : List Node) (bare node next : Node) (at : ℕ) → pushed ≡ old ++ bare ∷ [] → IsBare bare → IsArena old → at < length old → node ≡ get_or pushed at node → next.last ≡ node.last →
+pub unmade_grows : (old pushed : List Node) (bare node next : Node) (at : ℕ) → pushed ≡ old ++ bare ∷ [] → IsBare bare → IsArena old
+    → at < length old → node ≡ get_or pushed at node → next.last ≡ node.last →
     ((part : List ℕ) → get_by_text next.children part ≡ get_by_text node.children part) → Grows old (set pushed at next)
 unmade_grows old pushed bare node next at e bare_is h lt own number ways =
     let longer = ap length e ∙ length_push old bare in
     let same = length-set pushed at next in
     grows_same old (set pushed at next) h (omega arith)
-    (λ from part. ways_stay pushed at node next (omega arith) own ways from part ∙ ap (λ nodes. child_at nodes from part) e ∙ bare_ways old bare bare_is from part)
-    (λ from. numbers_stay pushed at node next (omega arith) own number from ∙ ap (λ nodes. number_at nodes from) e ∙ bare_numbers old bare bare_is from)
+    (λ from part. ways_stay pushed at node next (omega arith) own ways from part ∙ ap (λ nodes. child_at nodes from part) e
+    ∙ bare_ways old bare bare_is from part)
+    (λ from. numbers_stay pushed at node next (omega arith) own number from ∙ ap (λ nodes. number_at nodes from) e
+    ∙ bare_numbers old bare bare_is from)
 
 -- a lone node without ways is the tree of no places
-pub empty_tree : (bare : Node) (nodes : List Node) (places : List Path) → IsBare bare → nodes ≡ bare ∷ [] → places ≡ [] → IsTree nodes places
-empty_tree bare nodes places h e f = subst (λ (l : List Node). IsTree l places) (sym e) (subst (λ (l : List Path). IsTree (bare ∷ []) l) (sym f) (record {
-  arena = record { has_root = omega arith; in_range = in_range; apart = apart };
-  numbers = numbers;
-}))
+pub empty_tree : (bare : Node) (nodes : List Node) (places : List Path) → IsBare bare → nodes ≡ bare ∷ [] → places ≡ []
+    → IsTree nodes places
+empty_tree bare nodes places h e f = subst (λ (l : List Node). IsTree l places) (sym e)
+    (subst (λ (l : List Path). IsTree (bare ∷ []) l) (sym f) (record {
+      arena = record { has_root = omega arith; in_range = in_range; apart = apart };
+      numbers = numbers;
+    }))
   where
     no_way : (from : ℕ) (part : List ℕ) → child_at (bare ∷ []) from part ≡ None
     no_way zero part = h.no_way part
@@ -332,10 +367,12 @@ pub record Placed (nodes : List Node) (node next : Node) (at : ℕ) (places : Li
   pub ways : (part : List ℕ) → get_by_text next.children part ≡ get_by_text node.children part
   pub number : next.last ≡ Some (length places)
 
-pub placed_ways : (nodes : List Node) (node next : Node) (at : ℕ) (places : List Path) (place : Path) → Placed nodes node next at places place → HasSameWays nodes (set nodes at next)
+pub placed_ways : (nodes : List Node) (node next : Node) (at : ℕ) (places : List Path) (place : Path)
+    → Placed nodes node next at places place → HasSameWays nodes (set nodes at next)
 placed_ways nodes node next at places place h = ways_stay nodes at node next h.in_range h.node_is h.ways
 
-pub placed_tree : (nodes : List Node) (node next : Node) (at : ℕ) (places : List Path) (place : Path) → Placed nodes node next at places place → IsTree (set nodes at next) (places ++ place ∷ [])
+pub placed_tree : (nodes : List Node) (node next : Node) (at : ℕ) (places : List Path) (place : Path)
+    → Placed nodes node next at places place → IsTree (set nodes at next) (places ++ place ∷ [])
 placed_tree nodes node next at places place h =
     let same = length-set nodes at next in
     record {
@@ -352,8 +389,10 @@ pub grown_tree : (old new : List Node) (places : List Path) → IsTree old place
 grown_tree old new places h g = record { arena = g.arena; numbers = λ path. g.numbers_stay path ∙ h.numbers path }
 
 -- one turn of numbering: where a place has its node the number is written there, and each place has one
-pub numbered_turn : (nodes : List Node) (node next : Node) (at index : ℕ) (places : List Path) (place : Path) → IsTree nodes (take index places) → HasNodes nodes places → index < length places → place ≡ get_or places index place →
-    node_at nodes place ≡ Some at → at < length nodes → node ≡ get_or nodes at node → ((part : List ℕ) → get_by_text next.children part ≡ get_by_text node.children part) → next.last ≡ Some index →
+pub numbered_turn : (nodes : List Node) (node next : Node) (at index : ℕ) (places : List Path) (place : Path)
+    → IsTree nodes (take index places) → HasNodes nodes places → index < length places → place ≡ get_or places index place →
+    node_at nodes place ≡ Some at → at < length nodes → node ≡ get_or nodes at node
+    → ((part : List ℕ) → get_by_text next.children part ≡ get_by_text node.children part) → next.last ≡ Some index →
     IsTree (set nodes at next) (take (index + 1) places) × HasNodes (set nodes at next) places
 numbered_turn nodes node next at index places place tree have lt is own below node_is ways number =
     let placed : Placed nodes node next at (take index places) place = record {
@@ -364,14 +403,19 @@ numbered_turn nodes node next at index places place tree have lt is own below no
       ways = ways;
       number = number ∙ ap Some (sym (length-take-le index places (omega arith)));
     } in (
-      subst (λ (l : List Path). IsTree (set nodes at next) l) (ap (λ (p : Path). take index places ++ p ∷ []) is ∙ sym (take_more places index place lt)) (placed_tree nodes node next at (take index places) place placed),
+      subst (λ (l : List Path). IsTree (set nodes at next) l)
+          (ap (λ (p : Path). take index places ++ p ∷ []) is ∙ sym (take_more places index place lt))
+          (placed_tree nodes node next at (take index places) place placed),
       have_same_nodes nodes (set nodes at next) places (placed_ways nodes node next at (take index places) place placed) have,
     )
 
-pub numbered_each : (nodes : List Node) (index : ℕ) (places : List Path) (place : Path) → HasNodes nodes places → index < length places → place ≡ get_or places index place → node_at nodes place ≡ None → ⊥
+pub numbered_each : (nodes : List Node) (index : ℕ) (places : List Path) (place : Path) → HasNodes nodes places → index < length places
+    → place ≡ get_or places index place → node_at nodes place ≡ None → ⊥
 numbered_each nodes index places place have lt is none =
     let some = All-from_recursion (λ place. IsSome (node_at nodes place)) places have index place lt in
     false≢true (subst (λ (o : Option ℕ). IsSome o) (ap (node_at nodes) (sym is) ∙ none) some)
 
-pub placed_tree_as : (nodes : List Node) (node next : Node) (at : ℕ) (places more : List Path) (place : Path) → Placed nodes node next at places place → more ≡ places ++ place ∷ [] → IsTree (set nodes at next) more
-placed_tree_as nodes node next at places more place h e = subst (λ (l : List Path). IsTree (set nodes at next) l) (sym e) (placed_tree nodes node next at places place h)
+pub placed_tree_as : (nodes : List Node) (node next : Node) (at : ℕ) (places more : List Path) (place : Path)
+    → Placed nodes node next at places place → more ≡ places ++ place ∷ [] → IsTree (set nodes at next) more
+placed_tree_as nodes node next at places more place h e = subst (λ (l : List Path). IsTree (set nodes at next) l) (sym e)
+    (placed_tree nodes node next at places place h)

@@ -17,8 +17,11 @@ no_slash byte ne = by (byte == 47) (eqb-true byte 47)
 without_slash : (text : List ℕ) → ((i : ℕ) → i < length text → get_or text i 0 ≢ 47) → All (λ byte. (byte == 47) ≡ false) text
 without_slash text none k d lt = no_slash (get_or text k d) (λ e. none k lt (get_or_default text k 0 d lt ∙ e))
 
-pub one_piece : (text : List ℕ) → ((i : ℕ) → i < length text → get_or text i 0 ≢ 47) → parts_of text ≡ cond (not (is_idle text)) (text ∷ []) []
+pub one_piece : (text : List ℕ) → ((i : ℕ) → i < length text → get_or text i 0 ≢ 47)
+    → parts_of text ≡ cond (not (is_idle text)) (text ∷ []) []
 one_piece text none = ap (filter (λ part. not (is_idle part))) (slice_split_none (λ byte. byte == 47) text (without_slash text none))
 
-pub first_piece : (text piece rest : List ℕ) → text ≡ piece ++ 47 ∷ rest → ((i : ℕ) → i < length piece → get_or piece i 0 ≢ 47) → parts_of text ≡ cond (not (is_idle piece)) (piece ∷ parts_of rest) (parts_of rest)
-first_piece text piece rest e none = ap parts_of e ∙ ap (filter (λ part. not (is_idle part))) (slice_split_at (λ byte. byte == 47) piece 47 rest (without_slash piece none) refl)
+pub first_piece : (text piece rest : List ℕ) → text ≡ piece ++ 47 ∷ rest → ((i : ℕ) → i < length piece → get_or piece i 0 ≢ 47)
+    → parts_of text ≡ cond (not (is_idle piece)) (piece ∷ parts_of rest) (parts_of rest)
+first_piece text piece rest e none = ap parts_of e ∙ ap (filter (λ part. not (is_idle part)))
+    (slice_split_at (λ byte. byte == 47) piece 47 rest (without_slash piece none) refl)

@@ -33,11 +33,13 @@ pieces_whole (x ∷ text) = by (is_slash x) refl (pieces_whole text)
     onto [] e = absurd (cc)
     onto (piece ∷ pieces) e = let more : piece ++ tail_of pieces ≡ text = cc in ap (λ l. 47 ∷ x ∷ l) more
 
-    by : (b : Bool) → is_slash x ≡ b → tail_of (slice_split is_slash text) ≡ 47 ∷ text → tail_of (cond b ([] ∷ slice_split is_slash text) (onto_first x (slice_split is_slash text))) ≡ 47 ∷ x ∷ text
+    by : (b : Bool) → is_slash x ≡ b → tail_of (slice_split is_slash text) ≡ 47 ∷ text
+        → tail_of (cond b ([] ∷ slice_split is_slash text) (onto_first x (slice_split is_slash text))) ≡ 47 ∷ x ∷ text
     by true e more = let same : x ≡ 47 = eqb-true x 47 e in cc
     by false e more = onto (slice_split is_slash text) more
 
-busy_onto : (behind : Bool) (x : ℕ) (pieces : List (List ℕ)) → not (behind && (false || x == 46)) ≡ true → AreBusyBehind false pieces → AreBusyBehind behind (onto_first x pieces)
+busy_onto : (behind : Bool) (x : ℕ) (pieces : List (List ℕ)) → not (behind && (false || x == 46)) ≡ true → AreBusyBehind false pieces
+    → AreBusyBehind behind (onto_first x pieces)
 busy_onto true x [] h all = (h, tt)
 busy_onto true x (piece ∷ pieces) h all = (h, all)
 busy_onto false x [] h all = tt
@@ -50,7 +52,8 @@ busy_pieces behind (x ∷ text) h =
     let both = and_parts _ _ (and_parts (not (x == 0)) _ h).1 in
     by behind (is_slash x) both.0 (busy_pieces (is_slash x) text both.1)
   where
-    by : (behind b : Bool) → not (behind && (b || x == 46)) ≡ true → AreBusyBehind b (slice_split is_slash text) → AreBusyBehind behind (cond b ([] ∷ slice_split is_slash text) (onto_first x (slice_split is_slash text)))
+    by : (behind b : Bool) → not (behind && (b || x == 46)) ≡ true → AreBusyBehind b (slice_split is_slash text)
+        → AreBusyBehind behind (cond b ([] ∷ slice_split is_slash text) (onto_first x (slice_split is_slash text)))
     by true true h all = absurd (false≢true h)
     by false true h all = all
     by behind false h all = busy_onto behind x (slice_split is_slash text) h all
@@ -78,7 +81,8 @@ plain_clean behind (x ∷ text) h =
     or_from _ _ (not-true (x == 0) both.0) (plain_clean (x == 47) text (and_parts _ _ both.1).1)
 
 -- no part of it is `..`
-pub plain_level : (text : List ℕ) → starts_with nat_eq text (codes "/") ≡ true → is_plain false text ≡ true → list_any (λ piece. bytes_eq piece (codes "..")) (pieces_of text) ≡ false
+pub plain_level : (text : List ℕ) → starts_with nat_eq text (codes "/") ≡ true → is_plain false text ≡ true
+    → list_any (λ piece. bytes_eq piece (codes "..")) (pieces_of text) ≡ false
 plain_level [] rooted h = refl
 plain_level (x ∷ text) rooted h =
     let first : 47 ≡ x = eqb-true 47 x (and_parts _ _ rooted).0 in

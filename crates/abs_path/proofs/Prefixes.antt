@@ -1,5 +1,6 @@
 -- Prefixes of paths, by whole parts.
-use Rattle.std.proofs.Common.{◌≡◌, ℕ, suc, Bool, true, false, List, [], ◌∷◌, ◌++◌, ◌⊎◌, inl, inr, length, cond, Some, None, refl, sym, ap, ◌∙◌, arith, append-nil}
+use Rattle.std.proofs.Common.{◌≡◌, ℕ, suc, Bool, true, false, List, [], ◌∷◌, ◌++◌, ◌⊎◌, inl, inr, length, cond, Some, None, refl, sym, ap}
+use Rattle.std.proofs.Common.{◌∙◌, arith, append-nil}
 use Rattle.std.specs.Prelude.{◌==◌, ◌&&◌, not}
 use Rattle.std.specs.Str.{bytes_eq}
 use Rattle.std.proofs.lemmas.Bool.{and_parts, and_from, false≢true}
@@ -43,7 +44,8 @@ prefix_trans (x ∷ one) (y ∷ other) (z ∷ third) h g =
     and_from _ _ (part_itself x z (same_part x y first.0 ∙ same_part y z second.0)) (prefix_trans one other third first.1 second.1)
 
 -- of two prefixes of one path, one leads to the other
-pub prefix_chain : (one other path : Path) → is_prefix one path ≡ true → is_prefix other path ≡ true → (is_prefix one other ≡ true) ⊎ (is_prefix other one ≡ true)
+pub prefix_chain : (one other path : Path) → is_prefix one path ≡ true → is_prefix other path ≡ true
+    → (is_prefix one other ≡ true) ⊎ (is_prefix other one ≡ true)
 prefix_chain [] other path h g = inl refl
 prefix_chain (x ∷ one) [] path h g = inr refl
 prefix_chain (x ∷ one) (y ∷ other) [] h g = absurd (false≢true h)
@@ -57,7 +59,8 @@ prefix_chain (x ∷ one) (y ∷ other) (z ∷ path) h g =
     ]
 
 -- the rest behind a prefix is the rest up to a path between, and then the rest behind that
-pub rest_through : (one other path : Path) → is_prefix one other ≡ true → is_prefix other path ≡ true → rest_of one path ≡ rest_of one other ++ rest_of other path
+pub rest_through : (one other path : Path) → is_prefix one other ≡ true → is_prefix other path ≡ true
+    → rest_of one path ≡ rest_of one other ++ rest_of other path
 rest_through [] other path h g = sym (prefix_and_rest other path g)
 rest_through (x ∷ one) [] path h g = absurd (false≢true h)
 rest_through (x ∷ one) (y ∷ other) [] h g = absurd (false≢true g)
@@ -93,12 +96,14 @@ rest-append [] more = refl
 rest-append (part ∷ front) more = rest-append front more
 
 pub rest_text-append : (front more : Path) → rest_text front (front ++ more) ≡ Some (tail_of more)
-rest_text-append front more = ap (λ b. cond b (Some (tail_of (rest_of front (front ++ more)))) None) (prefix-append front more) ∙ ap (λ p. Some (tail_of p)) (rest-append front more)
+rest_text-append front more = ap (λ b. cond b (Some (tail_of (rest_of front (front ++ more)))) None) (prefix-append front more)
+    ∙ ap (λ p. Some (tail_of p)) (rest-append front more)
 
 -- more behind a path makes another
 longer_is_other : (front more : Path) (part : List ℕ) → is_same front (front ++ part ∷ more) ≡ false
 longer_is_other [] more part = refl
-longer_is_other (first ∷ front) more part = ap (λ b. b && is_same front (front ++ part ∷ more)) (part_itself first first refl) ∙ longer_is_other front more part
+longer_is_other (first ∷ front) more part = ap (λ b. b && is_same front (front ++ part ∷ more)) (part_itself first first refl)
+    ∙ longer_is_other front more part
 
 has_bytes : (n : ℕ) → not (suc n == 0) ≡ true
 has_bytes n = grind arith
@@ -108,10 +113,13 @@ pub below_by_rest : (front path : Path) (rest : List ℕ) → Some rest ≡ rest
 below_by_rest front path rest e = by (is_prefix front path) refl e
   where
     behind : (more : Path) → front ++ more ≡ path → rest ≡ tail_of more → not (length rest == 0) ≡ not (is_same front path)
-    behind [] whole text = ap (λ (t : List ℕ). not (length t == 0)) text ∙ sym (ap (λ p. not (is_same front p)) (sym whole ∙ append-nil front) ∙ ap not (same_itself front))
-    behind (part ∷ more) whole text = ap (λ (t : List ℕ). not (length t == 0)) text ∙ has_bytes (length (part ++ tail_of more)) ∙ sym (ap (λ p. not (is_same front p)) (sym whole) ∙ ap not (longer_is_other front more part))
+    behind [] whole text = ap (λ (t : List ℕ). not (length t == 0)) text
+        ∙ sym (ap (λ p. not (is_same front p)) (sym whole ∙ append-nil front) ∙ ap not (same_itself front))
+    behind (part ∷ more) whole text = ap (λ (t : List ℕ). not (length t == 0)) text ∙ has_bytes (length (part ++ tail_of more))
+        ∙ sym (ap (λ p. not (is_same front p)) (sym whole) ∙ ap not (longer_is_other front more part))
 
-    by : (b : Bool) → is_prefix front path ≡ b → Some rest ≡ cond b (Some (tail_of (rest_of front path))) None → not (length rest == 0) ≡ (b && not (is_same front path))
+    by : (b : Bool) → is_prefix front path ≡ b → Some rest ≡ cond b (Some (tail_of (rest_of front path))) None
+        → not (length rest == 0) ≡ (b && not (is_same front path))
     by false leads e = cc
     by true leads e =
         let text : rest ≡ tail_of (rest_of front path) = cc in

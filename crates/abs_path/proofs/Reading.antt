@@ -1,5 +1,6 @@
 -- What reading a text makes of it.
-use Rattle.std.proofs.Common.{◌≡◌, ℕ, zero, suc, ◌+◌, ◌≤◌, ◌<◌, Bool, true, false, cond, List, [], ◌∷◌, ◌++◌, filter, map, length, refl, sym, ap, ◌∙◌, subst, append_assoc, length-append, arith, eqb, Option, Some, None, drop, take}
+use Rattle.std.proofs.Common.{◌≡◌, ℕ, zero, suc, ◌+◌, ◌≤◌, ◌<◌, Bool, true, false, cond, List, [], ◌∷◌, ◌++◌, filter, map, length, refl}
+use Rattle.std.proofs.Common.{sym, ap, ◌∙◌, subst, append_assoc, length-append, arith, eqb, Option, Some, None, drop, take}
 use Rattle.std.specs.Option.{option_and_then, option_map, IfSome}
 use Rattle.std.proofs.Math.Seq.{take-append_seam, drop-append_seam}
 use Rattle.std.proofs.lemmas.List.{take-append-drop}
@@ -31,17 +32,21 @@ none_pass test [] h = tt
 none_pass test (x ∷ xs) h = let both = or_parts (test x) (list_any test xs) h in (both.0, none_pass test xs both.1)
 
 -- a byte put on the first piece
-onto_first_is : (test : ℕ → Bool) (x : ℕ) (pieces : List (List ℕ)) → test x ≡ false → AllByRecursion (λ piece. list_any test piece ≡ false) pieces → AllByRecursion (λ piece. list_any test piece ≡ false) (onto_first x pieces)
+onto_first_is : (test : ℕ → Bool) (x : ℕ) (pieces : List (List ℕ)) → test x ≡ false
+    → AllByRecursion (λ piece. list_any test piece ≡ false) pieces
+    → AllByRecursion (λ piece. list_any test piece ≡ false) (onto_first x pieces)
 onto_first_is test x [] h all = (or_from _ _ h refl, tt)
 onto_first_is test x (piece ∷ pieces) h all = (or_from _ _ h all.0, all.1)
 
 -- what no byte of the text is, no byte of a piece is
-clean_pieces : (test : ℕ → Bool) (text : List ℕ) → list_any test text ≡ false → AllByRecursion (λ piece. list_any test piece ≡ false) (slice_split is_slash text)
+clean_pieces : (test : ℕ → Bool) (text : List ℕ) → list_any test text ≡ false
+    → AllByRecursion (λ piece. list_any test piece ≡ false) (slice_split is_slash text)
 clean_pieces test [] h = (refl, tt)
 clean_pieces test (x ∷ text) h = let both = or_parts (test x) (list_any test text) h in by (is_slash x) both.0 (clean_pieces test text both.1)
   where
     by : (b : Bool) → test x ≡ false → AllByRecursion (λ piece. list_any test piece ≡ false) (slice_split is_slash text) →
-        AllByRecursion (λ piece. list_any test piece ≡ false) (cond b ([] ∷ slice_split is_slash text) (onto_first x (slice_split is_slash text)))
+        AllByRecursion (λ piece. list_any test piece ≡ false)
+        (cond b ([] ∷ slice_split is_slash text) (onto_first x (slice_split is_slash text)))
     by true h all = (refl, all)
     by false h all = onto_first_is test x (slice_split is_slash text) h all
 
@@ -51,12 +56,14 @@ slashless [] = (refl, tt)
 slashless (x ∷ text) = by (is_slash x) refl (slashless text)
   where
     by : (b : Bool) → is_slash x ≡ b → AllByRecursion (λ piece. list_any is_slash piece ≡ false) (slice_split is_slash text) →
-        AllByRecursion (λ piece. list_any is_slash piece ≡ false) (cond b ([] ∷ slice_split is_slash text) (onto_first x (slice_split is_slash text)))
+        AllByRecursion (λ piece. list_any is_slash piece ≡ false)
+        (cond b ([] ∷ slice_split is_slash text) (onto_first x (slice_split is_slash text)))
     by true e all = (refl, all)
     by false e all = onto_first_is is_slash x (slice_split is_slash text) e all
 
 -- the pieces that say something are parts
-parts_from : (pieces : List (List ℕ)) → AllByRecursion (λ piece. list_any is_slash piece ≡ false) pieces → AllByRecursion (λ piece. list_any (λ byte. byte == 0) piece ≡ false) pieces →
+parts_from : (pieces : List (List ℕ)) → AllByRecursion (λ piece. list_any is_slash piece ≡ false) pieces
+    → AllByRecursion (λ piece. list_any (λ byte. byte == 0) piece ≡ false) pieces →
     AllByRecursion (λ piece. bytes_eq piece (codes "..") ≡ false) pieces → is_normal (filter (λ piece. not (is_idle piece)) pieces) ≡ true
 parts_from [] h g k = refl
 parts_from (piece ∷ pieces) h g k = by (not (is_idle piece)) refl (parts_from pieces h.1 g.1 k.1)
@@ -88,7 +95,8 @@ shorter [] = omega arith
 shorter (piece ∷ pieces) = by (not (is_idle piece)) (shorter pieces)
   where
     by : (b : Bool) → length (tail_of (filter (λ piece. not (is_idle piece)) pieces)) ≤ length (tail_of pieces) →
-        length (tail_of (cond b (piece ∷ filter (λ piece. not (is_idle piece)) pieces) (filter (λ piece. not (is_idle piece)) pieces))) ≤ length (tail_of (piece ∷ pieces))
+        length (tail_of (cond b (piece ∷ filter (λ piece. not (is_idle piece)) pieces) (filter (λ piece. not (is_idle piece)) pieces))) ≤
+        length (tail_of (piece ∷ pieces))
     by true more = omega (arith, length-append piece (tail_of (filter (λ piece. not (is_idle piece)) pieces)), length-append piece (tail_of pieces))
     by false more = omega (arith, length-append piece (tail_of pieces))
 
@@ -97,7 +105,9 @@ folded_length : (text : List ℕ) → starts_with nat_eq text (codes "/") ≡ tr
 folded_length [] h = omega arith
 folded_length (x ∷ text) h = by (is_slash x) refl (and_parts _ _ h).0
   where
-    by : (b : Bool) → is_slash x ≡ b → eqb 47 x ≡ true → length (tail_of (filter (λ piece. not (is_idle piece)) (cond b ([] ∷ slice_split is_slash text) (onto_first x (slice_split is_slash text))))) ≤ length (x ∷ text)
+    by : (b : Bool) → is_slash x ≡ b → eqb 47 x ≡ true → length
+        (tail_of (filter (λ piece. not (is_idle piece))
+        (cond b ([] ∷ slice_split is_slash text) (onto_first x (slice_split is_slash text))))) ≤ length (x ∷ text)
     by true e same = omega (arith, shorter (slice_split is_slash text), length_pieces text)
     by false e same = absurd (eqb-false x 47 e (sym (eqb-true 47 x same)))
 
@@ -109,8 +119,10 @@ is_tail path h short = record {
   short = short;
 }
 
-pub reads_normal : (text : List ℕ) → list_any (λ byte. byte == 0) text ≡ false → list_any (λ piece. bytes_eq piece (codes "..")) (pieces_of text) ≡ false → is_normal (parts_of text) ≡ true
-reads_normal text clean level = parts_from (pieces_of text) (slashless text) (clean_pieces (λ byte. byte == 0) text clean) (none_pass (λ piece. bytes_eq piece (codes "..")) (pieces_of text) level)
+pub reads_normal : (text : List ℕ) → list_any (λ byte. byte == 0) text ≡ false
+    → list_any (λ piece. bytes_eq piece (codes "..")) (pieces_of text) ≡ false → is_normal (parts_of text) ≡ true
+reads_normal text clean level = parts_from (pieces_of text) (slashless text) (clean_pieces (λ byte. byte == 0) text clean)
+    (none_pass (λ piece. bytes_eq piece (codes "..")) (pieces_of text) level)
 
 -- ---- what stands behind a prefix
 
@@ -119,7 +131,8 @@ behind_tail [] = refl
 behind_tail (part ∷ path) = refl
 
 -- two texts in front of which no slash stands end before the first slash
-same_front : (xs ys us vs : List ℕ) → list_any is_slash xs ≡ false → list_any is_slash ys ≡ false → is_behind us ≡ true → is_behind vs ≡ true → xs ++ us ≡ ys ++ vs → (xs ≡ ys) × (us ≡ vs)
+same_front : (xs ys us vs : List ℕ) → list_any is_slash xs ≡ false → list_any is_slash ys ≡ false → is_behind us ≡ true
+    → is_behind vs ≡ true → xs ++ us ≡ ys ++ vs → (xs ≡ ys) × (us ≡ vs)
 same_front [] [] us vs h g p q e = (refl, e)
 same_front [] (y ∷ ys) us vs h g p q e = let front = or_parts (is_slash y) (list_any is_slash ys) g in absurd (false≢true (sym front.0 ∙ subst (λ (l : List ℕ). is_behind l ≡ true) e p))
 same_front (x ∷ xs) [] us vs h g p q e = let front = or_parts (is_slash x) (list_any is_slash xs) h in absurd (false≢true (sym front.0 ∙ subst (λ (l : List ℕ). is_behind l ≡ true) (sym e) q))
@@ -138,7 +151,8 @@ behind_both [] rest h = h
 behind_both (part ∷ front) rest h = refl
 
 -- where a path's text goes on behind another's, it goes on behind the path
-pub goes_on_behind : (front path : Path) (rest : List ℕ) → is_normal front ≡ true → is_normal path ≡ true → is_behind rest ≡ true → tail_of path ≡ tail_of front ++ rest →
+pub goes_on_behind : (front path : Path) (rest : List ℕ) → is_normal front ≡ true → is_normal path ≡ true → is_behind rest ≡ true
+    → tail_of path ≡ tail_of front ++ rest →
     (is_prefix front path ≡ true) × (rest ≡ tail_of (rest_of front path))
 goes_on_behind [] path rest h g behind e = (refl, sym e)
 goes_on_behind (part ∷ front) [] rest h g behind e = absurd (cc)
@@ -162,32 +176,43 @@ after-append front rest =
     ∙ ap Some (drop-append_seam front rest)
 
 begins : (front text : List ℕ) → starts_with nat_eq text front ≡ true → text ≡ front ++ drop (length front) text
-begins front text h = sym (take-append-drop (length front) text) ∙ ap (λ l. l ++ drop (length front) text) (sym (same_part front (take (length front) text) h))
+begins front text h = sym (take-append-drop (length front) text)
+    ∙ ap (λ l. l ++ drop (length front) text) (sym (same_part front (take (length front) text) h))
 
-pub rest_text_is : (front path : Path) → is_normal front ≡ true → is_normal path ≡ true → behind_text (tail_of front) (tail_of path) ≡ rest_text front path
+pub rest_text_is : (front path : Path) → is_normal front ≡ true → is_normal path ≡ true
+    → behind_text (tail_of front) (tail_of path) ≡ rest_text front path
 rest_text_is front path h g = by (is_prefix front path) refl
   where
-    not_after : (b : Bool) → starts_with nat_eq (tail_of path) (tail_of front) ≡ b → is_prefix front path ≡ false → option_and_then behind_only (cond b (Some (drop (length (tail_of front)) (tail_of path))) None) ≡ None
+    not_after : (b : Bool) → starts_with nat_eq (tail_of path) (tail_of front) ≡ b → is_prefix front path ≡ false
+        → option_and_then behind_only (cond b (Some (drop (length (tail_of front)) (tail_of path))) None) ≡ None
     not_after false e leads = refl
     not_after true e leads = cut (is_behind (drop (length (tail_of front)) (tail_of path))) refl
       where
-        cut : (b : Bool) → is_behind (drop (length (tail_of front)) (tail_of path)) ≡ b → cond b (Some (drop (length (tail_of front)) (tail_of path))) None ≡ None
+        cut : (b : Bool) → is_behind (drop (length (tail_of front)) (tail_of path)) ≡ b
+            → cond b (Some (drop (length (tail_of front)) (tail_of path))) None ≡ None
         cut false k = refl
-        cut true k = absurd (false≢true (sym leads ∙ (goes_on_behind front path (drop (length (tail_of front)) (tail_of path)) h g k (begins (tail_of front) (tail_of path) e)).0))
+        cut true k = absurd (false≢true
+            (sym leads ∙ (goes_on_behind front path (drop (length (tail_of front)) (tail_of path)) h g k
+            (begins (tail_of front) (tail_of path) e)).0))
 
-    by : (b : Bool) → is_prefix front path ≡ b → behind_text (tail_of front) (tail_of path) ≡ cond b (Some (tail_of (rest_of front path))) None
-    by true e = ap (behind_text (tail_of front)) (prefix_behind front path e) ∙ ap (option_and_then behind_only) (after-append (tail_of front) (tail_of (rest_of front path)))
+    by : (b : Bool) → is_prefix front path ≡ b → behind_text (tail_of front) (tail_of path)
+        ≡ cond b (Some (tail_of (rest_of front path))) None
+    by true e = ap (behind_text (tail_of front)) (prefix_behind front path e)
+        ∙ ap (option_and_then behind_only) (after-append (tail_of front) (tail_of (rest_of front path)))
         ∙ ap (λ b. cond b (Some (tail_of (rest_of front path))) None) (behind_tail (rest_of front path))
     by false e = not_after (starts_with nat_eq (tail_of path) (tail_of front)) refl e
 
 -- ---- what a value holds
 
-pub rest_is : (one other : List ℕ) (front path : Path) → IsTail one → IsTail other → parts_of one ≡ front → parts_of other ≡ path → behind_text one other ≡ rest_text front path
+pub rest_is : (one other : List ℕ) (front path : Path) → IsTail one → IsTail other → parts_of one ≡ front → parts_of other ≡ path
+    → behind_text one other ≡ rest_text front path
 rest_is one other front path h g p q =
-    ap (λ l. behind_text l other) (sym h.whole) ∙ ap (behind_text (tail_of (parts_of one))) (sym g.whole) ∙ rest_text_is (parts_of one) (parts_of other) h.normal g.normal
+    ap (λ l. behind_text l other) (sym h.whole) ∙ ap (behind_text (tail_of (parts_of one))) (sym g.whole)
+    ∙ rest_text_is (parts_of one) (parts_of other) h.normal g.normal
     ∙ ap (λ l. rest_text l (parts_of other)) p ∙ ap (rest_text front) q
 
-pub same_is : (one other : List ℕ) (front path : Path) → IsTail one → IsTail other → parts_of one ≡ front → parts_of other ≡ path → bytes_eq one other ≡ is_same front path
+pub same_is : (one other : List ℕ) (front path : Path) → IsTail one → IsTail other → parts_of one ≡ front → parts_of other ≡ path
+    → bytes_eq one other ≡ is_same front path
 same_is one other front path h g p q = same_test (bytes_eq one other) (is_same front path) there back
   where
     there : bytes_eq one other ≡ true → is_same front path ≡ true
@@ -201,14 +226,17 @@ normal-append [] other h g = g
 normal-append (part ∷ one) other h g = let both = and_parts (is_part part) (is_normal one) h in and_from _ _ both.0 (normal-append one other both.1 g)
 
 pub joined_text : (text rest : List ℕ) → IsTail text → IsRest rest → tail_of (parts_of text ++ parts_of rest) ≡ text ++ rest
-joined_text text rest h g = tail-append (parts_of text) (parts_of rest) ∙ ap (λ l. l ++ tail_of (parts_of rest)) h.whole ∙ ap (λ l. text ++ l) g.whole
+joined_text text rest h g = tail-append (parts_of text) (parts_of rest) ∙ ap (λ l. l ++ tail_of (parts_of rest)) h.whole
+    ∙ ap (λ l. text ++ l) g.whole
 
 pub joined_is : (text rest : List ℕ) → IsTail text → IsRest rest → length text + length rest ≤ 512 → IsTail (text ++ rest)
-joined_is text rest h g short = subst IsTail (joined_text text rest h g) (is_tail (parts_of text ++ parts_of rest) (normal-append (parts_of text) (parts_of rest) h.normal g.parts)
+joined_is text rest h g short = subst IsTail (joined_text text rest h g)
+    (is_tail (parts_of text ++ parts_of rest) (normal-append (parts_of text) (parts_of rest) h.normal g.parts)
     (rw joined_text (omega (arith, length-append text rest))))
 
 pub joined_parts : (text rest : List ℕ) → IsTail text → IsRest rest → parts_of (text ++ rest) ≡ parts_of text ++ parts_of rest
-joined_parts text rest h g = ap parts_of (sym (joined_text text rest h g)) ∙ parts-tail (parts_of text ++ parts_of rest) (normal-append (parts_of text) (parts_of rest) h.normal g.parts)
+joined_parts text rest h g = ap parts_of (sym (joined_text text rest h g))
+    ∙ parts-tail (parts_of text ++ parts_of rest) (normal-append (parts_of text) (parts_of rest) h.normal g.parts)
 
 any_mapped : {X : Type 0} (f : X → List ℕ) (test : List ℕ → Bool) (xs : List X) → list_any test (map f xs) ≡ list_any (λ x. test (f x)) xs
 any_mapped f test [] = refl
@@ -218,30 +246,41 @@ abbrev climbs : List ℕ → Bool
 climbs piece = bytes_eq piece (codes "..")
 
 -- the pieces as they were collected tell whether one climbs
-pub climbs_is : (text : List ℕ) (items found : List (Bor (List ℕ))) (b : Bool) → found ≡ items → map (λ piece. piece.now) items ≡ pieces_of text → b ≡ list_any (λ piece. climbs piece.now) found → list_any climbs (pieces_of text) ≡ b
-climbs_is text items found b same e h = sym (h ∙ sym (any_mapped (λ piece. piece.now) climbs found) ∙ ap (λ l. list_any climbs (map (λ piece. piece.now) l)) same ∙ ap (list_any climbs) e)
+pub climbs_is : (text : List ℕ) (items found : List (Bor (List ℕ))) (b : Bool) → found ≡ items
+    → map (λ piece. piece.now) items ≡ pieces_of text → b ≡ list_any (λ piece. climbs piece.now) found
+    → list_any climbs (pieces_of text) ≡ b
+climbs_is text items found b same e h = sym (h ∙ sym (any_mapped (λ piece. piece.now) climbs found)
+    ∙ ap (λ l. list_any climbs (map (λ piece. piece.now) l)) same ∙ ap (list_any climbs) e)
 
 -- what was folded of the pieces as they were collected
 pub folded_is : (text tail : List ℕ) (items found : List (Bor (List ℕ))) → found ≡ items → map (λ piece. piece.now) items ≡ pieces_of text →
     tail ≡ tail_of (filter (λ piece. not (is_idle piece)) (map (λ piece. piece.now) found)) → tail ≡ tail_of (parts_of text)
-folded_is text tail items found same e h = h ∙ ap (λ l. tail_of (filter (λ piece. not (is_idle piece)) (map (λ piece. piece.now) l))) same ∙ ap (λ l. tail_of (filter (λ piece. not (is_idle piece)) l)) e
+folded_is text tail items found same e h = h ∙ ap (λ l. tail_of (filter (λ piece. not (is_idle piece)) (map (λ piece. piece.now) l))) same
+    ∙ ap (λ l. tail_of (filter (λ piece. not (is_idle piece)) l)) e
 
 -- no fault is found where none of the four holds
-pub no_fault : (text : List ℕ) → length text ≤ 512 → list_any (λ byte. byte == 0) text ≡ false → starts_with nat_eq text (codes "/") ≡ true → list_any climbs (pieces_of text) ≡ false → fault_of text ≡ None
+pub no_fault : (text : List ℕ) → length text ≤ 512 → list_any (λ byte. byte == 0) text ≡ false
+    → starts_with nat_eq text (codes "/") ≡ true → list_any climbs (pieces_of text) ≡ false → fault_of text ≡ None
 no_fault text short clean rooted level = let small : nat_lt 512 (length text) ≡ false = le-ltb 512 (length text) short in rw (small, clean, rooted, level)
 
-pub climbs_fault : (text : List ℕ) → length text ≤ 512 → list_any (λ byte. byte == 0) text ≡ false → starts_with nat_eq text (codes "/") ≡ true → list_any climbs (pieces_of text) ≡ true → fault_of text ≡ Some DotDot
+pub climbs_fault : (text : List ℕ) → length text ≤ 512 → list_any (λ byte. byte == 0) text ≡ false
+    → starts_with nat_eq text (codes "/") ≡ true → list_any climbs (pieces_of text) ≡ true → fault_of text ≡ Some DotDot
 climbs_fault text short clean rooted level = let small : nat_lt 512 (length text) ≡ false = le-ltb 512 (length text) short in rw (small, clean, rooted, level)
 
 -- what was folded is a path's text
-pub read_is : (text tail : List ℕ) → length text ≤ 512 → list_any (λ byte. byte == 0) text ≡ false → starts_with nat_eq text (codes "/") ≡ true → list_any climbs (pieces_of text) ≡ false → tail ≡ tail_of (parts_of text) → IsTail tail
-read_is text tail short clean rooted level e = subst IsTail (sym e) (is_tail (parts_of text) (reads_normal text clean level) (omega (arith, folded_length text rooted)))
+pub read_is : (text tail : List ℕ) → length text ≤ 512 → list_any (λ byte. byte == 0) text ≡ false
+    → starts_with nat_eq text (codes "/") ≡ true → list_any climbs (pieces_of text) ≡ false → tail ≡ tail_of (parts_of text) → IsTail tail
+read_is text tail short clean rooted level e = subst IsTail (sym e)
+    (is_tail (parts_of text) (reads_normal text clean level) (omega (arith, folded_length text rooted)))
 
-pub read_parts : (text tail : List ℕ) → list_any (λ byte. byte == 0) text ≡ false → list_any climbs (pieces_of text) ≡ false → tail ≡ tail_of (parts_of text) → parts_of tail ≡ parts_of text
+pub read_parts : (text tail : List ℕ) → list_any (λ byte. byte == 0) text ≡ false → list_any climbs (pieces_of text) ≡ false
+    → tail ≡ tail_of (parts_of text) → parts_of tail ≡ parts_of text
 read_parts text tail clean level e = ap parts_of e ∙ parts-tail (parts_of text) (reads_normal text clean level)
 
-pub joined_length : (text rest : List ℕ) (path : Path) → IsTail text → IsRest rest → parts_of text ≡ path → length (tail_of (path ++ parts_of rest)) ≡ length text + length rest
-joined_length text rest path h g e = subst (λ (p : Path). length (tail_of (p ++ parts_of rest)) ≡ length text + length rest) e (ap length (joined_text text rest h g) ∙ length-append text rest)
+pub joined_length : (text rest : List ℕ) (path : Path) → IsTail text → IsRest rest → parts_of text ≡ path
+    → length (tail_of (path ++ parts_of rest)) ≡ length text + length rest
+joined_length text rest path h g e = subst (λ (p : Path). length (tail_of (p ++ parts_of rest)) ≡ length text + length rest) e
+    (ap length (joined_text text rest h g) ∙ length-append text rest)
 
 normal-drop : (n : ℕ) (path : Path) → is_normal path ≡ true → is_normal (drop n path) ≡ true
 normal-drop zero path h = h
@@ -252,7 +291,8 @@ is_rest : (path : Path) → is_normal path ≡ true → IsRest (tail_of path)
 is_rest path h = record { parts = ap is_normal (parts-tail path h) ∙ h; whole = ap tail_of (parts-tail path h) }
 
 -- what is behind a prefix of a normal path may be joined
-pub rest_form : (front path : Path) (r : Option (Bor (List ℕ))) → is_normal path ≡ true → option_map (λ rest. rest.now) r ≡ rest_text front path → IfSome r (λ rest. IsRest rest.now)
+pub rest_form : (front path : Path) (r : Option (Bor (List ℕ))) → is_normal path ≡ true
+    → option_map (λ rest. rest.now) r ≡ rest_text front path → IfSome r (λ rest. IsRest rest.now)
 rest_form front path None h e = tt
 rest_form front path (Some rest) h e = by (is_prefix front path) e
   where
@@ -261,7 +301,8 @@ rest_form front path (Some rest) h e = by (is_prefix front path) e
     by false e = absurd (cc)
 
 -- the parts of what a path has behind a front
-pub rest_parts : (front path : Path) (r : Option (Bor (List ℕ))) → is_normal path ≡ true → option_map (λ rest. rest.now) r ≡ rest_text front path → IfSome r (λ rest. parts_of rest.now ≡ rest_of front path)
+pub rest_parts : (front path : Path) (r : Option (Bor (List ℕ))) → is_normal path ≡ true
+    → option_map (λ rest. rest.now) r ≡ rest_text front path → IfSome r (λ rest. parts_of rest.now ≡ rest_of front path)
 rest_parts front path None h e = tt
 rest_parts front path (Some rest) h e = by (is_prefix front path) e
   where
@@ -293,21 +334,27 @@ no_nul (part ∷ path) h =
 pub text_no_fault : (path : Path) → is_normal path ≡ true → length (text_of path) ≤ 512 → fault_of (text_of path) ≡ None
 text_no_fault [] h short = refl
 text_no_fault (part ∷ path) h short =
-    no_fault (tail_of (part ∷ path)) short (no_nul (part ∷ path) h) refl (ap (list_any climbs) (tail_pieces (part ∷ path) h) ∙ none_climbs (part ∷ path) h)
+    no_fault (tail_of (part ∷ path)) short (no_nul (part ∷ path) h) refl
+    (ap (list_any climbs) (tail_pieces (part ∷ path) h) ∙ none_climbs (part ∷ path) h)
 
 -- a rest and joining it undo each other
-pub rest_then_join : (front path : Path) (rest : List ℕ) → is_normal path ≡ true → rest_text front path ≡ Some rest → front ++ parts_of rest ≡ path
+pub rest_then_join : (front path : Path) (rest : List ℕ) → is_normal path ≡ true → rest_text front path ≡ Some rest
+    → front ++ parts_of rest ≡ path
 rest_then_join front path rest h e = by (is_prefix front path) refl e
   where
-    by : (b : Bool) → is_prefix front path ≡ b → cond b (Some (tail_of (rest_of front path))) None ≡ Some rest → front ++ parts_of rest ≡ path
+    by : (b : Bool) → is_prefix front path ≡ b → cond b (Some (tail_of (rest_of front path))) None ≡ Some rest
+        → front ++ parts_of rest ≡ path
     by true leads e =
         let same : tail_of (rest_of front path) ≡ rest = cc in
-        ap (λ l. front ++ parts_of l) (sym same) ∙ ap (λ p. front ++ p) (parts-tail (rest_of front path) (normal-drop (length front) path h)) ∙ prefix_and_rest front path leads
+        ap (λ l. front ++ parts_of l) (sym same) ∙ ap (λ p. front ++ p)
+        (parts-tail (rest_of front path) (normal-drop (length front) path h)) ∙ prefix_and_rest front path leads
     by false leads e = absurd (cc)
 
 pub join_then_rest : (front : Path) (rest : List ℕ) → IsRest rest → rest_text front (front ++ parts_of rest) ≡ Some rest
 join_then_rest front rest h = rest_text-append front (parts_of rest) ∙ ap Some h.whole
 
 -- the same of a text
-pub parts_behind : (front path : Path) (rest : List ℕ) → is_normal path ≡ true → rest_text front path ≡ Some rest → parts_of rest ≡ rest_of front path
-parts_behind front path rest normal e = sym (rest-append front (parts_of rest)) ∙ ap (rest_of front) (rest_then_join front path rest normal e)
+pub parts_behind : (front path : Path) (rest : List ℕ) → is_normal path ≡ true → rest_text front path ≡ Some rest
+    → parts_of rest ≡ rest_of front path
+parts_behind front path rest normal e = sym (rest-append front (parts_of rest))
+    ∙ ap (rest_of front) (rest_then_join front path rest normal e)

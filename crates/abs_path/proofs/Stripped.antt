@@ -7,7 +7,8 @@ use Rattle.std.specs.Str.{IsCharBoundary}
 use denote.Ref.{Bor}
 use Rattle.abs_path.specs.Prefix.{after}
 
-pub strip_text : (p s : List ℕ) (r : Option (Bor (List ℕ))) → MatchOption r (FindsTextPrefix p s None) (λ x. StripsPrefix (FindsTextPrefix p) s x.now) → option_map (λ x. x.now) r ≡ after p s
+pub strip_text : (p s : List ℕ) (r : Option (Bor (List ℕ))) → MatchOption r (FindsTextPrefix p s None)
+    (λ x. StripsPrefix (FindsTextPrefix p) s x.now) → option_map (λ x. x.now) r ≡ after p s
 strip_text p s None h = ap (λ b. cond b (Some (drop (length p) s)) None) (starts_text false p s h)
 strip_text p s (Some x) h =
     ap Some (h.2 ∙ ap (λ n. drop n s) h.1.0)

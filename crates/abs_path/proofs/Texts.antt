@@ -13,7 +13,8 @@ none_passes test [] h = tt
 none_passes test (x ∷ xs) h = let both = or_parts (test x) (list_any test xs) h in (both.0, none_passes test xs both.1)
 
 no_slash : (part : List ℕ) → is_part part ≡ true → All (λ byte. (byte == 47) ≡ false) part
-no_slash part h = All-from_recursion (λ byte. (byte == 47) ≡ false) part (none_passes (λ byte. byte == 47) part (not-true _ (and_parts _ _ (and_parts _ _ h).0).0))
+no_slash part h = All-from_recursion (λ byte. (byte == 47) ≡ false) part
+    (none_passes (λ byte. byte == 47) part (not-true _ (and_parts _ _ (and_parts _ _ h).0).0))
 
 not_idle : (part : List ℕ) → is_part part ≡ true → not (is_idle part) ≡ true
 not_idle part h = (and_parts _ _ (and_parts _ _ h).1).0
@@ -26,7 +27,8 @@ pub tail_pieces : (path : Path) → is_normal path ≡ true → slice_split is_s
 tail_pieces [] h = refl
 tail_pieces (part ∷ path) h = let both = and_parts (is_part part) (is_normal path) h in ap (λ rest. [] ∷ rest) (by path (no_slash part both.0) (tail_pieces path both.1))
   where
-    by : (rest : Path) → All (λ byte. is_slash byte ≡ false) part → slice_split is_slash (tail_of rest) ≡ [] ∷ rest → slice_split is_slash (part ++ tail_of rest) ≡ part ∷ rest
+    by : (rest : Path) → All (λ byte. is_slash byte ≡ false) part → slice_split is_slash (tail_of rest) ≡ [] ∷ rest
+        → slice_split is_slash (part ++ tail_of rest) ≡ part ∷ rest
     by [] clean e = rw append-nil (slice_split_none is_slash part clean)
     by (next ∷ rest) clean e =
         let first : slice_split is_slash (part ++ 47 ∷ (next ++ tail_of rest)) ≡ part ∷ slice_split is_slash (next ++ tail_of rest) = slice_split_at is_slash part 47 (next ++ tail_of rest) clean refl in

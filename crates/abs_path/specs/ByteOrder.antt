@@ -17,7 +17,8 @@ AreAscending (path ∷ paths) = AllByRecursion (λ later. is_before path later �
 -- an ascending list with one more path in its place, unless it stands there
 abbrev pub placed : Path → List Path → List Path
 placed path [] = path ∷ []
-placed path (first ∷ paths) = cond (is_before path first) (path ∷ first ∷ paths) (cond (is_before first path) (first ∷ placed path paths) (first ∷ paths))
+placed path (first ∷ paths) = cond (is_before path first) (path ∷ first ∷ paths)
+    (cond (is_before first path) (first ∷ placed path paths) (first ∷ paths))
 
 -- an ascending list with more paths in their places
 abbrev pub with_placed : List Path → List Path → List Path

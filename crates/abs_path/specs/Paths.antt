@@ -40,7 +40,8 @@ parts_of text = filter (λ part. not (is_idle part)) (pieces_of text)
 
 -- a part of a normal path: no slash and no NUL in it, and it is no empty text, no dot and no two dots
 abbrev pub is_part : List ℕ → Bool
-is_part part = (not (list_any (λ byte. byte == ascii "/") part) && not (list_any (λ byte. byte == 0) part)) && (not (is_idle part) && not (bytes_eq part (codes "..")))
+is_part part = (not (list_any (λ byte. byte == ascii "/") part) && not (list_any (λ byte. byte == 0) part)) &&
+    (not (is_idle part) && not (bytes_eq part (codes "..")))
 
 abbrev pub is_normal : Path → Bool
 is_normal path = list_all is_part path

@@ -21,14 +21,17 @@ module _ (exact : QuestionsAreExact) (world : World) (served : IsServedWorld wor
   by_exact : (question : Question) → IsExact world question → IsSo world question (is_open_by world question)
   by_exact question is = (is.denies, is.stays_denied)
 
-  pub it_is_so : (question : Question) → Contains (asked.questions world.calls world.site) question → IsSo world question (is_open_by world question)
-  it_is_so question listed = by_exact question (all_at (IsExact world) (asked.questions world.calls world.site) question (exact world served) listed)
+  pub it_is_so : (question : Question) → Contains (asked.questions world.calls world.site) question
+      → IsSo world question (is_open_by world question)
+  it_is_so question listed =
+      by_exact question (all_at (IsExact world) (asked.questions world.calls world.site) question (exact world served) listed)
 
   same_questions : (list : List Question) → map (λ row. row.question) (rows_of world list) ≡ list
   same_questions [] = refl
   same_questions (question ∷ list) = ap (λ rest. question ∷ rest) (same_questions list)
 
-  each_so : (list : List Question) → AllByRecursion (IsExact world) list → AllByRecursion (λ row. IsSo world row.question row.is_open) (rows_of world list)
+  each_so : (list : List Question) → AllByRecursion (IsExact world) list
+      → AllByRecursion (λ row. IsSo world row.question row.is_open) (rows_of world list)
   each_so [] all = tt
   each_so (question ∷ list) all = (by_exact question all.0, each_so list all.1)
 
@@ -39,7 +42,8 @@ module _ (exact : QuestionsAreExact) (world : World) (served : IsServedWorld wor
   }
 
 -- what is found is what the rule says
-pub found_is : (found : Verdict) (answer open' : Bool) → (found ≡ verdict.Open) ↔ (open' ≡ true) → (answer ≡ true ↔ (found ≡ verdict.Open)) → answer ≡ open'
+pub found_is : (found : Verdict) (answer open' : Bool) → (found ≡ verdict.Open) ↔ (open' ≡ true)
+    → (answer ≡ true ↔ (found ≡ verdict.Open)) → answer ≡ open'
 found_is found true true is same = refl
 found_is found false false is same = refl
 found_is found true false is same = (let e : false ≡ true = is.0 (same.0 refl) in cc)

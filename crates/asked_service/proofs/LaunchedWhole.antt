@@ -27,7 +27,8 @@ unit_with name files = record { name = name; files = files }
 
 -- the unit is the longer one
 pub longer_is : (unit : Resolved) (bytes : List ℕ) (more : UnitText) (result : Result Resolved AllocError) → more ≡ says bytes
-    → IfOk result (λ longer. longer.name ≡ unit.name) → IfOk result (λ longer. longer.files ≡ unit.files ++ record { path = []; text = more } ∷ [])
+    → IfOk result (λ longer. longer.name ≡ unit.name) → IfOk result
+    (λ longer. longer.files ≡ unit.files ++ record { path = []; text = more } ∷ [])
     → IfOk result (λ longer. longer ≡ with_file unit bytes)
 longer_is unit bytes more (Err error) said named filed = tt
 longer_is unit bytes more (Ok longer) said named filed =

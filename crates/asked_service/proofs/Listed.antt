@@ -14,5 +14,6 @@ abbrev pub some_question : Question
 some_question = Path See 0
 
 module _ (table : calls.Table) (site : Site) where
-  pub listed_at : (list : List Question) (i : ℕ) → i < length list → list ≡ questions table site → Contains (questions table site) (get_or list i some_question)
+  pub listed_at : (list : List Question) (i : ℕ) → i < length list → list ≡ questions table site
+      → Contains (questions table site) (get_or list i some_question)
   listed_at list i lt all = subst (λ own. Contains own (get_or list i some_question)) all (Contains-get_or list i some_question lt)

@@ -36,14 +36,16 @@ same_code : (one other : List Insn) → ◌≡◌ {A = Option (List Insn)} (Some
 same_code one other e = cc
 
 -- bytes that are read as programs of the settings mean them
-meant : (settings : FilterSettings) (table : calls.Table) (programs : List (List ℕ)) (stack : List (List Insn)) → AreRead programs stack → AllByRecursion (Means settings table) stack → AllByRecursion (IsMeant settings table) programs
+meant : (settings : FilterSettings) (table : calls.Table) (programs : List (List ℕ)) (stack : List (List Insn)) → AreRead programs stack
+    → AllByRecursion (Means settings table) stack → AllByRecursion (IsMeant settings table) programs
 meant settings table [] [] read each = tt
 meant settings table [] (code ∷ stack) read each = absurd read
 meant settings table (bytes ∷ programs) [] read each = absurd read
 meant settings table (bytes ∷ programs) (code ∷ stack) read each =
     ((λ own is. subst (Means settings table) (same_code code own (sym read.0 ∙ is)) each.0), meant settings table programs stack read.1 each.1)
 
-module _ (unit : Resolved) (table : calls.Table) (site : Site) (settings : Settings) (plan : Table) (service : Service) (whole : IsWhole table) (arch : HasWordArchs table) (sound : IsSite site) (can : CanBeMounted (host_of site) plan)
+module _ (unit : Resolved) (table : calls.Table) (site : Site) (settings : Settings) (plan : Table) (service : Service)
+    (whole : IsWhole table) (arch : HasWordArchs table) (sound : IsSite site) (can : CanBeMounted (host_of site) plan)
     (are : AreSettings unit table site settings) (launches : LaunchesTo table site settings plan service) where
   abbrev own : FilterSettings
   own = unit_filters unit table
@@ -52,12 +54,14 @@ module _ (unit : Resolved) (table : calls.Table) (site : Site) (settings : Setti
   each =
       let wanted = recursion_from_All (HasWantedRules own table) settings.filters.items are.filters_as_wanted.do_as_wanted in
       let decide = means own table settings.filters.items (codes_of service.filters) wanted (filters_there own table settings.filters.items are.filters_as_wanted.exactly_those_on) (they_match settings.filters.items service.filters launches.filters) in
-      meant own table (given_bytes service.filters) (codes_of service.filters) (they_are_read settings.filters.items service.filters launches.filters) decide
+      meant own table (given_bytes service.filters) (codes_of service.filters)
+      (they_are_read settings.filters.items service.filters launches.filters) decide
 
   pub served : IsServedWorld service.world
   served =
       let fit = settings_can_be_launched unit table site settings sound are in
-      launched_is_served own table site (wanted_of settings (given_bytes service.filters)) plan service.world service.steps whole arch sound are.filters_as_wanted.refuse_by_numbers can fit.uid each launches.ends
+      launched_is_served own table site (wanted_of settings (given_bytes service.filters)) plan service.world service.steps whole arch
+      sound are.filters_as_wanted.refuse_by_numbers can fit.uid each launches.ends
 
   pub runs_program : IsPath settings.program → RunsProgram (launch_of service.world) service.program
   runs_program named =

@@ -42,30 +42,37 @@ module _ (name : List ℕ) (unit : Resolved) (table : calls.Table) (site : Site)
   kept = kept_of (host_of site) (unit_mentions unit site)
 
   -- a setting is refused
-  pub at_settings : (error : SettingsError) → refusal_of unit table site ≡ Some error → first_refusal refusals ≡ Some (settings_line name error)
+  pub at_settings : (error : SettingsError) → refusal_of unit table site ≡ Some error
+      → first_refusal refusals ≡ Some (settings_line name error)
   at_settings error is = ap (λ found. first_refusal (refusals_from found kept)) is
 
   -- a path is refused
-  pub at_paths : (error : PlanError) → refusal_of unit table site ≡ None → RefusesPath (host_of site) (unit_mentions unit site) error → first_refusal refusals ≡ Some (error_line name error)
-  at_paths (plan.Missing path) accepted is = ap (λ found. first_refusal (refusals_from found kept)) accepted ∙ ap (λ found. first_refusal (refusals_from None found)) is
-  at_paths (plan.Kind path) accepted is = ap (λ found. first_refusal (refusals_from found kept)) accepted ∙ ap (λ found. first_refusal (refusals_from None found)) is
+  pub at_paths : (error : PlanError) → refusal_of unit table site ≡ None → RefusesPath (host_of site) (unit_mentions unit site) error
+      → first_refusal refusals ≡ Some (error_line name error)
+  at_paths (plan.Missing path) accepted is = ap (λ found. first_refusal (refusals_from found kept)) accepted
+      ∙ ap (λ found. first_refusal (refusals_from None found)) is
+  at_paths (plan.Kind path) accepted is = ap (λ found. first_refusal (refusals_from found kept)) accepted
+      ∙ ap (λ found. first_refusal (refusals_from None found)) is
   at_paths plan.Memory accepted is = absurd is
 
   -- nothing is refused, and the plan is that of the mentions
-  pub planned : (steps : List MountStep) → refusal_of unit table site ≡ None → Plans (host_of site) (unit_mentions unit site) (Ok steps) → FitsMentions (host_of site) (unit_mentions unit site) steps
+  pub planned : (steps : List MountStep) → refusal_of unit table site ≡ None → Plans (host_of site) (unit_mentions unit site) (Ok steps)
+      → FitsMentions (host_of site) (unit_mentions unit site) steps
       → (first_refusal refusals ≡ None) × IsPlan (host_of site) (unit_mentions unit site) steps
   planned steps accepted is fits =
       let whole = plan_is name (host_of site) (unit_mentions unit site) steps is fits.keeps_by_rules fits.finds_as_view fits.places_are_mentioned fits.can_be_mounted in
       (ap (λ found. first_refusal (refusals_from found kept)) accepted ∙ whole.0, whole.1)
 
   -- the unit is launched
-  pub starts : (service : Service) → IsLaunchedUnit unit table site service → Prepares (StartsAs (given unit table site)) refusals (Ok (Launched service))
+  pub starts : (service : Service) → IsLaunchedUnit unit table site service
+      → Prepares (StartsAs (given unit table site)) refusals (Ok (Launched service))
   starts service is =
       let whole = planned is.plan is.accepted is.is_plan is.fits in
       (whole.0, record { settings = is.settings; are_settings = is.are_settings; plan = is.plan; is_plan = whole.1; comes_to = is.launched })
 
   -- it is not
-  pub told : (refusal : UnitRefusal) (result : Result LaunchRefusal Stop) → IsNotLaunched unit table site refusal → TellsRefusal name refusal result → Prepares (λ refused. StartsAs (given unit table site) (Refused refused)) refusals result
+  pub told : (refusal : UnitRefusal) (result : Result LaunchRefusal Stop) → IsNotLaunched unit table site refusal
+      → TellsRefusal name refusal result → Prepares (λ refused. StartsAs (given unit table site) (Refused refused)) refusals result
   told (InSettings error) (Ok refused) is tells = absurd tells
   told (InSettings error) (Err (stop.Refused line)) is tells = at_settings error is ∙ ap Some (sym tells)
   told (InSettings error) (Err stop.ReadFault) is tells = tt
@@ -81,13 +88,15 @@ module _ (name : List ℕ) (unit : Resolved) (table : calls.Table) (site : Site)
   told Memory result is tells = subst (Prepares (λ refused. StartsAs (given unit table site) (Refused refused)) refusals) (sym tells) tt
 
   -- and then memory ran out, or the line is told
-  pub stopped : (why : Stop) → Prepares (λ refused. StartsAs (given unit table site) (Refused refused)) refusals (Err why) → Prepares (StartsAs (given unit table site)) refusals (Err why)
+  pub stopped : (why : Stop) → Prepares (λ refused. StartsAs (given unit table site) (Refused refused)) refusals (Err why)
+      → Prepares (StartsAs (given unit table site)) refusals (Err why)
   stopped (stop.Refused line) said = said
   stopped stop.ReadFault said = tt
   stopped stop.Memory said = tt
 
 -- what is told was not read
-pub reads_nothing : {T : Type 0} (name : List ℕ) (refusal : UnitRefusal) (why : Stop) → TellsRefusal name refusal (Err why) → IsErrOf {T = T} (Err why) stop.ReadFault → ⊥
+pub reads_nothing : {T : Type 0} (name : List ℕ) (refusal : UnitRefusal) (why : Stop) → TellsRefusal name refusal (Err why)
+    → IsErrOf {T = T} (Err why) stop.ReadFault → ⊥
 reads_nothing name refusal (stop.Refused line) tells e = cc
 reads_nothing name refusal stop.Memory tells e = cc
 reads_nothing name (InSettings error) stop.ReadFault tells e = tells

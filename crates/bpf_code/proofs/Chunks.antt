@@ -1,5 +1,6 @@
 -- The bytes of instructions, and the instructions of bytes.
-use Rattle.std.proofs.Common.{◌≡◌, ℕ, zero, suc, ◌*◌, ◌/◌, ◌%◌, ◌^◌, List, [], ◌∷◌, length, drop, get_or, map, refl, sym, ap, ◌∙◌, subst, arith}
+use Rattle.std.proofs.Common.{◌≡◌, ℕ, zero, suc, ◌*◌, ◌/◌, ◌%◌, ◌^◌, List, [], ◌∷◌, length, drop, get_or, map, refl, sym, ap, ◌∙◌, subst}
+use Rattle.std.proofs.Common.{arith}
 use Rattle.std.specs.Int.{from_le_bytes, to_le_bytes, w32}
 use Rattle.std.specs.List.{All}
 use Rattle.std.specs.Simd.{first_chunks}
@@ -55,7 +56,8 @@ insns_back code =
 all_uncut : (code : List Insn) → All Fits code → map cut code ≡ code
 all_uncut [] fits = refl
 all_uncut (insn ∷ code) fits =
-    ap (λ first. first ∷ map cut code) (uncut insn (fits 0 insn (omega arith))) ∙ ap (λ rest. insn ∷ rest) (all_uncut code (All-tail Fits insn code fits))
+    ap (λ first. first ∷ map cut code) (uncut insn (fits 0 insn (omega arith)))
+    ∙ ap (λ rest. insn ∷ rest) (all_uncut code (All-tail Fits insn code fits))
 
 all_cut_fit : (code : List Insn) → All Fits (map cut code)
 all_cut_fit code = All-map Fits cut code (λ at insn below. cut_fits (get_or code at insn))

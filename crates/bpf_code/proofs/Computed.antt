@@ -1,5 +1,6 @@
 -- The function that gives the program of bytes gives what is accepted.
-use Rattle.std.proofs.Common.{◌≡◌, ℕ, zero, suc, ◌+◌, ◌%◌, ◌<◌, ◌≤◌, Bool, true, false, cond, eqb, List, [], ◌∷◌, length, Option, Some, None, refl, sym, ap, ◌∙◌, subst, arith, inl, inr}
+use Rattle.std.proofs.Common.{◌≡◌, ℕ, zero, suc, ◌+◌, ◌%◌, ◌<◌, ◌≤◌, Bool, true, false, cond, eqb, List, [], ◌∷◌, length, Option, Some}
+use Rattle.std.proofs.Common.{None, refl, sym, ap, ◌∙◌, subst, arith, inl, inr}
 use Rattle.std.specs.Prelude.{◌⊎◌, ◌==◌, ◌&&◌, ◌||◌, not, nat_le, slice_get}
 use Rattle.std.specs.Option.{option_map_or, is_none}
 use Rattle.std.proofs.lemmas.Bool.{eqb-true, leb-true, le-leb}
@@ -10,7 +11,8 @@ use Rattle.bpf_code.specs.declared.program.Fault.{Fault}
 use Rattle.bpf_code.specs.declared.ops.Op.{Op}
 use Rattle.bpf_code.specs.declared.ops.Op.TheVariants.{Jump, JumpIf}
 use Rattle.bpf_code.specs.Ops.{op_of}
-use Rattle.bpf_code.specs.Accepted.{AreFine, fault_of, Follows, stores, is_scratch_load, ends_in_return, ReachesUnstored, at_start, goes, LoadsUnstored, NoUnstored, IsAccepted}
+use Rattle.bpf_code.specs.Accepted.{AreFine, fault_of, Follows, stores, is_scratch_load, ends_in_return, ReachesUnstored, at_start, goes}
+use Rattle.bpf_code.specs.Accepted.{LoadsUnstored, NoUnstored, IsAccepted}
 use Rattle.bpf_code.specs.Reading.{insns_of, Accepts}
 use Rattle.bpf_code.specs.ProgramOf.{any_below, leads_to, passes_to, reaches, is_unstored_load, are_fine, is_accepted, program_of}
 use Rattle.bpf_code.proofs.FirstFaults.{lt_or_same}
@@ -77,13 +79,16 @@ any_here (suc n) test k lt e =
 follows_of : (op : Option Op) (insn : Insn) (at to : ℕ) → leads_to op insn at to ≡ true → Follows op insn at to
 follows_of (Some Jump) insn at to e = eqb-true to (at + 1 + insn.k) e
 follows_of (Some (JumpIf t o)) insn at to e =
-    elim (either_of (to == at + 1 + insn.jt) (to == at + 1 + insn.jf) e) [ inl h ↦ inl (eqb-true to (at + 1 + insn.jt) h) | inr h ↦ inr (eqb-true to (at + 1 + insn.jf) h) ]
+    elim (either_of (to == at + 1 + insn.jt) (to == at + 1 + insn.jf) e)
+    [ inl h ↦ inl (eqb-true to (at + 1 + insn.jt) h) | inr h ↦ inr (eqb-true to (at + 1 + insn.jf) h) ]
 follows_of op insn at to e = eqb-true to (at + 1) e
 
 of_follows : (op : Option Op) (insn : Insn) (at to : ℕ) → Follows op insn at to → leads_to op insn at to ≡ true
 of_follows (Some Jump) insn at to h = of_same to (at + 1 + insn.k) h
-of_follows (Some (JumpIf t o)) insn at to (inl h) = of_left (to == at + 1 + insn.jt) (to == at + 1 + insn.jf) (of_same to (at + 1 + insn.jt) h)
-of_follows (Some (JumpIf t o)) insn at to (inr h) = of_right (to == at + 1 + insn.jt) (to == at + 1 + insn.jf) (of_same to (at + 1 + insn.jf) h)
+of_follows (Some (JumpIf t o)) insn at to (inl h) = of_left (to == at + 1 + insn.jt) (to == at + 1 + insn.jf)
+    (of_same to (at + 1 + insn.jt) h)
+of_follows (Some (JumpIf t o)) insn at to (inr h) = of_right (to == at + 1 + insn.jt) (to == at + 1 + insn.jf)
+    (of_same to (at + 1 + insn.jf) h)
 of_follows op insn at to h = of_same to (at + 1) h
 
 -- a test of what stands at a place
@@ -107,7 +112,8 @@ module _ (code : List Insn) (word : ℕ) where
             let step = found_of (slice_get code at) (λ insn. not (stores (op_of insn.code) insn word) && leads_to (op_of insn.code) insn at to) parts.1 in
             let insn : Insn = step.0 in
             let tests = both_of (not (stores (op_of insn.code) insn word)) (leads_to (op_of insn.code) insn at to) step.2 in
-            goes at to insn (path_of steps at parts.0) step.1 (not_of (stores (op_of insn.code) insn word) tests.0) (follows_of (op_of insn.code) insn at to tests.1)
+            goes at to insn (path_of steps at parts.0) step.1 (not_of (stores (op_of insn.code) insn word) tests.0)
+            (follows_of (op_of insn.code) insn at to tests.1)
       ]
 
   of_path : (to : ℕ) → ReachesUnstored code word to → (steps : ℕ) → to ≤ steps → reaches code word steps to ≡ true
@@ -122,7 +128,8 @@ module _ (code : List Insn) (word : ℕ) where
       of_found (slice_get code at) (λ insn. not (stores (op_of insn.code) insn word) && leads_to (op_of insn.code) insn at to) insn found
       (of_both (not (stores (op_of insn.code) insn word)) (leads_to (op_of insn.code) insn at to) (of_not (stores (op_of insn.code) insn word) keeps) (of_follows (op_of insn.code) insn at to follows)) in
       of_right (to == 0) (any_below to (λ at. reaches code word steps at && passes_to code word at to))
-      (any_here to (λ at. reaches code word steps at && passes_to code word at to) at later (of_both (reaches code word steps at) (passes_to code word at to) before step))
+      (any_here to (λ at. reaches code word steps at && passes_to code word at to) at later
+      (of_both (reaches code word steps at) (passes_to code word at to) before step))
 
 unstored_of : (code : List Insn) (at : ℕ) → is_unstored_load code at ≡ true → LoadsUnstored code at
 unstored_of code at e =
@@ -131,7 +138,8 @@ unstored_of code at e =
     let parts = both_of (is_scratch_load (op_of insn.code)) (reaches code insn.k at at) found.2 in
     record { insn = insn; found = found.1; loads = parts.0; reached = path_of code insn.k at at parts.1 }
 
-of_unstored : (code : List Insn) (at : ℕ) (insn : Insn) → slice_get code at ≡ Some insn → is_scratch_load (op_of insn.code) ≡ true → ReachesUnstored code insn.k at → is_unstored_load code at ≡ true
+of_unstored : (code : List Insn) (at : ℕ) (insn : Insn) → slice_get code at ≡ Some insn → is_scratch_load (op_of insn.code) ≡ true
+    → ReachesUnstored code insn.k at → is_unstored_load code at ≡ true
 of_unstored code at insn found loads path =
     of_found (slice_get code at) (λ insn. is_scratch_load (op_of insn.code) && reaches code insn.k at at) insn found
     (of_both (is_scratch_load (op_of insn.code)) (reaches code insn.k at at) loads (of_path code insn.k at path at (omega arith)))
@@ -158,7 +166,8 @@ accepted_of code e =
       fine = fine_of code front.1;
       ends = back.0;
       stored = λ at insn found loads path. no_both (any_below (length code) (is_unstored_load code))
-          (any_here (length code) (is_unstored_load code) at (slice_get_within code at insn found) (of_unstored code at insn found loads path))
+          (any_here (length code) (is_unstored_load code) at (slice_get_within code at insn found)
+          (of_unstored code at insn found loads path))
           (not_of (any_below (length code) (is_unstored_load code)) back.1);
     }
 
@@ -172,7 +181,8 @@ of_accepted : (code : List Insn) → IsAccepted code → is_accepted code ≡ tr
 of_accepted code a =
     of_both (nat_le (length code) 4096 && are_fine code) (ends_in_return code && not (any_below (length code) (is_unstored_load code)))
     (of_both (nat_le (length code) 4096) (are_fine code) (le-leb (length code) 4096 a.short) (of_fine code a.fine))
-    (of_both (ends_in_return code) (not (any_below (length code) (is_unstored_load code))) a.ends (of_none (any_below (length code) (is_unstored_load code)) (none_unstored code a.stored)))
+    (of_both (ends_in_return code) (not (any_below (length code) (is_unstored_load code))) a.ends
+    (of_none (any_below (length code) (is_unstored_load code)) (none_unstored code a.stored)))
 
 -- bytes that are a program give it
 pub program_of-accepts : (bytes : List ℕ) (program : List Insn) → Accepts bytes program → program_of bytes ≡ Some program
@@ -181,11 +191,13 @@ program_of-accepts bytes program a =
     of_both (length bytes % 8 == 0) (is_accepted (insns_of bytes)) (of_same (length bytes % 8) 0 a.whole) (of_accepted (insns_of bytes) (subst IsAccepted a.insns a.accepted)) in
     ap (λ b. cond b (Some (insns_of bytes)) None) test ∙ ap Some (sym a.insns)
 
-by_test : (bytes : List ℕ) (b : Bool) → (length bytes % 8 == 0 && is_accepted (insns_of bytes)) ≡ b → ((program : List Insn) → Accepts bytes program → ⊥) → cond b (Some (insns_of bytes)) None ≡ None
+by_test : (bytes : List ℕ) (b : Bool) → (length bytes % 8 == 0 && is_accepted (insns_of bytes)) ≡ b
+    → ((program : List Insn) → Accepts bytes program → ⊥) → cond b (Some (insns_of bytes)) None ≡ None
 by_test bytes false e h = refl
 by_test bytes true e h =
     let parts = both_of (length bytes % 8 == 0) (is_accepted (insns_of bytes)) e in
-    absurd (h (insns_of bytes) (record { whole = eqb-true (length bytes % 8) 0 parts.0; insns = refl; accepted = accepted_of (insns_of bytes) parts.1 }))
+    absurd (h (insns_of bytes)
+    (record { whole = eqb-true (length bytes % 8) 0 parts.0; insns = refl; accepted = accepted_of (insns_of bytes) parts.1 }))
 
 -- others give none
 pub program_of-none : (bytes : List ℕ) → ((program : List Insn) → Accepts bytes program → ⊥) → program_of bytes ≡ None

@@ -1,5 +1,6 @@
 -- Each answer of the reader is the only one.
-use Rattle.std.proofs.Common.{◌≡◌, ℕ, ◌+◌, ◌-◌, ◌*◌, ◌/◌, ◌%◌, ◌<◌, ◌≤◌, true, false, List, [], ◌∷◌, length, Some, None, Ok, Err, refl, sym, ap, ◌∙◌, subst, arith, inl, inr}
+use Rattle.std.proofs.Common.{◌≡◌, ℕ, ◌+◌, ◌-◌, ◌*◌, ◌/◌, ◌%◌, ◌<◌, ◌≤◌, true, false, List, [], ◌∷◌, length, Some, None, Ok, Err, refl, sym}
+use Rattle.std.proofs.Common.{ap, ◌∙◌, subst, arith, inl, inr}
 use Rattle.std.specs.Prelude.{◌⊎◌, slice_get, Option, Result, IfErr, IsErrAnd, MatchOption, MatchResult}
 use Rattle.std.proofs.lemmas.Bool.{cases_lt}
 use Rattle.std.proofs.lemmas.Option.{slice_get_within}
@@ -8,7 +9,8 @@ use Rattle.bpf_code.specs.declared.program.Fault.{Fault}
 use Rattle.bpf_code.specs.declared.program.ProgramError.{ProgramError}
 use Rattle.bpf_code.specs.declared.program.ProgramError.TheVariants as error
 use Rattle.bpf_code.specs.Accepted.{AreFine, fault_of, IsFirstFault, ends_in_return, NoUnstored, IsFirstUnstored, IsAccepted}
-use Rattle.bpf_code.specs.Reading.{insns_of, IsCode, Accepts, refusal_of, RefusesCode, Refuses, faulty, no_return, unstored, not_whole, empty, too_long, for_code}
+use Rattle.bpf_code.specs.Reading.{insns_of, IsCode, Accepts, refusal_of, RefusesCode, Refuses, faulty, no_return, unstored, not_whole}
+use Rattle.bpf_code.specs.Reading.{empty, too_long, for_code}
 use Rattle.bpf_code.specs.ProgramOf.{program_of}
 use Rattle.bpf_code.proofs.Computed.{program_of-none}
 use Rattle.bpf_code.proofs.Chunks.{length-insns_of}
@@ -28,10 +30,12 @@ clash a e = cc
 same_fault : (a b : Fault) → Some a ≡ Some b → a ≡ b
 same_fault a b e = cc
 
-not_later : (code : List Insn) (at later : ℕ) (fault other : Fault) → IsFirstFault code at fault → IsFirstFault code later other → at < later → ⊥
+not_later : (code : List Insn) (at later : ℕ) (fault other : Fault) → IsFirstFault code at fault → IsFirstFault code later other
+    → at < later → ⊥
 not_later code at later fault other h k lt = clash fault (sym (k.fine_before at h.insn lt h.found) ∙ h.faulty)
 
-one_fault : (code : List Insn) (at place : ℕ) (fault other : Fault) → IsFirstFault code at fault → IsFirstFault code place other → refusal_of fault at ≡ refusal_of other place
+one_fault : (code : List Insn) (at place : ℕ) (fault other : Fault) → IsFirstFault code at fault → IsFirstFault code place other
+    → refusal_of fault at ≡ refusal_of other place
 one_fault code at place fault other h k =
     let same : at ≡ place = first_place at place (not_later code at place fault other h k) (not_later code place at other fault k h) in
     let insn : h.insn ≡ k.insn = same_some h.insn k.insn (sym h.found ∙ ap (slice_get code) same ∙ k.found) in
@@ -123,21 +127,24 @@ abbrev failed : ProgramError → Answer
 failed e = Err e
 
 -- a refusal, where it is not want of memory, is the only answer
-pub refusal_alone : (bytes : List ℕ) (e : ProgramError) → (¬ (e ≡ error.Memory) → Refuses bytes e) → (other : ProgramError) → Refuses bytes other → (failed e ≡ failed other) ⊎ (failed e ≡ failed error.Memory)
+pub refusal_alone : (bytes : List ℕ) (e : ProgramError) → (¬ (e ≡ error.Memory) → Refuses bytes e) → (other : ProgramError)
+    → Refuses bytes other → (failed e ≡ failed other) ⊎ (failed e ≡ failed error.Memory)
 refusal_alone bytes e h other k =
     elim (memory_or_not e) [
       | inl memory ↦ inr (ap failed memory)
       | inr not ↦ inl (ap failed (refused_once bytes e other (h not) k))
     ]
 
-pub refusal_excludes : (bytes : List ℕ) (e : ProgramError) → (¬ (e ≡ error.Memory) → Refuses bytes e) → (program : List Insn) → Accepts bytes program → (failed e ≡ Ok program) ⊎ (failed e ≡ failed error.Memory)
+pub refusal_excludes : (bytes : List ℕ) (e : ProgramError) → (¬ (e ≡ error.Memory) → Refuses bytes e) → (program : List Insn)
+    → Accepts bytes program → (failed e ≡ Ok program) ⊎ (failed e ≡ failed error.Memory)
 refusal_excludes bytes e h program a =
     elim (memory_or_not e) [
       | inl memory ↦ inr (ap failed memory)
       | inr not ↦ absurd (accepted_unrefused bytes program e a (h not))
     ]
 
-pub program_excludes : (bytes : List ℕ) (program : List Insn) → Accepts bytes program → (other : ProgramError) → Refuses bytes other → ◌≡◌ {A = Answer} (Ok program) (Err other) ⊎ (◌≡◌ {A = Answer} (Ok program) (failed error.Memory))
+pub program_excludes : (bytes : List ℕ) (program : List Insn) → Accepts bytes program → (other : ProgramError) → Refuses bytes other
+    → ◌≡◌ {A = Answer} (Ok program) (Err other) ⊎ (◌≡◌ {A = Answer} (Ok program) (failed error.Memory))
 program_excludes bytes program a other k = absurd (accepted_unrefused bytes program other a k)
 
 -- an error that was handed on
@@ -145,17 +152,25 @@ handed_on : (answer : Answer) (e : ProgramError) → IsErrAnd answer (λ x. x �
 handed_on (Ok program) e h = absurd h
 handed_on (Err x) e h = ap failed h
 
-pub handed_refuses : (bytes : List ℕ) (answer : Answer) (e : ProgramError) → IsErrAnd answer (λ x. x ≡ e) → (¬ (e ≡ error.Memory) → Refuses bytes e) → IfErr answer (λ x. ¬ (x ≡ error.Memory) → Refuses bytes x)
+pub handed_refuses : (bytes : List ℕ) (answer : Answer) (e : ProgramError) → IsErrAnd answer (λ x. x ≡ e)
+    → (¬ (e ≡ error.Memory) → Refuses bytes e) → IfErr answer (λ x. ¬ (x ≡ error.Memory) → Refuses bytes x)
 handed_refuses bytes answer e is h = subst (λ r. IfErr r (λ x. ¬ (x ≡ error.Memory) → Refuses bytes x)) (sym (handed_on answer e is)) h
 
-pub handed_alone : (bytes : List ℕ) (answer : Answer) (e : ProgramError) → IsErrAnd answer (λ x. x ≡ e) → (¬ (e ≡ error.Memory) → Refuses bytes e) → (other : ProgramError) → Refuses bytes other → (answer ≡ failed other) ⊎ (answer ≡ failed error.Memory)
-handed_alone bytes answer e is h other k = subst (λ r. (r ≡ failed other) ⊎ (r ≡ failed error.Memory)) (sym (handed_on answer e is)) (refusal_alone bytes e h other k)
+pub handed_alone : (bytes : List ℕ) (answer : Answer) (e : ProgramError) → IsErrAnd answer (λ x. x ≡ e)
+    → (¬ (e ≡ error.Memory) → Refuses bytes e) → (other : ProgramError) → Refuses bytes other
+    → (answer ≡ failed other) ⊎ (answer ≡ failed error.Memory)
+handed_alone bytes answer e is h other k = subst (λ r. (r ≡ failed other) ⊎ (r ≡ failed error.Memory)) (sym (handed_on answer e is))
+    (refusal_alone bytes e h other k)
 
-pub handed_excludes : (bytes : List ℕ) (answer : Answer) (e : ProgramError) → IsErrAnd answer (λ x. x ≡ e) → (¬ (e ≡ error.Memory) → Refuses bytes e) → (program : List Insn) → Accepts bytes program → (answer ≡ Ok program) ⊎ (answer ≡ failed error.Memory)
-handed_excludes bytes answer e is h program a = subst (λ r. (r ≡ Ok program) ⊎ (r ≡ failed error.Memory)) (sym (handed_on answer e is)) (refusal_excludes bytes e h program a)
+pub handed_excludes : (bytes : List ℕ) (answer : Answer) (e : ProgramError) → IsErrAnd answer (λ x. x ≡ e)
+    → (¬ (e ≡ error.Memory) → Refuses bytes e) → (program : List Insn) → Accepts bytes program
+    → (answer ≡ Ok program) ⊎ (answer ≡ failed error.Memory)
+handed_excludes bytes answer e is h program a = subst (λ r. (r ≡ Ok program) ⊎ (r ≡ failed error.Memory)) (sym (handed_on answer e is))
+    (refusal_excludes bytes e h program a)
 
 -- the refusals of instructions are those of the bytes that they are read from
-pub for_insns : (bytes : List ℕ) (insns : List Insn) (e : ProgramError) → IsCode bytes → insns ≡ insns_of bytes → (¬ (e ≡ error.Memory) → RefusesCode insns e) → ¬ (e ≡ error.Memory) → Refuses bytes e
+pub for_insns : (bytes : List ℕ) (insns : List Insn) (e : ProgramError) → IsCode bytes → insns ≡ insns_of bytes
+    → (¬ (e ≡ error.Memory) → RefusesCode insns e) → ¬ (e ≡ error.Memory) → Refuses bytes e
 for_insns bytes insns e code is h not = for_code e code (subst (λ l. RefusesCode l e) is (h not))
 
 pub few_insns : (bytes : List ℕ) (insns : List Insn) → IsCode bytes → insns ≡ insns_of bytes → length insns ≤ 4096
@@ -167,14 +182,20 @@ few_insns bytes insns code is =
 pub unstored_within : (code : List Insn) (at : ℕ) → IsFirstUnstored code at → at < length code
 unstored_within code at h = slice_get_within code at h.unstored.insn h.unstored.found
 
-pub unstored_at : (code : List Insn) (o : Option ℕ) (at : ℕ) → o ≡ Some at → MatchOption o (NoUnstored code) (IsFirstUnstored code) → IsFirstUnstored code at
+pub unstored_at : (code : List Insn) (o : Option ℕ) (at : ℕ) → o ≡ Some at → MatchOption o (NoUnstored code) (IsFirstUnstored code)
+    → IsFirstUnstored code at
 unstored_at code o at e h = subst (λ p. MatchOption p (NoUnstored code) (IsFirstUnstored code)) e h
 
-pub is_program : (bytes : List ℕ) (insns program : List Insn) → IsCode bytes → insns ≡ program → program ≡ insns_of bytes → IsAccepted insns → Accepts bytes program
+pub is_program : (bytes : List ℕ) (insns program : List Insn) → IsCode bytes → insns ≡ program → program ≡ insns_of bytes
+    → IsAccepted insns → Accepts bytes program
 is_program bytes insns program code same is accepted = record { whole = code.whole; insns = is; accepted = subst IsAccepted same accepted }
 
 pub refused_none : (bytes : List ℕ) (e : ProgramError) → Refuses bytes e → program_of bytes ≡ None
 refused_none bytes e h = program_of-none bytes (λ program a. accepted_unrefused bytes program e a h)
 
-pub handed_none : (bytes : List ℕ) (answer : Answer) (e : ProgramError) → IsErrAnd answer (λ x. x ≡ e) → (¬ (e ≡ error.Memory) → Refuses bytes e) → MatchResult answer (λ program. program_of bytes ≡ Some program) (λ x. ¬ (x ≡ error.Memory) → program_of bytes ≡ None)
-handed_none bytes answer e is h = subst (λ r. MatchResult r (λ program. program_of bytes ≡ Some program) (λ x. ¬ (x ≡ error.Memory) → program_of bytes ≡ None)) (sym (handed_on answer e is)) (λ not. refused_none bytes e (h not))
+pub handed_none : (bytes : List ℕ) (answer : Answer) (e : ProgramError) → IsErrAnd answer (λ x. x ≡ e)
+    → (¬ (e ≡ error.Memory) → Refuses bytes e) → MatchResult answer (λ program. program_of bytes ≡ Some program)
+    (λ x. ¬ (x ≡ error.Memory) → program_of bytes ≡ None)
+handed_none bytes answer e is h =
+    subst (λ r. MatchResult r (λ program. program_of bytes ≡ Some program) (λ x. ¬ (x ≡ error.Memory) → program_of bytes ≡ None))
+    (sym (handed_on answer e is)) (λ not. refused_none bytes e (h not))

@@ -17,10 +17,12 @@ high_half (x ∷ xs) (suc i) zero e lt = absurd (omega arith)
 high_half (x ∷ xs) (suc i) (suc zero) e lt = absurd (omega arith)
 high_half (x ∷ xs) (suc i) (suc (suc j)) e lt = high_half xs i j (omega arith) (omega arith)
 
-word_by : (args : List ℕ) (at : ℕ) (r : ℕ) → at % 2 ≡ r → at < 2 * length args → cond (eqb r 1) (get_or args (at / 2) 0 / 2 ^ 32) (get_or args (at / 2) 0 % 2 ^ 32) ≡ get_or (flat_map halves args) at 0
+word_by : (args : List ℕ) (at : ℕ) (r : ℕ) → at % 2 ≡ r → at < 2 * length args
+    → cond (eqb r 1) (get_or args (at / 2) 0 / 2 ^ 32) (get_or args (at / 2) 0 % 2 ^ 32) ≡ get_or (flat_map halves args) at 0
 word_by args at zero e lt = sym (low_half args (at / 2) at (omega arith) (omega arith))
 word_by args at (suc zero) e lt = sym (high_half args (at / 2) at (omega arith) (omega arith))
 word_by args at (suc (suc r)) e lt = absurd (omega arith)
 
-pub word_of_arguments : (args : List ℕ) (at : ℕ) → at < 2 * length args → cond (eqb (at % 2) 1) (get_or args (at / 2) 0 / 2 ^ 32) (get_or args (at / 2) 0 % 2 ^ 32) ≡ get_or (flat_map halves args) at 0
+pub word_of_arguments : (args : List ℕ) (at : ℕ) → at < 2 * length args
+    → cond (eqb (at % 2) 1) (get_or args (at / 2) 0 / 2 ^ 32) (get_or args (at / 2) 0 % 2 ^ 32) ≡ get_or (flat_map halves args) at 0
 word_of_arguments args at lt = word_by args at (at % 2) refl lt

@@ -1,5 +1,6 @@
 -- Which programs are accepted: the checks of seccomp(2), as its program is read.
-use Rattle.std.specs.Prelude.{◌≡◌, ℕ, ◌+◌, ◌-◌, ◌%◌, ◌==◌, ◌<◌, ◌≤◌, nat_lt, ◌&&◌, Bool, true, false, if◌then◌else◌, ◌⊎◌, List, [], ◌∷◌, length, slice_get, Option, Some, None}
+use Rattle.std.specs.Prelude.{◌≡◌, ℕ, ◌+◌, ◌-◌, ◌%◌, ◌==◌, ◌<◌, ◌≤◌, nat_lt, ◌&&◌, Bool, true, false, if◌then◌else◌, ◌⊎◌, List, [], ◌∷◌}
+use Rattle.std.specs.Prelude.{length, slice_get, Option, Some, None}
 use Rattle.linux_numbers.specs.Limits.{bpf_maxinsns}
 use Rattle.bpf_code.specs.declared.machine.Insn.{Insn}
 use Rattle.bpf_code.specs.declared.program.Fault.{Fault}
@@ -51,7 +52,8 @@ pub record IsFirstFault (code : List Insn) (at : ℕ) (fault : Fault) : Type 0 w
   pub insn : Insn
   pub found : slice_get code at ≡ Some insn
   pub faulty : fault_of insn (length code - (at + 1)) ≡ Some fault
-  pub fine_before : (before : ℕ) (other : Insn) → before < at → slice_get code before ≡ Some other → fault_of other (length code - (before + 1)) ≡ None
+  pub fine_before : (before : ℕ) (other : Insn) → before < at → slice_get code before ≡ Some other
+      → fault_of other (length code - (before + 1)) ≡ None
 
 abbrev pub is_return : Option Op → Bool
 is_return (Some (Return source)) = true
@@ -78,7 +80,8 @@ stores op insn word = false
 -- some path from the first instruction leads to this place and does not store the word before
 pub data ReachesUnstored (code : List Insn) (word : ℕ) : ℕ → Type 0 where
   at_start : ReachesUnstored code word 0
-  goes : (at to : ℕ) (insn : Insn) → ReachesUnstored code word at → slice_get code at ≡ Some insn → stores (op_of insn.code) insn word ≡ false → Follows (op_of insn.code) insn at to → ReachesUnstored code word to
+  goes : (at to : ℕ) (insn : Insn) → ReachesUnstored code word at → slice_get code at ≡ Some insn
+      → stores (op_of insn.code) insn word ≡ false → Follows (op_of insn.code) insn at to → ReachesUnstored code word to
 
 abbrev pub is_scratch_load : Option Op → Bool
 is_scratch_load (Some (LoadScratch r)) = true
@@ -86,7 +89,8 @@ is_scratch_load op = false
 
 -- no path reaches a load of a scratch word that it does not store before
 abbrev pub NoUnstored : List Insn → Type 0
-NoUnstored code = (at : ℕ) (insn : Insn) → slice_get code at ≡ Some insn → is_scratch_load (op_of insn.code) ≡ true → ReachesUnstored code insn.k at → ⊥
+NoUnstored code = (at : ℕ) (insn : Insn) → slice_get code at ≡ Some insn → is_scratch_load (op_of insn.code) ≡ true
+    → ReachesUnstored code insn.k at → ⊥
 
 -- some path reaches the load at this place, and does not store its word before
 pub record LoadsUnstored (code : List Insn) (at : ℕ) : Type 0 where

@@ -1,12 +1,15 @@
--- What each instruction does to the registers, and where it leads: the instruction table of classic BPF (seccomp(2), bpf_insn in <linux/filter.h>).
-use Rattle.std.specs.Prelude.{ℕ, ◌+◌, ◌-◌, ◌*◌, ◌/◌, ◌%◌, ◌^◌, ◌<◌, ◌==◌, nat_lt, nat_le, Bool, not, if◌then◌else◌, List, [], ◌∷◌, ◌++◌, flat_map, slice_index, slice_set, bit_and, bit_or, bit_xor, Option, Some, None}
+-- What each instruction does to the registers, and where it leads: the instruction table of classic BPF (seccomp(2), bpf_insn in
+-- <linux/filter.h>).
+use Rattle.std.specs.Prelude.{ℕ, ◌+◌, ◌-◌, ◌*◌, ◌/◌, ◌%◌, ◌^◌, ◌<◌, ◌==◌, nat_lt, nat_le, Bool, not, if◌then◌else◌, List, [], ◌∷◌, ◌++◌}
+use Rattle.std.specs.Prelude.{flat_map, slice_index, slice_set, bit_and, bit_or, bit_xor, Option, Some, None}
 use Rattle.bpf_code.specs.declared.machine.Insn.{Insn}
 use Rattle.bpf_code.specs.declared.machine.CallData.{CallData}
 use Rattle.bpf_code.specs.declared.machine.Regs.{Regs}
 use Rattle.bpf_code.specs.declared.machine.Effect.{Effect}
 use Rattle.bpf_code.specs.declared.machine.Effect.TheVariants.{End, Skip}
 use Rattle.bpf_code.specs.declared.ops.Op.{Op}
-use Rattle.bpf_code.specs.declared.ops.Op.TheVariants.{LoadWord, LoadLen, LoadNumber, LoadScratch, Store, Alu, Neg, MoveToX, MoveToA, Jump, JumpIf, Return}
+use Rattle.bpf_code.specs.declared.ops.Op.TheVariants.{LoadWord, LoadLen, LoadNumber, LoadScratch, Store, Alu, Neg, MoveToX, MoveToA, Jump}
+use Rattle.bpf_code.specs.declared.ops.Op.TheVariants.{JumpIf, Return}
 use Rattle.bpf_code.specs.declared.ops.Reg.{Reg}
 use Rattle.bpf_code.specs.declared.ops.Reg.TheVariants as reg
 use Rattle.bpf_code.specs.declared.ops.AluOp.{AluOp}

@@ -11,8 +11,11 @@ use Rattle.bpf_code.specs.Effects.{effect_by}
 -- Started at the instruction at this place with these registers, the program ends with this result after so many
 -- instructions: the instruction there ends it, or it goes on, and ends from the place that the instruction leads to.
 pub data Ends (code : List Insn) (input : CallData) : ℕ → Regs → ℕ → ℕ → Type 0 where
-  stops : (at : ℕ) (regs after : Regs) (insn : Insn) (result : ℕ) → slice_get code at ≡ Some insn → effect_by (op_of insn.code) insn regs input ≡ Some (End result, after) → Ends code input at regs result 1
-  continues : (at skip : ℕ) (regs after : Regs) (insn : Insn) (result count : ℕ) → slice_get code at ≡ Some insn → effect_by (op_of insn.code) insn regs input ≡ Some (Skip skip, after) → Ends code input (at + 1 + skip) after result count → Ends code input at regs result (count + 1)
+  stops : (at : ℕ) (regs after : Regs) (insn : Insn) (result : ℕ) → slice_get code at ≡ Some insn
+      → effect_by (op_of insn.code) insn regs input ≡ Some (End result, after) → Ends code input at regs result 1
+  continues : (at skip : ℕ) (regs after : Regs) (insn : Insn) (result count : ℕ) → slice_get code at ≡ Some insn
+      → effect_by (op_of insn.code) insn regs input ≡ Some (Skip skip, after) → Ends code input (at + 1 + skip) after result count
+      → Ends code input at regs result (count + 1)
 
 -- A, X and the sixteen scratch words are 0 at first
 abbrev pub start_regs : Regs

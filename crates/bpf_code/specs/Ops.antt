@@ -7,7 +7,8 @@ use Rattle.bpf_code.specs.declared.ops.AluOp.TheVariants as alu_op
 use Rattle.bpf_code.specs.declared.ops.Operand.TheVariants as operand
 use Rattle.bpf_code.specs.declared.ops.Test.TheVariants as test
 use Rattle.bpf_code.specs.declared.ops.Source.TheVariants as source
-use Rattle.bpf_code.specs.Codes.{ld, ldx, st, stx, alu, jmp, ret, misc, w, imm, abs, mem, len, add, sub, mul, div, or, and, lsh, rsh, neg, xor, ja, jeq, jgt, jge, jset, k, x, a, tax, txa}
+use Rattle.bpf_code.specs.Codes.{ld, ldx, st, stx, alu, jmp, ret, misc, w, imm, abs, mem, len, add, sub, mul, div, or, and, lsh, rsh, neg}
+use Rattle.bpf_code.specs.Codes.{xor, ja, jeq, jgt, jge, jset, k, x, a, tax, txa}
 
 abbrev pub op_of : ℕ → Option Op
 op_of code =

@@ -1,6 +1,7 @@
 -- The program that bytes are, as a function: the same acceptance, with tests in place of facts. A path leads forward
 -- only, so one to a place has at most as many steps as the place is high.
-use Rattle.std.specs.Prelude.{ℕ, zero, suc, ◌+◌, ◌%◌, ◌==◌, nat_le, ◌&&◌, ◌||◌, not, Bool, true, false, if◌then◌else◌, List, [], ◌∷◌, length, slice_get, Option, Some, None}
+use Rattle.std.specs.Prelude.{ℕ, zero, suc, ◌+◌, ◌%◌, ◌==◌, nat_le, ◌&&◌, ◌||◌, not, Bool, true, false, if◌then◌else◌, List, [], ◌∷◌}
+use Rattle.std.specs.Prelude.{length, slice_get, Option, Some, None}
 use Rattle.std.specs.Option.{option_map_or, is_none}
 use Rattle.linux_numbers.specs.Limits.{bpf_maxinsns}
 use Rattle.bpf_code.specs.declared.machine.Insn.{Insn}
@@ -22,7 +23,8 @@ leads_to op insn at to = to == at + 1
 
 -- the instruction at a place leads to another and does not store the word
 abbrev pub passes_to : List Insn → ℕ → ℕ → ℕ → Bool
-passes_to code word at to = option_map_or (λ insn. not (stores (op_of insn.code) insn word) && leads_to (op_of insn.code) insn at to) (slice_get code at) false
+passes_to code word at to = option_map_or (λ insn. not (stores (op_of insn.code) insn word) && leads_to (op_of insn.code) insn at to)
+    (slice_get code at) false
 
 -- some path of at most so many steps leads to this place and does not store the word before
 abbrev pub reaches : List Insn → ℕ → ℕ → ℕ → Bool
@@ -37,7 +39,8 @@ are_fine [] = true
 are_fine (insn ∷ code) = is_none (fault_of insn (length code)) && are_fine code
 
 abbrev pub is_accepted : List Insn → Bool
-is_accepted code = (nat_le (length code) bpf_maxinsns && are_fine code) && (ends_in_return code && not (any_below (length code) (is_unstored_load code)))
+is_accepted code = (nat_le (length code) bpf_maxinsns && are_fine code) &&
+    (ends_in_return code && not (any_below (length code) (is_unstored_load code)))
 
 -- the program that the bytes are, where they are one
 abbrev pub program_of : List ℕ → Option (List Insn)

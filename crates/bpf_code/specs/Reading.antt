@@ -1,5 +1,6 @@
 -- Which bytes are a program, and why others are refused.
-use Rattle.std.specs.Prelude.{◌≡◌, ℕ, ◌*◌, ◌/◌, ◌%◌, ◌^◌, ◌<◌, ◌≤◌, ◌⊎◌, true, false, List, [], ◌∷◌, ◌++◌, map, flat_map, length, slice_index, Result, Err}
+use Rattle.std.specs.Prelude.{◌≡◌, ℕ, ◌*◌, ◌/◌, ◌%◌, ◌^◌, ◌<◌, ◌≤◌, ◌⊎◌, true, false, List, [], ◌∷◌, ◌++◌, map, flat_map, length}
+use Rattle.std.specs.Prelude.{slice_index, Result, Err}
 use Rattle.std.specs.Int.{from_le_bytes, to_le_bytes, w16, w32}
 use Rattle.std.specs.Simd.{first_chunks}
 use Rattle.linux_numbers.specs.Limits.{bpf_maxinsns}

@@ -25,4 +25,5 @@ ArePlain (answer ∷ answers) = IsPlain answer × ArePlain answers
 
 -- what older programs refuse, by plain answers, stays refused whatever newer programs answer
 abbrev pub RefusalsStand : Type 0
-RefusalsStand = (older newer : List (List Insn)) (input : CallData) → ArePlain (answers_of older input) → ¬ (decision_on older input ≡ Pass) → ¬ (decision_on (older ++ newer) input ≡ Pass)
+RefusalsStand = (older newer : List (List Insn)) (input : CallData) → ArePlain (answers_of older input)
+    → ¬ (decision_on older input ≡ Pass) → ¬ (decision_on (older ++ newer) input ≡ Pass)

@@ -19,4 +19,5 @@ AcceptsByFunction = (bytes : List ℕ) (program : List Insn) → (program_of byt
 
 -- the decision of accepted programs is what they decide, and nothing else is
 abbrev pub DecidesByFunction : Type 0
-DecidesByFunction = (programs : List (List Insn)) (input : CallData) (decision : Decision) → AllByRecursion IsAccepted programs → (decision_on programs input ≡ decision) ↔ Decides programs input decision
+DecidesByFunction = (programs : List (List Insn)) (input : CallData) (decision : Decision) → AllByRecursion IsAccepted programs
+    → (decision_on programs input ≡ decision) ↔ Decides programs input decision

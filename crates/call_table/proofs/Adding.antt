@@ -1,5 +1,6 @@
 -- What one more line does to the lists of a table.
-use Rattle.std.proofs.Common.{◌≡◌, ◌≤◌, ℕ, Bool, false, List, [], ◌++◌, length, length-append, Option, None, Some, Result, Ok, Err, refl, sym, ap, subst, arith}
+use Rattle.std.proofs.Common.{◌≡◌, ◌≤◌, ℕ, Bool, false, List, [], ◌++◌, length, length-append, Option, None, Some, Result, Ok, Err, refl}
+use Rattle.std.proofs.Common.{sym, ap, subst, arith}
 use Rattle.std.specs.Prelude.{OnOk, IfSome, ◌==◌}
 use Rattle.std.specs.List.{All}
 use Rattle.std.specs.Str.{bytes_eq}
@@ -28,23 +29,28 @@ every_longer old new more tail e =
     omega (arith, ap length e)
 
 -- a call more of the native ABI, while there is no other, leaves the groups sound
-pub native_sound : (table : Table) (cause : Option CallsCause) (at : ℕ) (more new : List CallLine) (result : Result (Unit {0}) CallsError) → IsTable table → table.second ≡ None
+pub native_sound : (table : Table) (cause : Option CallsCause) (at : ℕ) (more new : List CallLine) (result : Result (Unit {0}) CallsError)
+    → IsTable table → table.second ≡ None
     → Steps cause at (table.calls ++ more) new result → OnOk result (AreLines most_calls new) → OnOk result (AreOf 0 new)
-    → OnOk result (IsTable (record { name = table.name; arch = table.arch; calls = new; families = table.families; groups = table.groups; second = table.second }))
+    → OnOk result (IsTable (record
+    { name = table.name; arch = table.arch; calls = new; families = table.families; groups = table.groups; second = table.second }))
 native_sound table cause at more new (Ok done) h alone steps sound own = record {
   calls = sound;
   native = own;
   no_abi = h.no_abi;
   families = h.families;
-  groups = groups_wider (length (every_call table)) (length (new ++ second_calls table.second)) table.groups (every_longer table.calls new more (second_calls table.second) steps.1) h.groups;
+  groups = groups_wider (length (every_call table)) (length (new ++ second_calls table.second)) table.groups
+      (every_longer table.calls new more (second_calls table.second) steps.1) h.groups;
   few_groups = h.few_groups;
   second = subst (λ (o : Option Abi). IfSome o (IsSecond (record { name = table.name; arch = table.arch; calls = new; families = table.families; groups = table.groups; second = table.second }))) (sym alone) tt;
 }
 native_sound table cause at more new (Err error) h alone steps sound own = tt
 
 -- and so does a call more of the second
-pub second_sound : (table : Table) (second : Abi) (cause : Option CallsCause) (at : ℕ) (more new : List CallLine) (result : Result (Unit {0}) CallsError) → IsTable table → table.second ≡ Some second
-    → Steps cause at (second.calls ++ more) new result → OnOk result (AreLines most_calls new) → OnOk result (All (HasCapAmong table.calls) new) → OnOk result (AreOf 1 new)
+pub second_sound : (table : Table) (second : Abi) (cause : Option CallsCause) (at : ℕ) (more new : List CallLine)
+    (result : Result (Unit {0}) CallsError) → IsTable table → table.second ≡ Some second
+    → Steps cause at (second.calls ++ more) new result → OnOk result (AreLines most_calls new)
+    → OnOk result (All (HasCapAmong table.calls) new) → OnOk result (AreOf 1 new)
     → OnOk result (IsTable (record { name = table.name; arch = table.arch; calls = table.calls; families = table.families; groups = table.groups; second = Some (record { name = second.name; arch = second.arch; calls = new }) }))
 second_sound table second cause at more new (Ok done) h is steps sound caps own =
     let old = subst (λ (o : Option Abi). IfSome o (IsSecond table)) is h.second in
@@ -53,7 +59,8 @@ second_sound table second cause at more new (Ok done) h is steps sound caps own 
       native = h.native;
       no_abi = h.no_abi;
       families = h.families;
-      groups = groups_wider (length (every_call table)) (length (table.calls ++ new)) table.groups (wider (ap (λ (o : Option Abi). length (table.calls ++ second_calls o)) is)) h.groups;
+      groups = groups_wider (length (every_call table)) (length (table.calls ++ new)) table.groups
+          (wider (ap (λ (o : Option Abi). length (table.calls ++ second_calls o)) is)) h.groups;
       few_groups = h.few_groups;
       second = record { calls = sound; own = own; other_name = old.other_name; other_arch = old.other_arch; same_caps = caps };
     }
@@ -67,7 +74,8 @@ second_sound table second cause at more new (Ok done) h is steps sound caps own 
 second_sound table second cause at more new (Err error) h is steps sound caps own = tt
 
 -- a second ABI without calls
-pub opens_sound : (table : Table) (name : List ℕ) (arch : ℕ) (calls : List CallLine) → calls ≡ [] → IsTable table → table.second ≡ None → bytes_eq name table.name ≡ false → arch == table.arch ≡ false
+pub opens_sound : (table : Table) (name : List ℕ) (arch : ℕ) (calls : List CallLine) → calls ≡ [] → IsTable table → table.second ≡ None
+    → bytes_eq name table.name ≡ false → arch == table.arch ≡ false
     → IsTable (record { name = table.name; arch = table.arch; calls = table.calls; families = table.families; groups = table.groups; second = Some (record { name = name; arch = arch; calls = calls }) })
 opens_sound table name arch calls none h alone other_name other_arch = subst (λ (lines : List CallLine). IsTable (record { name = table.name; arch = table.arch; calls = table.calls; families = table.families; groups = table.groups; second = Some (record { name = name; arch = arch; calls = lines }) })) (sym none)
     (record {
@@ -81,7 +89,9 @@ opens_sound table name arch calls none h alone other_name other_arch = subst (λ
     })
 
 -- before the first line
-pub begins : (two : Bool) (name : List ℕ) (arch : ℕ) (table : Table) → table ≡ record { name = name; arch = arch; calls = []; families = []; groups = []; second = None } → HasRead two (record { name = name; arch = arch }) [] table
+pub begins : (two : Bool) (name : List ℕ) (arch : ℕ) (table : Table)
+    → table ≡ record { name = name; arch = arch; calls = []; families = []; groups = []; second = None }
+    → HasRead two (record { name = name; arch = arch }) [] table
 begins two name arch table e = record {
   faultless = refl;
   read = e;

@@ -13,7 +13,8 @@ at_front [] back at h = absurd (omega arith)
 at_front (x ∷ front) back zero h = refl
 at_front (x ∷ front) back (suc at) h = at_front front back at (omega arith)
 
-at_back : {X : Type 0} (front back : List X) (at : ℕ) → length front ≤ at → slice_get (front ++ back) at ≡ slice_get back (at - length front)
+at_back : {X : Type 0} (front back : List X) (at : ℕ) → length front ≤ at
+    → slice_get (front ++ back) at ≡ slice_get back (at - length front)
 at_back [] back at h = let n : at ≡ at - 0 = omega arith in ap (slice_get back) n
 at_back (x ∷ front) back zero h = absurd (omega arith)
 at_back (x ∷ front) back (suc at) h = let n : at - length front ≡ suc at - suc (length front) = omega arith in at_back front back at (omega arith) ∙ ap (slice_get back) n
@@ -23,5 +24,7 @@ module _ (table : Table) where
   pub front_call : (at : ℕ) → at < length table.calls → slice_get (every_call table) at ≡ slice_get table.calls at
   front_call at h = at_front table.calls (second_calls table.second) at h
 
-  pub back_call : (at : ℕ) → length table.calls ≤ at → slice_get (every_call table) at ≡ slice_get (calls_in table 1) (at - length table.calls)
-  back_call at h = at_back table.calls (second_calls table.second) at h ∙ ap (λ lines. slice_get lines (at - length table.calls)) (second_are table.second)
+  pub back_call : (at : ℕ) → length table.calls ≤ at → slice_get (every_call table) at
+      ≡ slice_get (calls_in table 1) (at - length table.calls)
+  back_call at h = at_back table.calls (second_calls table.second) at h
+      ∙ ap (λ lines. slice_get lines (at - length table.calls)) (second_are table.second)

@@ -10,7 +10,8 @@ pub accepted : (wanted result : Result Table CallsError) → IsUnlessMemory resu
 accepted wanted (Ok table) h = h
 accepted wanted (Err error) h = tt
 
-pub refused : (wanted result : Result Table CallsError) → IsUnlessMemory result wanted → IfErr result (λ error. error ≢ Memory → wanted ≡ Err error)
+pub refused : (wanted result : Result Table CallsError) → IsUnlessMemory result wanted
+    → IfErr result (λ error. error ≢ Memory → wanted ≡ Err error)
 refused wanted (Ok table) h = tt
 refused wanted (Err NotText) h = λ other. h
 refused wanted (Err (AtLine number cause)) h = λ other. h

@@ -16,7 +16,8 @@ no_text bytes = by (is_text bytes)
     by true h = absurd (none-some bytes h)
     by false h = refl
 
-pub of_text : (bytes text : List ℕ) (lines : List Line) (result : Result Table CallsError) → Some text ≡ text_of bytes → lines ≡ lines_of text → IsUnlessMemory result (table_of_lines lines) → IsUnlessMemory result (table_of bytes)
+pub of_text : (bytes text : List ℕ) (lines : List Line) (result : Result Table CallsError) → Some text ≡ text_of bytes
+    → lines ≡ lines_of text → IsUnlessMemory result (table_of_lines lines) → IsUnlessMemory result (table_of bytes)
 unfolding table_of text_of
 of_text bytes text lines result told e h = by (is_text bytes) told
   where

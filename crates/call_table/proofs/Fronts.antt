@@ -14,6 +14,7 @@ none_behind (byte ∷ name) h =
     elim (eqb byte 64) as (λ v. eqb byte 64 ≡ v → cond v (Some name) None ≡ None)
     [ true ↦ λ e. absurd (h name (ap (λ b. b ∷ name) (same_number byte 64 e))) | false ↦ λ e. refl ] refl
 
-pub behind_known : (word : List ℕ) (r : Option (Bor (List ℕ))) → MatchOption r ((name : List ℕ) → word ≢ 64 ∷ name) (λ x. word ≡ 64 ∷ x.now) → option_map (λ x. x.now) r ≡ behind_at word
+pub behind_known : (word : List ℕ) (r : Option (Bor (List ℕ)))
+    → MatchOption r ((name : List ℕ) → word ≢ 64 ∷ name) (λ x. word ≡ 64 ∷ x.now) → option_map (λ x. x.now) r ≡ behind_at word
 behind_known word None h = sym (none_behind word h)
 behind_known word (Some x) h = sym (ap behind_at h)

@@ -23,13 +23,16 @@ no_plus : (digits : List ℕ) → list_all is_lower_hex digits ≡ true → get_
 no_plus [] h e = omega (arith, e)
 no_plus (byte ∷ digits) h e = (hex_digit byte (and_parts (is_lower_hex byte) (list_all is_lower_hex digits) h).0).1 e
 
-pub arch_read : {E : Type 0} (digits : List ℕ) (r : Result ℕ E) → ParsesUnsigned 32 16 digits r → length digits ≡ 8 → list_all is_lower_hex digits ≡ true → result_ok r ≡ Some (digits_value 16 digits)
+pub arch_read : {E : Type 0} (digits : List ℕ) (r : Result ℕ E) → ParsesUnsigned 32 16 digits r → length digits ≡ 8
+    → list_all is_lower_hex digits ≡ true → result_ok r ≡ Some (digits_value 16 digits)
 arch_read {E} digits r h eight lower =
-    by r (subst (λ (l : List ℕ). OkIff r (IsNumeral 16 l × (digits_value 16 l < 2 ^ 32)) (digits_value 16 l)) (without_leading_plus_none digits (no_plus digits lower)) h)
+    by r (subst (λ (l : List ℕ). OkIff r (IsNumeral 16 l × (digits_value 16 l < 2 ^ 32)) (digits_value 16 l))
+    (without_leading_plus_none digits (no_plus digits lower)) h)
   where
     fits : digits_value 16 digits < 2 ^ 32
     fits = let P : ℕ → Type 0 = λ n. digits_value 16 digits < 16 ^ n in subst P eight (digits_value-lt 16 digits (hex_digits digits lower))
 
-    by : (r : Result ℕ E) → OkIff r (IsNumeral 16 digits × (digits_value 16 digits < 2 ^ 32)) (digits_value 16 digits) → result_ok r ≡ Some (digits_value 16 digits)
+    by : (r : Result ℕ E) → OkIff r (IsNumeral 16 digits × (digits_value 16 digits < 2 ^ 32)) (digits_value 16 digits)
+        → result_ok r ≡ Some (digits_value 16 digits)
     by (Ok n) k = ap Some k.1
     by (Err e) k = absurd (k ((omega arith, hex_digits digits lower), fits))

@@ -16,7 +16,8 @@ is_distinct : List (List ℕ) → Bool
 is_distinct [] = true
 is_distinct (name ∷ names) = list_all (λ other. not (bytes_eq name other)) names && is_distinct names
 
-differ : (name : List ℕ) (names : List (List ℕ)) → list_all (λ other. not (bytes_eq name other)) names ≡ true → AllByRecursion (λ other. bytes_eq name other ≡ false) names
+differ : (name : List ℕ) (names : List (List ℕ)) → list_all (λ other. not (bytes_eq name other)) names ≡ true
+    → AllByRecursion (λ other. bytes_eq name other ≡ false) names
 differ name [] h = tt
 differ name (other ∷ names) h = (not-true _ (and_parts _ _ h).0, differ name names (and_parts _ _ h).1)
 
@@ -39,10 +40,13 @@ searched test line_of [] = refl
 searched test line_of (line ∷ lines) = by (searched test line_of lines) (test (line_of line).0)
   where
     by : lookup test (map line_of lines) ≡ option_map (λ l. (line_of l).1) (find (λ l. test (line_of l).0) lines) →
-        (b : Bool) → cond b (Some (line_of line).1) (lookup test (map line_of lines)) ≡ option_map (λ l. (line_of l).1) (cond b (Some line) (find (λ l. test (line_of l).0) lines))
+        (b : Bool) → cond b (Some (line_of line).1) (lookup test (map line_of lines))
+        ≡ option_map (λ l. (line_of l).1) (cond b (Some line) (find (λ l. test (line_of l).0) lines))
     by e true = refl
     by e false = e
 
-pub looked_up : {X Y : Type 0} (test : List ℕ → Bool) (line_of : X → List ℕ × Y) (lines : List X) (table : List (List ℕ × Y)) (line : Option X) → map line_of lines ≡ table → line ≡ find (λ l. test (line_of l).0) lines →
+pub looked_up : {X Y : Type 0} (test : List ℕ → Bool) (line_of : X → List ℕ × Y) (lines : List X) (table : List (List ℕ × Y))
+    (line : Option X) → map line_of lines ≡ table → line ≡ find (λ l. test (line_of l).0) lines →
     option_map (λ l. (line_of l).1) line ≡ lookup test table
-looked_up test line_of lines table line same found' = ap (option_map (λ l. (line_of l).1)) found' ∙ sym (searched test line_of lines) ∙ ap (lookup test) same
+looked_up test line_of lines table line same found' = ap (option_map (λ l. (line_of l).1)) found' ∙ sym (searched test line_of lines)
+    ∙ ap (lookup test) same

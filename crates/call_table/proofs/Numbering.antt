@@ -1,5 +1,6 @@
 -- Lines by their numbers.
-use Rattle.std.proofs.Common.{◌≡◌, ℕ, ◌+◌, ◌<◌, ◌≤◌, Bool, true, false, eqb, List, [], ◌∷◌, length, map, get_or, Some, refl, sym, ap, ◌∙◌, subst, arith}
+use Rattle.std.proofs.Common.{◌≡◌, ℕ, ◌+◌, ◌<◌, ◌≤◌, Bool, true, false, eqb, List, [], ◌∷◌, length, map, get_or, Some, refl, sym, ap, ◌∙◌}
+use Rattle.std.proofs.Common.{subst, arith}
 use Rattle.std.specs.List.{enumerate_from, IsDistinct}
 use Rattle.std.specs.List.Sorted.{IsPermutation, IsNonDecreasing, IsNonDecreasingBy}
 use Rattle.std.proofs.lemmas.Bool.{eqb-true}
@@ -23,7 +24,8 @@ numbers_of_pairs : (n : ℕ) (lines : List CallLine) → map number_of (map numb
 numbers_of_pairs n [] = refl
 numbers_of_pairs n (line ∷ lines) = ap (λ ns. line.number ∷ ns) (numbers_of_pairs (n + 1) lines)
 
-differ : (lines : List CallLine) → AreOnce lines → (i j d : ℕ) → i < j → j < length (map line_number lines) → eqb (get_or (map line_number lines) i d) (get_or (map line_number lines) j d) ≡ false
+differ : (lines : List CallLine) → AreOnce lines → (i j d : ℕ) → i < j → j < length (map line_number lines)
+    → eqb (get_or (map line_number lines) i d) (get_or (map line_number lines) j d) ≡ false
 differ [] once i j d lt h = absurd (omega arith)
 differ (first ∷ rest) once i j d lt h = by (eqb (get_or (map line_number lines) i d) (get_or (map line_number lines) j d)) refl
   where
@@ -44,7 +46,8 @@ differ (first ∷ rest) once i j d lt h = by (eqb (get_or (map line_number lines
         let equal : i ≡ j = cc in
         absurd (omega arith)
 
-pub ascends : (lines : List CallLine) (numbers : List Numbered) → AreOnce lines → IsPermutation (numbered_lines lines) numbers → IsNonDecreasingBy (λ numbered. numbered.number) numbers → AscendsByNumber lines numbers
+pub ascends : (lines : List CallLine) (numbers : List Numbered) → AreOnce lines → IsPermutation (numbered_lines lines) numbers
+    → IsNonDecreasingBy (λ numbered. numbered.number) numbers → AscendsByNumber lines numbers
 ascends lines numbers once moved up = record {
   each_once = moved;
   ascending = IsStrictlyIncreasing-from_distinct (map number_of numbers) rises apart;
@@ -61,7 +64,8 @@ ascends lines numbers once moved up = record {
         omega (arith, below, one, other)
 
     apart : IsDistinct eqb (map number_of numbers)
-    apart = IsDistinct-IsPermutation eqb (λ x y. flips x y) (map number_of (numbered_lines lines)) (map number_of numbers) (IsPermutation-map number_of (numbered_lines lines) numbers moved)
+    apart = IsDistinct-IsPermutation eqb (λ x y. flips x y) (map number_of (numbered_lines lines)) (map number_of numbers)
+        (IsPermutation-map number_of (numbered_lines lines) numbers moved)
         (subst (IsDistinct eqb) (sym (numbers_of_pairs 0 lines)) (IsDistinct-from_apart eqb (map line_number lines) (differ lines once)))
       where
         flips : (x y : ℕ) → eqb x y ≡ eqb y x

@@ -15,14 +15,17 @@ same_bytes xs = (bytes_eq-Decides xs xs).1 refl
 same_number : (n : ℕ) → n == n ≡ true
 same_number n = grind (arith, nat_tests)
 
-pub once_push : (lines : List CallLine) (line : CallLine) → AreOnce lines → list_any (has_name line.name) lines ≡ false → list_any (has_number line.number) lines ≡ false → AreOnce (lines ++ line ∷ [])
+pub once_push : (lines : List CallLine) (line : CallLine) → AreOnce lines → list_any (has_name line.name) lines ≡ false
+    → list_any (has_number line.number) lines ≡ false → AreOnce (lines ++ line ∷ [])
 once_push lines line once new_name new_number = record {
   by_name = λ at found e. ⊎_elim
       (λ there. place_stays (has_name found.name) lines (line ∷ []) at line (once.by_name at found there))
-      (λ here. subst (λ (l : CallLine). place_named l.name (lines ++ line ∷ []) ≡ Some at) here.1 (place_at_end (has_name line.name) lines line new_name (same_bytes line.name) ∙ ap Some (sym here.0)))
+      (λ here. subst (λ (l : CallLine). place_named l.name (lines ++ line ∷ []) ≡ Some at) here.1
+      (place_at_end (has_name line.name) lines line new_name (same_bytes line.name) ∙ ap Some (sym here.0)))
       (get_push_cases lines line found at e);
   by_number = λ at found e. ⊎_elim
       (λ there. place_stays (has_number found.number) lines (line ∷ []) at line (once.by_number at found there))
-      (λ here. subst (λ (l : CallLine). place_numbered l.number (lines ++ line ∷ []) ≡ Some at) here.1 (place_at_end (has_number line.number) lines line new_number (same_number line.number) ∙ ap Some (sym here.0)))
+      (λ here. subst (λ (l : CallLine). place_numbered l.number (lines ++ line ∷ []) ≡ Some at) here.1
+      (place_at_end (has_number line.number) lines line new_number (same_number line.number) ∙ ap Some (sym here.0)))
       (get_push_cases lines line found at e);
 }

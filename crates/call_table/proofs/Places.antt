@@ -1,5 +1,6 @@
 -- The first place of a list that passes a test.
-use Rattle.std.proofs.Common.{subst, ◌≡◌, ℕ, zero, suc, ◌+◌, ◌-◌, ◌<◌, ◌≤◌, Bool, true, false, cond, ltb, List, [], ◌∷◌, ◌++◌, length, get_or, Some, None, ◌⊎◌, ⊎_elim, inl, inr, refl, ap, ◌∙◌, arith, length-append}
+use Rattle.std.proofs.Common.{subst, ◌≡◌, ℕ, zero, suc, ◌+◌, ◌-◌, ◌<◌, ◌≤◌, Bool, true, false, cond, ltb, List, [], ◌∷◌, ◌++◌, length}
+use Rattle.std.proofs.Common.{get_or, Some, None, ◌⊎◌, ⊎_elim, inl, inr, refl, ap, ◌∙◌, arith, length-append}
 use Rattle.std.specs.Prelude.{◌||◌, find, slice_get}
 use Rattle.call_table.specs.declared.listed.CallLine.{CallLine}
 use Rattle.std.specs.List.{position, position_or_len, list_any, All}
@@ -10,13 +11,15 @@ use Rattle.std.proofs.lemmas.List.Sums.{position_or_len_is, fails_before_first}
 use Rattle.std.proofs.lemmas.List.Folds.{list_any_none, list_any-append}
 use Rattle.std.proofs.lemmas.List.Quantifiers.{position-Some}
 
-pub place_found : {X : Type 0} (p : X → Bool) (xs : List X) (i : ℕ) (d : X) → i < length xs → ((k : ℕ) → k < i → p (get_or xs k d) ≡ false) → p (get_or xs i d) ≡ true → position p xs ≡ Some i
+pub place_found : {X : Type 0} (p : X → Bool) (xs : List X) (i : ℕ) (d : X) → i < length xs
+    → ((k : ℕ) → k < i → p (get_or xs k d) ≡ false) → p (get_or xs i d) ≡ true → position p xs ≡ Some i
 place_found p xs i d h before here =
     let there = position_or_len_is p xs i d (omega arith) before (λ _. here) in
     let below : ltb i (length xs) ≡ true = grind (arith, nat_tests) in
     ap (λ n. cond (ltb n (length xs)) (Some n) None) there ∙ ap (λ b. cond b (Some i) None) below
 
-pub place_nowhere : {X : Type 0} (p : X → Bool) (xs : List X) (d : X) → ((k : ℕ) → k < length xs → p (get_or xs k d) ≡ false) → position p xs ≡ None
+pub place_nowhere : {X : Type 0} (p : X → Bool) (xs : List X) (d : X) → ((k : ℕ) → k < length xs → p (get_or xs k d) ≡ false)
+    → position p xs ≡ None
 place_nowhere p xs d none =
     let n = length xs in
     let there = position_or_len_is p xs n d (omega arith) none (λ h. absurd (omega arith)) in
@@ -26,7 +29,8 @@ place_nowhere p xs d none =
 pub place_is : {X : Type 0} (p : X → Bool) (xs : List X) (i : ℕ) → position p xs ≡ Some i → (position_or_len p xs ≡ i) × (i < length xs)
 place_is p xs i = by (ltb (position_or_len p xs) (length xs)) refl
   where
-    by : (b : Bool) → ltb (position_or_len p xs) (length xs) ≡ b → cond b (Some (position_or_len p xs)) None ≡ Some i → (position_or_len p xs ≡ i) × (i < length xs)
+    by : (b : Bool) → ltb (position_or_len p xs) (length xs) ≡ b → cond b (Some (position_or_len p xs)) None ≡ Some i
+        → (position_or_len p xs ≡ i) × (i < length xs)
     by true h e =
         let same : position_or_len p xs ≡ i = cc in
         let below : position_or_len p xs < length xs = grind (arith, nat_tests) in
@@ -36,7 +40,8 @@ place_is p xs i = by (ltb (position_or_len p xs) (length xs)) refl
 pub no_place : {X : Type 0} (p : X → Bool) (xs : List X) → position p xs ≡ None → length xs ≤ position_or_len p xs
 no_place p xs = by (ltb (position_or_len p xs) (length xs)) refl
   where
-    by : (b : Bool) → ltb (position_or_len p xs) (length xs) ≡ b → cond b (Some (position_or_len p xs)) None ≡ None → length xs ≤ position_or_len p xs
+    by : (b : Bool) → ltb (position_or_len p xs) (length xs) ≡ b → cond b (Some (position_or_len p xs)) None ≡ None
+        → length xs ≤ position_or_len p xs
     by true h e = cc
     by false h e = grind (arith, nat_tests)
 
@@ -72,15 +77,19 @@ place_stays p xs ys i d e =
     let at = position-Some p xs i d e in
     let long = length-append xs ys in
     let lt : i < length xs = at.0 in
-    place_found p (xs ++ ys) i d (omega (arith, long)) (λ k h. ap p (get_or_append_left xs ys d k (omega arith)) ∙ at.2 k h) (ap p (get_or_append_left xs ys d i lt) ∙ at.1)
+    place_found p (xs ++ ys) i d (omega (arith, long)) (λ k h. ap p (get_or_append_left xs ys d k (omega arith)) ∙ at.2 k h)
+    (ap p (get_or_append_left xs ys d i lt) ∙ at.1)
 
-pub place_at_end : {X : Type 0} (p : X → Bool) (xs : List X) (y : X) → list_any p xs ≡ false → p y ≡ true → position p (xs ++ y ∷ []) ≡ Some (length xs)
+pub place_at_end : {X : Type 0} (p : X → Bool) (xs : List X) (y : X) → list_any p xs ≡ false → p y ≡ true
+    → position p (xs ++ y ∷ []) ≡ Some (length xs)
 place_at_end p xs y none here =
     let long = length-append xs (y ∷ []) in
-    place_found p (xs ++ y ∷ []) (length xs) y (omega (arith, long)) (λ k h. ap p (get_or_append_left xs (y ∷ []) y k h) ∙ fails p xs k y none h) (ap p (get_or_push xs y y (length xs) refl) ∙ here)
+    place_found p (xs ++ y ∷ []) (length xs) y (omega (arith, long))
+    (λ k h. ap p (get_or_append_left xs (y ∷ []) y k h) ∙ fails p xs k y none h) (ap p (get_or_push xs y y (length xs) refl) ∙ here)
 
 -- a place further on, where none is before
-pub place_behind : {X : Type 0} (p : X → Bool) (xs ys : List X) (j : ℕ) (d : X) → position p xs ≡ None → position p ys ≡ Some j → position p (xs ++ ys) ≡ Some (length xs + j)
+pub place_behind : {X : Type 0} (p : X → Bool) (xs ys : List X) (j : ℕ) (d : X) → position p xs ≡ None → position p ys ≡ Some j
+    → position p (xs ++ ys) ≡ Some (length xs + j)
 place_behind p xs ys j d none e =
     let at = position-Some p ys j d e in
     let long = length-append xs ys in
@@ -96,12 +105,14 @@ place_behind p xs ys j d none e =
     behind : (k : ℕ) → length xs ≤ k → get_or (xs ++ ys) k d ≡ get_or ys (k - length xs) d
     behind k le = get_or-append_right xs ys (length xs) k d refl le
 
-pub place_nowhere_more : {X : Type 0} (p : X → Bool) (xs ys : List X) → position p xs ≡ None → position p ys ≡ None → position p (xs ++ ys) ≡ None
+pub place_nowhere_more : {X : Type 0} (p : X → Bool) (xs ys : List X) → position p xs ≡ None → position p ys ≡ None
+    → position p (xs ++ ys) ≡ None
 place_nowhere_more p xs ys none further =
     nowhere_any p (xs ++ ys) (list_any-append p xs ys ∙ ap (λ b. b || list_any p ys) (any_nowhere p xs none) ∙ any_nowhere p ys further)
 
 -- an element of a longer list
-pub get_push_cases : {X : Type 0} (xs : List X) (y z : X) (i : ℕ) → slice_get (xs ++ y ∷ []) i ≡ Some z → (slice_get xs i ≡ Some z) ⊎ ((i ≡ length xs) × (y ≡ z))
+pub get_push_cases : {X : Type 0} (xs : List X) (y z : X) (i : ℕ) → slice_get (xs ++ y ∷ []) i ≡ Some z
+    → (slice_get xs i ≡ Some z) ⊎ ((i ≡ length xs) × (y ≡ z))
 get_push_cases [] y z zero e = inr (refl, cc)
 get_push_cases [] y z (suc i) e = cc
 get_push_cases (x ∷ xs) y z zero e = inl e

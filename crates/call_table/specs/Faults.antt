@@ -1,5 +1,6 @@
 -- What may be wrong with a line behind the first abi line, by the table of the lines before it.
-use Rattle.std.specs.Prelude.{ℕ, ◌==◌, ◌&&◌, ◌||◌, not, nat_le, Bool, true, false, is_some, is_none, Option, Some, None, option_and_then, List, [], ◌∷◌, length, find, codes}
+use Rattle.std.specs.Prelude.{ℕ, ◌==◌, ◌&&◌, ◌||◌, not, nat_le, Bool, true, false, is_some, is_none, Option, Some, None, option_and_then}
+use Rattle.std.specs.Prelude.{List, [], ◌∷◌, length, find, codes}
 use Rattle.std.specs.List.{list_any, list_all}
 use Rattle.std.specs.Option.{option_map, option_map_or}
 use Rattle.std.specs.Str.{bytes_eq}
@@ -44,7 +45,8 @@ has_other_cap others name cap' = option_map_or (λ line. not (is_same_cap line.c
 
 -- an earlier line has the name, or the number
 abbrev pub is_listed : List CallLine → Entry → Bool
-is_listed lines entry = list_any (has_name entry.name) lines || option_map_or (λ number. list_any (has_number number) lines) (number_of entry.digits) false
+is_listed lines entry = list_any (has_name entry.name) lines || option_map_or (λ number. list_any (has_number number) lines)
+    (number_of entry.digits) false
 
 -- a call or a family, behind others of the kind; another ABI gives a call of the name the same capability
 unfoldable pub entry_fault : List CallLine → List CallLine → ℕ → Bool → Entry → Option CallsCause

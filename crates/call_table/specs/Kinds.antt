@@ -55,7 +55,9 @@ group_line words = malformed
 abbrev pub kind_by : List ℕ → List (List ℕ) → Kind
 kind_by word words =
     cond (bytes_eq word (codes "call")) (call_line (entry_of words))
-    (cond (bytes_eq word (codes "group")) (group_line words) (cond (bytes_eq word (codes "family")) (family_line (entry_of words)) (cond (bytes_eq word (codes "abi")) (abi_line words) malformed)))
+    (cond (bytes_eq word (codes "group")) (group_line words)
+    (cond (bytes_eq word (codes "family")) (family_line (entry_of words))
+    (cond (bytes_eq word (codes "abi")) (abi_line words) malformed)))
 
 -- the first word says what the line is
 abbrev pub kind_of : List (List ℕ) → Kind

@@ -8,7 +8,8 @@ use Rattle.call_table.specs.Numbers.{arch_of}
 use Rattle.call_table.specs.Names.{behind_at}
 use Rattle.call_table.specs.Lookups.{has_name, place_named, group_named}
 use Rattle.call_table.specs.Faults.{cause_of}
-use Rattle.call_table.specs.Reading.{line_kind, calls_of, native_lines, second_of, every_call_of, families_of, table_behind, is_version, launch_calls}
+use Rattle.call_table.specs.Reading.{line_kind, calls_of, native_lines, second_of, every_call_of, families_of, table_behind, is_version}
+use Rattle.call_table.specs.Reading.{launch_calls}
 use Rattle.call_table.specs.Table.{Table}
 use Rattle.call_table.specs.declared.listed.CallLine.{CallLine}
 use Rattle.call_table.specs.declared.listed.GroupLine.{GroupLine}
@@ -35,16 +36,20 @@ pub record IsGroup (calls : List CallLine) (groups : List GroupLine) (name : Lis
   pub called : made.name ≡ name
   pub ascending : IsStrictlyIncreasing made.members
   pub members : (position : ℕ) →
-      (Contains made.members position → (call : CallLine) × (word : List ℕ) × (slice_get calls position ≡ Some call) × Contains words word × StandsFor calls groups word position)
-      × ((call : CallLine) (word : List ℕ) → slice_get calls position ≡ Some call → Contains words word → StandsFor calls groups word position → Contains made.members position)
+      (Contains made.members position → (call : CallLine) × (word : List ℕ) ×
+      (slice_get calls position ≡ Some call) × Contains words word × StandsFor calls groups word position)
+      × ((call : CallLine) (word : List ℕ) → slice_get calls position ≡ Some call → Contains words word
+      → StandsFor calls groups word position → Contains made.members position)
 
 -- the groups of some lines: each group line gives one, by the lines before it
 pub data ReadsGroups : List Line → List GroupLine → Type 0 where
   no_line : ReadsGroups [] []
   other_line : (lines : List Line) (groups : List GroupLine) (line : Line) → ReadsGroups lines groups
       → ((name : List ℕ) (words : List (List ℕ)) → line_kind line ≡ group name words → ⊥) → ReadsGroups (lines ++ line ∷ []) groups
-  group_line : (lines : List Line) (groups : List GroupLine) (line : Line) (name : List ℕ) (words : List (List ℕ)) (made : GroupLine) → ReadsGroups lines groups
-      → line_kind line ≡ group name words → IsGroup (every_call_of lines) groups name words made → ReadsGroups (lines ++ line ∷ []) (groups ++ made ∷ [])
+  group_line : (lines : List Line) (groups : List GroupLine) (line : Line) (name : List ℕ) (words : List (List ℕ)) (made : GroupLine)
+      → ReadsGroups lines groups
+      → line_kind line ≡ group name words → IsGroup (every_call_of lines) groups name words made
+      → ReadsGroups (lines ++ line ∷ []) (groups ++ made ∷ [])
 
 -- the first abi line and the lines behind it, where two ABIs are announced by a line before them, or one is
 pub data BeginsWith (first : Line) (rest : List Line) : Bool → List Line → Type 0 where
@@ -66,5 +71,6 @@ pub record ReadsTable (bytes : List ℕ) (table : Table) : Type 0 where
   pub families : table.families ≡ families_of rest
   pub groups : ReadsGroups rest table.groups
   pub second : table.second ≡ second_of rest
-  pub faultless : (before : List Line) (line : Line) (after : List Line) → rest ≡ before ++ line ∷ after → cause_of two (table_behind (record { name = table.name; arch = table.arch }) before) (line_kind line) ≡ None
+  pub faultless : (before : List Line) (line : Line) (after : List Line) → rest ≡ before ++ line ∷ after
+      → cause_of two (table_behind (record { name = table.name; arch = table.arch }) before) (line_kind line) ≡ None
   pub launches : (name : List ℕ) → Contains launch_calls name → list_any (has_name name) table.calls ≡ true

@@ -1,12 +1,14 @@
 -- What a step of the reading answers.
-use Rattle.std.specs.Prelude.{◌≡◌, ℕ, ◌<◌, ◌≤◌, ◌||◌, Bool, true, false, Option, Some, None, is_some, IfSome, option_and_then, Result, Ok, Err, List, [], ◌∷◌, ◌++◌, length}
+use Rattle.std.specs.Prelude.{◌≡◌, ℕ, ◌<◌, ◌≤◌, ◌||◌, Bool, true, false, Option, Some, None, is_some, IfSome, option_and_then, Result, Ok}
+use Rattle.std.specs.Prelude.{Err, List, [], ◌∷◌, ◌++◌, length}
 use Rattle.std.specs.List.{cons_option, list_any}
 use Rattle.text_forms.specs.line_text.Lines.{Line}
 use Rattle.call_table.specs.Kinds.{Entry, Kind}
 use Rattle.call_table.specs.Numbers.{cap_of}
 use Rattle.call_table.specs.Lookups.{has_name, has_number, named}
 use Rattle.call_table.specs.Faults.{is_bad_cap, has_other_cap, entry_fault}
-use Rattle.call_table.specs.Reading.{Head, listed_as, call_of, family_of, group_of, opened_by, fault_of, table_behind, table_of_rest, table_from}
+use Rattle.call_table.specs.Reading.{Head, listed_as, call_of, family_of, group_of, opened_by, fault_of, table_behind, table_of_rest}
+use Rattle.call_table.specs.Reading.{table_from}
 use Rattle.call_table.specs.Facts.{IsTable}
 use Rattle.call_table.specs.Table.{Abi, Table, every_call}
 use Rattle.call_table.specs.Views.{made}
@@ -52,7 +54,8 @@ ChecksEntry others lines most without_cap entry (Err cause) = entry_fault others
 
 -- what a line writes as its capability
 abbrev pub ReadsCap : Option (List ℕ) → Result (Option ℕ) CallsCause → Type 0
-ReadsCap word (Ok found) = (is_bad_cap word ≡ false) × (found ≡ option_and_then cap_of word) × (is_some found ≡ is_some word) × IfSome found (λ number. number ≤ 40)
+ReadsCap word (Ok found) = (is_bad_cap word ≡ false) × (found ≡ option_and_then cap_of word) ×
+    (is_some found ≡ is_some word) × IfSome found (λ number. number ≤ 40)
 ReadsCap word (Err cause) = (is_bad_cap word ≡ true) × (cause ≡ Cap)
 
 -- a call line adds to the native ABI as long as there is no second, and else to the second
@@ -62,14 +65,17 @@ native_with (Some second) kind = None
 
 abbrev pub second_with : Option Abi → Kind → Option Abi
 second_with None kind = opened_by kind []
-second_with (Some second) kind = Some (record { name = second.name; arch = second.arch; calls = second.calls ++ cons_option (call_of 1 kind) [] })
+second_with (Some second) kind =
+    Some (record { name = second.name; arch = second.arch; calls = second.calls ++ cons_option (call_of 1 kind) [] })
 
 -- and what it writes for a call of this name, which another ABI does not contradict
 abbrev pub ChecksCap : List CallLine → List ℕ → Option (List ℕ) → Result (Option ℕ) CallsCause → Type 0
 ChecksCap others name word (Ok found) =
-    ((is_bad_cap word || has_other_cap others name (option_and_then cap_of word)) ≡ false) × (found ≡ option_and_then cap_of word) × (is_some found ≡ is_some word)
+    ((is_bad_cap word || has_other_cap others name (option_and_then cap_of word)) ≡ false) × (found ≡ option_and_then cap_of word) ×
+    (is_some found ≡ is_some word)
     × IfSome found (λ number. number ≤ 40) × IfSome (named name others) (λ other. other.cap ≡ found)
-ChecksCap others name word (Err cause) = ((is_bad_cap word || has_other_cap others name (option_and_then cap_of word)) ≡ true) × (cause ≡ Cap)
+ChecksCap others name word (Err cause) = ((is_bad_cap word || has_other_cap others name (option_and_then cap_of word)) ≡ true) ×
+    (cause ≡ Cap)
 
 -- a table with what a line adds
 abbrev pub with_kind : Table → Kind → Table
@@ -99,7 +105,8 @@ ReadsRest two head lines (Err (NoCall name)) = ⊥
 
 -- the first abi line gives the name and the architecture, or decides alone
 abbrev pub Opens : Line → Result (List ℕ × ℕ) CallsError → Type 0
-Opens line (Ok head) = (two : Bool) (lines : List Line) → table_from two (line ∷ lines) ≡ table_of_rest two (record { name = head.0; arch = head.1 }) lines
+Opens line (Ok head) = (two : Bool) (lines : List Line) → table_from two (line ∷ lines)
+    ≡ table_of_rest two (record { name = head.0; arch = head.1 }) lines
 Opens line (Err Memory) = Unit {0}
 Opens line (Err NotText) = ⊥
 Opens line (Err (AtLine number cause)) = (two : Bool) (lines : List Line) → table_from two (line ∷ lines) ≡ Err (AtLine number cause)

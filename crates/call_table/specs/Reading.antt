@@ -1,5 +1,6 @@
 -- The table of calls.txt, or the first refusal: by cases on each line and the lines before it.
-use Rattle.std.specs.Prelude.{ℕ, ◌&&◌, not, Bool, true, false, cond, Option, Some, None, option_and_then, unwrap_or, Result, Ok, Err, List, [], ◌∷◌, ◌++◌, codes, slice_get, find}
+use Rattle.std.specs.Prelude.{ℕ, ◌&&◌, not, Bool, true, false, cond, Option, Some, None, option_and_then, unwrap_or, Result, Ok, Err, List}
+use Rattle.std.specs.Prelude.{[], ◌∷◌, ◌++◌, codes, slice_get, find}
 use Rattle.std.specs.List.{filter_map, list_any, cons_option}
 use Rattle.std.specs.Option.{option_map, option_or}
 use Rattle.std.specs.Str.{bytes_eq}
@@ -23,7 +24,9 @@ line_kind line = kind_of (words_of line.text)
 
 -- the line of a table that an entry gives, where its number can be read: of an ABI, from 0, which is 0 for a family
 abbrev pub listed_as : ℕ → Entry → Option CallLine
-listed_as place entry = option_map (λ number. record { name = entry.name; number = number; cap = option_and_then cap_of entry.cap_word; abi = place }) (number_of entry.digits)
+listed_as place entry = option_map
+    (λ number. record { name = entry.name; number = number; cap = option_and_then cap_of entry.cap_word; abi = place })
+    (number_of entry.digits)
 
 abbrev pub call_of : ℕ → Kind → Option CallLine
 call_of place (abi name digits) = None
@@ -123,7 +126,8 @@ fault_of two head lines = slice_get (filter_map (fault_at two head) (with_before
 
 -- the calls that every launch makes
 abbrev pub launch_calls : List (List ℕ)
-launch_calls = codes "capset" ∷ codes "execve" ∷ codes "prctl" ∷ codes "seccomp" ∷ codes "setgroups" ∷ codes "setresgid" ∷ codes "setresuid" ∷ codes "unshare" ∷ []
+launch_calls = codes "capset" ∷ codes "execve" ∷ codes "prctl" ∷ codes "seccomp" ∷ codes "setgroups" ∷ codes "setresgid" ∷ codes
+    "setresuid" ∷ codes "unshare" ∷ []
 
 -- no call of the native ABI has the name
 abbrev pub lacks : List CallLine → List ℕ → Bool

@@ -3,7 +3,8 @@ use Rattle.std.proofs.Common.{◌≡◌, ℕ, ◌+◌, ◌<◌, ◌%◌, Bool, t
 use Rattle.std.specs.Prelude.{◌&&◌, ◌||◌, ◌==◌, not, nat_le}
 use Rattle.std.specs.Int.{bit_at}
 use Rattle.std.specs.Int.RustNames.{bit_and}
-use Rattle.std.proofs.lemmas.Nat.Bits.{bit_at_and, bit_at_or, bit_at_xor, bit_at-lt, bit_at-zero, bit_at-pow_same, bit_at-pow_other, bit_at_ones, bit_at_ones_above, same_from_bits}
+use Rattle.std.proofs.lemmas.Nat.Bits.{bit_at_and, bit_at_or, bit_at_xor, bit_at-lt, bit_at-zero, bit_at-pow_same, bit_at-pow_other}
+use Rattle.std.proofs.lemmas.Nat.Bits.{bit_at_ones, bit_at_ones_above, same_from_bits}
 use Rattle.std.proofs.lemmas.Bool.{eqb-true, eq-eqb}
 use Rattle.std.proofs.lemmas.Bool.Decides.{nat_tests}
 use Rattle.cap_sets.specs.Sets.{has, none, all, union, cut, minus, single, IsWithin, within}
@@ -28,7 +29,8 @@ has_cut a b number = ap (λ n. eqb n 1) (bit_at_and a b number) ∙ bits_and _ _
 pub has_minus : (a b number : ℕ) → has (minus a b) number ≡ (has a number && not (has b number))
 unfolding has minus
 has_minus a b number =
-    ap (λ n. eqb n 1) (bit_at_xor a (bit_and a b) number ∙ ap (λ n. (bit_at a number + n) % 2) (bit_at_and a b number)) ∙ bits_xor _ _ (bit_at-lt a number) (bit_at-lt b number)
+    ap (λ n. eqb n 1) (bit_at_xor a (bit_and a b) number ∙ ap (λ n. (bit_at a number + n) % 2) (bit_at_and a b number))
+    ∙ bits_xor _ _ (bit_at-lt a number) (bit_at-lt b number)
 
 pub has_none : (number : ℕ) → has none number ≡ false
 unfolding has none
@@ -77,7 +79,8 @@ pub within_through : (a b c : ℕ) → IsWithin a b → IsWithin b c → IsWithi
 within_through a b c p q = record { each = λ number h. q.each number (p.each number h) }
 
 pub within_both : (a b : ℕ) → IsWithin a b → IsWithin b a → a ≡ b
-within_both a b p q = sym (cut_same a b p) ∙ same_sets (cut b a) (cut a b) (λ number. has_cut b a number ∙ swap (has b number) (has a number) ∙ sym (has_cut a b number)) ∙ cut_same b a q
+within_both a b p q = sym (cut_same a b p) ∙ same_sets (cut b a) (cut a b)
+    (λ number. has_cut b a number ∙ swap (has b number) (has a number) ∙ sym (has_cut a b number)) ∙ cut_same b a q
   where
     swap : (x y : Bool) → (x && y) ≡ (y && x)
     swap x y = grind arith

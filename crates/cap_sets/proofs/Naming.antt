@@ -1,5 +1,6 @@
 -- No two names are one, in any case.
-use Rattle.std.proofs.Common.{◌≡◌, ℕ, zero, suc, ◌+◌, ◌<◌, ◌≤◌, Bool, true, List, [], ◌∷◌, Option, Some, None, cond, eqb, map, length, get_or, refl, sym, ap, ◌∙◌, arith}
+use Rattle.std.proofs.Common.{◌≡◌, ℕ, zero, suc, ◌+◌, ◌<◌, ◌≤◌, Bool, true, List, [], ◌∷◌, Option, Some, None, cond, eqb, map, length}
+use Rattle.std.proofs.Common.{get_or, refl, sym, ap, ◌∙◌, arith}
 use Rattle.std.specs.Prelude.{◌&&◌}
 use Rattle.std.specs.Str.{bytes_eq}
 use Rattle.std.proofs.lemmas.Bool.{and_parts, eqb-true}
@@ -19,7 +20,8 @@ numbered : all_numbered 0 names ≡ true
 unfolding all_numbered number_of
 numbered = refl
 
-at_number : (at k : ℕ) (rest : List (List ℕ)) → all_numbered at rest ≡ true → k < length rest → number_of (in_lower_case (get_or rest k [])) names ≡ k + at
+at_number : (at k : ℕ) (rest : List (List ℕ)) → all_numbered at rest ≡ true → k < length rest
+    → number_of (in_lower_case (get_or rest k [])) names ≡ k + at
 unfolding all_numbered
 at_number at k [] h lt = absurd (omega arith)
 at_number at zero (name ∷ rest) h lt = eqb-true _ _ (and_parts _ _ h).0 ∙ omega arith
@@ -37,7 +39,8 @@ pub flags_length : {X : Type 0} (row : X → List ℕ × ℕ) (flags : List X) �
 flags_length row flags e = sym (length-map flags row) ∙ ap length e
 
 -- the name at a place of a table of flags
-pub name_at : {X : Type 0} (row : X → List ℕ × ℕ) (flags : List X) (i : ℕ) (d : X) → map row flags ≡ table → i ≤ 40 → (row (get_or flags i d)).0 ≡ name_of i
+pub name_at : {X : Type 0} (row : X → List ℕ × ℕ) (flags : List X) (i : ℕ) (d : X) → map row flags ≡ table → i ≤ 40
+    → (row (get_or flags i d)).0 ≡ name_of i
 unfolding name_of
 name_at row flags i d e h =
     let long : length flags ≡ 41 = flags_length row flags e in
@@ -48,7 +51,8 @@ name_at row flags i d e h =
 
 -- a name found at one place is found nowhere else
 pub found_at : (at : ℕ) (text : List ℕ) → at ≤ 40 → in_lower_case (name_of at) ≡ in_lower_case text → (number : ℕ) → number ≤ 40 →
-    (Some at ≡ Some number → in_lower_case (name_of number) ≡ in_lower_case text) × (in_lower_case (name_of number) ≡ in_lower_case text → Some at ≡ Some number)
+    (Some at ≡ Some number → in_lower_case (name_of number) ≡ in_lower_case text) ×
+    (in_lower_case (name_of number) ≡ in_lower_case text → Some at ≡ Some number)
 found_at at text h e number g =
     (λ same. let there : at ≡ number = cc in ap (λ n. in_lower_case (name_of n)) (sym there) ∙ e, λ named. ap Some (distinct at number h g (e ∙ sym named)))
 
@@ -56,5 +60,6 @@ abbrev nothing : Option ℕ
 nothing = None
 
 pub found_nowhere : (text : List ℕ) → ((k : ℕ) → k < 41 → in_lower_case (name_of k) ≡ in_lower_case text → ⊥) → (number : ℕ) → number ≤ 40 →
-    (nothing ≡ Some number → in_lower_case (name_of number) ≡ in_lower_case text) × (in_lower_case (name_of number) ≡ in_lower_case text → nothing ≡ Some number)
+    (nothing ≡ Some number → in_lower_case (name_of number) ≡ in_lower_case text) ×
+    (in_lower_case (name_of number) ≡ in_lower_case text → nothing ≡ Some number)
 found_nowhere text none number h = (λ same. absurd (cc), λ named. absurd (none number (omega arith) named))

@@ -13,8 +13,10 @@ second_are None = refl
 second_are (Some second) = refl
 
 -- of all calls it finds what it finds first
-pub found_in_all : (p : CallLine → Bool) (table : Table) → find p (every_call table) ≡ option_or (find p table.calls) (find p (calls_in table 1))
-found_in_all p table = find-append p table.calls (second_calls table.second) ∙ ap (λ lines. option_or (find p table.calls) (find p lines)) (second_are table.second)
+pub found_in_all : (p : CallLine → Bool) (table : Table) → find p (every_call table)
+    ≡ option_or (find p table.calls) (find p (calls_in table 1))
+found_in_all p table = find-append p table.calls (second_calls table.second)
+    ∙ ap (λ lines. option_or (find p table.calls) (find p lines)) (second_are table.second)
 
 -- something is so where something is found
 pub any_is_found : (p : CallLine → Bool) (lines : List CallLine) → list_any p lines ≡ is_some (find p lines)

@@ -22,15 +22,18 @@ not_listed id ids n = by (has_id id ids) refl
     by false e = refl
 
 module _ (world : World) (l : IsLaunchedWorld world) where
-  pub cap_denied : (effective : ℕ) → effective ≡ caps_at (launch_of world) (power_of (launch_of world)) → (number : ℕ) → has effective number ≡ false → IsDenied world (Cap number)
+  pub cap_denied : (effective : ℕ) → effective ≡ caps_at (launch_of world) (power_of (launch_of world)) → (number : ℕ)
+      → has effective number ≡ false → IsDenied world (Cap number)
   cap_denied effective is number off = denial_is_sound world (Cap number) l tt (ap (λ caps. has caps number) (sym is) ∙ off)
 
-  pub uid_denied : (any : Bool) (ids : List ℕ) → any ≡ any_uid (launch_of world) (caps_at (launch_of world) (power_of (launch_of world))) → ((id : ℕ) → has_id id ids ≡ uids_of (launch_of world) id)
+  pub uid_denied : (any : Bool) (ids : List ℕ) → any ≡ any_uid (launch_of world) (caps_at (launch_of world) (power_of (launch_of world)))
+      → ((id : ℕ) → has_id id ids ≡ uids_of (launch_of world) id)
       → (id : ℕ) → any ≡ false → ¬ Contains ids id → IsDenied world (Uid id)
   uid_denied any ids is each id off n = denial_is_sound world (Uid id) l tt
       (uid_either (launch_of world) id ∙ or_from _ _ (sym is ∙ off) (sym (each id) ∙ not_listed id ids n))
 
-  pub gid_denied : (any : Bool) (ids : List ℕ) → any ≡ any_gid (launch_of world) (caps_at (launch_of world) (power_of (launch_of world))) → ((id : ℕ) → has_id id ids ≡ gids_of (launch_of world) id)
+  pub gid_denied : (any : Bool) (ids : List ℕ) → any ≡ any_gid (launch_of world) (caps_at (launch_of world) (power_of (launch_of world)))
+      → ((id : ℕ) → has_id id ids ≡ gids_of (launch_of world) id)
       → (id : ℕ) → any ≡ false → ¬ Contains ids id → IsDenied world (Gid id)
   gid_denied any ids is each id off n = denial_is_sound world (Gid id) l tt
       (gid_either (launch_of world) id ∙ or_from _ _ (sym is ∙ off) (sym (each id) ∙ not_listed id ids n))

@@ -21,13 +21,15 @@ pub eqb_comm : (a b : ℕ) → eqb a b ≡ eqb b a
 eqb_comm a b = grind (arith, nat_tests)
 
 -- what one row gives before the others
-given_first : (id : ℕ) (b : Bool) (owner : Option ℕ) (others : List (Option ℕ)) → has_id id (some_ids (cond b owner None ∷ others)) ≡ ((b && is_owner id owner) || has_id id (some_ids others))
+given_first : (id : ℕ) (b : Bool) (owner : Option ℕ) (others : List (Option ℕ))
+    → has_id id (some_ids (cond b owner None ∷ others)) ≡ ((b && is_owner id owner) || has_id id (some_ids others))
 given_first id true None others = refl
 given_first id true (Some owner) others = ap (λ b. b || has_id id (some_ids others)) (eqb_comm id owner)
 given_first id false owner others = refl
 
 module _ (launch : Launch) (power : Power) (id : ℕ) where
-  rows_given : (kind : IdKind) (rows : List Row) → has_id id (given_ids kind launch power rows) ≡ list_any (λ row. can_run launch power row && is_owner id (set_id kind row)) rows
+  rows_given : (kind : IdKind) (rows : List Row) → has_id id (given_ids kind launch power rows)
+      ≡ list_any (λ row. can_run launch power row && is_owner id (set_id kind row)) rows
   rows_given kind [] = refl
   rows_given kind (row ∷ rows) =
       given_first id (can_run launch power row) (set_id kind row) (map (given_at kind launch power) rows)
@@ -38,17 +40,21 @@ unless id true ids = refl
 unless id false ids = refl
 
 -- the lists of a ceiling are the ids that are had without a use of a capability
-pub uids_given : (launch : Launch) (power : Power) (id : ℕ) → power ≡ power_using launch false → has_id id (uids_at launch power) ≡ uids_of launch id
+pub uids_given : (launch : Launch) (power : Power) (id : ℕ) → power ≡ power_using launch false
+    → has_id id (uids_at launch power) ≡ uids_of launch id
 uids_given launch power id e =
     ap (λ b. eqb id launch.creds.uids.effective || b)
     (unless id launch.creds.no_new_privs (given_ids User launch power launch.site.rows)
     ∙ ap (λ b. not launch.creds.no_new_privs && b) (rows_given launch power id User launch.site.rows))
-    ∙ ap (λ (p : Power). eqb id launch.creds.uids.effective || (not launch.creds.no_new_privs && list_any (owned_by launch p id) launch.site.rows)) e
+    ∙ ap (λ (p : Power). eqb id launch.creds.uids.effective ||
+    (not launch.creds.no_new_privs && list_any (owned_by launch p id) launch.site.rows)) e
 
 pub gids_given : (launch : Launch) (power : Power) (id : ℕ) → power ≡ power_of launch → has_id id (gids_at launch power) ≡ gids_of launch id
 gids_given launch power id e =
-    list_any-append (λ own. eqb id own) (launch.creds.gids.effective ∷ launch.creds.groups) (cond launch.creds.no_new_privs [] (given_ids Group launch power launch.site.rows))
+    list_any-append (λ own. eqb id own) (launch.creds.gids.effective ∷ launch.creds.groups)
+    (cond launch.creds.no_new_privs [] (given_ids Group launch power launch.site.rows))
     ∙ ap (λ b. has_id id (launch.creds.gids.effective ∷ launch.creds.groups) || b)
     (unless id launch.creds.no_new_privs (given_ids Group launch power launch.site.rows)
     ∙ ap (λ b. not launch.creds.no_new_privs && b) (rows_given launch power id Group launch.site.rows))
-    ∙ ap (λ (p : Power). has_id id (launch.creds.gids.effective ∷ launch.creds.groups) || (not launch.creds.no_new_privs && list_any (grouped_by launch p id) launch.site.rows)) e
+    ∙ ap (λ (p : Power). has_id id (launch.creds.gids.effective ∷ launch.creds.groups) ||
+    (not launch.creds.no_new_privs && list_any (grouped_by launch p id) launch.site.rows)) e

@@ -20,24 +20,29 @@ use Rattle.kernel_ways.specs.kernel_laws.Launched.{Launch}
 use Rattle.kernel_ways.specs.kernel_laws.declared.question_types.wish.Wish.{Wish}
 use Rattle.kernel_ways.specs.kernel_laws.declared.question_types.wish.Wish.TheVariants.{Exec as ToExec}
 use Rattle.kernel_ways.specs.kernel_laws.declared.question_types.power.Power.{Power}
-use Rattle.kernel_ways.specs.kernel_laws.declared.question_types.power.Power.TheVariants.{None as Nowise, Unmount as Unmounting, Mount as Mounting}
+use Rattle.kernel_ways.specs.kernel_laws.declared.question_types.power.Power.TheVariants.{None as Nowise, Unmount as Unmounting}
+use Rattle.kernel_ways.specs.kernel_laws.declared.question_types.power.Power.TheVariants.{Mount as Mounting}
 use Rattle.kernel_ways.specs.kernel_laws.Reach.{fits, shows_row, serves, reach_from, reaches}
 use Rattle.kernel_ways.proofs.KernelLaws.Bound.{gathered_has, gathered_within, within_when}
 use Rattle.kernel_ways.specs.Spared.{caps_by}
 
-serves_grow : (row : Path) (wish : Wish) (entry : MountStep) (later : Table) → serves false row wish entry later ≡ true → serves true row wish entry later ≡ true
+serves_grow : (row : Path) (wish : Wish) (entry : MountStep) (later : Table) → serves false row wish entry later ≡ true
+    → serves true row wish entry later ≡ true
 serves_grow row wish entry later h =
     let p = and_parts (fits wish entry.flags) (shows_row false entry later row entry.what) h in
     and_from _ _ p.0 (by entry.what p.1)
   where
     by : (what : What) → shows_row false entry later row what ≡ true → shows_row true entry later row what ≡ true
-    by (Host source) h = and_from (is_prefix source row) true (and_parts (is_prefix source row) (not (list_any (leads_to (entry.place ++ rest_of source row)) later)) h).0 refl
+    by (Host source) h = and_from (is_prefix source row) true
+        (and_parts (is_prefix source row) (not (list_any (leads_to (entry.place ++ rest_of source row)) later)) h).0 refl
     by Empty h = cc
     by (Hidden directory) h = cc
 
-from_grow : (row : Path) (wish : Wish) (table : Table) (at : ℕ) → is_some (reach_from false row wish table at) ≡ true → is_some (reach_from true row wish table at) ≡ true
+from_grow : (row : Path) (wish : Wish) (table : Table) (at : ℕ) → is_some (reach_from false row wish table at) ≡ true
+    → is_some (reach_from true row wish table at) ≡ true
 from_grow row wish [] at h = cc
-from_grow row wish (entry ∷ later) at h = by (serves false row wish entry later) refl (serves true row wish entry later) refl h (from_grow row wish later (at + 1))
+from_grow row wish (entry ∷ later) at h = by (serves false row wish entry later) refl (serves true row wish entry later) refl h
+    (from_grow row wish later (at + 1))
   where
     by : (b : Bool) → serves false row wish entry later ≡ b → (c : Bool) → serves true row wish entry later ≡ c
         → is_some (cond b (Some at) (reach_from false row wish later (at + 1))) ≡ true
@@ -47,7 +52,8 @@ from_grow row wish (entry ∷ later) at h = by (serves false row wish entry late
     by true e false f h more = let both : true ≡ false = sym (serves_grow row wish entry later e) ∙ f in cc
     by false e false f h more = more h
 
-reaches_grow : (power : Power) (table : Table) (row : Path) (wish : Wish) → reaches Nowise table row wish ≡ true → reaches power table row wish ≡ true
+reaches_grow : (power : Power) (table : Table) (row : Path) (wish : Wish) → reaches Nowise table row wish ≡ true
+    → reaches power table row wish ≡ true
 reaches_grow Nowise table row wish h = h
 reaches_grow Unmounting table row wish h = from_grow row wish table 0 h
 reaches_grow Mounting table row wish h = refl
@@ -73,9 +79,14 @@ module _ (launch : Launch) (power : Power) where
   pub caps_grow : (uids : Bool) → IsWithin (caps_by launch uids Nowise) (caps_by launch uids power)
   caps_grow uids = by launch.creds.no_new_privs
     where
-      by : (b : Bool) → IsWithin (cond b launch.creds.effective (union (caps_before launch Nowise) (when (has (caps_before launch Nowise) cap_setuid && uids) launch.creds.bounding)))
-          (cond b launch.creds.effective (union (caps_before launch power) (when (has (caps_before launch power) cap_setuid && uids) launch.creds.bounding)))
+      by : (b : Bool) → IsWithin
+          (cond b launch.creds.effective
+          (union (caps_before launch Nowise) (when (has (caps_before launch Nowise) cap_setuid && uids) launch.creds.bounding)))
+          (cond b launch.creds.effective
+          (union (caps_before launch power) (when (has (caps_before launch power) cap_setuid && uids) launch.creds.bounding)))
       by true = within_self _
       by false = union_within _ _ _ (within_union_left _ _ _ before_grows)
-          (within_union_right _ _ _ (when_grow (has (caps_before launch Nowise) cap_setuid && uids) (has (caps_before launch power) cap_setuid && uids) launch.creds.bounding
+          (within_union_right _ _ _
+          (when_grow (has (caps_before launch Nowise) cap_setuid && uids)
+          (has (caps_before launch power) cap_setuid && uids) launch.creds.bounding
           (λ e. let p = and_parts (has (caps_before launch Nowise) cap_setuid) uids e in and_from _ _ (before_grows.each cap_setuid p.0) p.1)))

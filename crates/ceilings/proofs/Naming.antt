@@ -1,5 +1,6 @@
 -- In a table of calls each name is given once in an ABI: a search by the name of a line finds that line or none.
-use Rattle.std.proofs.Common.{◌≡◌, ◌<◌, ◌∙◌, ℕ, zero, suc, Bool, true, false, List, [], ◌∷◌, Option, Some, None, refl, cond, ap, sym, subst, length, arith}
+use Rattle.std.proofs.Common.{◌≡◌, ◌<◌, ◌∙◌, ℕ, zero, suc, Bool, true, false, List, [], ◌∷◌, Option, Some, None, refl, cond, ap, sym, subst}
+use Rattle.std.proofs.Common.{length, arith}
 use Rattle.std.specs.Prelude.{find, slice_get, ◌&&◌}
 use Rattle.std.specs.Option.{option_or}
 use Rattle.std.specs.Str.{bytes_eq}
@@ -11,12 +12,15 @@ use Rattle.kernel_ways.specs.call_table.declared.listed.CallLine.{CallLine}
 use Rattle.ceilings.proofs.AllCalls.{found_in_all}
 
 module _ (q p : CallLine → Bool) where
-  none_there : (lines : List CallLine) → ((at : ℕ) (other : CallLine) → slice_get lines at ≡ Some other → q other ≡ false) → find (λ other. q other && p other) lines ≡ None
+  none_there : (lines : List CallLine) → ((at : ℕ) (other : CallLine) → slice_get lines at ≡ Some other → q other ≡ false)
+      → find (λ other. q other && p other) lines ≡ None
   none_there [] h = refl
   none_there (first ∷ lines) h =
-      ap (λ b. cond (b && p first) (Some first) (find (λ other. q other && p other) lines)) (h zero first refl) ∙ none_there lines (λ at other e. h (suc at) other e)
+      ap (λ b. cond (b && p first) (Some first) (find (λ other. q other && p other) lines)) (h zero first refl)
+      ∙ none_there lines (λ at other e. h (suc at) other e)
 
-  only_there : (lines : List CallLine) (at : ℕ) (line : CallLine) → slice_get lines at ≡ Some line → q line ≡ true → ((place : ℕ) (other : CallLine) → slice_get lines place ≡ Some other → q other ≡ true → place ≡ at)
+  only_there : (lines : List CallLine) (at : ℕ) (line : CallLine) → slice_get lines at ≡ Some line → q line ≡ true
+      → ((place : ℕ) (other : CallLine) → slice_get lines place ≡ Some other → q other ≡ true → place ≡ at)
       → find (λ other. q other && p other) lines ≡ cond (p line) (Some line) None
   only_there [] at line e is once = cc
   only_there (first ∷ lines) zero line e is once =
@@ -39,7 +43,8 @@ module _ (q p : CallLine → Bool) where
 -- of the lines of one ABI only the line itself has its name
 own_line : (p : CallLine → Bool) (lines : List CallLine) (at : ℕ) (line : CallLine) → AreOnce lines → slice_get lines at ≡ Some line
     → find (λ other. bytes_eq line.name other.name && p other) lines ≡ cond (p line) (Some line) None
-own_line p lines at line once e = only_there (λ other. bytes_eq line.name other.name) p lines at line e (part_itself line.name line.name refl) one
+own_line p lines at line once e = only_there (λ other. bytes_eq line.name other.name) p lines at line e
+    (part_itself line.name line.name refl) one
   where
     one : (place : ℕ) (other : CallLine) → slice_get lines place ≡ Some other → bytes_eq line.name other.name ≡ true → place ≡ at
     one place other f t =
@@ -48,7 +53,8 @@ own_line p lines at line once e = only_there (λ other. bytes_eq line.name other
         let same : ◌≡◌ {A = Option ℕ} (Some place) (Some at) = sym there ∙ here in cc
 
 -- the lines are those of the native ABI
-module _ (p : CallLine → Bool) (table all : Table) (told : table ≡ all) (lines : List CallLine) (listed : lines ≡ table.calls) (at : ℕ) (line : CallLine)
+module _ (p : CallLine → Bool) (table all : Table) (told : table ≡ all) (lines : List CallLine) (listed : lines ≡ table.calls) (at : ℕ)
+    (line : CallLine)
     (once : AreOnce table.calls) (native : at < length lines) (is : slice_get (every_call all) at ≡ Some line) where
   abbrev own : CallLine → Bool
   own other = bytes_eq line.name other.name && p other
@@ -59,7 +65,8 @@ module _ (p : CallLine → Bool) (table all : Table) (told : table ≡ all) (lin
   native_first : find own (every_call all) ≡ option_or (cond (p line) (Some line) None) (find own (calls_in all 1))
   native_first =
       found_in_all own all
-      ∙ ap (λ (o : Option CallLine). option_or o (find own (calls_in all 1))) (own_line p all.calls at line (subst (λ (t : Table). AreOnce t.calls) told once) (sym (front_call all at inside) ∙ is))
+      ∙ ap (λ (o : Option CallLine). option_or o (find own (calls_in all 1)))
+      (own_line p all.calls at line (subst (λ (t : Table). AreOnce t.calls) told once) (sym (front_call all at inside) ∙ is))
 
   -- where it passes it is found, and else what the other ABI has
   pub itself_found : p line ≡ true → Some line ≡ find own (every_call all)

@@ -9,8 +9,10 @@ use Rattle.kernel_ways.specs.call_table.declared.listed.CallLine.{CallLine}
 use Rattle.kernel_ways.specs.kernel_laws.declared.question_types.kind.CallKind.{CallKind}
 use Rattle.kernel_ways.specs.kernel_laws.Launched.{Launch, lets, lets_line}
 
-pub some_in_all : (p : CallLine → Bool) (table : Table) → (list_any p table.calls || list_any p (calls_in table 1)) ≡ list_any p (every_call table)
-some_in_all p table = sym (list_any-append p table.calls (second_calls table.second) ∙ ap (λ (lines : List CallLine). list_any p table.calls || list_any p lines) (second_are table.second))
+pub some_in_all : (p : CallLine → Bool) (table : Table) → (list_any p table.calls || list_any p (calls_in table 1))
+    ≡ list_any p (every_call table)
+some_in_all p table = sym (list_any-append p table.calls (second_calls table.second)
+    ∙ ap (λ (lines : List CallLine). list_any p table.calls || list_any p lines) (second_are table.second))
 
 lets_is : (launch : Launch) (kind : CallKind) → list_any (lets_line launch kind) (every_call launch.calls) ≡ lets launch kind
 unfolding lets

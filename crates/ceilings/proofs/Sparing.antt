@@ -24,13 +24,15 @@ listed : (id : ℕ) (ids : List ℕ) → Contains ids id → has_id id ids ≡ t
 listed id ids h = list_any-from_Contains equivalent id ids h
 
 module _ (world : World) (served : IsServedWorld world) (ids : List ℕ) where
-  pub uids_spared : ((id : ℕ) → has_id id ids ≡ uids_of (launch_of world) id) → AreHadSparing false (lets (launch_of world) TakesGid) world Uid ids
+  pub uids_spared : ((id : ℕ) → has_id id ids ≡ uids_of (launch_of world) id)
+      → AreHadSparing false (lets (launch_of world) TakesGid) world Uid ids
   uids_spared own = record {
     each = λ id h. (ids_are_reached world served).uids id (sym (own id) ∙ listed id ids h);
     no_other = λ id n. (ids_are_bounded world served).uids id (sym (own id) ∙ not_listed id ids n);
   }
 
-  pub gids_spared : ((id : ℕ) → has_id id ids ≡ gids_of (launch_of world) id) → AreHadSparing (lets (launch_of world) TakesUid) false world Gid ids
+  pub gids_spared : ((id : ℕ) → has_id id ids ≡ gids_of (launch_of world) id)
+      → AreHadSparing (lets (launch_of world) TakesUid) false world Gid ids
   gids_spared own = record {
     each = λ id h. (ids_are_reached world served).gids id (sym (own id) ∙ listed id ids h);
     no_other = λ id n. (ids_are_bounded world served).gids id (sym (own id) ∙ not_listed id ids n);

@@ -8,7 +8,8 @@ use Rattle.kernel_ways.specs.kern_mounts.declared.step.What.{What}
 use Rattle.kernel_ways.specs.kern_mounts.declared.step.What.TheVariants.{Host, Empty, Hidden}
 use Rattle.kernel_ways.specs.kernel_laws.Launched.{Launch}
 use Rattle.kernel_ways.specs.kernel_laws.declared.question_types.wish.Wish.{Wish}
-use Rattle.kernel_ways.specs.kernel_laws.declared.question_types.wish.Wish.TheVariants.{See as ToSee, Read as ToRead, Write as ToWrite, Exec as ToExec}
+use Rattle.kernel_ways.specs.kernel_laws.declared.question_types.wish.Wish.TheVariants.{See as ToSee, Read as ToRead, Write as ToWrite}
+use Rattle.kernel_ways.specs.kernel_laws.declared.question_types.wish.Wish.TheVariants.{Exec as ToExec}
 use Rattle.kernel_ways.specs.kernel_laws.declared.question_types.power.Power.TheVariants.{None as Nowise}
 use Rattle.kernel_ways.specs.kernel_laws.Reach.{reach}
 use Rattle.ceilings.specs.declared.leads.RowLeads.{RowLeads}
@@ -22,7 +23,8 @@ lead_to leads ToExec = leads.exec
 
 -- those of a row
 abbrev pub leads_of : Table → Path → RowLeads
-leads_of table row = record { see = reach Nowise table row ToSee; write = reach Nowise table row ToWrite; exec = reach Nowise table row ToExec }
+leads_of table row = record
+    { see = reach Nowise table row ToSee; write = reach Nowise table row ToWrite; exec = reach Nowise table row ToExec }
 
 -- those of all rows of the site, by their positions
 abbrev pub AreLeads : Launch → List RowLeads → Type 0

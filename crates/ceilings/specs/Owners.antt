@@ -22,8 +22,10 @@ given_ids kind launch power rows = some_ids (map (given_at kind launch power) ro
 
 -- the uid of the launch, and the owners; with no_new_privs set-id bits give nothing, prctl(2)
 abbrev pub uids_at : Launch → Power → List ℕ
-uids_at launch power = launch.creds.uids.effective ∷ (if launch.creds.no_new_privs then [] else given_ids User launch power launch.site.rows)
+uids_at launch power = launch.creds.uids.effective ∷
+    (if launch.creds.no_new_privs then [] else given_ids User launch power launch.site.rows)
 
 -- the gid of the launch, its groups, and the groups of programs
 abbrev pub gids_at : Launch → Power → List ℕ
-gids_at launch power = launch.creds.gids.effective ∷ launch.creds.groups ++ (if launch.creds.no_new_privs then [] else given_ids Group launch power launch.site.rows)
+gids_at launch power = launch.creds.gids.effective ∷ launch.creds.groups ++
+    (if launch.creds.no_new_privs then [] else given_ids Group launch power launch.site.rows)

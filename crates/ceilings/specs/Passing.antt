@@ -1,8 +1,10 @@
 -- What is said of the calls that the filters of a launch let through: they are exactly those.
 use Rattle.std.specs.Prelude.{◌≡◌, Bool}
-use Rattle.kernel_ways.specs.kernel_laws.declared.question_types.kind.CallKind.TheVariants.{ForPath, ChangesMounts, RemovesMounts, SetsCaps, TakesUid, TakesGid}
+use Rattle.kernel_ways.specs.kernel_laws.declared.question_types.kind.CallKind.TheVariants.{ForPath, ChangesMounts, RemovesMounts, SetsCaps}
+use Rattle.kernel_ways.specs.kernel_laws.declared.question_types.kind.CallKind.TheVariants.{TakesUid, TakesGid}
 use Rattle.kernel_ways.specs.kernel_laws.declared.question_types.wish.Wish.{Wish}
-use Rattle.kernel_ways.specs.kernel_laws.declared.question_types.wish.Wish.TheVariants.{See as ToSee, Read as ToRead, Write as ToWrite, Exec as ToExec}
+use Rattle.kernel_ways.specs.kernel_laws.declared.question_types.wish.Wish.TheVariants.{See as ToSee, Read as ToRead, Write as ToWrite}
+use Rattle.kernel_ways.specs.kernel_laws.declared.question_types.wish.Wish.TheVariants.{Exec as ToExec}
 use Rattle.kernel_ways.specs.kernel_laws.Launched.{Launch, lets}
 use Rattle.ceilings.specs.declared.passing.PathCalls.{PathCalls}
 use Rattle.ceilings.specs.declared.passing.Passing as made

@@ -12,4 +12,5 @@ use Rattle.kernel_ways.specs.kernel_laws.Spared.{AllSpare}
 -- them, and none leads to another. The first word says whether CAP_SETUID may be used, and the second whether CAP_SETGID may.
 pub record AreHadSparing (uids gids : Bool) (world : World) (asks : ℕ → Question) (ids : List ℕ) : Type 0 where
   pub each : (id : ℕ) → Contains ids id → (list : List Call) × Shows world (asks id) list × AllSpare uids gids world list
-  pub no_other : (id : ℕ) → ¬ Contains ids id → (list : List Call) → AreCalls list → AllSpare uids gids world list → ¬ Holds (asks id) (run world list)
+  pub no_other : (id : ℕ) → ¬ Contains ids id → (list : List Call) → AreCalls list → AllSpare uids gids world list
+      → ¬ Holds (asks id) (run world list)

@@ -1,5 +1,6 @@
 -- The filter that a name means, and the comparison with it.
-use Rattle.std.proofs.Common.{◌≡◌, ◌∙◌, ℕ, Bool, true, false, cond, List, [], ◌∷◌, map, Option, Some, None, Result, Ok, Err, refl, sym, ap, subst}
+use Rattle.std.proofs.Common.{◌≡◌, ◌∙◌, ℕ, Bool, true, false, cond, List, [], ◌∷◌, map, Option, Some, None, Result, Ok, Err, refl, sym, ap}
+use Rattle.std.proofs.Common.{subst}
 use Rattle.std.specs.Prelude.{find, option_map}
 use Rattle.std.specs.List.{All}
 use Rattle.std.proofs.lemmas.List.Elements.{All-head, All-tail}
@@ -25,8 +26,10 @@ use Rattle.check_command.specs.Naming.{means, named_place}
 use Rattle.check_command.specs.declared.ready.Checked.{Checked}
 
 -- words that are wanted alike differ alike
-differs_as : (code : List Insn) (one other : CallData → ℕ) (input : CallData) (theirs ours : ℕ) → one input ≡ other input → DiffersAt code one input theirs ours → DiffersAt code other input theirs ours
-differs_as code one other input theirs ours alike is = record { fits = is.fits; answers = is.answers; is_wanted = is.is_wanted ∙ alike; differ = is.differ }
+differs_as : (code : List Insn) (one other : CallData → ℕ) (input : CallData) (theirs ours : ℕ) → one input ≡ other input
+    → DiffersAt code one input theirs ours → DiffersAt code other input theirs ours
+differs_as code one other input theirs ours alike is = record
+    { fits = is.fits; answers = is.answers; is_wanted = is.is_wanted ∙ alike; differ = is.differ }
 
 -- and the same is found of them
 module _ (code : List Insn) (one other : CallData → ℕ) (alike : (input : CallData) → one input ≡ other input) where
@@ -45,24 +48,29 @@ module _ (code : List Insn) (one other : CallData → ℕ) (alike : (input : Cal
   compares_as path _ (is_compared outcome finds) = is_compared outcome (finds_as (Ok outcome) finds)
 
 module _ {X : Type 0} (P : X → Type 0) (test : X → Bool) where
-  found_first : (b : Bool) (first found : X) (rest : Option X) → cond b (Some first) rest ≡ Some found → P first → (rest ≡ Some found → P found) → P found
+  found_first : (b : Bool) (first found : X) (rest : Option X) → cond b (Some first) rest ≡ Some found → P first
+      → (rest ≡ Some found → P found) → P found
   found_first true first found rest is holds more = let e : first ≡ found = cc in subst P e holds
   found_first false first found rest is holds more = more is
 
   -- what is found among things that have a property has it
   found_has : (xs : List X) (found : X) → find test xs ≡ Some found → All P xs → P found
   found_has [] found is all = cc
-  found_has (x ∷ xs) found is all = found_first (test x) x found (find test xs) is (All-head P x xs all) (λ e. found_has xs found e (All-tail P x xs all))
+  found_has (x ∷ xs) found is all = found_first (test x) x found (find test xs) is (All-head P x xs all)
+      (λ e. found_has xs found e (All-tail P x xs all))
 
 module _ (test : Place → Bool) where
-  first_place : (b : Bool) (filter : Filter) (found : Option Filter) (places : Option Place) → option_map place_of found ≡ places → option_map place_of (cond b (Some filter) found) ≡ cond b (Some (place_of filter)) places
+  first_place : (b : Bool) (filter : Filter) (found : Option Filter) (places : Option Place) → option_map place_of found ≡ places
+      → option_map place_of (cond b (Some filter) found) ≡ cond b (Some (place_of filter)) places
   first_place true filter found places rest = refl
   first_place false filter found places rest = rest
 
   -- the first filter of a place that is sought is the first such place
-  find_place : (filters : List Filter) → option_map place_of (find (λ filter. test (place_of filter)) filters) ≡ find test (map place_of filters)
+  find_place : (filters : List Filter) → option_map place_of (find (λ filter. test (place_of filter)) filters)
+      ≡ find test (map place_of filters)
   find_place [] = refl
-  find_place (filter ∷ filters) = first_place (test (place_of filter)) filter (find (λ filter. test (place_of filter)) filters) (find test (map place_of filters)) (find_place filters)
+  find_place (filter ∷ filters) = first_place (test (place_of filter)) filter (find (λ filter. test (place_of filter)) filters)
+      (find test (map place_of filters)) (find_place filters)
 
 -- what is found by a table and among filters that are lent
 pub found_in : (table own : Table) (filters given : List Filter) (name : List ℕ) (found : Option Filter) → own ≡ table → given ≡ filters
@@ -82,15 +90,20 @@ module _ (settings : FilterSettings) (table : Table) (filters : List Filter) (ar
 
     module _ (filter : Filter) (is : find (λ one. means table name (place_of one)) filters ≡ Some filter) where
       pub can_be_compiled : CanCompile filter.rules
-      can_be_compiled = found_has (λ (one : Filter). CanCompile one.rules) (λ one. means table name (place_of one)) filters filter is are.can_be_compiled
+      can_be_compiled = found_has (λ (one : Filter). CanCompile one.rules)
+          (λ one. means table name (place_of one)) filters filter is are.can_be_compiled
 
       does_as_wanted : HasWantedRules settings table filter
       does_as_wanted = found_has (HasWantedRules settings table) (λ one. means table name (place_of one)) filters filter is are.do_as_wanted
 
       -- a comparison with its rules is one with what the settings want of it
-      pub compares_named : (result : Result Checked Stop) → IsSaid (λ (checked : Checked). checked.outcome) (Compares path code (wanted_by filter.rules)) result → IsSaid (λ (checked : Checked). checked.outcome) (ComparesNamed unit name path settings table code) result
+      pub compares_named : (result : Result Checked Stop) → IsSaid (λ (checked : Checked). checked.outcome)
+          (Compares path code (wanted_by filter.rules)) result
+          → IsSaid (λ (checked : Checked). checked.outcome) (ComparesNamed unit name path settings table code) result
       compares_named result said =
-          said_as (λ (checked : Checked). checked.outcome) (Compares path code (wanted_by filter.rules)) (ComparesNamed unit name path settings table code)
+          said_as (λ (checked : Checked). checked.outcome) (Compares path code (wanted_by filter.rules))
+          (ComparesNamed unit name path settings table code)
           (λ told compares. is_on (place_of filter) told (named_as ∙ ap (option_map place_of) is)
-          (compares_as code (wanted_by filter.rules) (wanted_word settings table (place_of filter)) (λ input. ap word_of (does_as_wanted input)) path told compares))
+          (compares_as code (wanted_by filter.rules) (wanted_word settings table (place_of filter))
+          (λ input. ap word_of (does_as_wanted input)) path told compares))
           result said

@@ -47,7 +47,8 @@ module _ (unit name path : List ℕ) where
     admitted_whole _ _ (tells found is) = told_whole found
 
     -- where there is an outcome, nothing is refused
-    admitted_answers : (one : Outcome) → Answers files unit name path (Ok one) → (ending : Ending) (text : List ℕ) → Admits files unit name path ending text → IsTrue (is_answer ending)
+    admitted_answers : (one : Outcome) → Answers files unit name path (Ok one) → (ending : Ending) (text : List ℕ)
+        → Admits files unit name path ending text → IsTrue (is_answer ending)
     admitted_answers one are _ _ (refuses line is) = absurd (not_both one line (one_answer files unit name path (Ok one) (Err line) are is))
     admitted_answers one are _ _ (tells found is) = told_answers found
 
@@ -64,7 +65,8 @@ module _ (unit name path : List ℕ) where
   }
 
   -- what is refused before anything is compared
-  pub stops_before : (told : Option Files) (why : Stop) → IfSome told (λ files. IsPrepared files unit path (Err why)) → IsAdmitted (check_laws told unit name path) ending_of checked_text (Err why)
+  pub stops_before : (told : Option Files) (why : Stop) → IfSome told (λ files. IsPrepared files unit path (Err why))
+      → IsAdmitted (check_laws told unit name path) ending_of checked_text (Err why)
   stops_before None (stop.Refused line) said = inl refl
   stops_before (Some files) (stop.Refused line) said = refuses line.items (refused_before line.items said)
   stops_before told stop.ReadFault said = tt
@@ -73,12 +75,18 @@ module _ (unit name path : List ℕ) where
   module _ (prepared : Prepared) where
     -- what comes of a comparison of what is prepared
     abbrev IsComparison : Result Checked Stop → Type 0
-    IsComparison result = IsSaid (λ (checked : Checked). checked.outcome) (ComparesNamed unit name path (unit_filters (inputs_in prepared).unit (inputs_in prepared).calls) (inputs_in prepared).calls prepared.program) result
+    IsComparison result = IsSaid (λ (checked : Checked). checked.outcome)
+        (ComparesNamed unit name path (unit_filters (inputs_in prepared).unit (inputs_in prepared).calls)
+        (inputs_in prepared).calls prepared.program) result
 
-    pub compared_as : (told : Option Files) (result : Result Checked Stop) → IfSome told (λ files. IsPrepared files unit path (Ok prepared)) → IsComparison result → IsAdmitted (check_laws told unit name path) ending_of checked_text result
+    pub compared_as : (told : Option Files) (result : Result Checked Stop)
+        → IfSome told (λ files. IsPrepared files unit path (Ok prepared)) → IsComparison result
+        → IsAdmitted (check_laws told unit name path) ending_of checked_text result
     compared_as None (Ok checked) ready said = may_untold checked.outcome
-    compared_as (Some files) (Ok checked) ready said = tells checked.outcome (compared (inputs_in prepared) prepared.program (Ok checked.outcome) ready said)
+    compared_as (Some files) (Ok checked) ready said = tells checked.outcome
+        (compared (inputs_in prepared) prepared.program (Ok checked.outcome) ready said)
     compared_as None (Err (stop.Refused line)) ready said = inl refl
-    compared_as (Some files) (Err (stop.Refused line)) ready said = refuses line.items (compared (inputs_in prepared) prepared.program (Err line.items) ready said)
+    compared_as (Some files) (Err (stop.Refused line)) ready said =
+        refuses line.items (compared (inputs_in prepared) prepared.program (Err line.items) ready said)
     compared_as told (Err stop.ReadFault) ready said = tt
     compared_as told (Err stop.Memory) ready said = tt

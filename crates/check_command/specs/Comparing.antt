@@ -20,10 +20,12 @@ wanted_word settings table place input = word_of (wanted_action place.0 settings
 
 -- A program is compared with wanted words over all call data: what is found is told, or the line of why it is not compared.
 pub data Compares (path : List ℕ) (code : List Insn) (wanted : CallData → ℕ) : Result Outcome (List ℕ) → Type 0 where
-  not_compared : (error : CheckError) → error ≢ Memory → Finds code wanted (Err error) → Compares path code wanted (Err (check_line path error))
+  not_compared : (error : CheckError) → error ≢ Memory → Finds code wanted (Err error)
+      → Compares path code wanted (Err (check_line path error))
   is_compared : (outcome : Outcome) → Finds code wanted (Ok outcome) → Compares path code wanted (Ok outcome)
 
 -- And so with the filter that a name means; where it is not on, the unit is refused for it.
 pub data ComparesNamed (unit name path : List ℕ) (settings : FilterSettings) (table : Table) (code : List Insn) : Result Outcome (List ℕ) → Type 0 where
   not_on : named_place settings table name ≡ None → ComparesNamed unit name path settings table code (Err (no_filter_line unit name))
-  is_on : (place : Place) (said : Result Outcome (List ℕ)) → named_place settings table name ≡ Some place → Compares path code (wanted_word settings table place) said → ComparesNamed unit name path settings table code said
+  is_on : (place : Place) (said : Result Outcome (List ℕ)) → named_place settings table name ≡ Some place
+      → Compares path code (wanted_word settings table place) said → ComparesNamed unit name path settings table code said

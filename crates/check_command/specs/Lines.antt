@@ -21,7 +21,8 @@ answers_text theirs ours = codes " theirs " ++ (decimal theirs ++ (codes " ours 
 
 -- the data of a call up to its arguments
 abbrev pub call_text : CallData → List ℕ
-call_text at = codes "differs nr " ++ (decimal at.nr ++ (codes " arch " ++ (decimal at.arch ++ (codes " ip " ++ (decimal at.ip ++ codes " args")))))
+call_text at = codes "differs nr " ++
+    (decimal at.nr ++ (codes " arch " ++ (decimal at.arch ++ (codes " ip " ++ (decimal at.ip ++ codes " args")))))
 
 -- the call data at which two programs answer otherwise, and both answers
 abbrev pub differs_line : CallData → ℕ → ℕ → List ℕ

@@ -19,8 +19,10 @@ pub record AreReady (files : Files) (unit path : List ℕ) (inputs : Inputs) (co
 -- What is refused before anything is compared, the first that is: an input of the unit, then the file, then a setting.
 pub data RefusesBefore (files : Files) (unit path : List ℕ) : List ℕ → Type 0 where
   an_input : (line : List ℕ) → first_refusal (input_refusals files unit) ≡ Some line → RefusesBefore files unit path line
-  the_file : (line : List ℕ) (inputs : Inputs) → inputs_of files unit ≡ Some inputs → IsProgramIn files path (Err line) → RefusesBefore files unit path line
-  a_setting : (line : List ℕ) (inputs : Inputs) (code : List Insn) → inputs_of files unit ≡ Some inputs → IsProgramIn files path (Ok code) → first_refusal (refusals_of unit inputs) ≡ Some line → RefusesBefore files unit path line
+  the_file : (line : List ℕ) (inputs : Inputs) → inputs_of files unit ≡ Some inputs → IsProgramIn files path (Err line)
+      → RefusesBefore files unit path line
+  a_setting : (line : List ℕ) (inputs : Inputs) (code : List Insn) → inputs_of files unit ≡ Some inputs → IsProgramIn files path (Ok code)
+      → first_refusal (refusals_of unit inputs) ≡ Some line → RefusesBefore files unit path line
 
 abbrev pub inputs_in : Prepared → Inputs
 inputs_in prepared = inputs_view prepared.unit.inputs

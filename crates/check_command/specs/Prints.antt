@@ -12,7 +12,8 @@ use Rattle.check_command.specs.Lines.{ending_by, outcome_text}
 -- the line of the refusal is printed, or that of the outcome, with status 8 where the two differ
 pub data Admits (files : Files) (unit name path : List ℕ) : Ending → List ℕ → Type 0 where
   refuses : (line : List ℕ) → Answers files unit name path (Err line) → Admits files unit name path Refused line
-  tells : (outcome : Outcome) → Answers files unit name path (Ok outcome) → Admits files unit name path (ending_by outcome) (outcome_text outcome)
+  tells : (outcome : Outcome) → Answers files unit name path (Ok outcome)
+      → Admits files unit name path (ending_by outcome) (outcome_text outcome)
 
 -- where the files are not told, only the endings are known
 abbrev pub MayEndUntold : Ending → Type 0

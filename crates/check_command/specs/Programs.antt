@@ -16,4 +16,5 @@ pub data IsProgramOf (path bytes : List ℕ) : Result (List Insn) (List ℕ) →
 -- over some files: the file is there, and is not too large
 pub data IsProgramIn (files : Files) (path : List ℕ) : Result (List Insn) (List ℕ) → Type 0 where
   no_file : (line : List ℕ) → bytes_in files path ≡ Err line → IsProgramIn files path (Err line)
-  of_file : (bytes : List ℕ) (said : Result (List Insn) (List ℕ)) → bytes_in files path ≡ Ok bytes → IsProgramOf path bytes said → IsProgramIn files path said
+  of_file : (bytes : List ℕ) (said : Result (List Insn) (List ℕ)) → bytes_in files path ≡ Ok bytes → IsProgramOf path bytes said
+      → IsProgramIn files path said

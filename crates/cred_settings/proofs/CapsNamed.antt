@@ -22,7 +22,8 @@ no_cap word none = by (cap_named word) refl
         let below : k < 41 = at.0 in
         absurd (none k (omega arith) ((bytes_eq-Decides (in_lower_case (get_or names k [])) (in_lower_case word)).0 at.1))
 
-pub the_cap : (word : List ℕ) (number : ℕ) → number ≤ 40 → in_lower_case (name_of number) ≡ in_lower_case word → Some number ≡ cap_named word
+pub the_cap : (word : List ℕ) (number : ℕ) → number ≤ 40 → in_lower_case (name_of number) ≡ in_lower_case word
+    → Some number ≡ cap_named word
 unfolding name_of cap_named
 the_cap word number small e =
     let place : position_or_len (λ name. bytes_eq (in_lower_case name) (in_lower_case word)) names ≡ number =
@@ -33,6 +34,7 @@ the_cap word number small e =
     let below : number < 41 = omega arith in
     sym (ap (λ n. cond (ltb n 41) (Some n) None) place ∙ ap (λ b. cond b (Some number) None) (lt-ltb number 41 below))
 
-pub found_cap : (word : List ℕ) (found : Option ℕ) → IfSome found (λ number. number ≤ 40) → ((number : ℕ) → number ≤ 40 → (found ≡ Some number) ↔ (in_lower_case (name_of number) ≡ in_lower_case word)) → found ≡ cap_named word
+pub found_cap : (word : List ℕ) (found : Option ℕ) → IfSome found (λ number. number ≤ 40)
+    → ((number : ℕ) → number ≤ 40 → (found ≡ Some number) ↔ (in_lower_case (name_of number) ≡ in_lower_case word)) → found ≡ cap_named word
 found_cap word None small named = no_cap word (λ k h e. let there = (named k h).1 e in cc)
 found_cap word (Some number) small named = the_cap word number small ((named number small).0 refl)

@@ -13,11 +13,13 @@ no_user : (bad : Option (List ℕ)) (identity : Identity) (word : List ℕ) → 
 no_user None identity word e = cc
 no_user (Some group) identity word e = cc
 
-meant : (site : Site) (user group : List ℕ) (further : List (List ℕ)) (word : List ℕ) (o : Option Identity) → identity_by site user group further (account_meant true o) ≢ Err (NoSuchUser word)
+meant : (site : Site) (user group : List ℕ) (further : List (List ℕ)) (word : List ℕ) (o : Option Identity)
+    → identity_by site user group further (account_meant true o) ≢ Err (NoSuchUser word)
 meant site user group further word None = no_user _ _ word
 meant site user group further word (Some identity) = no_user _ _ word
 
-given : (site : Site) (user group : List ℕ) (further : List (List ℕ)) (word : List ℕ) → identity_by site user group further (account_of site true user) ≢ Err (NoSuchUser word)
+given : (site : Site) (user group : List ℕ) (further : List (List ℕ)) (word : List ℕ)
+    → identity_by site user group further (account_of site true user) ≢ Err (NoSuchUser word)
 given site [] group further word = no_user _ _ word
 given site (byte ∷ user) group further word = meant site (byte ∷ user) group further word (user_meant site (byte ∷ user))
 

@@ -3,7 +3,8 @@ use Rattle.std.proofs.Common.{◌≡◌, ℕ, suc, ◌+◌, ◌<◌, List, ◌�
 use Rattle.std.specs.Prelude.{fold}
 use Rattle.std.proofs.Math.Seq.{drop-cons}
 
-pub fold_next : {A B : Type 0} (f : B → A → B) (now next : B) (xs : List A) (i : ℕ) (x : A) → i < length xs → x ≡ get_or xs i x → next ≡ f now x → fold f next (drop (i + 1) xs) ≡ fold f now (drop i xs)
+pub fold_next : {A B : Type 0} (f : B → A → B) (now next : B) (xs : List A) (i : ℕ) (x : A) → i < length xs → x ≡ get_or xs i x
+    → next ≡ f now x → fold f next (drop (i + 1) xs) ≡ fold f now (drop i xs)
 fold_next f now next xs i x lt is step =
     ap (λ b. fold f b (drop (i + 1) xs)) step
     ∙ ap (λ k. fold f (f now x) (drop k xs)) (add-one i)

@@ -14,7 +14,8 @@ use Rattle.cred_settings.specs.declared.accounts.Identity.{Identity}
 use Rattle.cred_settings.specs.declared.accounts.Account.{Account}
 use Rattle.cred_settings.specs.declared.accounts.Account.TheVariants.{Dynamic, Fixed}
 use Rattle.cred_settings.specs.Ids.{id_in_range, id_number}
-use Rattle.cred_settings.specs.Users.{superuser, identity_of_user, identity_of_id, numbered, user_meant, account_meant, account_of, user_word}
+use Rattle.cred_settings.specs.Users.{superuser, identity_of_user, identity_of_id, numbered, user_meant, account_meant, account_of}
+use Rattle.cred_settings.specs.Users.{user_word}
 use Rattle.cred_settings.specs.Groups.{gid_meant, chosen_gid, group_word}
 use Rattle.cred_settings.specs.FurtherGroups.{further_words}
 use Rattle.cred_settings.specs.Identities.{identity_with, bad_group, unless_bad, identity_by, identity_of}
@@ -52,11 +53,13 @@ all_behind : {X : Type 0} (P : X → Type 0) (xs ys : List X) → AllByRecursion
 all_behind P [] ys first second = second
 all_behind P (x ∷ xs) ys first second = (first.0, all_behind P xs ys first.1 second)
 
-all_more : {Y : Type 0} (P : Y → Type 0) (o : Option Y) (ys : List Y) → ((y : Y) → o ≡ Some y → P y) → AllByRecursion P ys → AllByRecursion P (cons_option o ys)
+all_more : {Y : Type 0} (P : Y → Type 0) (o : Option Y) (ys : List Y) → ((y : Y) → o ≡ Some y → P y) → AllByRecursion P ys
+    → AllByRecursion P (cons_option o ys)
 all_more P None ys h all = all
 all_more P (Some y) ys h all = (h y refl, all)
 
-all_given : {X Y : Type 0} (P : Y → Type 0) (f : X → Option Y) (xs : List X) → ((x : X) (y : Y) → f x ≡ Some y → P y) → AllByRecursion P (filter_map f xs)
+all_given : {X Y : Type 0} (P : Y → Type 0) (f : X → Option Y) (xs : List X) → ((x : X) (y : Y) → f x ≡ Some y → P y)
+    → AllByRecursion P (filter_map f xs)
 all_given P f [] h = tt
 all_given P f (x ∷ xs) h = all_more P (f x) (filter_map f xs) (λ y e. h x y e) (all_given P f xs h)
 
@@ -76,9 +79,11 @@ numbered_ids site id is h = by (user_with site.users id) (λ user e. found_holds
 
 meant_ids : (site : Site) (word : List ℕ) (identity : Identity) → IsSite site → user_meant site word ≡ Some identity → HasIds identity
 meant_ids site word identity is =
-    by (user_named site.users word) (λ user e. found_holds IsUser _ site.users user is.each_user e) (id_number word) (λ id e. number_small (decimal_value word) id e)
+    by (user_named site.users word) (λ user e. found_holds IsUser _ site.users user is.each_user e) (id_number word)
+    (λ id e. number_small (decimal_value word) id e)
   where
-    by : (o : Option User) → ((user : User) → o ≡ Some user → IsUser user) → (n : Option ℕ) → ((id : ℕ) → n ≡ Some id → id ≤ greatest_id) → option_or (option_map identity_of_user o) (option_map (numbered site) n) ≡ Some identity → HasIds identity
+    by : (o : Option User) → ((user : User) → o ≡ Some user → IsUser user) → (n : Option ℕ) → ((id : ℕ) → n ≡ Some id → id ≤ greatest_id)
+        → option_or (option_map identity_of_user o) (option_map (numbered site) n) ≡ Some identity → HasIds identity
     by (Some user) g n h e = subst HasIds (some_same (identity_of_user user) identity e) (user_ids user (g user refl))
     by None g (Some id) h e = subst HasIds (some_same (numbered site id) identity e) (numbered_ids site id is (h id refl))
     by None g None h e = none_some (HasIds identity) identity e
@@ -87,8 +92,10 @@ abbrev HoldsIds : Account → Type 0
 HoldsIds Dynamic = Unit {0}
 HoldsIds (Fixed identity) = HasIds identity
 
-account_ids : (site : Site) (is_dynamic : Bool) (word : List ℕ) (account : Account) → IsSite site → account_of site is_dynamic word ≡ Some account → HoldsIds account
-account_ids site is_dynamic [] account is e = subst HoldsIds (some_same (cond is_dynamic Dynamic (Fixed superuser)) account e) (by is_dynamic)
+account_ids : (site : Site) (is_dynamic : Bool) (word : List ℕ) (account : Account) → IsSite site
+    → account_of site is_dynamic word ≡ Some account → HoldsIds account
+account_ids site is_dynamic [] account is e = subst HoldsIds (some_same (cond is_dynamic Dynamic (Fixed superuser)) account e)
+    (by is_dynamic)
   where
     by : (b : Bool) → HoldsIds (cond b Dynamic (Fixed superuser))
     by true = tt
@@ -100,16 +107,19 @@ account_ids site is_dynamic (byte ∷ word) account is said =
     dynamic true e = subst HoldsIds (some_same Dynamic account e) tt
     dynamic false e = none_some (HoldsIds account) account e
 
-    by : (o : Option Identity) → ((identity : Identity) → o ≡ Some identity → HasIds identity) → account_meant is_dynamic o ≡ Some account → HoldsIds account
+    by : (o : Option Identity) → ((identity : Identity) → o ≡ Some identity → HasIds identity) → account_meant is_dynamic o ≡ Some account
+        → HoldsIds account
     by (Some identity) g e = subst HoldsIds (some_same (Fixed identity) account e) (g identity refl)
     by None g e = dynamic is_dynamic e
 
 -- ---- groups
 gid_small : (site : Site) (word : List ℕ) (gid : ℕ) → IsSite site → gid_meant site word ≡ Some gid → gid ≤ greatest_id
 gid_small site word gid is =
-    by (group_named site.groups word) (λ group e. found_holds IsGroup _ site.groups group is.each_group e) (id_number word) (λ id e. number_small (decimal_value word) id e)
+    by (group_named site.groups word) (λ group e. found_holds IsGroup _ site.groups group is.each_group e) (id_number word)
+    (λ id e. number_small (decimal_value word) id e)
   where
-    by : (o : Option Group) → ((group : Group) → o ≡ Some group → IsGroup group) → (n : Option ℕ) → ((id : ℕ) → n ≡ Some id → id ≤ greatest_id) → option_or (option_map (λ group. group.gid) o) n ≡ Some gid → gid ≤ greatest_id
+    by : (o : Option Group) → ((group : Group) → o ≡ Some group → IsGroup group) → (n : Option ℕ)
+        → ((id : ℕ) → n ≡ Some id → id ≤ greatest_id) → option_or (option_map (λ group. group.gid) o) n ≡ Some gid → gid ≤ greatest_id
     by (Some group) g n h e = let small_one = (g group refl).gid in subst (λ k. k ≤ greatest_id) (some_same group.gid gid e) small_one
     by None g n h e = h gid e
 
@@ -117,11 +127,13 @@ chosen_small : (site : Site) (word : List ℕ) (gid : ℕ) → IsSite site → c
 chosen_small site [] gid is e = none_some (gid ≤ greatest_id) gid e
 chosen_small site (byte ∷ word) gid is e = gid_small site (byte ∷ word) gid is e
 
-one_small : (chosen : Option ℕ) (gid : ℕ) → ((other : ℕ) → chosen ≡ Some other → other ≤ greatest_id) → gid ≤ greatest_id → unwrap_or chosen gid ≤ greatest_id
+one_small : (chosen : Option ℕ) (gid : ℕ) → ((other : ℕ) → chosen ≡ Some other → other ≤ greatest_id) → gid ≤ greatest_id
+    → unwrap_or chosen gid ≤ greatest_id
 one_small None gid h own = own
 one_small (Some other) gid h own = h other refl
 
-with_ids : (site : Site) (account : Account) (group : List ℕ) (further : List (List ℕ)) → IsSite site → HoldsIds account → HasIds (identity_with site account group further)
+with_ids : (site : Site) (account : Account) (group : List ℕ) (further : List (List ℕ)) → IsSite site → HoldsIds account
+    → HasIds (identity_with site account group further)
 with_ids site Dynamic group further is holds = record {
   uid = is.dynamic_uid;
   gid = is.dynamic_uid;
@@ -130,19 +142,24 @@ with_ids site Dynamic group further is holds = record {
 with_ids site (Fixed identity) group further is holds = record {
   uid = holds.uid;
   gid = one_small (chosen_gid site group) identity.gid (λ gid e. chosen_small site group gid is e) holds.gid;
-  groups = all_behind (λ id. id ≤ greatest_id) identity.groups (filter_map (gid_meant site) further) holds.groups (all_given (λ id. id ≤ greatest_id) (gid_meant site) further (λ word gid e. gid_small site word gid is e));
+  groups = all_behind (λ id. id ≤ greatest_id) identity.groups (filter_map (gid_meant site) further) holds.groups
+      (all_given (λ id. id ≤ greatest_id) (gid_meant site) further (λ word gid e. gid_small site word gid is e));
 }
 
 answer_ids : (bad : Option (List ℕ)) (made identity : Identity) → HasIds made → unless_bad bad made ≡ Ok identity → HasIds identity
 answer_ids None made identity has e = let same : made ≡ identity = cc in subst HasIds same has
 answer_ids (Some word) made identity has e = absurd (cc)
 
-by_ids : (site : Site) (user group : List ℕ) (further : List (List ℕ)) (o : Option Account) (identity : Identity) → IsSite site → ((account : Account) → o ≡ Some account → HoldsIds account) → identity_by site user group further o ≡ Ok identity → HasIds identity
+by_ids : (site : Site) (user group : List ℕ) (further : List (List ℕ)) (o : Option Account) (identity : Identity) → IsSite site
+    → ((account : Account) → o ≡ Some account → HoldsIds account) → identity_by site user group further o ≡ Ok identity → HasIds identity
 by_ids site user group further None identity is h e = absurd (cc)
 by_ids site user group further (Some account) identity is h e =
-    answer_ids (bad_group site group further) (identity_with site account group further) identity (with_ids site account group further is (h account refl)) e
+    answer_ids (bad_group site group further) (identity_with site account group further) identity
+    (with_ids site account group further is (h account refl)) e
 
-pub ids_in_range : (unit : Resolved) (site : Site) (is_dynamic : Bool) (identity : Identity) → IsSite site → identity_of unit site is_dynamic ≡ Ok identity → HasIds identity
+pub ids_in_range : (unit : Resolved) (site : Site) (is_dynamic : Bool) (identity : Identity) → IsSite site
+    → identity_of unit site is_dynamic ≡ Ok identity → HasIds identity
 unfolding identity_of
 ids_in_range unit site is_dynamic identity is e =
-    by_ids site (user_word unit) (group_word unit) (further_words unit) (account_of site is_dynamic (user_word unit)) identity is (λ account said. account_ids site is_dynamic (user_word unit) account is said) e
+    by_ids site (user_word unit) (group_word unit) (further_words unit) (account_of site is_dynamic (user_word unit)) identity is
+    (λ account said. account_ids site is_dynamic (user_word unit) account is said) e

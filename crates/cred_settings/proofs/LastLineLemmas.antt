@@ -43,14 +43,17 @@ has_if : (b : Bool) (one other number : ℕ) → has (cond b one other) number �
 has_if true one other number = refl
 has_if false one other number = refl
 
-by_plain : (default set number : ℕ) (words : List (List ℕ)) → number ≤ 40 → has (with_plain default set (named_caps words)) number ≡ unwrap_or (says_of true false (list_any (is_name_of number) words) (set == default)) (has set number)
+by_plain : (default set number : ℕ) (words : List (List ℕ)) → number ≤ 40
+    → has (with_plain default set (named_caps words)) number
+    ≡ unwrap_or (says_of true false (list_any (is_name_of number) words) (set == default)) (has set number)
 by_plain default set number words small =
     has_if (set == default) (named_caps words) (union set (named_caps words)) number
     ∙ ap (λ b. cond (set == default) (has (named_caps words) number) b) (has_union set (named_caps words) number)
     ∙ ap (λ b. cond (set == default) b (has set number || b)) (members_named words number small)
     ∙ plain_at (set == default) (list_any (is_name_of number) words) (has set number)
 
-by_inverted : (default set number : ℕ) (words : List (List ℕ)) → number ≤ 40 → has (with_inverted default set words) number ≡ unwrap_or (inverted_says number (set == default) words) (has set number)
+by_inverted : (default set number : ℕ) (words : List (List ℕ)) → number ≤ 40
+    → has (with_inverted default set words) number ≡ unwrap_or (inverted_says number (set == default) words) (has set number)
 by_inverted default set number [] small = in_all number small
 by_inverted default set number (word ∷ words) small =
     has_minus (cond (set == default) all set) (named_caps (word ∷ words)) number
@@ -59,17 +62,24 @@ by_inverted default set number (word ∷ words) small =
     ∙ ap (λ b. cond (set == default) true (has set number) && not b) (members_named (word ∷ words) number small)
     ∙ inverted_at (set == default) (list_any (is_name_of number) (word ∷ words)) (has set number)
 
-by_line : (default set number : ℕ) (line : Line) → number ≤ 40 → has (with_line default set line) number ≡ unwrap_or (line_says number (set == default) line) (has set number)
+by_line : (default set number : ℕ) (line : Line) → number ≤ 40
+    → has (with_line default set line) number ≡ unwrap_or (line_says number (set == default) line) (has set number)
 by_line default set number line small = by line.is_inverted
   where
-    by : (b : Bool) → has (cond b (with_inverted default set line.words) (with_plain default set (named_caps line.words))) number ≡ unwrap_or (cond b (inverted_says number (set == default) line.words) (says_of true false (list_any (is_name_of number) line.words) (set == default))) (has set number)
+    by : (b : Bool) → has (cond b (with_inverted default set line.words) (with_plain default set (named_caps line.words))) number
+        ≡ unwrap_or (cond b (inverted_says number (set == default) line.words)
+        (says_of true false (list_any (is_name_of number) line.words) (set == default))) (has set number)
     by true = by_inverted default set number line.words small
     by false = by_plain default set number line.words small
 
-by_listed : (default number : ℕ) (before : List Listed) (one : Listed) → number ≤ 40 → has (with_listed default (caps_by default before) one) number ≡ unwrap_or (says default number (before, one)) (has (caps_by default before) number)
+by_listed : (default number : ℕ) (before : List Listed) (one : Listed) → number ≤ 40
+    → has (with_listed default (caps_by default before) one) number
+    ≡ unwrap_or (says default number (before, one)) (has (caps_by default before) number)
 by_listed default number before one small = by (is_reset one)
   where
-    by : (b : Bool) → has (cond b none (with_line default (caps_by default before) one.line)) number ≡ unwrap_or (cond b (Some false) (line_says number (caps_by default before == default) one.line)) (has (caps_by default before) number)
+    by : (b : Bool) → has (cond b none (with_line default (caps_by default before) one.line)) number
+        ≡ unwrap_or (cond b (Some false) (line_says number (caps_by default before == default) one.line))
+        (has (caps_by default before) number)
     by true = has_none number
     by false = by_line default (caps_by default before) number one.line small
 
@@ -80,13 +90,16 @@ last_hides : {X : Type 0} (x : X) (xs : List X) (old other : X) → unwrap_or (l
 last_hides x [] old other = refl
 last_hides x (y ∷ xs) old other = last_hides y xs old other
 
-last_behind : {X : Type 0} (o : Option X) (xs : List X) (old : X) → unwrap_or (last_of xs) (unwrap_or o old) ≡ unwrap_or (last_of (cons_option o xs)) old
+last_behind : {X : Type 0} (o : Option X) (xs : List X) (old : X)
+    → unwrap_or (last_of xs) (unwrap_or o old) ≡ unwrap_or (last_of (cons_option o xs)) old
 last_behind None xs old = refl
 last_behind (Some x) [] old = refl
 last_behind (Some x) (y ∷ xs) old = last_hides y xs x old
 
 -- behind some lines
-later_lines : (default number : ℕ) → number ≤ 40 → (before lines : List Listed) → has (fold (with_listed default) (caps_by default before) lines) number ≡ unwrap_or (last_of (filter_map (says default number) (with_before before lines))) (has (caps_by default before) number)
+later_lines : (default number : ℕ) → number ≤ 40 → (before lines : List Listed)
+    → has (fold (with_listed default) (caps_by default before) lines) number
+    ≡ unwrap_or (last_of (filter_map (says default number) (with_before before lines))) (has (caps_by default before) number)
 later_lines default number small before [] = refl
 later_lines default number small before (one ∷ lines) =
     let rest = filter_map (says default number) (with_before (before ++ one ∷ []) lines) in
@@ -96,5 +109,6 @@ later_lines default number small before (one ∷ lines) =
     ∙ ap (unwrap_or (last_of rest)) (by_listed default number before one small)
     ∙ last_behind (says default number (before, one)) rest (has (caps_by default before) number)
 
-pub last_line_decides : (default number : ℕ) (lines : List Listed) → number ≤ 40 → has (caps_by default lines) number ≡ is_taken_in default number lines
+pub last_line_decides : (default number : ℕ) (lines : List Listed) → number ≤ 40
+    → has (caps_by default lines) number ≡ is_taken_in default number lines
 last_line_decides default number lines small = later_lines default number small [] lines

@@ -49,7 +49,8 @@ or_none false = refl
 abbrev is_list : ℕ → ℕ → List ℕ → Bool → Type 0
 is_list number set numbers any = has (fold (λ s n. union s (single n)) set numbers) number ≡ (has set number || any)
 
-one_member : (number set : ℕ) (numbers : List ℕ) (any named : Bool) (o : Option ℕ) → named ≡ is_number number o → ((other : ℕ) → is_list number other numbers any) → is_list number set (cons_option o numbers) (named || any)
+one_member : (number set : ℕ) (numbers : List ℕ) (any named : Bool) (o : Option ℕ) → named ≡ is_number number o
+    → ((other : ℕ) → is_list number other numbers any) → is_list number set (cons_option o numbers) (named || any)
 one_member number set numbers any named None e more = more set ∙ ap (λ b. has set number || (b || any)) (sym e)
 one_member number set numbers any named (Some k) e more =
     more (union set (single k))
@@ -57,7 +58,8 @@ one_member number set numbers any named (Some k) e more =
     ∙ or_assoc (has set number) (number == k) any
     ∙ ap (λ b. has set number || (b || any)) (sym e)
 
-members_of : (number : ℕ) → number ≤ 40 → (words : List (List ℕ)) (set : ℕ) → is_list number set (filter_map cap_named words) (list_any (is_name_of number) words)
+members_of : (number : ℕ) → number ≤ 40 → (words : List (List ℕ)) (set : ℕ)
+    → is_list number set (filter_map cap_named words) (list_any (is_name_of number) words)
 members_of number small [] set = or_none (has set number)
 members_of number small (word ∷ words) set =
     one_member number set (filter_map cap_named words) (list_any (is_name_of number) words) (is_name_of number word) (cap_named word)

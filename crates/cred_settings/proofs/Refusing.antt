@@ -1,5 +1,6 @@
 -- Words that name no group, and the refusal of the first.
-use Rattle.std.proofs.Common.{◌≡◌, ℕ, suc, ◌+◌, ◌<◌, Bool, true, false, cond, Some, None, List, [], ◌∷◌, ◌++◌, length, take, drop, get_or, sym, ap, ◌∙◌}
+use Rattle.std.proofs.Common.{◌≡◌, ℕ, suc, ◌+◌, ◌<◌, Bool, true, false, cond, Some, None, List, [], ◌∷◌, ◌++◌, length, take, drop, get_or}
+use Rattle.std.proofs.Common.{sym, ap, ◌∙◌}
 use Rattle.std.specs.Prelude.{find, not, is_some}
 use Rattle.std.specs.Option.{option_or}
 use Rattle.std.proofs.lemmas.List.{take_more, take-append-drop}
@@ -9,14 +10,16 @@ use Rattle.site_table.specs.Table.{Site}
 use Rattle.cred_settings.specs.Groups.{gid_meant}
 use Rattle.cred_settings.specs.Identities.{names_no_group}
 
-pub none_more : {X : Type 0} (p : X → Bool) (xs : List X) (i : ℕ) (x : X) → i < length xs → x ≡ get_or xs i x → find p (take i xs) ≡ None → p x ≡ false → find p (take (i + 1) xs) ≡ None
+pub none_more : {X : Type 0} (p : X → Bool) (xs : List X) (i : ℕ) (x : X) → i < length xs → x ≡ get_or xs i x → find p (take i xs) ≡ None
+    → p x ≡ false → find p (take (i + 1) xs) ≡ None
 none_more p xs i x lt is before here =
     ap (find p) (take_more xs i x lt ∙ ap (λ y. take i xs ++ y ∷ []) (sym is))
     ∙ find-append p (take i xs) (x ∷ [])
     ∙ ap (λ o. option_or o (cond (p x) (Some x) None)) before
     ∙ ap (λ b. cond b (Some x) None) here
 
-pub first_found : {X : Type 0} (p : X → Bool) (xs : List X) (i : ℕ) (x : X) → i < length xs → x ≡ get_or xs i x → find p (take i xs) ≡ None → p x ≡ true → find p xs ≡ Some x
+pub first_found : {X : Type 0} (p : X → Bool) (xs : List X) (i : ℕ) (x : X) → i < length xs → x ≡ get_or xs i x
+    → find p (take i xs) ≡ None → p x ≡ true → find p xs ≡ Some x
 first_found p xs i x lt is before here =
     ap (find p) (sym (take-append-drop i xs))
     ∙ find-append p (take i xs) (drop i xs)

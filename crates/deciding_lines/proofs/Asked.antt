@@ -25,27 +25,33 @@ use Rattle.asked_service.specs.declared.unit_launch.launching.UnitLaunch.TheVari
 use Rattle.deciding_lines.specs.unit_lines.Without.{without}
 use Rattle.asked_service.specs.dropin_merge.declared.unit_values.value.Place.{Place}
 use Rattle.deciding_lines.specs.Deciding.{IsLineOf, IsReasonAt, unit_refused as not_settled}
-use Rattle.deciding_lines.specs.Tried.{IsDeniedWithout, IsOpenWithout, IsRefusal, IsSaid, TellsOpen, Tried, denied, inputs_without, unit_refused}
+use Rattle.deciding_lines.specs.Tried.{IsDeniedWithout, IsOpenWithout, IsRefusal, IsSaid, TellsOpen, Tried, denied, inputs_without}
+use Rattle.deciding_lines.specs.Tried.{unit_refused}
 use Rattle.deciding_lines.specs.declared.reason.Reason.{Reason}
 
 -- a verdict by the rule says so
-said_exactly : (world : World) (question : Question) (answer : Bool) → IsExact world question → answer ≡ is_open (launch_of world) question → IsSaid world question answer
+said_exactly : (world : World) (question : Question) (answer : Bool) → IsExact world question
+    → answer ≡ is_open (launch_of world) question → IsSaid world question answer
 said_exactly world question true exact is = exact.opens (sym is)
 said_exactly world question false exact is = exact.denies (sym is)
 
-pub said : QuestionsAreExact → (world : World) → IsServedWorld world → (question : Question) → Contains (asked.questions world.calls world.site) question
+pub said : QuestionsAreExact → (world : World) → IsServedWorld world → (question : Question)
+    → Contains (asked.questions world.calls world.site) question
     → (answer : Bool) → answer ≡ is_open_by world question → IsSaid world question answer
 said exact world served question listed answer is =
-    said_exactly world question answer (all_at (IsExact world) (asked.questions world.calls world.site) question (exact world served) listed) is
+    said_exactly world question answer
+    (all_at (IsExact world) (asked.questions world.calls world.site) question (exact world served) listed) is
 
 -- also where it is bounded
 module _ (service : Service) (bounded : Bounded) (same : bounded.service ≡ service) (question : Question) (is_listed : Contains (asked.questions service.world.calls service.world.site) question) where
   pub listed_of : Contains (asked.questions bounded.service.world.calls bounded.service.world.site) question
   listed_of = subst (λ (own : Service). Contains (asked.questions own.world.calls own.world.site) question) (sym same) is_listed
 
-  pub said_of : QuestionsAreExact → IsBounded bounded → (answer : Bool) → answer ≡ is_open_by bounded.service.world question → IsSaid service.world question answer
+  pub said_of : QuestionsAreExact → IsBounded bounded → (answer : Bool) → answer ≡ is_open_by bounded.service.world question
+      → IsSaid service.world question answer
   said_of exact bounds answer is =
-      subst (λ (own : Service). IsSaid own.world question answer) same (said exact bounded.service.world bounds.served question listed_of answer is)
+      subst (λ (own : Service). IsSaid own.world question answer) same
+      (said exact bounded.service.world bounds.served question listed_of answer is)
 
 -- what starts is served, over the tables
 module _ (inputs : Inputs) (service : Service) (starts : StartsAs inputs (Launched service)) where
@@ -58,7 +64,8 @@ module _ (inputs : Inputs) (service : Service) (starts : StartsAs inputs (Launch
   pub own_site : service.world.site ≡ inputs.site
   own_site = ap (λ (made : Launch). made.site) starts.comes_to.leaves_one_process.leaves.is
 
-  pub listed : (question : Question) → Contains (asked.questions inputs.calls inputs.site) question → Contains (asked.questions service.world.calls service.world.site) question
+  pub listed : (question : Question) → Contains (asked.questions inputs.calls inputs.site) question
+      → Contains (asked.questions service.world.calls service.world.site) question
   listed question is =
       subst (λ (table : calls.Table). Contains (asked.questions table service.world.site) question) (sym own_calls)
       (subst (λ (site : Site). Contains (asked.questions inputs.calls site) question) (sym own_site) is)
@@ -68,23 +75,31 @@ module _ (tried : Tried) (places : List Place) (less : Resolved) (is : less ≡ 
   as_without P holds = subst (λ (own : Resolved). P (given own tried.inputs.calls tried.inputs.site)) is holds
 
   -- what is started is the unit without them
-  pub starts_without : (launch : UnitLaunch) → Prepares (StartsAs (given less tried.inputs.calls tried.inputs.site)) (start_refusals tried.name (given less tried.inputs.calls tried.inputs.site)) (Ok launch) → StartsAs (inputs_without tried.inputs places) launch
+  pub starts_without : (launch : UnitLaunch) → Prepares (StartsAs (given less tried.inputs.calls tried.inputs.site))
+      (start_refusals tried.name (given less tried.inputs.calls tried.inputs.site)) (Ok launch)
+      → StartsAs (inputs_without tried.inputs places) launch
   starts_without launch prepared = as_without (λ inputs. StartsAs inputs launch) prepared.1
 
-  pub refused_without : (line : Vec ℕ Global) → Prepares (StartsAs (given less tried.inputs.calls tried.inputs.site)) (start_refusals tried.name (given less tried.inputs.calls tried.inputs.site)) (Err (stop.Refused line)) → first_start tried.name (inputs_without tried.inputs places) ≡ Some line.items
+  pub refused_without : (line : Vec ℕ Global) → Prepares (StartsAs (given less tried.inputs.calls tried.inputs.site))
+      (start_refusals tried.name (given less tried.inputs.calls tried.inputs.site)) (Err (stop.Refused line))
+      → first_start tried.name (inputs_without tried.inputs places) ≡ Some line.items
   refused_without line refused = as_without (λ inputs. first_start tried.name inputs ≡ Some line.items) refused
 
-  pub tells_stop : (why : Stop) → Prepares {T = UnitLaunch} (StartsAs (given less tried.inputs.calls tried.inputs.site)) (start_refusals tried.name (given less tried.inputs.calls tried.inputs.site)) (Err why)
+  pub tells_stop : (why : Stop) → Prepares {T = UnitLaunch} (StartsAs (given less tried.inputs.calls tried.inputs.site))
+      (start_refusals tried.name (given less tried.inputs.calls tried.inputs.site)) (Err why)
       → (result : Result Bool AllocError) → IfOk result (λ open'. (open' ≡ false) × IsRefusal why) → IfOk result (TellsOpen tried places)
   tells_stop why refused (Err none) is = tt
-  tells_stop (stop.Refused line) refused (Ok answer) is = subst (TellsOpen tried places) (sym is.0) (unit_refused line.items (refused_without line refused))
+  tells_stop (stop.Refused line) refused (Ok answer) is = subst (TellsOpen tried places) (sym is.0)
+      (unit_refused line.items (refused_without line refused))
   tells_stop stop.ReadFault refused (Ok answer) is = absurd is.1
   tells_stop stop.Memory refused (Ok answer) is = absurd is.1
 
-  pub reason_of_stop : (why : Stop) → Prepares {T = UnitLaunch} (StartsAs (given less tried.inputs.calls tried.inputs.site)) (start_refusals tried.name (given less tried.inputs.calls tried.inputs.site)) (Err why)
+  pub reason_of_stop : (why : Stop) → Prepares {T = UnitLaunch} (StartsAs (given less tried.inputs.calls tried.inputs.site))
+      (start_refusals tried.name (given less tried.inputs.calls tried.inputs.site)) (Err why)
       → (result : Result Reason AllocError) → IfOk result (IsLineOf why) → IfOk result (IsReasonAt tried places)
   reason_of_stop why refused (Err none) is = tt
-  reason_of_stop (stop.Refused line) refused (Ok told) is = subst (IsReasonAt tried places) (sym is) (not_settled line.items (refused_without line refused))
+  reason_of_stop (stop.Refused line) refused (Ok told) is = subst (IsReasonAt tried places) (sym is)
+      (not_settled line.items (refused_without line refused))
   reason_of_stop stop.ReadFault refused (Ok told) is = absurd is
   reason_of_stop stop.Memory refused (Ok told) is = absurd is
 
@@ -96,8 +111,12 @@ module _ (tried : Tried) (places : List Place) where
   tells_service service starts (Ok false) found = denied (record { service = service; starts = starts; denied = found })
   tells_service service starts (Err none) found = tt
 
-  pub open_as : (service : Service) → StartsAs (inputs_without tried.inputs places) (Launched service) → (answer : Bool) → answer ≡ true → IsSaid service.world tried.question answer → IsOpenWithout tried places
-  open_as service starts answer is found = record { service = service; starts = starts; shown = subst (IsSaid service.world tried.question) is found }
+  pub open_as : (service : Service) → StartsAs (inputs_without tried.inputs places) (Launched service) → (answer : Bool) → answer ≡ true
+      → IsSaid service.world tried.question answer → IsOpenWithout tried places
+  open_as service starts answer is found =
+      record { service = service; starts = starts; shown = subst (IsSaid service.world tried.question) is found }
 
-  pub denied_as : (service : Service) → StartsAs (inputs_without tried.inputs places) (Launched service) → (answer : Bool) → answer ≡ false → IsSaid service.world tried.question answer → IsDeniedWithout tried places
-  denied_as service starts answer is found = record { service = service; starts = starts; denied = subst (IsSaid service.world tried.question) is found }
+  pub denied_as : (service : Service) → StartsAs (inputs_without tried.inputs places) (Launched service) → (answer : Bool)
+      → answer ≡ false → IsSaid service.world tried.question answer → IsDeniedWithout tried places
+  denied_as service starts answer is found =
+      record { service = service; starts = starts; denied = subst (IsSaid service.world tried.question) is found }

@@ -16,7 +16,8 @@ use Rattle.deciding_lines.specs.declared.reason.Reason.TheVariants as reason
 -- without all of them the question is open; and with any one put back it is denied again, or the unit is not launched
 pub record AreDeciding (tried : Tried) (places : List Place) : Type 0 where
   pub is_open : IsOpenWithout tried places
-  pub each_matters : (before behind : List Place) (place : Place) → places ≡ before ++ (place ∷ behind) → IsShutWithout tried (before ++ behind)
+  pub each_matters : (before behind : List Place) (place : Place) → places ≡ before ++ (place ∷ behind)
+      → IsShutWithout tried (before ++ behind)
 
 -- the line of a unit that has no settings, no plan of mounts or no launch
 pub data IsNotLaunched (name : List ℕ) (inputs : Inputs) : List ℕ → Type 0 where

@@ -10,7 +10,8 @@ TriesBack tried before place kept next =
 
 -- with any one of these put back, before which others stay away, the question is not open
 abbrev pub EachMatters : Tried → List Place → List Place → Type 0
-EachMatters tried left kept = (before behind : List Place) (place : Place) → kept ≡ before ++ (place ∷ behind) → IsShutWithout tried (left ++ (before ++ behind))
+EachMatters tried left kept = (before behind : List Place) (place : Place) → kept ≡ before ++ (place ∷ behind)
+    → IsShutWithout tried (left ++ (before ++ behind))
 
 -- so far: those left are still to be tried
 pub record IsHeld (tried : Tried) (places left kept : List Place) : Type 0 where
@@ -23,4 +24,5 @@ pub record IsHeld (tried : Tried) (places left kept : List Place) : Type 0 where
 pub record IsRound (tried : Tried) (places kept : List Place) : Type 0 where
   pub is_open : IsOpenWithout tried kept
   pub no_more : length kept ≤ length places
-  pub each_matters : length kept ≡ length places → (before behind : List Place) (place : Place) → kept ≡ before ++ (place ∷ behind) → IsShutWithout tried (before ++ behind)
+  pub each_matters : length kept ≡ length places → (before behind : List Place) (place : Place) → kept ≡ before ++ (place ∷ behind)
+      → IsShutWithout tried (before ++ behind)

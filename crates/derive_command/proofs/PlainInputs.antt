@@ -6,7 +6,8 @@ use Rattle.replay_command.specs.host_io.Files.{Files, bytes_at}
 use Rattle.replay_command.specs.call_table.Reading.{table_of}
 use Rattle.replay_command.specs.call_table.Table.{Table}
 use Rattle.replay_command.specs.call_table.declared.causes.CallsError.{CallsError}
-use Rattle.replay_command.specs.unit_inputs.command_answers.ReadFiles.{Content, Holds, IsMissing, IsTooLarge, content_of, content_at, table_path}
+use Rattle.replay_command.specs.unit_inputs.command_answers.ReadFiles.{Content, Holds, IsMissing, IsTooLarge, content_of, content_at}
+use Rattle.replay_command.specs.unit_inputs.command_answers.ReadFiles.{table_path}
 use Rattle.replay_command.specs.unit_inputs.command_answers.Stops.{and_then, or_line}
 use Rattle.trace_profile.specs.dropin_merge.declared.resolved.Resolved.{Resolved}
 use Rattle.replay_command.specs.site_table.Table.{Site}
@@ -19,7 +20,8 @@ use Rattle.replay_command.specs.unit_inputs.UnitRefusals.{unit_in}
 use Rattle.derive_command.proofs.PlainTables.{table_is_plain}
 
 -- a table of bytes that are few
-plain_held : (content : Content) (table : Table) → ((bytes : List ℕ) → content ≡ Holds bytes → length bytes ≤ 1048576) → and_then (bytes_held table_path content) calls_said ≡ Ok table → HasPlainNames table
+plain_held : (content : Content) (table : Table) → ((bytes : List ℕ) → content ≡ Holds bytes → length bytes ≤ 1048576)
+    → and_then (bytes_held table_path content) calls_said ≡ Ok table → HasPlainNames table
 plain_held IsMissing table few is = cc
 plain_held IsTooLarge table few is = cc
 plain_held (Holds bytes) table few is = by (table_of bytes) refl is
@@ -46,7 +48,8 @@ calls_are_plain : (files : Files) (table : Table) → calls_in files ≡ Ok tabl
 calls_are_plain files table is = plain_held (content_at files table_path) table (few_bytes (bytes_at files table_path)) is
 
 -- which is that of the inputs
-calls_of_inputs : (unit : Resolved) (calls : Table) (site : Site) (inputs : Inputs) → Some (record { unit = unit; calls = calls; site = site }) ≡ Some inputs → calls ≡ inputs.calls
+calls_of_inputs : (unit : Resolved) (calls : Table) (site : Site) (inputs : Inputs)
+    → Some (record { unit = unit; calls = calls; site = site }) ≡ Some inputs → calls ≡ inputs.calls
 calls_of_inputs unit calls site inputs is =
     let same : record { unit = unit; calls = calls; site = site } ≡ inputs = cc in
     ap (λ (own : Inputs). own.calls) same
@@ -55,7 +58,8 @@ calls_of_inputs unit calls site inputs is =
 pub inputs_are_plain : (files : Files) (unit : List ℕ) (inputs : Inputs) → inputs_of files unit ≡ Some inputs → HasPlainNames inputs.calls
 inputs_are_plain files unit inputs is = by (unit_in files unit) (calls_in files) (site_in files) refl is
   where
-    by : (unit : Result Resolved (List ℕ)) (calls : Result Table (List ℕ)) (site : Result Site (List ℕ)) → calls_in files ≡ calls → all_three unit calls site ≡ Some inputs → HasPlainNames inputs.calls
+    by : (unit : Result Resolved (List ℕ)) (calls : Result Table (List ℕ)) (site : Result Site (List ℕ)) → calls_in files ≡ calls
+        → all_three unit calls site ≡ Some inputs → HasPlainNames inputs.calls
     by (Ok unit) (Ok calls) (Ok site) e is = calls_are_plain files inputs.calls (e ∙ ap Ok (calls_of_inputs unit calls site inputs is))
     by (Err line) calls site e is = cc
     by (Ok unit) (Err line) site e is = cc

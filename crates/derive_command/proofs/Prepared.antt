@@ -39,7 +39,8 @@ use Rattle.replay_command.proofs.OfUnitInputs.Steps as steps
 use Rattle.replay_command.proofs.OfUnitInputs.Steps.{AreRead, refusals_with}
 use Rattle.replay_command.specs.unit_inputs.command_answers.ReadyTexts.{ending_of, text_of}
 use Rattle.derive_command.specs.Prints.{PrintsAnswer, PrintsDerived, derived, refused, derive_laws}
-use Rattle.derive_command.specs.Refusals.{derive_refusals, opened, refusals_behind, refusals_behind_script, refusals_by_script, seccomp_line}
+use Rattle.derive_command.specs.Refusals.{derive_refusals, opened, refusals_behind, refusals_behind_script, refusals_by_script}
+use Rattle.derive_command.specs.Refusals.{seccomp_line}
 use Rattle.derive_command.specs.Telling.{AnswersCalls, allowed, not_launched}
 use Rattle.replay_command.specs.unit_inputs.declared.command_answers.ready_text.ReadyText.{ReadyText}
 use Rattle.derive_command.proofs.PlainInputs.{inputs_are_plain}
@@ -55,47 +56,62 @@ module _ (unit path : List ℕ) (inputs : Inputs) (script : List Call) where
   refusals_from seccomp = option_map (seccomp_line path) seccomp ∷ start_refusals unit (opened inputs)
 
   -- a call asks to push a program
-  pub at_seccomp : (number : ℕ) → first_seccomp inputs.calls script ≡ Some number → first_refusal (refusals_behind_script unit path inputs script) ≡ Some (seccomp_line path number)
+  pub at_seccomp : (number : ℕ) → first_seccomp inputs.calls script ≡ Some number
+      → first_refusal (refusals_behind_script unit path inputs script) ≡ Some (seccomp_line path number)
   at_seccomp number is = ap (λ found. first_refusal (refusals_from found)) is
 
   -- a setting is refused
-  pub at_settings : (error : SettingsError) → first_seccomp inputs.calls script ≡ None → opened_settings ≡ Some error → first_refusal (refusals_behind_script unit path inputs script) ≡ Some (settings_line unit error)
+  pub at_settings : (error : SettingsError) → first_seccomp inputs.calls script ≡ None → opened_settings ≡ Some error
+      → first_refusal (refusals_behind_script unit path inputs script) ≡ Some (settings_line unit error)
   at_settings error none is =
-      ap (λ found. first_refusal (refusals_from found)) none ∙ started.at_settings unit (open_unit inputs.unit inputs.calls) inputs.calls inputs.site error is
+      ap (λ found. first_refusal (refusals_from found)) none
+      ∙ started.at_settings unit (open_unit inputs.unit inputs.calls) inputs.calls inputs.site error is
 
   -- a path is refused
-  pub at_paths : (error : PlanError) → first_seccomp inputs.calls script ≡ None → opened_settings ≡ None → RefusesPath (host_of inputs.site) (unit_mentions (open_unit inputs.unit inputs.calls) inputs.site) error
+  pub at_paths : (error : PlanError) → first_seccomp inputs.calls script ≡ None → opened_settings ≡ None
+      → RefusesPath (host_of inputs.site) (unit_mentions (open_unit inputs.unit inputs.calls) inputs.site) error
       → first_refusal (refusals_behind_script unit path inputs script) ≡ Some (error_line unit error)
   at_paths error none accepted is =
-      ap (λ found. first_refusal (refusals_from found)) none ∙ started.at_paths unit (open_unit inputs.unit inputs.calls) inputs.calls inputs.site error accepted is
+      ap (λ found. first_refusal (refusals_from found)) none
+      ∙ started.at_paths unit (open_unit inputs.unit inputs.calls) inputs.calls inputs.site error accepted is
 
   -- nothing is refused
-  none_refused : (table : List MountStep) → first_seccomp inputs.calls script ≡ None → opened_settings ≡ None → Plans (host_of inputs.site) (unit_mentions (open_unit inputs.unit inputs.calls) inputs.site) (Ok table)
-      → FitsMentions (host_of inputs.site) (unit_mentions (open_unit inputs.unit inputs.calls) inputs.site) table → first_refusal (refusals_behind_script unit path inputs script) ≡ None
+  none_refused : (table : List MountStep) → first_seccomp inputs.calls script ≡ None → opened_settings ≡ None
+      → Plans (host_of inputs.site) (unit_mentions (open_unit inputs.unit inputs.calls) inputs.site) (Ok table)
+      → FitsMentions (host_of inputs.site) (unit_mentions (open_unit inputs.unit inputs.calls) inputs.site) table
+      → first_refusal (refusals_behind_script unit path inputs script) ≡ None
   none_refused table none accepted planned fits =
-      ap (λ found. first_refusal (refusals_from found)) none ∙ (started.planned unit (open_unit inputs.unit inputs.calls) inputs.calls inputs.site table accepted planned fits).0
+      ap (λ found. first_refusal (refusals_from found)) none
+      ∙ (started.planned unit (open_unit inputs.unit inputs.calls) inputs.calls inputs.site table accepted planned fits).0
 
   -- the list is derived
-  pub answers_derived : (names : List ℕ) (allowing : ReadyText) → first_seccomp inputs.calls script ≡ None → IsDerived inputs.unit inputs.calls inputs.site script names
+  pub answers_derived : (names : List ℕ) (allowing : ReadyText) → first_seccomp inputs.calls script ≡ None
+      → IsDerived inputs.unit inputs.calls inputs.site script names
       → (HasPlainNames inputs.calls → IsOnlyOne inputs.unit inputs.calls inputs.site script names)
       → allowing.text.items ≡ drop_in_text inputs.calls names → allowing.ending ≡ Done
-      → (first_refusal (refusals_behind_script unit path inputs script) ≡ None) × AnswersCalls inputs script (ending_of allowing) (text_of allowing)
+      → (first_refusal (refusals_behind_script unit path inputs script) ≡ None) × AnswersCalls inputs script (ending_of allowing)
+      (text_of allowing)
   answers_derived names allowing none is only text ending = (
     none_refused is.opened.plan none is.opened.accepted is.opened.is_plan is.opened.fits,
-    subst (λ e. AnswersCalls inputs script e (text_of allowing)) (sym ending) (subst (AnswersCalls inputs script Done) (sym text) (allowed names is only)),
+    subst (λ e. AnswersCalls inputs script e (text_of allowing)) (sym ending)
+        (subst (AnswersCalls inputs script Done) (sym text) (allowed names is only)),
   )
 
   -- the launch is refused
-  pub answers_refused : (refusal : LaunchRefusal) (allowing : ReadyText) → first_seccomp inputs.calls script ≡ None → IsRefusedUnit (open_unit inputs.unit inputs.calls) inputs.calls inputs.site refusal
+  pub answers_refused : (refusal : LaunchRefusal) (allowing : ReadyText) → first_seccomp inputs.calls script ≡ None
+      → IsRefusedUnit (open_unit inputs.unit inputs.calls) inputs.calls inputs.site refusal
       → allowing.text.items ≡ refusal_line refusal → allowing.ending ≡ LaunchRefused
-      → (first_refusal (refusals_behind_script unit path inputs script) ≡ None) × AnswersCalls inputs script (ending_of allowing) (text_of allowing)
+      → (first_refusal (refusals_behind_script unit path inputs script) ≡ None) × AnswersCalls inputs script (ending_of allowing)
+      (text_of allowing)
   answers_refused refusal allowing none is text ending = (
     none_refused is.plan none is.accepted is.is_plan is.fits,
-    subst (λ e. AnswersCalls inputs script e (text_of allowing)) (sym ending) (subst (AnswersCalls inputs script LaunchRefused) (sym text) (not_launched refusal is)),
+    subst (λ e. AnswersCalls inputs script e (text_of allowing)) (sym ending)
+        (subst (AnswersCalls inputs script LaunchRefused) (sym text) (not_launched refusal is)),
   )
 
 -- what answers over a table with plain names is printed
-printed_answer : (inputs : Inputs) (script : List Call) → HasPlainNames inputs.calls → (ending : Ending) (text : List ℕ) → AnswersCalls inputs script ending text → PrintsAnswer inputs script ending text
+printed_answer : (inputs : Inputs) (script : List Call) → HasPlainNames inputs.calls → (ending : Ending) (text : List ℕ)
+    → AnswersCalls inputs script ending text → PrintsAnswer inputs script ending text
 printed_answer inputs script plain _ _ (allowed names is only) = derived names is (only plain)
 printed_answer inputs script plain _ _ (not_launched refusal is) = refused refusal is
 
@@ -110,66 +126,93 @@ module _ (told : Option Files) (unit path : List ℕ) where
   together = go_together (derive_laws unit path) told answered
 
 -- an input is refused
-pub stops_at_inputs : (P : Files → UnitInputs → Type 0) (told : Option Files) (unit path : List ℕ) (stop : Stop) → IfSome told (λ files. Prepares (P files) (input_refusals files unit) (Err stop)) → IsAdmitted (laws_over told (derive_laws unit path)) ending_of text_of (Err stop)
+pub stops_at_inputs : (P : Files → UnitInputs → Type 0) (told : Option Files) (unit path : List ℕ) (stop : Stop)
+    → IfSome told (λ files. Prepares (P files) (input_refusals files unit) (Err stop))
+    → IsAdmitted (laws_over told (derive_laws unit path)) ending_of text_of (Err stop)
 stops_at_inputs P told unit path stop said =
     stop_is_admitted (derive_laws unit path) ending_of text_of (λ (allowing : ReadyText). Unit {0}) told stop
-    (steps.stops_at_inputs P (λ files (allowing : ReadyText). Unit {0}) told unit (λ files. refusals_by (refusals_behind files unit path) (inputs_of files unit)) stop said)
+    (steps.stops_at_inputs P (λ files (allowing : ReadyText). Unit {0}) told unit
+    (λ files. refusals_by (refusals_behind files unit path) (inputs_of files unit)) stop said)
 
 -- behind inputs that are read
-behind_inputs : (files : Files) (unit path : List ℕ) (inputs : UnitInputs) → AreRead files unit inputs → first_refusal (derive_refusals files unit path) ≡ first_refusal (refusals_by_script unit path (inputs_view inputs) (script_in files path (inputs_view inputs).calls))
-behind_inputs files unit path inputs read = refusals_with files unit (input_refusals files unit) (refusals_behind files unit path) (inputs_view inputs) read.0 read.1
+behind_inputs : (files : Files) (unit path : List ℕ) (inputs : UnitInputs) → AreRead files unit inputs
+    → first_refusal (derive_refusals files unit path) ≡ first_refusal
+    (refusals_by_script unit path (inputs_view inputs) (script_in files path (inputs_view inputs).calls))
+behind_inputs files unit path inputs read = refusals_with files unit (input_refusals files unit) (refusals_behind files unit path)
+    (inputs_view inputs) read.0 read.1
 
 -- the script is refused
-refused_script : (unit path : List ℕ) (inputs : Inputs) (found : Result (List Call) (List ℕ)) (stop : Stop) → IsAnswer {T = List Call} (λ script. script) (Err stop) found → Prepares (λ (allowing : ReadyText). Unit {0}) (refusals_by_script unit path inputs found) (Err stop)
+refused_script : (unit path : List ℕ) (inputs : Inputs) (found : Result (List Call) (List ℕ)) (stop : Stop)
+    → IsAnswer {T = List Call} (λ script. script) (Err stop) found
+    → Prepares (λ (allowing : ReadyText). Unit {0}) (refusals_by_script unit path inputs found) (Err stop)
 refused_script unit path inputs found (stop.Refused line) is = ap (λ one. first_refusal (refusals_by_script unit path inputs one)) is
 refused_script unit path inputs found stop.ReadFault is = tt
 refused_script unit path inputs found stop.Memory is = tt
 
-pub stops_at_script : (told now : Option Files) (unit path : List ℕ) (inputs : UnitInputs) (table : Table) (stop : Stop) → now ≡ told → table ≡ (inputs_view inputs).calls
+pub stops_at_script : (told now : Option Files) (unit path : List ℕ) (inputs : UnitInputs) (table : Table) (stop : Stop) → now ≡ told
+    → table ≡ (inputs_view inputs).calls
     → IfSome told (λ files. AreRead files unit inputs)
     → IfSome now (λ files. IsAnswer {T = List Call} (λ script. script) (Err stop) (script_in files path table))
     → IsAdmitted (laws_over told (derive_laws unit path)) ending_of text_of (Err stop)
-stops_at_script told now unit path inputs table stop same by read said = stop_is_admitted (derive_laws unit path) ending_of text_of (λ (allowing : ReadyText). Unit {0}) told stop (at_script told same read)
+stops_at_script told now unit path inputs table stop same by read said =
+    stop_is_admitted (derive_laws unit path) ending_of text_of (λ (allowing : ReadyText). Unit {0}) told stop (at_script told same read)
   where
-    at_script : (told : Option Files) → now ≡ told → IfSome told (λ files. AreRead files unit inputs) → IfSome told (λ files. Prepares (λ (allowing : ReadyText). Unit {0}) (derive_refusals files unit path) (Err stop))
+    at_script : (told : Option Files) → now ≡ told → IfSome told (λ files. AreRead files unit inputs)
+        → IfSome told (λ files. Prepares (λ (allowing : ReadyText). Unit {0}) (derive_refusals files unit path) (Err stop))
     at_script None same read = tt
     at_script (Some files) same read =
-        stops_as (λ (allowing : ReadyText). Unit {0}) stop (refusals_by_script unit path (inputs_view inputs) (script_in files path (inputs_view inputs).calls)) (derive_refusals files unit path) (behind_inputs files unit path inputs read)
+        stops_as (λ (allowing : ReadyText). Unit {0}) stop
+        (refusals_by_script unit path (inputs_view inputs) (script_in files path (inputs_view inputs).calls))
+        (derive_refusals files unit path) (behind_inputs files unit path inputs read)
         (refused_script unit path (inputs_view inputs) (script_in files path (inputs_view inputs).calls) stop
         (subst (λ own. IsAnswer {T = List Call} (λ script. script) (Err stop) (script_in files path own)) by
-        (subst (λ own. IfSome own (λ files. IsAnswer {T = List Call} (λ script. script) (Err stop) (script_in files path table))) same said)))
+        (subst (λ own. IfSome own (λ files. IsAnswer {T = List Call} (λ script. script) (Err stop) (script_in files path table))) same
+        said)))
 
 -- behind a script that was read
-module _ (told now : Option Files) (unit path : List ℕ) (inputs : UnitInputs) (table : Table) (script : List Call) (same : now ≡ told) (by : table ≡ (inputs_view inputs).calls)
+module _ (told now : Option Files) (unit path : List ℕ) (inputs : UnitInputs) (table : Table) (script : List Call) (same : now ≡ told)
+    (by : table ≡ (inputs_view inputs).calls)
     (are : IfSome told (λ files. AreRead files unit inputs)) (said : IfSome now (λ files. IsAnswer (λ (script : List Call). script) (Ok script) (script_in files path table))) where
   script_is : (files : Files) → told ≡ Some files → script_in files path (inputs_view inputs).calls ≡ Ok script
   script_is files e =
       subst (λ own. script_in files path own ≡ Ok script) by
-      (subst (λ own. IfSome own (λ files. IsAnswer (λ (script : List Call). script) (Ok script) (script_in files path table))) (same ∙ e) said)
+      (subst (λ own. IfSome own (λ files. IsAnswer (λ (script : List Call). script) (Ok script) (script_in files path table)))
+      (same ∙ e) said)
 
   read_is : (files : Files) → told ≡ Some files → AreRead files unit inputs
   read_is files e = subst (λ own. IfSome own (λ files. AreRead files unit inputs)) e are
 
-  behind_script : (files : Files) → told ≡ Some files → first_refusal (derive_refusals files unit path) ≡ first_refusal (refusals_behind_script unit path (inputs_view inputs) script)
+  behind_script : (files : Files) → told ≡ Some files → first_refusal (derive_refusals files unit path)
+      ≡ first_refusal (refusals_behind_script unit path (inputs_view inputs) script)
   behind_script files e =
       behind_inputs files unit path inputs (read_is files e)
       ∙ ap (λ one. first_refusal (refusals_by_script unit path (inputs_view inputs) one)) (script_is files e)
 
   -- what is answered is admitted
-  admitted : (result : Result ReadyText Stop) → Prepares (λ allowing. AnswersCalls (inputs_view inputs) script (ending_of allowing) (text_of allowing)) (refusals_behind_script unit path (inputs_view inputs) script) result
+  admitted : (result : Result ReadyText Stop)
+      → Prepares (λ allowing. AnswersCalls (inputs_view inputs) script (ending_of allowing) (text_of allowing))
+      (refusals_behind_script unit path (inputs_view inputs) script) result
       → IsAdmitted (laws_over told (derive_laws unit path)) ending_of text_of result
-  admitted (Err stop) answers = stop_is_admitted (derive_laws unit path) ending_of text_of (λ allowing. AnswersCalls (inputs_view inputs) script (ending_of allowing) (text_of allowing)) told stop (at_stop told refl)
+  admitted (Err stop) answers = stop_is_admitted (derive_laws unit path) ending_of text_of
+      (λ allowing. AnswersCalls (inputs_view inputs) script (ending_of allowing) (text_of allowing)) told stop (at_stop told refl)
     where
-      at_stop : (own : Option Files) → told ≡ own → IfSome own (λ files. Prepares (λ allowing. AnswersCalls (inputs_view inputs) script (ending_of allowing) (text_of allowing)) (derive_refusals files unit path) (Err stop))
+      at_stop : (own : Option Files) → told ≡ own → IfSome own
+          (λ files. Prepares (λ allowing. AnswersCalls (inputs_view inputs) script (ending_of allowing) (text_of allowing))
+          (derive_refusals files unit path) (Err stop))
       at_stop None e = tt
-      at_stop (Some files) e = stops_as (λ allowing. AnswersCalls (inputs_view inputs) script (ending_of allowing) (text_of allowing)) stop (refusals_behind_script unit path (inputs_view inputs) script) (derive_refusals files unit path) (behind_script files e) answers
-  admitted (Ok allowing) answers = ready_is_admitted (derive_laws unit path) ending_of text_of told allowing (ends_so (ending_of allowing) (text_of allowing) answers.1) (printed told refl)
+      at_stop (Some files) e = stops_as (λ allowing. AnswersCalls (inputs_view inputs) script (ending_of allowing) (text_of allowing))
+          stop (refusals_behind_script unit path (inputs_view inputs) script) (derive_refusals files unit path)
+          (behind_script files e) answers
+  admitted (Ok allowing) answers = ready_is_admitted (derive_laws unit path) ending_of text_of told allowing
+      (ends_so (ending_of allowing) (text_of allowing) answers.1) (printed told refl)
     where
-      ends_so : (ending : Ending) (text : List ℕ) → AnswersCalls (inputs_view inputs) script ending text → (ending ≡ Done) ⊎ (ending ≡ LaunchRefused)
+      ends_so : (ending : Ending) (text : List ℕ) → AnswersCalls (inputs_view inputs) script ending text
+          → (ending ≡ Done) ⊎ (ending ≡ LaunchRefused)
       ends_so _ _ (allowed names is only) = inl refl
       ends_so _ _ (not_launched refusal is) = inr refl
 
-      printed : (own : Option Files) → told ≡ own → IfSome own (λ files. AcceptsFiles (derive_laws unit path) files × PrintsDerived files unit path (ending_of allowing) (text_of allowing))
+      printed : (own : Option Files) → told ≡ own → IfSome own
+          (λ files. AcceptsFiles (derive_laws unit path) files × PrintsDerived files unit path (ending_of allowing) (text_of allowing))
       printed None e = tt
       printed (Some files) e = (
         behind_script files e ∙ answers.0,
@@ -178,15 +221,19 @@ module _ (told now : Option Files) (unit path : List ℕ) (inputs : UnitInputs) 
           inputs_are = (read_is files e).1;
           script = script;
           script_is = script_is files e;
-          is_the_answer = printed_answer (inputs_view inputs) script (inputs_are_plain files unit (inputs_view inputs) (read_is files e).1) (ending_of allowing) (text_of allowing) answers.1;
+          is_the_answer = printed_answer (inputs_view inputs) script
+              (inputs_are_plain files unit (inputs_view inputs) (read_is files e).1) (ending_of allowing) (text_of allowing) answers.1;
         },
       )
 
   -- also where the inputs are lent
   pub admitted_as : (own : Inputs) (lent : List Call) (result : Result ReadyText Stop) → own ≡ inputs_view inputs → lent ≡ script
-      → Prepares (λ allowing. AnswersCalls own lent (ending_of allowing) (text_of allowing)) (refusals_behind_script unit path own lent) result
+      → Prepares (λ allowing. AnswersCalls own lent (ending_of allowing) (text_of allowing))
+      (refusals_behind_script unit path own lent) result
       → IsAdmitted (laws_over told (derive_laws unit path)) ending_of text_of result
   admitted_as own lent result is lends answers =
       admitted result
-      (subst (λ these. Prepares (λ allowing. AnswersCalls (inputs_view inputs) these (ending_of allowing) (text_of allowing)) (refusals_behind_script unit path (inputs_view inputs) these) result) lends
-      (subst (λ these. Prepares (λ allowing. AnswersCalls these lent (ending_of allowing) (text_of allowing)) (refusals_behind_script unit path these lent) result) is answers))
+      (subst (λ these. Prepares (λ allowing. AnswersCalls (inputs_view inputs) these (ending_of allowing) (text_of allowing))
+      (refusals_behind_script unit path (inputs_view inputs) these) result) lends
+      (subst (λ these. Prepares (λ allowing. AnswersCalls these lent (ending_of allowing) (text_of allowing))
+      (refusals_behind_script unit path these lent) result) is answers))

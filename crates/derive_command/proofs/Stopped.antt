@@ -7,6 +7,7 @@ use Rattle.replay_command.specs.unit_inputs.declared.command_answers.stop.Stop.{
 use Rattle.derive_command.specs.Telling.{StopsWith}
 
 -- a stop is that of its line
-pub stop_tells : (line : Result (Vec ℕ Global) AllocError) (text : List ℕ) (told : Stop) → told ≡ stop_of line → IfOk line (λ l. l.items ≡ text) → StopsWith text (Err told)
+pub stop_tells : (line : Result (Vec ℕ Global) AllocError) (text : List ℕ) (told : Stop) → told ≡ stop_of line
+    → IfOk line (λ l. l.items ≡ text) → StopsWith text (Err told)
 stop_tells (Ok line) text told is holds = subst (λ one. StopsWith text (Err one)) (sym is) holds
 stop_tells (Err none) text told is holds = subst (λ one. StopsWith text (Err one)) (sym is) tt

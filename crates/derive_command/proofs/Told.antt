@@ -23,7 +23,8 @@ use Rattle.replay_command.specs.unit_inputs.declared.command_answers.ready_text.
 use Rattle.derive_command.proofs.Prepared.{answers_derived, answers_refused, at_paths, at_seccomp, at_settings}
 
 -- nothing was read
-pub ready_reads_nothing : (text : List ℕ) (ending : Ending) (result : Result ReadyText Stop) → IsReady text ending result → IsErrOf result stop.ReadFault → ⊥
+pub ready_reads_nothing : (text : List ℕ) (ending : Ending) (result : Result ReadyText Stop) → IsReady text ending result
+    → IsErrOf result stop.ReadFault → ⊥
 ready_reads_nothing text ending (Ok allowing) ready e = cc
 ready_reads_nothing text ending (Err (stop.Refused told)) ready e = absurd ready
 ready_reads_nothing text ending (Err stop.ReadFault) ready e = absurd ready
@@ -41,7 +42,8 @@ out_reads_nothing (Err (stop.Refused told)) out e = absurd out
 out_reads_nothing (Err stop.ReadFault) out e = absurd out
 out_reads_nothing (Err stop.Memory) out e = cc
 
-pub telling_reads_nothing : (name path : List ℕ) (error : DeriveError) (result : Result ReadyText Stop) → Tells name path error result → IsErrOf result stop.ReadFault → ⊥
+pub telling_reads_nothing : (name path : List ℕ) (error : DeriveError) (result : Result ReadyText Stop) → Tells name path error result
+    → IsErrOf result stop.ReadFault → ⊥
 telling_reads_nothing name path (Seccomp number) result tells = stop_reads_nothing _ result tells
 telling_reads_nothing name path (Settings error) result tells = stop_reads_nothing _ result tells
 telling_reads_nothing name path (Plan error) result tells = stop_reads_nothing _ result tells
@@ -50,10 +52,12 @@ telling_reads_nothing name path Memory result tells = out_reads_nothing result t
 
 module _ (name path : List ℕ) (unit : Resolved) (table : Table) (site : Site) (script : List Call) where
   abbrev Answers : Result ReadyText Stop → Type 0
-  Answers result = Prepares (λ made. AnswersCalls (given unit table site) script (ending_of made) (text_of made)) (refusals_behind_script name path (given unit table site) script) result
+  Answers result = Prepares (λ made. AnswersCalls (given unit table site) script (ending_of made) (text_of made))
+      (refusals_behind_script name path (given unit table site) script) result
 
   -- a line that is the first refusal answers
-  by_line : (line : List ℕ) (result : Result ReadyText Stop) → first_refusal (refusals_behind_script name path (given unit table site) script) ≡ Some line → StopsWith line result → Answers result
+  by_line : (line : List ℕ) (result : Result ReadyText Stop)
+      → first_refusal (refusals_behind_script name path (given unit table site) script) ≡ Some line → StopsWith line result → Answers result
   by_line line (Ok allowing) first stops = absurd stops
   by_line line (Err (stop.Refused told)) first stops = first ∙ ap Some (sym stops)
   by_line line (Err stop.ReadFault) first stops = tt
@@ -66,19 +70,27 @@ module _ (name path : List ℕ) (unit : Resolved) (table : Table) (site : Site) 
   by_memory (Err stop.Memory) out = tt
 
   -- what is told of an error answers
-  pub error_answers : (error : DeriveError) (result : Result ReadyText Stop) → Derives unit table site script (Err error) → Tells name path error result → Answers result
-  error_answers (Seccomp number) result derives tells = by_line _ result (at_seccomp name path (given unit table site) script number derives) tells
-  error_answers (Settings error) result derives tells = by_line _ result (at_settings name path (given unit table site) script error derives.0 derives.1) tells
-  error_answers (Plan error) result derives tells = by_line _ result (at_paths name path (given unit table site) script error derives.0 derives.1.0 derives.1.1) tells
-  error_answers (Launch refusal) (Ok allowing) derives tells = answers_refused name path (given unit table site) script refusal allowing derives.0 derives.1 tells.0 tells.1
+  pub error_answers : (error : DeriveError) (result : Result ReadyText Stop) → Derives unit table site script (Err error)
+      → Tells name path error result → Answers result
+  error_answers (Seccomp number) result derives tells = by_line _ result
+      (at_seccomp name path (given unit table site) script number derives) tells
+  error_answers (Settings error) result derives tells = by_line _ result
+      (at_settings name path (given unit table site) script error derives.0 derives.1) tells
+  error_answers (Plan error) result derives tells = by_line _ result
+      (at_paths name path (given unit table site) script error derives.0 derives.1.0 derives.1.1) tells
+  error_answers (Launch refusal) (Ok allowing) derives tells =
+      answers_refused name path (given unit table site) script refusal allowing derives.0 derives.1 tells.0 tells.1
   error_answers (Launch refusal) (Err (stop.Refused told)) derives tells = absurd tells
   error_answers (Launch refusal) (Err stop.ReadFault) derives tells = tt
   error_answers (Launch refusal) (Err stop.Memory) derives tells = tt
   error_answers Memory result derives tells = by_memory result tells
 
   -- and so does the drop-in of what is derived
-  pub derived_answers : (derived : Derived) (lent : List ℕ) (result : Result ReadyText Stop) → Derives unit table site script (Ok derived) → lent ≡ derived.names → IsReady (drop_in_text table lent) Done result → Answers result
-  derived_answers derived lent (Ok allowing) derives lends ready = answers_derived name path (given unit table site) script derived.names allowing derives.0 derives.1 derives.2 (ready.0 ∙ ap (drop_in_text table) lends) ready.1
+  pub derived_answers : (derived : Derived) (lent : List ℕ) (result : Result ReadyText Stop) → Derives unit table site script (Ok derived)
+      → lent ≡ derived.names → IsReady (drop_in_text table lent) Done result → Answers result
+  derived_answers derived lent (Ok allowing) derives lends ready =
+      answers_derived name path (given unit table site) script derived.names allowing derives.0 derives.1 derives.2
+      (ready.0 ∙ ap (drop_in_text table) lends) ready.1
   derived_answers derived lent (Err (stop.Refused told)) derives lends ready = absurd ready
   derived_answers derived lent (Err stop.ReadFault) derives lends ready = tt
   derived_answers derived lent (Err stop.Memory) derives lends ready = tt

@@ -17,9 +17,11 @@ use Rattle.derive_command.specs.Refusals.{derive_refusals}
 
 -- the drop-in that allows the least list, which is the only one; or the line of the launch that is refused though every call is allowed
 pub data PrintsAnswer (inputs : Inputs) (script : List Call) : Ending → List ℕ → Type 0 where
-  derived : (names : List ℕ) → IsDerived inputs.unit inputs.calls inputs.site script names → IsOnlyOne inputs.unit inputs.calls inputs.site script names
+  derived : (names : List ℕ) → IsDerived inputs.unit inputs.calls inputs.site script names
+      → IsOnlyOne inputs.unit inputs.calls inputs.site script names
       → PrintsAnswer inputs script Done (drop_in_text inputs.calls names)
-  refused : (refusal : LaunchRefusal) → IsRefusedUnit (open_unit inputs.unit inputs.calls) inputs.calls inputs.site refusal → PrintsAnswer inputs script LaunchRefused (refusal_line refusal)
+  refused : (refusal : LaunchRefusal) → IsRefusedUnit (open_unit inputs.unit inputs.calls) inputs.calls inputs.site refusal
+      → PrintsAnswer inputs script LaunchRefused (refusal_line refusal)
 
 -- the inputs of the unit and the script, as the table of calls reads it, and what is derived from them
 pub record PrintsDerived (files : Files) (unit path : List ℕ) (ending : Ending) (text : List ℕ) : Type 0 where

@@ -54,4 +54,5 @@ pub data AnswersCalls (inputs : Inputs) (script : List Call) : Ending → List �
   allowed : (names : List ℕ) → IsDerived inputs.unit inputs.calls inputs.site script names
       → (HasPlainNames inputs.calls → IsOnlyOne inputs.unit inputs.calls inputs.site script names)
       → AnswersCalls inputs script Done (drop_in_text inputs.calls names)
-  not_launched : (refusal : LaunchRefusal) → IsRefusedUnit (open_unit inputs.unit inputs.calls) inputs.calls inputs.site refusal → AnswersCalls inputs script LaunchRefused (refusal_line refusal)
+  not_launched : (refusal : LaunchRefusal) → IsRefusedUnit (open_unit inputs.unit inputs.calls) inputs.calls inputs.site refusal
+      → AnswersCalls inputs script LaunchRefused (refusal_line refusal)

@@ -1,5 +1,6 @@
 -- The calls by which the parts of a unit are read.
-use Rattle.std.proofs.Common.{◌≡◌, ℕ, ◌+◌, ◌<◌, Bool, true, false, cond, List, [], ◌∷◌, length, drop, get_or, Option, Some, None, Result, Ok, Err, map, Vec, String, Global, refl, sym, ap, ◌∙◌, subst}
+use Rattle.std.proofs.Common.{◌≡◌, ℕ, ◌+◌, ◌<◌, Bool, true, false, cond, List, [], ◌∷◌, length, drop, get_or, Option, Some, None, Result}
+use Rattle.std.proofs.Common.{Ok, Err, map, Vec, String, Global, refl, sym, ap, ◌∙◌, subst}
 use Rattle.std.specs.Prelude.{IfSome, IsErrOf, is_some, string_bytes, unwrap_or}
 use Rattle.host_io.specs.declared.reading.ShelfError.{ShelfError}
 use Rattle.host_io.specs.Calls.{Ask, ShelfCall, call_of, course_of, Course, Whole, Cut, Went, NamesIn, up_to}
@@ -15,18 +16,21 @@ use Rattle.dropin_merge.specs.declared.resolved.UnitFile.{UnitFile}
 use Rattle.dropin_merge.specs.declared.files.Found.{Found}
 use Rattle.dropin_merge.specs.declared.files.Found.TheVariants.{Missing, Empty, Says}
 use Rattle.dropin_merge.specs.declared.errors.ResolveError.{ResolveError}
-use Rattle.dropin_merge.specs.declared.errors.ResolveError.TheVariants.{BadName, NotFound, Masked, DropIns, TooLarge, Text, ReadFault, Memory}
+use Rattle.dropin_merge.specs.declared.errors.ResolveError.TheVariants.{BadName, NotFound, Masked, DropIns, TooLarge, Text, ReadFault}
+use Rattle.dropin_merge.specs.declared.errors.ResolveError.TheVariants.{Memory}
 use Rattle.dropin_merge.proofs.Left.{left_more}
 use Rattle.dropin_merge.proofs.Reading.{told_from, told_to}
 
 -- ---- one call
 module _ {S : Type 0} (asks : S → ShelfCall → S → Type 0) (a b : S) (ask : Ask) where
   -- by what the shelf answered
-  pub call_ends : {T : Type 0} (result end : Result T ShelfError) → result ≡ end → asks a (call_of ask result) b → Went asks a b (ask ∷ []) (course_of end)
+  pub call_ends : {T : Type 0} (result end : Result T ShelfError) → result ≡ end → asks a (call_of ask result) b
+      → Went asks a b (ask ∷ []) (course_of end)
   call_ends result end is made = subst (Went asks a b (ask ∷ [])) (ap course_of is) (one_call asks a b ask result made)
 
   -- a file that was read is judged
-  pub judged_then : (T U : Type 0) (e : ResolveError) → (IsErrOf {T = U} (Err e) ReadFault → ⊥) → Went asks a b (ask ∷ []) Whole → Went asks a b (ask ∷ []) (course {T = T} (Err e))
+  pub judged_then : (T U : Type 0) (e : ResolveError) → (IsErrOf {T = U} (Err e) ReadFault → ⊥) → Went asks a b (ask ∷ []) Whole
+      → Went asks a b (ask ∷ []) (course {T = T} (Err e))
   judged_then T U BadName quiet made = made
   judged_then T U NotFound quiet made = made
   judged_then T U Masked quiet made = made
@@ -46,11 +50,13 @@ pub missing_is : (text : List ℕ) (o : Option (List ℕ)) → file_at text o �
 missing_is text None e = refl
 missing_is text (Some bytes) e = absurd (not_missing (is_empty bytes) (judged text bytes) e)
 
-pub there_if : (text : List ℕ) (o : Option (List ℕ)) (r : Result Found ResolveError) → file_at text o ≡ r → (r ≡ Ok Missing → ⊥) → is_some o ≡ true
+pub there_if : (text : List ℕ) (o : Option (List ℕ)) (r : Result Found ResolveError) → file_at text o ≡ r → (r ≡ Ok Missing → ⊥)
+    → is_some o ≡ true
 there_if text None r e other = absurd (other (sym e))
 there_if text (Some bytes) r e other = refl
 
-pub refused_is_there : (text : List ℕ) (o : Option (List ℕ)) (e : ResolveError) → IsUnlessFailed {T = Found} (Err e) (file_at text o) → course {T = Found} (Err e) ≡ Whole → is_some o ≡ true
+pub refused_is_there : (text : List ℕ) (o : Option (List ℕ)) (e : ResolveError) → IsUnlessFailed {T = Found} (Err e) (file_at text o)
+    → course {T = Found} (Err e) ≡ Whole → is_some o ≡ true
 refused_is_there text o BadName h whole = there_if text o (Err BadName) h (λ e. cc)
 refused_is_there text o NotFound h whole = there_if text o (Err NotFound) h (λ e. cc)
 refused_is_there text o Masked h whole = there_if text o (Err Masked) h (λ e. cc)
@@ -60,7 +66,8 @@ refused_is_there text o (Text path error) h whole = there_if text o (Err (Text p
 refused_is_there text o ReadFault h whole = cc
 refused_is_there text o Memory h whole = cc
 
-pub refused_is_refused : (r : Result Found ResolveError) (e : ResolveError) → IsUnlessFailed {T = Found} (Err e) r → course {T = Found} (Err e) ≡ Whole → is_refusal r ≡ true
+pub refused_is_refused : (r : Result Found ResolveError) (e : ResolveError) → IsUnlessFailed {T = Found} (Err e) r
+    → course {T = Found} (Err e) ≡ Whole → is_refusal r ≡ true
 refused_is_refused r BadName h whole = ap is_refusal h
 refused_is_refused r NotFound h whole = ap is_refusal h
 refused_is_refused r Masked h whole = ap is_refusal h
@@ -70,7 +77,8 @@ refused_is_refused r (Text path error) h whole = ap is_refusal h
 refused_is_refused r ReadFault h whole = cc
 refused_is_refused r Memory h whole = cc
 
-pub refused_is_overfull : (files : Files) (place : List ℕ) (e : ResolveError) → ListsPlace (names_in files place) (Err e) → course {T = Vec (String Global) Global} (Err e) ≡ Whole → is_overfull files place ≡ true
+pub refused_is_overfull : (files : Files) (place : List ℕ) (e : ResolveError) → ListsPlace (names_in files place) (Err e)
+    → course {T = Vec (String Global) Global} (Err e) ≡ Whole → is_overfull files place ≡ true
 refused_is_overfull files place BadName h whole = absurd h
 refused_is_overfull files place NotFound h whole = absurd h
 refused_is_overfull files place Masked h whole = absurd h
@@ -93,13 +101,15 @@ course_as T U Memory = refl
 
 -- ---- texts in turn, up to the first of which something holds
 module _ {S : Type 0} (asks : S → ShelfCall → S → Type 0) (is_last : List ℕ → Bool) (ask : List ℕ → Ask) (whole : List Ask) (a b c : S) (xs : List (String Global)) (i : ℕ) (x : String Global) (text : List ℕ) where
-  pub text_more : i < length xs → x ≡ get_or xs i x → text ≡ string_bytes x → is_last text ≡ false → Going asks a b whole (map ask (up_to is_last (map string_bytes (drop i xs)))) → Went asks b c (ask text ∷ []) Whole
+  pub text_more : i < length xs → x ≡ get_or xs i x → text ≡ string_bytes x → is_last text ≡ false
+      → Going asks a b whole (map ask (up_to is_last (map string_bytes (drop i xs)))) → Went asks b c (ask text ∷ []) Whole
       → Going asks a c whole (map ask (up_to is_last (map string_bytes (drop (i + 1) xs))))
   text_more h is said other going made =
       goes_on asks is_last ask a b c whole text (map string_bytes (drop (i + 1) xs)) other
       (subst (λ left. Going asks a b whole (map ask (up_to is_last left))) (left_more xs i x text h is said) going) made
 
-  pub text_stops : (how : Course) → i < length xs → x ≡ get_or xs i x → text ≡ string_bytes x → (how ≡ Whole → is_last text ≡ true) → Going asks a b whole (map ask (up_to is_last (map string_bytes (drop i xs)))) → Went asks b c (ask text ∷ []) how
+  pub text_stops : (how : Course) → i < length xs → x ≡ get_or xs i x → text ≡ string_bytes x → (how ≡ Whole → is_last text ≡ true)
+      → Going asks a b whole (map ask (up_to is_last (map string_bytes (drop i xs)))) → Went asks b c (ask text ∷ []) how
       → Went asks a c whole how
   text_stops how h is said last going made =
       stops_there asks is_last ask a b c whole text (map string_bytes (drop (i + 1) xs)) how last
@@ -108,90 +118,123 @@ module _ {S : Type 0} (asks : S → ShelfCall → S → Type 0) (is_last : List 
 -- ---- the loops
 module _ {S : Type 0} (asks : S → ShelfCall → S → Type 0) (start told : Option Files) (same : told ≡ start) (a b c : S) (xs : List (String Global)) (i : ℕ) (x : String Global) (text : List ℕ) (h : i < length xs) (is : x ≡ get_or xs i x) (said : text ≡ string_bytes x) where
   -- a path at which no fragment is
-  pub fragment_more : IfSome told (λ files. IsUnlessFailed {T = Found} (Ok Missing) (file_at text (bytes_at files text))) → Went asks b c (unit_file text ∷ []) Whole
-      → ((files : Files) → start ≡ Some files → Going asks a b (fragment_asks files (map string_bytes xs)) (fragment_asks files (map string_bytes (drop i xs))))
-      → (files : Files) → start ≡ Some files → Going asks a c (fragment_asks files (map string_bytes xs)) (fragment_asks files (map string_bytes (drop (i + 1) xs)))
+  pub fragment_more : IfSome told (λ files. IsUnlessFailed {T = Found} (Ok Missing) (file_at text (bytes_at files text)))
+      → Went asks b c (unit_file text ∷ []) Whole
+      → ((files : Files) → start ≡ Some files → Going asks a b (fragment_asks files (map string_bytes xs))
+      (fragment_asks files (map string_bytes (drop i xs))))
+      → (files : Files) → start ≡ Some files → Going asks a c (fragment_asks files (map string_bytes xs))
+      (fragment_asks files (map string_bytes (drop (i + 1) xs)))
   fragment_more read made going files known =
       text_more asks (is_there files) unit_file (fragment_asks files (map string_bytes xs)) a b c xs i x text h is said
-      (missing_is text (bytes_at files text) (told_from (λ files. IsUnlessFailed {T = Found} (Ok Missing) (file_at text (bytes_at files text))) told read files (same ∙ known)))
+      (missing_is text (bytes_at files text)
+      (told_from (λ files. IsUnlessFailed {T = Found} (Ok Missing) (file_at text (bytes_at files text))) told read files
+      (same ∙ known)))
       (going files known) made
 
   -- one at which it is
-  pub fragment_found : (found : Found) → (found ≡ Missing → ⊥) → IfSome told (λ files. IsUnlessFailed {T = Found} (Ok found) (file_at text (bytes_at files text))) → Went asks b c (unit_file text ∷ []) Whole
-      → ((files : Files) → start ≡ Some files → Going asks a b (fragment_asks files (map string_bytes xs)) (fragment_asks files (map string_bytes (drop i xs))))
+  pub fragment_found : (found : Found) → (found ≡ Missing → ⊥)
+      → IfSome told (λ files. IsUnlessFailed {T = Found} (Ok found) (file_at text (bytes_at files text)))
+      → Went asks b c (unit_file text ∷ []) Whole
+      → ((files : Files) → start ≡ Some files → Going asks a b (fragment_asks files (map string_bytes xs))
+      (fragment_asks files (map string_bytes (drop i xs))))
       → IfSome start (λ files. Went asks a c (fragment_asks files (map string_bytes xs)) Whole)
   fragment_found found other read made going =
       told_to (λ files. Went asks a c (fragment_asks files (map string_bytes xs)) Whole) start
       (λ files known.
       text_stops asks (is_there files) unit_file (fragment_asks files (map string_bytes xs)) a b c xs i x text Whole h is said
-      (λ whole. there_if text (bytes_at files text) (Ok found) (told_from (λ files. IsUnlessFailed {T = Found} (Ok found) (file_at text (bytes_at files text))) told read files (same ∙ known)) (λ e. other (cc)))
+      (λ whole. there_if text (bytes_at files text) (Ok found)
+      (told_from (λ files. IsUnlessFailed {T = Found} (Ok found) (file_at text (bytes_at files text))) told read files (same ∙ known))
+      (λ e. other (cc)))
       (going files known) made)
 
-  pub fragment_stops : (e : ResolveError) → IfSome told (λ files. IsUnlessFailed {T = Found} (Err e) (file_at text (bytes_at files text))) → Went asks b c (unit_file text ∷ []) (course {T = Found} (Err e))
-      → ((files : Files) → start ≡ Some files → Going asks a b (fragment_asks files (map string_bytes xs)) (fragment_asks files (map string_bytes (drop i xs))))
+  pub fragment_stops : (e : ResolveError) → IfSome told (λ files. IsUnlessFailed {T = Found} (Err e) (file_at text (bytes_at files text)))
+      → Went asks b c (unit_file text ∷ []) (course {T = Found} (Err e))
+      → ((files : Files) → start ≡ Some files → Going asks a b (fragment_asks files (map string_bytes xs))
+      (fragment_asks files (map string_bytes (drop i xs))))
       → IfSome start (λ files. Went asks a c (fragment_asks files (map string_bytes xs)) (course {T = UnitFile} (Err e)))
   fragment_stops e read made going =
       told_to (λ files. Went asks a c (fragment_asks files (map string_bytes xs)) (course {T = UnitFile} (Err e))) start
       (λ files known.
       subst (Went asks a c (fragment_asks files (map string_bytes xs))) (course_as Found UnitFile e)
-      (text_stops asks (is_there files) unit_file (fragment_asks files (map string_bytes xs)) a b c xs i x text (course {T = Found} (Err e)) h is said
-      (refused_is_there text (bytes_at files text) e (told_from (λ files. IsUnlessFailed {T = Found} (Err e) (file_at text (bytes_at files text))) told read files (same ∙ known)))
+      (text_stops asks (is_there files) unit_file (fragment_asks files (map string_bytes xs)) a b c xs i x text
+      (course {T = Found} (Err e)) h is said
+      (refused_is_there text (bytes_at files text) e
+      (told_from (λ files. IsUnlessFailed {T = Found} (Err e) (file_at text (bytes_at files text))) told read files (same ∙ known)))
       (going files known) made))
 
   -- a drop-in that is not refused
-  pub dropin_more : (found : Found) → IfSome told (λ files. IsUnlessFailed {T = Found} (Ok found) (file_at text (bytes_at files text))) → Went asks b c (unit_file text ∷ []) Whole
-      → ((files : Files) → start ≡ Some files → Going asks a b (dropin_asks files (map string_bytes xs)) (dropin_asks files (map string_bytes (drop i xs))))
-      → (files : Files) → start ≡ Some files → Going asks a c (dropin_asks files (map string_bytes xs)) (dropin_asks files (map string_bytes (drop (i + 1) xs)))
+  pub dropin_more : (found : Found) → IfSome told (λ files. IsUnlessFailed {T = Found} (Ok found) (file_at text (bytes_at files text)))
+      → Went asks b c (unit_file text ∷ []) Whole
+      → ((files : Files) → start ≡ Some files → Going asks a b (dropin_asks files (map string_bytes xs))
+      (dropin_asks files (map string_bytes (drop i xs))))
+      → (files : Files) → start ≡ Some files → Going asks a c (dropin_asks files (map string_bytes xs))
+      (dropin_asks files (map string_bytes (drop (i + 1) xs)))
   dropin_more found read made going files known =
       text_more asks (is_refused files) unit_file (dropin_asks files (map string_bytes xs)) a b c xs i x text h is said
-      (ap is_refusal (told_from (λ files. IsUnlessFailed {T = Found} (Ok found) (file_at text (bytes_at files text))) told read files (same ∙ known)))
+      (ap is_refusal (told_from (λ files. IsUnlessFailed {T = Found} (Ok found) (file_at text (bytes_at files text))) told read files
+      (same ∙ known)))
       (going files known) made
 
-  pub dropin_stops : (e : ResolveError) → IfSome told (λ files. IsUnlessFailed {T = Found} (Err e) (file_at text (bytes_at files text))) → Went asks b c (unit_file text ∷ []) (course {T = Found} (Err e))
-      → ((files : Files) → start ≡ Some files → Going asks a b (dropin_asks files (map string_bytes xs)) (dropin_asks files (map string_bytes (drop i xs))))
+  pub dropin_stops : (e : ResolveError) → IfSome told (λ files. IsUnlessFailed {T = Found} (Err e) (file_at text (bytes_at files text)))
+      → Went asks b c (unit_file text ∷ []) (course {T = Found} (Err e))
+      → ((files : Files) → start ≡ Some files → Going asks a b (dropin_asks files (map string_bytes xs))
+      (dropin_asks files (map string_bytes (drop i xs))))
       → IfSome start (λ files. Went asks a c (dropin_asks files (map string_bytes xs)) (course {T = List UnitFile} (Err e)))
   dropin_stops e read made going =
       told_to (λ files. Went asks a c (dropin_asks files (map string_bytes xs)) (course {T = List UnitFile} (Err e))) start
       (λ files known.
       subst (Went asks a c (dropin_asks files (map string_bytes xs))) (course_as Found (List UnitFile) e)
-      (text_stops asks (is_refused files) unit_file (dropin_asks files (map string_bytes xs)) a b c xs i x text (course {T = Found} (Err e)) h is said
-      (refused_is_refused (file_at text (bytes_at files text)) e (told_from (λ files. IsUnlessFailed {T = Found} (Err e) (file_at text (bytes_at files text))) told read files (same ∙ known)))
+      (text_stops asks (is_refused files) unit_file (dropin_asks files (map string_bytes xs)) a b c xs i x text
+      (course {T = Found} (Err e)) h is said
+      (refused_is_refused (file_at text (bytes_at files text)) e
+      (told_from (λ files. IsUnlessFailed {T = Found} (Err e) (file_at text (bytes_at files text))) told read files (same ∙ known)))
       (going files known) made))
 
   -- where memory ran out behind one that was read
-  pub dropin_cut : (found : Found) → IfSome told (λ files. IsUnlessFailed {T = Found} (Ok found) (file_at text (bytes_at files text))) → Went asks b c (unit_file text ∷ []) Whole
-      → ((files : Files) → start ≡ Some files → Going asks a b (dropin_asks files (map string_bytes xs)) (dropin_asks files (map string_bytes (drop i xs))))
+  pub dropin_cut : (found : Found) → IfSome told (λ files. IsUnlessFailed {T = Found} (Ok found) (file_at text (bytes_at files text)))
+      → Went asks b c (unit_file text ∷ []) Whole
+      → ((files : Files) → start ≡ Some files → Going asks a b (dropin_asks files (map string_bytes xs))
+      (dropin_asks files (map string_bytes (drop i xs))))
       → IfSome start (λ files. Went asks a c (dropin_asks files (map string_bytes xs)) Cut)
   dropin_cut found read made going =
       told_to (λ files. Went asks a c (dropin_asks files (map string_bytes xs)) Cut) start
       (λ files known.
-      text_stops asks (is_refused files) unit_file (dropin_asks files (map string_bytes xs)) a b c xs i x text Cut h is said (λ e. cc) (going files known) (went_cut asks b c (unit_file text ∷ []) made))
+      text_stops asks (is_refused files) unit_file (dropin_asks files (map string_bytes xs)) a b c xs i x text Cut h is said (λ e. cc)
+      (going files known) (went_cut asks b c (unit_file text ∷ []) made))
 
   -- a folder that is not overfull
-  pub folder_more : (names : Vec (String Global) Global) → IfSome told (λ files. ListsPlace (names_in files text) (Ok names)) → Went asks b c (NamesIn text ∷ []) Whole
-      → ((files : Files) → start ≡ Some files → Going asks a b (folder_asks files (map string_bytes xs)) (folder_asks files (map string_bytes (drop i xs))))
-      → (files : Files) → start ≡ Some files → Going asks a c (folder_asks files (map string_bytes xs)) (folder_asks files (map string_bytes (drop (i + 1) xs)))
+  pub folder_more : (names : Vec (String Global) Global) → IfSome told (λ files. ListsPlace (names_in files text) (Ok names))
+      → Went asks b c (NamesIn text ∷ []) Whole
+      → ((files : Files) → start ≡ Some files → Going asks a b (folder_asks files (map string_bytes xs))
+      (folder_asks files (map string_bytes (drop i xs))))
+      → (files : Files) → start ≡ Some files → Going asks a c (folder_asks files (map string_bytes xs))
+      (folder_asks files (map string_bytes (drop (i + 1) xs)))
   folder_more names listed made going files known =
       text_more asks (is_overfull files) NamesIn (folder_asks files (map string_bytes xs)) a b c xs i x text h is said
       (told_from (λ files. ListsPlace (names_in files text) (Ok names)) told listed files (same ∙ known)).1
       (going files known) made
 
   pub folder_cut : Went asks b c (NamesIn text ∷ []) Whole
-      → ((files : Files) → start ≡ Some files → Going asks a b (folder_asks files (map string_bytes xs)) (folder_asks files (map string_bytes (drop i xs))))
+      → ((files : Files) → start ≡ Some files → Going asks a b (folder_asks files (map string_bytes xs))
+      (folder_asks files (map string_bytes (drop i xs))))
       → IfSome start (λ files. Went asks a c (folder_asks files (map string_bytes xs)) Cut)
   folder_cut made going =
       told_to (λ files. Went asks a c (folder_asks files (map string_bytes xs)) Cut) start
       (λ files known.
-      text_stops asks (is_overfull files) NamesIn (folder_asks files (map string_bytes xs)) a b c xs i x text Cut h is said (λ e. cc) (going files known) (went_cut asks b c (NamesIn text ∷ []) made))
+      text_stops asks (is_overfull files) NamesIn (folder_asks files (map string_bytes xs)) a b c xs i x text Cut h is said (λ e. cc)
+      (going files known) (went_cut asks b c (NamesIn text ∷ []) made))
 
-  pub folder_stops : (T : Type 0) (e : ResolveError) → IfSome told (λ files. ListsPlace (names_in files text) (Err e)) → Went asks b c (NamesIn text ∷ []) (course {T = Vec (String Global) Global} (Err e))
-      → ((files : Files) → start ≡ Some files → Going asks a b (folder_asks files (map string_bytes xs)) (folder_asks files (map string_bytes (drop i xs))))
+  pub folder_stops : (T : Type 0) (e : ResolveError) → IfSome told (λ files. ListsPlace (names_in files text) (Err e))
+      → Went asks b c (NamesIn text ∷ []) (course {T = Vec (String Global) Global} (Err e))
+      → ((files : Files) → start ≡ Some files → Going asks a b (folder_asks files (map string_bytes xs))
+      (folder_asks files (map string_bytes (drop i xs))))
       → IfSome start (λ files. Went asks a c (folder_asks files (map string_bytes xs)) (course {T = T} (Err e)))
   folder_stops T e listed made going =
       told_to (λ files. Went asks a c (folder_asks files (map string_bytes xs)) (course {T = T} (Err e))) start
       (λ files known.
       subst (Went asks a c (folder_asks files (map string_bytes xs))) (course_as (Vec (String Global) Global) T e)
-      (text_stops asks (is_overfull files) NamesIn (folder_asks files (map string_bytes xs)) a b c xs i x text (course {T = Vec (String Global) Global} (Err e)) h is said
+      (text_stops asks (is_overfull files) NamesIn (folder_asks files (map string_bytes xs)) a b c xs i x text
+      (course {T = Vec (String Global) Global} (Err e)) h is said
       (refused_is_overfull files text e (told_from (λ files. ListsPlace (names_in files text) (Err e)) told listed files (same ∙ known)))
       (going files known) made))
 
@@ -202,30 +245,39 @@ not_empty found is e = (let same : Empty ≡ Missing = sym is ∙ e in cc)
 pub not_said : (found : Found) (file : UnitFile) → found ≡ Says file → found ≡ Missing → ⊥
 not_said found file is e = (let same : Says file ≡ Missing = sym is ∙ e in cc)
 
-says_same : (b : Bool) (r : Result UnitFile ResolveError) (file : UnitFile) → cond b (Ok Empty) (says r) ≡ Ok (Says file) → cond b (Err Masked) r ≡ Ok file
+says_same : (b : Bool) (r : Result UnitFile ResolveError) (file : UnitFile) → cond b (Ok Empty) (says r) ≡ Ok (Says file)
+    → cond b (Err Masked) r ≡ Ok file
 says_same true r file e = cc
 says_same false (Ok own) file e = (let same : own ≡ file = cc in ap Ok same)
 says_same false (Err refusal) file e = cc
 
-said_is : (text : List ℕ) (o : Option (List ℕ)) (file : UnitFile) → file_at text o ≡ Ok (Says file) → (is_some o ≡ true) × (fragment_judged text (unwrap_or o []) ≡ Ok file)
+said_is : (text : List ℕ) (o : Option (List ℕ)) (file : UnitFile) → file_at text o ≡ Ok (Says file)
+    → (is_some o ≡ true) × (fragment_judged text (unwrap_or o []) ≡ Ok file)
 said_is text None file e = cc
 said_is text (Some bytes) file e = (refl, says_same (is_empty bytes) (judged text bytes) file e)
 
 -- the first path that is there is the fragment, and one that is not leaves it to the others
-pub fragment_left : (files : Files) (xs : List (String Global)) (i : ℕ) (x : String Global) (text : List ℕ) → i < length xs → x ≡ get_or xs i x → text ≡ string_bytes x
-    → fragment_read files (fragment_of files (map string_bytes (drop i xs))) ≡ fragment_read files (cond (is_there files text) (Some text) (fragment_of files (map string_bytes (drop (i + 1) xs))))
+pub fragment_left : (files : Files) (xs : List (String Global)) (i : ℕ) (x : String Global) (text : List ℕ) → i < length xs
+    → x ≡ get_or xs i x → text ≡ string_bytes x
+    → fragment_read files (fragment_of files (map string_bytes (drop i xs)))
+    ≡ fragment_read files (cond (is_there files text) (Some text) (fragment_of files (map string_bytes (drop (i + 1) xs))))
 fragment_left files xs i x text h is said = ap (λ left. fragment_read files (fragment_of files left)) (left_more xs i x text h is said)
 
-module _ (start told : Option Files) (same : told ≡ start) (xs : List (String Global)) (i : ℕ) (x : String Global) (text : List ℕ) (h : i < length xs) (is : x ≡ get_or xs i x) (said : text ≡ string_bytes x)
+module _ (start told : Option Files) (same : told ≡ start) (xs : List (String Global)) (i : ℕ) (x : String Global) (text : List ℕ)
+    (h : i < length xs) (is : x ≡ get_or xs i x) (said : text ≡ string_bytes x)
     (left : (files : Files) → start ≡ Some files → fragment_read files (fragment_of files (map string_bytes (drop i xs))) ≡ fragment_read files (fragment_of files (map string_bytes xs))) where
   pub fragment_goes_on : IfSome told (λ files. IsUnlessFailed {T = Found} (Ok Missing) (file_at text (bytes_at files text)))
-      → (files : Files) → start ≡ Some files → fragment_read files (fragment_of files (map string_bytes (drop (i + 1) xs))) ≡ fragment_read files (fragment_of files (map string_bytes xs))
+      → (files : Files) → start ≡ Some files → fragment_read files (fragment_of files (map string_bytes (drop (i + 1) xs)))
+      ≡ fragment_read files (fragment_of files (map string_bytes xs))
   fragment_goes_on read files known =
       sym (ap (λ b. fragment_read files (cond b (Some text) (fragment_of files (map string_bytes (drop (i + 1) xs)))))
-      (missing_is text (bytes_at files text) (told_from (λ files. IsUnlessFailed {T = Found} (Ok Missing) (file_at text (bytes_at files text))) told read files (same ∙ known))))
+      (missing_is text (bytes_at files text)
+      (told_from (λ files. IsUnlessFailed {T = Found} (Ok Missing) (file_at text (bytes_at files text))) told read files
+      (same ∙ known))))
       ∙ sym (fragment_left files xs i x text h is said) ∙ left files known
 
-  pub fragment_says : (file : UnitFile) → IfSome told (λ files. IsUnlessFailed {T = Found} (Ok (Says file)) (file_at text (bytes_at files text)))
+  pub fragment_says : (file : UnitFile)
+      → IfSome told (λ files. IsUnlessFailed {T = Found} (Ok (Says file)) (file_at text (bytes_at files text)))
       → IfSome start (λ files. IsUnlessFailed {T = UnitFile} (Ok file) (fragment_read files (fragment_of files (map string_bytes xs))))
   fragment_says file read =
       told_to (λ files. IsUnlessFailed {T = UnitFile} (Ok file) (fragment_read files (fragment_of files (map string_bytes xs)))) start

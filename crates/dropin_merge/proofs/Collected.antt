@@ -1,5 +1,6 @@
 -- The winners of the places that have been listed, with those of the places that are left.
-use Rattle.std.proofs.Common.{◌≡◌, ℕ, ◌+◌, ◌<◌, ◌≤◌, false, List, [], ◌∷◌, length, drop, get_or, Option, Some, None, Ok, map, Vec, String, Global, sym, ap, ◌∙◌, subst, arith}
+use Rattle.std.proofs.Common.{◌≡◌, ℕ, ◌+◌, ◌<◌, ◌≤◌, false, List, [], ◌∷◌, length, drop, get_or, Option, Some, None, Ok, map, Vec, String}
+use Rattle.std.proofs.Common.{Global, sym, ap, ◌∙◌, subst, arith}
 use Rattle.std.specs.Prelude.{◌&&◌, ◌||◌, nat_lt, cond, IfSome, string_bytes}
 use Rattle.std.specs.Option.{option_or}
 use Rattle.std.specs.Str.{bytes_eq}
@@ -21,7 +22,8 @@ few_files : (n : ℕ) → n ≤ 4096 → nat_lt 4096 n ≡ false
 few_files n h = grind (arith, nat_tests)
 
 -- what a listing answers
-pub lists_place : (told : Option Files) (folder : List ℕ) (names : Vec (String Global) Global) → Lists told folder (Ok names) → IfSome told (λ files. ListsPlace (names_in files folder) (Ok names))
+pub lists_place : (told : Option Files) (folder : List ℕ) (names : Vec (String Global) Global) → Lists told folder (Ok names)
+    → IfSome told (λ files. ListsPlace (names_in files folder) (Ok names))
 lists_place None folder names h = tt
 lists_place (Some files) folder names h = (
   λ q. sym (list_any-IsPermutation (bytes_eq q) (names_in files folder) (map string_bytes names.items) h.names_of_the_folder),
@@ -29,7 +31,8 @@ lists_place (Some files) folder names h = (
 )
 
 -- ---- the names of a place
-pub names_more : (place : List ℕ) (m n : BTreeMap (String Global) (String Global)) (names : List (String Global)) (i : ℕ) (name : String Global) (text : List ℕ) (whole : Option (List ℕ)) (q : List ℕ)
+pub names_more : (place : List ℕ) (m n : BTreeMap (String Global) (String Global)) (names : List (String Global)) (i : ℕ)
+    (name : String Global) (text : List ℕ) (whole : Option (List ℕ)) (q : List ℕ)
     → i < length names → name ≡ get_or names i name → text ≡ string_bytes name
     → option_or (winner_at m q) (at_place place (map string_bytes (drop i names)) q) ≡ whole
     → winner_at n q ≡ option_or (winner_at m q) (at_name place text q)
@@ -42,7 +45,8 @@ names_more place m n names i name text whole q h is said inv step =
     ∙ ap (λ ns. option_or (winner_at m q) (at_place place (map string_bytes ns) q)) (sym (drop_read names i name h is))
     ∙ inv
 
-pub names_all : (place : List ℕ) (m : BTreeMap (String Global) (String Global)) (left : List (String Global)) (whole : Option (List ℕ)) (q : List ℕ) → left ≡ [] → option_or (winner_at m q) (at_place place (map string_bytes left) q) ≡ whole → winner_at m q ≡ whole
+pub names_all : (place : List ℕ) (m : BTreeMap (String Global) (String Global)) (left : List (String Global)) (whole : Option (List ℕ))
+    (q : List ℕ) → left ≡ [] → option_or (winner_at m q) (at_place place (map string_bytes left) q) ≡ whole → winner_at m q ≡ whole
 names_all place m left whole q none inv =
     sym (option_or-none (winner_at m q)) ∙ ap (option_or (winner_at m q)) (sym (at_place-nil place q))
     ∙ ap (λ ns. option_or (winner_at m q) (at_place place (map string_bytes ns) q)) (sym none) ∙ inv
@@ -52,17 +56,20 @@ pub record Collected (files : Files) (m : BTreeMap (String Global) (String Globa
   pub winners : (q : List ℕ) → option_or (winner_at m q) (winner_among files left q) ≡ winner_among files all q
   pub overfull : list_any (is_overfull files) left ≡ list_any (is_overfull files) all
 
-same_place : (place : List ℕ) (listed names : List (List ℕ)) (q : List ℕ) → list_any (bytes_eq q) listed ≡ list_any (bytes_eq q) names → at_place place listed q ≡ at_place place names q
+same_place : (place : List ℕ) (listed names : List (List ℕ)) (q : List ℕ) → list_any (bytes_eq q) listed ≡ list_any (bytes_eq q) names
+    → at_place place listed q ≡ at_place place names q
 same_place place listed names q e = ap (λ b. cond (ends_in_conf q && b) (Some (below place q)) None) e
 
-pub collected_more : (files : Files) (m n : BTreeMap (String Global) (String Global)) (place : List ℕ) (left all : List (List ℕ)) (names : Vec (String Global) Global)
+pub collected_more : (files : Files) (m n : BTreeMap (String Global) (String Global)) (place : List ℕ) (left all : List (List ℕ))
+    (names : Vec (String Global) Global)
     → Collected files m (place ∷ left) all
     → ListsPlace (names_in files place) (Ok names)
     → ((q : List ℕ) → winner_at n q ≡ option_or (winner_at m q) (at_place place (map string_bytes names.items) q))
     → Collected files n left all
 collected_more files m n place left all names inv listed step = record {
   winners = λ q.
-      ap (λ o. option_or o (winner_among files left q)) (step q ∙ ap (option_or (winner_at m q)) (same_place place (map string_bytes names.items) (names_in files place) q (listed.0 q)))
+      ap (λ o. option_or o (winner_among files left q)) (step q
+      ∙ ap (option_or (winner_at m q)) (same_place place (map string_bytes names.items) (names_in files place) q (listed.0 q)))
       ∙ option_or_assoc (winner_at m q) (at_place place (names_in files place) q) (winner_among files left q)
       ∙ ap (option_or (winner_at m q)) (sym (winner_among-cons files place left q))
       ∙ inv.winners q;
@@ -70,7 +77,9 @@ collected_more files m n place left all names inv listed step = record {
 }
 
 -- a turn of the loop over places
-pub collected_turn : (files : Files) (told : Option Files) (m n : BTreeMap (String Global) (String Global)) (places : List (String Global)) (i : ℕ) (place : String Global) (text again : List ℕ) (names : Vec (String Global) Global) (slice : List (String Global)) (all : List (List ℕ))
+pub collected_turn : (files : Files) (told : Option Files) (m n : BTreeMap (String Global) (String Global))
+    (places : List (String Global)) (i : ℕ) (place : String Global) (text again : List ℕ) (names : Vec (String Global) Global)
+    (slice : List (String Global)) (all : List (List ℕ))
     → told ≡ Some files
     → i < length places → place ≡ get_or places i place → text ≡ string_bytes place → again ≡ string_bytes place
     → slice ≡ names.items
@@ -82,4 +91,5 @@ collected_turn files told m n places i place text again names slice all e h is s
     collected_more files m n text (map string_bytes (drop (i + 1) places)) all names
     (subst (λ left. Collected files m left all) (left_more places i place text h is said) inv)
     (told_from (λ files. ListsPlace (names_in files text) (Ok names)) told listed files e)
-    (λ q. step q ∙ ap (λ t. option_or (winner_at m q) (at_place t (map string_bytes slice) q)) (said_again ∙ sym said) ∙ ap (λ ns. option_or (winner_at m q) (at_place text (map string_bytes ns) q)) sliced)
+    (λ q. step q ∙ ap (λ t. option_or (winner_at m q) (at_place t (map string_bytes slice) q)) (said_again ∙ sym said)
+    ∙ ap (λ ns. option_or (winner_at m q) (at_place text (map string_bytes ns) q)) sliced)

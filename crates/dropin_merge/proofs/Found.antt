@@ -8,7 +8,8 @@ moved None now rest = ap (λ ys. ys ++ rest) (sym (append-nil now))
 moved (Some y) now rest = sym (append_assoc now (y ∷ []) rest)
 
 -- all is what was found and what the others give: so it is behind one more
-pub found_more : {X Y : Type 0} (f : X → Option Y) (left more : List X) (x : X) (all now new : List Y) → left ≡ x ∷ more → all ≡ now ++ filter_map f left → new ≡ now ++ cons_option (f x) [] → all ≡ new ++ filter_map f more
+pub found_more : {X Y : Type 0} (f : X → Option Y) (left more : List X) (x : X) (all now new : List Y) → left ≡ x ∷ more
+    → all ≡ now ++ filter_map f left → new ≡ now ++ cons_option (f x) [] → all ≡ new ++ filter_map f more
 found_more f left more x all now new first before after =
     before
     ∙ ap (λ xs. now ++ filter_map f xs) first
@@ -16,7 +17,8 @@ found_more f left more x all now new first before after =
     ∙ ap (λ ys. ys ++ filter_map f more) (sym after)
 
 -- the same where each gives a list
-pub added_more : {X Y : Type 0} (g : X → List Y) (left more : List X) (x : X) (all now new : List Y) → left ≡ x ∷ more → all ≡ now ++ flat_map g left → new ≡ now ++ g x → all ≡ new ++ flat_map g more
+pub added_more : {X Y : Type 0} (g : X → List Y) (left more : List X) (x : X) (all now new : List Y) → left ≡ x ∷ more
+    → all ≡ now ++ flat_map g left → new ≡ now ++ g x → all ≡ new ++ flat_map g more
 added_more g left more x all now new first before after =
     before
     ∙ ap (λ xs. now ++ flat_map g xs) first

@@ -1,5 +1,6 @@
 -- The files in force, by the map of winners.
-use Rattle.std.proofs.Common.{◌≡◌, ℕ, ◌<◌, ◌≤◌, Bool, true, false, cond, List, [], ◌∷◌, length, Option, Some, Result, Ok, Err, map, String, Global, refl, sym, ap, ◌∙◌, subst, arith}
+use Rattle.std.proofs.Common.{◌≡◌, ℕ, ◌<◌, ◌≤◌, Bool, true, false, cond, List, [], ◌∷◌, length, Option, Some, Result, Ok, Err, map, String}
+use Rattle.std.proofs.Common.{Global, refl, sym, ap, ◌∙◌, subst, arith}
 use Rattle.std.specs.Prelude.{◌||◌, nat_lt, IfSome, string_bytes}
 use Rattle.std.specs.List.{list_any}
 use Rattle.std.specs.Map.{values_of}
@@ -12,7 +13,8 @@ use Rattle.unit_names.specs.Names.{Name}
 use Rattle.dropin_merge.specs.Answers.{IsUnlessFailed}
 use Rattle.dropin_merge.specs.Places.{fragment_paths, dropin_places}
 use Rattle.dropin_merge.specs.Winners.{winners_of}
-use Rattle.dropin_merge.specs.Resolving.{fragment_of, fragment_read, is_overfull, is_crowded, winning_paths, dropins_read, joined_by, files_of, with_fragment, as_resolved, for_unit}
+use Rattle.dropin_merge.specs.Resolving.{fragment_of, fragment_read, is_overfull, is_crowded, winning_paths, dropins_read, joined_by}
+use Rattle.dropin_merge.specs.Resolving.{files_of, with_fragment, as_resolved, for_unit}
 use Rattle.dropin_merge.specs.Steps.{CollectsWinners}
 use Rattle.dropin_merge.specs.declared.resolved.Resolved.{Resolved}
 use Rattle.dropin_merge.specs.declared.resolved.UnitFile.{UnitFile}
@@ -21,7 +23,8 @@ use Rattle.dropin_merge.specs.declared.errors.ResolveError.TheVariants.{DropIns}
 use Rattle.dropin_merge.proofs.Reading.{told_from, told_to, failed_on}
 use Rattle.dropin_merge.proofs.Winning.{entry_texts, entries_are_winners}
 
-paths_of_entries : (es : List (String Global × String Global)) → map string_bytes (values_of es) ≡ map (λ winner. winner.1) (map entry_texts es)
+paths_of_entries : (es : List (String Global × String Global))
+    → map string_bytes (values_of es) ≡ map (λ winner. winner.1) (map entry_texts es)
 paths_of_entries [] = refl
 paths_of_entries (entry ∷ es) = ap (λ ps. string_bytes entry.1 ∷ ps) (paths_of_entries es)
 
@@ -57,21 +60,28 @@ module _ (files : Files) (unit : Name) (places : List (List ℕ)) (m : BTreeMap 
   winning_are = paths_of_entries m.entries ∙ ap (map (λ winner. winner.1)) winners_are
 
   pub too_many : (fragment : UnitFile) → 256 < length m.entries → files_of files unit fragment ≡ Err DropIns
-  too_many fragment h = ap (λ b. cond b (Err DropIns) (joined_by (fragment ∷ []) (dropins_read files (winning_paths files unit)))) (is_crowded_by_many h)
+  too_many fragment h = ap (λ b. cond b (Err DropIns) (joined_by (fragment ∷ []) (dropins_read files (winning_paths files unit))))
+      (is_crowded_by_many h)
 
-  pub in_force : (fragment : UnitFile) → length m.entries ≤ 256 → joined_by (fragment ∷ []) (dropins_read files (map string_bytes (values_of m.entries))) ≡ files_of files unit fragment
+  pub in_force : (fragment : UnitFile) → length m.entries ≤ 256
+      → joined_by (fragment ∷ []) (dropins_read files (map string_bytes (values_of m.entries))) ≡ files_of files unit fragment
   in_force fragment h =
       ap (λ ps. joined_by (fragment ∷ []) (dropins_read files ps)) winning_are
       ∙ sym (ap (λ b. cond b (Err DropIns) (joined_by (fragment ∷ []) (dropins_read files (winning_paths files unit)))) (is_not_crowded h))
 
 -- what was answered of the files that are told
-pub refuses_many : (told : Option Files) (unit : Name) (places : List (List ℕ)) (m : BTreeMap (String Global) (String Global)) (fragment : UnitFile) → places ≡ dropin_places unit → IsOrdered string_cmp m
-    → IfSome told (λ files. CollectsWinners files places (Ok m)) → 256 < length m.entries → IfSome told (λ files. files_of files unit fragment ≡ Err DropIns)
+pub refuses_many : (told : Option Files) (unit : Name) (places : List (List ℕ)) (m : BTreeMap (String Global) (String Global))
+    (fragment : UnitFile) → places ≡ dropin_places unit → IsOrdered string_cmp m
+    → IfSome told (λ files. CollectsWinners files places (Ok m)) → 256 < length m.entries
+    → IfSome told (λ files. files_of files unit fragment ≡ Err DropIns)
 refuses_many told unit places m fragment named ordered collected h =
     told_to (λ files. files_of files unit fragment ≡ Err DropIns) told
-    (λ files e. too_many files unit places m named ordered (told_from (λ files. CollectsWinners files places (Ok m)) told collected files e) fragment h)
+    (λ files e. too_many files unit places m named ordered
+    (told_from (λ files. CollectsWinners files places (Ok m)) told collected files e) fragment h)
 
-pub reads_winners : (told : Option Files) (unit : Name) (places : List (List ℕ)) (m : BTreeMap (String Global) (String Global)) (fragment : UnitFile) (paths : List (String Global)) (result : Result (List UnitFile) ResolveError) → places ≡ dropin_places unit → IsOrdered string_cmp m
+pub reads_winners : (told : Option Files) (unit : Name) (places : List (List ℕ)) (m : BTreeMap (String Global) (String Global))
+    (fragment : UnitFile) (paths : List (String Global)) (result : Result (List UnitFile) ResolveError) → places ≡ dropin_places unit
+    → IsOrdered string_cmp m
     → IfSome told (λ files. CollectsWinners files places (Ok m)) → length m.entries ≤ 256 → paths ≡ values_of m.entries
     → IfSome told (λ files. IsUnlessFailed result (joined_by (fragment ∷ []) (dropins_read files (map string_bytes paths))))
     → IfSome told (λ files. IsUnlessFailed result (files_of files unit fragment))
@@ -79,8 +89,11 @@ reads_winners told unit places m fragment paths result named ordered collected h
     told_to (λ files. IsUnlessFailed result (files_of files unit fragment)) told
     (λ files e.
     subst (IsUnlessFailed result)
-    (ap (λ ps. joined_by (fragment ∷ []) (dropins_read files (map string_bytes ps))) given ∙ in_force files unit places m named ordered (told_from (λ files. CollectsWinners files places (Ok m)) told collected files e) fragment h)
-    (told_from (λ files. IsUnlessFailed result (joined_by (fragment ∷ []) (dropins_read files (map string_bytes paths)))) told read files e))
+    (ap (λ ps. joined_by (fragment ∷ []) (dropins_read files (map string_bytes ps))) given
+    ∙ in_force files unit places m named ordered (told_from (λ files. CollectsWinners files places (Ok m)) told collected files e)
+    fragment h)
+    (told_from (λ files. IsUnlessFailed result (joined_by (fragment ∷ []) (dropins_read files (map string_bytes paths)))) told read files
+    e))
 
 -- ---- a unit that is refused
 pub fragment_refused : (told : Option Files) (unit : Name) (paths : List (List ℕ)) (e : ResolveError) → paths ≡ fragment_paths unit
@@ -93,7 +106,8 @@ fragment_refused told unit paths e named read =
     (λ h. ap (λ r. as_resolved unit (with_fragment files unit r)) (ap (λ ps. fragment_read files (fragment_of files ps)) (sym named) ∙ h))
     (told_from (λ files. IsUnlessFailed {T = UnitFile} (Err e) (fragment_read files (fragment_of files paths))) told read files known))
 
-pub files_refused : (told : Option Files) (unit : Name) (paths : List (List ℕ)) (fragment : UnitFile) (e : ResolveError) → paths ≡ fragment_paths unit
+pub files_refused : (told : Option Files) (unit : Name) (paths : List (List ℕ)) (fragment : UnitFile) (e : ResolveError)
+    → paths ≡ fragment_paths unit
     → IfSome told (λ files. IsUnlessFailed {T = UnitFile} (Ok fragment) (fragment_read files (fragment_of files paths)))
     → IfSome told (λ files. IsUnlessFailed {T = List UnitFile} (Err e) (files_of files unit fragment))
     → IfSome told (λ files. IsUnlessFailed {T = Resolved} (Err e) (for_unit files (Some unit)))
@@ -103,6 +117,8 @@ files_refused told unit paths fragment e named found read =
     failed_on e (files_of files unit fragment) (for_unit files (Some unit))
     (λ h.
     ap (λ r. as_resolved unit (with_fragment files unit r))
-    (ap (λ ps. fragment_read files (fragment_of files ps)) (sym named) ∙ told_from (λ files. IsUnlessFailed {T = UnitFile} (Ok fragment) (fragment_read files (fragment_of files paths))) told found files known)
+    (ap (λ ps. fragment_read files (fragment_of files ps)) (sym named)
+    ∙ told_from (λ files. IsUnlessFailed {T = UnitFile} (Ok fragment) (fragment_read files (fragment_of files paths))) told found
+    files known)
     ∙ ap (as_resolved unit) h)
     (told_from (λ files. IsUnlessFailed {T = List UnitFile} (Err e) (files_of files unit fragment)) told read files known))

@@ -8,5 +8,7 @@ pub drop_read : {X : Type 0} (xs : List X) (i : ℕ) (x : X) → i < length xs �
 drop_read xs i x h is = drop_more xs i x h ∙ ap (λ y. y ∷ drop (i + 1) xs) (sym is)
 
 -- the same of their texts
-pub left_more : (xs : List (String Global)) (i : ℕ) (x : String Global) (text : List ℕ) → i < length xs → x ≡ get_or xs i x → text ≡ string_bytes x → map string_bytes (drop i xs) ≡ text ∷ map string_bytes (drop (i + 1) xs)
-left_more xs i x text h is said = ap (map string_bytes) (drop_read xs i x h is) ∙ ap (λ t. t ∷ map string_bytes (drop (i + 1) xs)) (sym said)
+pub left_more : (xs : List (String Global)) (i : ℕ) (x : String Global) (text : List ℕ) → i < length xs → x ≡ get_or xs i x
+    → text ≡ string_bytes x → map string_bytes (drop i xs) ≡ text ∷ map string_bytes (drop (i + 1) xs)
+left_more xs i x text h is said = ap (map string_bytes) (drop_read xs i x h is)
+    ∙ ap (λ t. t ∷ map string_bytes (drop (i + 1) xs)) (sym said)

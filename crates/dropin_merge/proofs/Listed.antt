@@ -58,7 +58,8 @@ module _ (folder q : List ℕ) where
   hits : Option (List ℕ) → Bool
   hits found = option_map_or (λ other. bytes_eq q other) found false
 
-  hit_there : (path : List ℕ) (found : Option (List ℕ)) → name_in folder path ≡ found → hits found ≡ true → (is_some (as_name q) && bytes_eq path (below folder q)) ≡ true
+  hit_there : (path : List ℕ) (found : Option (List ℕ)) → name_in folder path ≡ found → hits found ≡ true
+      → (is_some (as_name q) && bytes_eq path (below folder q)) ≡ true
   unfolding hits
   hit_there path None e h = cc
   hit_there path (Some other) e h =
@@ -79,12 +80,14 @@ module _ (folder q : List ℕ) where
       let lies : path ≡ below folder q = (bytes_eq-Decides path (below folder q)).0 parts.1 in
       ap hits (ap (name_in folder) lies ∙ name_in-below folder q parts.0) ∙ (bytes_eq-Decides q q).1 refl
 
-  any_more : (found : Option (List ℕ)) (names : List (List ℕ)) → list_any (bytes_eq q) (cons_option found names) ≡ (hits found || list_any (bytes_eq q) names)
+  any_more : (found : Option (List ℕ)) (names : List (List ℕ))
+      → list_any (bytes_eq q) (cons_option found names) ≡ (hits found || list_any (bytes_eq q) names)
   unfolding hits
   any_more None names = refl
   any_more (Some other) names = refl
 
-  there_more : (b : Bool) (file : List ℕ × List ℕ) (rest : Option (List ℕ × List ℕ)) → is_some (option_map (λ f. f.1) (cond b (Some file) rest)) ≡ (b || is_some (option_map (λ f. f.1) rest))
+  there_more : (b : Bool) (file : List ℕ × List ℕ) (rest : Option (List ℕ × List ℕ))
+      → is_some (option_map (λ f. f.1) (cond b (Some file) rest)) ≡ (b || is_some (option_map (λ f. f.1) rest))
   there_more true file rest = refl
   there_more false file rest = refl
 
@@ -93,7 +96,8 @@ module _ (folder q : List ℕ) where
   either false b t = refl
 
   -- the names of a folder have q exactly where it is a name and its path is there
-  pub listed_there : (files : Files) → list_any (bytes_eq q) (names_in files folder) ≡ (is_some (as_name q) && is_there files (below folder q))
+  pub listed_there : (files : Files) → list_any (bytes_eq q) (names_in files folder)
+      ≡ (is_some (as_name q) && is_there files (below folder q))
   listed_there [] = none_there (is_some (as_name q))
     where
       none_there : (n : Bool) → false ≡ (n && false)
@@ -101,15 +105,19 @@ module _ (folder q : List ℕ) where
       none_there false = refl
   listed_there (file ∷ files) =
       any_more (name_in folder file.0) (names_in files folder)
-      ∙ ap (λ b. b || list_any (bytes_eq q) (names_in files folder)) (both_ways _ _ (hit_there file.0 (name_in folder file.0) refl) (there_hit file.0))
+      ∙ ap (λ b. b || list_any (bytes_eq q) (names_in files folder))
+      (both_ways _ _ (hit_there file.0 (name_in folder file.0) refl) (there_hit file.0))
       ∙ ap (λ b. (is_some (as_name q) && bytes_eq file.0 (below folder q)) || b) (listed_there files)
       ∙ either (is_some (as_name q)) (bytes_eq file.0 (below folder q)) (is_there files (below folder q))
-      ∙ ap (λ b. is_some (as_name q) && b) (sym (there_more (bytes_eq file.0 (below folder q)) file (find (λ f. bytes_eq f.0 (below folder q)) files)))
+      ∙ ap (λ b. is_some (as_name q) && b)
+      (sym (there_more (bytes_eq file.0 (below folder q)) file (find (λ f. bytes_eq f.0 (below folder q)) files)))
 
 -- among those that end in `.conf` too
-pub conf_there : (files : Files) (folder q : List ℕ) → (ends_in_conf q && list_any (bytes_eq q) (names_in files folder)) ≡ (is_conf q && is_there files (below folder q))
+pub conf_there : (files : Files) (folder q : List ℕ) → (ends_in_conf q && list_any (bytes_eq q) (names_in files folder))
+    ≡ (is_conf q && is_there files (below folder q))
 conf_there files folder q =
-    ap (λ b. ends_in_conf q && b) (listed_there folder q files) ∙ in_turn (ends_in_conf q) (is_some (as_name q)) (is_there files (below folder q))
+    ap (λ b. ends_in_conf q && b) (listed_there folder q files)
+    ∙ in_turn (ends_in_conf q) (is_some (as_name q)) (is_there files (below folder q))
   where
     in_turn : (e n t : Bool) → (e && (n && t)) ≡ ((n && e) && t)
     in_turn true true t = refl

@@ -8,9 +8,12 @@ use Rattle.dropin_merge.specs.unit_values.Notes.{notes_at, noted}
 use Rattle.dropin_merge.proofs.OneMore.{take_item}
 
 -- the notes of the values so far, with those of the next
-pub noted_next : (causes : List Value × Value → List NoteCause) (values : List Value) (i : ℕ) (value : Value) (old now next : List FileNote) → i < length values → value ≡ get_or values i value → now ≡ old ++ noted causes (take i values) → next ≡ now ++ notes_at value (causes (take i values, value)) → next ≡ old ++ noted causes (take (i + 1) values)
+pub noted_next : (causes : List Value × Value → List NoteCause) (values : List Value) (i : ℕ) (value : Value)
+    (old now next : List FileNote) → i < length values → value ≡ get_or values i value → now ≡ old ++ noted causes (take i values)
+    → next ≡ now ++ notes_at value (causes (take i values, value)) → next ≡ old ++ noted causes (take (i + 1) values)
 noted_next causes values i value old now next lt is before step =
     step
     ∙ ap (λ ns. ns ++ notes_at value (causes (take i values, value))) before
     ∙ append_assoc old (noted causes (take i values)) (notes_at value (causes (take i values, value)))
-    ∙ ap (λ ns. old ++ ns) (sym (ap (noted causes) (take_item values i value lt is) ∙ given_more (λ place. notes_at place.1 (causes place)) (take i values) value))
+    ∙ ap (λ ns. old ++ ns) (sym (ap (noted causes) (take_item values i value lt is)
+    ∙ given_more (λ place. notes_at place.1 (causes place)) (take i values) value))

@@ -1,5 +1,6 @@
 -- What one more element does to a list that was gone through so far.
-use Rattle.std.proofs.Common.{◌≡◌, ℕ, ◌+◌, ◌-◌, ◌<◌, Bool, true, false, cond, Option, Some, None, List, [], ◌∷◌, ◌++◌, length, take, drop, get_or, refl, sym, ap, ◌∙◌, arith, append_assoc, append-nil, length-append}
+use Rattle.std.proofs.Common.{◌≡◌, ℕ, ◌+◌, ◌-◌, ◌<◌, Bool, true, false, cond, Option, Some, None, List, [], ◌∷◌, ◌++◌, length, take, drop}
+use Rattle.std.proofs.Common.{get_or, refl, sym, ap, ◌∙◌, arith, append_assoc, append-nil, length-append}
 use Rattle.std.specs.Prelude.{flat_map, not, unwrap_or}
 use Rattle.std.specs.List.{filter_map, cons_option, after_last, suffix_len, prefix_len}
 use Rattle.std.proofs.lemmas.List.{reverse-append, drop-append-le, take_more}
@@ -13,12 +14,14 @@ suffix_len-push : {X : Type 0} (q : X → Bool) (xs : List X) (x : X) → suffix
 suffix_len-push q xs x = ap (prefix_len q) (reverse-append xs (x ∷ []))
 
 -- what stands behind the last that passes
-pub after_last-push : {X : Type 0} (p : X → Bool) (xs : List X) (x : X) → after_last p (xs ++ x ∷ []) ≡ cond (p x) [] (after_last p xs ++ x ∷ [])
+pub after_last-push : {X : Type 0} (p : X → Bool) (xs : List X) (x : X)
+    → after_last p (xs ++ x ∷ []) ≡ cond (p x) [] (after_last p xs ++ x ∷ [])
 after_last-push p xs x =
     let size : length (xs ++ x ∷ []) ≡ length xs + 1 = length-append xs (x ∷ []) in
     let few = suffix_len-le-length (λ y. not (p y)) xs in
     ap (λ s. drop (length (xs ++ x ∷ []) - s) (xs ++ x ∷ [])) (suffix_len-push (λ y. not (p y)) xs x)
-    ∙ elim (p x) as (λ b. drop (length (xs ++ x ∷ []) - cond (not b) (1 + suffix_len (λ y. not (p y)) xs) 0) (xs ++ x ∷ []) ≡ cond b [] (after_last p xs ++ x ∷ [])) [
+    ∙ elim (p x) as (λ b. drop (length (xs ++ x ∷ []) - cond (not b) (1 + suffix_len (λ y. not (p y)) xs) 0) (xs ++ x ∷ [])
+    ≡ cond b [] (after_last p xs ++ x ∷ [])) [
       | true ↦ drop_of_length-le (xs ++ x ∷ []) (omega arith)
       | false ↦
           let same : length (xs ++ x ∷ []) - (1 + suffix_len (λ y. not (p y)) xs) ≡ length xs - suffix_len (λ y. not (p y)) xs = omega (arith, size, few) in
@@ -30,7 +33,8 @@ pub take_item : {X : Type 0} (xs : List X) (i : ℕ) (x : X) → i < length xs �
 take_item xs i x lt is = take_more xs i x lt ∙ ap (λ y. take i xs ++ y ∷ []) (sym is)
 
 -- what each element adds to a list
-pub added_by_all : {X Y : Type 0} (f : X → List Y) (xs : List X) (i : ℕ) (x : X) (old now next : List Y) → i < length xs → x ≡ get_or xs i x → now ≡ old ++ flat_map f (take i xs) → next ≡ now ++ f x → next ≡ old ++ flat_map f (take (i + 1) xs)
+pub added_by_all : {X Y : Type 0} (f : X → List Y) (xs : List X) (i : ℕ) (x : X) (old now next : List Y) → i < length xs
+    → x ≡ get_or xs i x → now ≡ old ++ flat_map f (take i xs) → next ≡ now ++ f x → next ≡ old ++ flat_map f (take (i + 1) xs)
 added_by_all f xs i x old now next lt is before step =
     step
     ∙ ap (λ ys. ys ++ f x) before
@@ -42,7 +46,9 @@ added_by_all f xs i x old now next lt is before step =
     ∙ ap (λ ys. flat_map f (take i xs) ++ ys) (append-nil (f x))))
 
 -- what each element may add to a list
-pub added_by_some : {X Y : Type 0} (f : X → Option Y) (xs : List X) (i : ℕ) (x : X) (old now next : List Y) → i < length xs → x ≡ get_or xs i x → now ≡ old ++ filter_map f (take i xs) → next ≡ now ++ cons_option (f x) [] → next ≡ old ++ filter_map f (take (i + 1) xs)
+pub added_by_some : {X Y : Type 0} (f : X → Option Y) (xs : List X) (i : ℕ) (x : X) (old now next : List Y) → i < length xs
+    → x ≡ get_or xs i x → now ≡ old ++ filter_map f (take i xs) → next ≡ now ++ cons_option (f x) []
+    → next ≡ old ++ filter_map f (take (i + 1) xs)
 added_by_some f xs i x old now next lt is before step =
     step
     ∙ ap (λ ys. ys ++ cons_option (f x) []) before

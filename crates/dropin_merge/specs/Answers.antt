@@ -10,7 +10,8 @@ use Rattle.dropin_merge.specs.Winners.{ends_in_conf}
 use Rattle.dropin_merge.specs.declared.resolved.UnitFile.{UnitFile}
 use Rattle.dropin_merge.specs.declared.resolved.Resolved.{Resolved}
 use Rattle.dropin_merge.specs.declared.errors.ResolveError.{ResolveError}
-use Rattle.dropin_merge.specs.declared.errors.ResolveError.TheVariants.{BadName, NotFound, Masked, DropIns, TooLarge, Text, ReadFault, Memory}
+use Rattle.dropin_merge.specs.declared.errors.ResolveError.TheVariants.{BadName, NotFound, Masked, DropIns, TooLarge, Text, ReadFault}
+use Rattle.dropin_merge.specs.declared.errors.ResolveError.TheVariants.{Memory}
 
 -- the answer is this one, unless a read failed or memory ran out
 abbrev pub IsUnlessFailed : {T : Type 0} → Result T ResolveError → Result T ResolveError → Type 0

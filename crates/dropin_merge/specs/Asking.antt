@@ -10,7 +10,8 @@ use Rattle.dropin_merge.specs.Resolving.{fragment_of, fragment_read, is_crowded,
 use Rattle.dropin_merge.specs.Steps.{file_at}
 use Rattle.dropin_merge.specs.Winners.{is_there}
 use Rattle.dropin_merge.specs.declared.errors.ResolveError.{ResolveError}
-use Rattle.dropin_merge.specs.declared.errors.ResolveError.TheVariants.{BadName, NotFound, Masked, DropIns, TooLarge, Text, ReadFault, Memory}
+use Rattle.dropin_merge.specs.declared.errors.ResolveError.TheVariants.{BadName, NotFound, Masked, DropIns, TooLarge, Text, ReadFault}
+use Rattle.dropin_merge.specs.declared.errors.ResolveError.TheVariants.{Memory}
 
 -- a file of a unit has at most 1 MiB
 abbrev pub unit_file : List ℕ → Ask
@@ -38,11 +39,13 @@ dropin_asks files paths = map unit_file (up_to (is_refused files) paths)
 
 -- behind the fragment: all folders, and the drop-ins that win, where these are not too many
 abbrev pub behind_fragment : Files → Name → List Ask
-behind_fragment files unit = folder_asks files (dropin_places unit) ++ cond (is_crowded files unit) [] (dropin_asks files (winning_paths files unit))
+behind_fragment files unit = folder_asks files (dropin_places unit) ++ cond (is_crowded files unit) []
+    (dropin_asks files (winning_paths files unit))
 
 -- all of a unit, of which nothing is read behind a fragment that is missing or refused
 abbrev pub unit_asks : Files → Name → List Ask
-unit_asks files unit = fragment_asks files (fragment_paths unit) ++ unless_refused (fragment_read files (fragment_of files (fragment_paths unit))) (behind_fragment files unit)
+unit_asks files unit = fragment_asks files (fragment_paths unit) ++ unless_refused
+    (fragment_read files (fragment_of files (fragment_paths unit))) (behind_fragment files unit)
 
 -- nothing is read for a text that is no name
 abbrev pub name_asks : Files → Option Name → List Ask

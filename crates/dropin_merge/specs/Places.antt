@@ -3,7 +3,8 @@ use Rattle.std.specs.Prelude.{ℕ, Option, Some, None, List, [], ◌∷◌, ◌+
 use Rattle.unit_names.specs.Names.{Name, text_of, template_of}
 use Rattle.unit_names.specs.Folders.{folders_of}
 
--- the folders of unit files, the first that has a file before the others: the administrator's, those made at run time, and those of packages
+-- the folders of unit files, the first that has a file before the others: the administrator's, those made at run time, and those of
+-- packages
 abbrev pub locations : List (List ℕ)
 locations = codes "etc/systemd/system" ∷ codes "run/systemd/system" ∷ codes "usr/lib/systemd/system" ∷ []
 

@@ -1,5 +1,6 @@
 -- The files in force of a unit, or the first reason why there are none (systemd.unit(5)).
-use Rattle.std.specs.Prelude.{ℕ, ◌||◌, not, nat_lt, Bool, cond, Option, Some, None, Result, Ok, Err, List, [], ◌∷◌, ◌++◌, length, map, filter, find}
+use Rattle.std.specs.Prelude.{ℕ, ◌||◌, not, nat_lt, Bool, cond, Option, Some, None, Result, Ok, Err, List, [], ◌∷◌, ◌++◌, length, map}
+use Rattle.std.specs.Prelude.{filter, find}
 use Rattle.std.specs.List.{filter_map, list_any, slice_get}
 use Rattle.std.specs.Result.{result_ok, result_err}
 use Rattle.host_io.specs.Files.{Files, names_in}
@@ -49,7 +50,8 @@ joined_by files read = unless_refused (slice_get (filter_map result_err read) 0)
 
 -- the files in force: the fragment, and then the drop-ins that win
 abbrev pub files_of : Files → Name → UnitFile → Result (List UnitFile) ResolveError
-files_of files unit fragment = cond (is_crowded files unit) (Err DropIns) (joined_by (fragment ∷ []) (dropins_read files (winning_paths files unit)))
+files_of files unit fragment = cond (is_crowded files unit) (Err DropIns)
+    (joined_by (fragment ∷ []) (dropins_read files (winning_paths files unit)))
 
 abbrev pub with_fragment : Files → Name → Result UnitFile ResolveError → Result (List UnitFile) ResolveError
 with_fragment files unit (Ok fragment) = files_of files unit fragment

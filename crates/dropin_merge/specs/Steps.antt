@@ -1,5 +1,6 @@
 -- What the parts of a resolution answer each other, where the shelf tells its files.
-use Rattle.std.specs.Prelude.{Vec, String, string_bytes, ◌≡◌, ◌≢◌, ◌≤◌, ◌&&◌, nat_lt, ℕ, true, false, cond, Option, Some, None, Result, Ok, Err, List, [], ◌∷◌, map, length}
+use Rattle.std.specs.Prelude.{Vec, String, string_bytes, ◌≡◌, ◌≢◌, ◌≤◌, ◌&&◌, nat_lt, ℕ, true, false, cond, Option, Some, None, Result, Ok}
+use Rattle.std.specs.Prelude.{Err, List, [], ◌∷◌, map, length}
 use Rattle.std.specs.List.{All, list_any}
 use Rattle.std.specs.Map.{values_of}
 use Rattle.std.specs.Option.{option_map}
@@ -17,7 +18,8 @@ use Rattle.dropin_merge.specs.declared.resolved.UnitFile.{UnitFile}
 use Rattle.dropin_merge.specs.declared.files.Found.{Found}
 use Rattle.dropin_merge.specs.declared.files.Found.TheVariants.{Missing, Empty, Says}
 use Rattle.dropin_merge.specs.declared.errors.ResolveError.{ResolveError}
-use Rattle.dropin_merge.specs.declared.errors.ResolveError.TheVariants.{BadName, NotFound, Masked, DropIns, TooLarge, Text, ReadFault, Memory}
+use Rattle.dropin_merge.specs.declared.errors.ResolveError.TheVariants.{BadName, NotFound, Masked, DropIns, TooLarge, Text, ReadFault}
+use Rattle.dropin_merge.specs.declared.errors.ResolveError.TheVariants.{Memory}
 
 -- a file that says something
 abbrev pub says : Result UnitFile ResolveError → Result Found ResolveError
@@ -43,7 +45,8 @@ LiesAt path (Says file) = file.path ≡ path
 
 -- the names of a folder are answered, in any order
 abbrev pub ListsPlace : List (List ℕ) → Result (Vec (String Global) Global) ResolveError → Type 0
-ListsPlace names (Ok listed) = ((q : List ℕ) → list_any (bytes_eq q) (map string_bytes listed.items) ≡ list_any (bytes_eq q) names) × (nat_lt 4096 (length names) ≡ false)
+ListsPlace names (Ok listed) = ((q : List ℕ) → list_any (bytes_eq q) (map string_bytes listed.items) ≡ list_any (bytes_eq q) names) ×
+    (nat_lt 4096 (length names) ≡ false)
 ListsPlace names (Err DropIns) = nat_lt 4096 (length names) ≡ true
 ListsPlace names (Err ReadFault) = Unit {0}
 ListsPlace names (Err Memory) = Unit {0}
@@ -67,7 +70,8 @@ at_place place names q = cond (ends_in_conf q && list_any (bytes_eq q) names) (S
 
 -- each file name has its winner among some places, none of which is overfull
 abbrev pub CollectsWinners : Files → List (List ℕ) → Result (BTreeMap (String Global) (String Global)) ResolveError → Type 0
-CollectsWinners files places (Ok winners) = ((q : List ℕ) → winner_at winners q ≡ winner_among files places q) × (list_any (is_overfull files) places ≡ false)
+CollectsWinners files places (Ok winners) = ((q : List ℕ) → winner_at winners q ≡ winner_among files places q) ×
+    (list_any (is_overfull files) places ≡ false)
 CollectsWinners files places (Err DropIns) = list_any (is_overfull files) places ≡ true
 CollectsWinners files places (Err ReadFault) = Unit {0}
 CollectsWinners files places (Err Memory) = Unit {0}

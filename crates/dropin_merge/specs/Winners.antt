@@ -35,7 +35,8 @@ winner_of files unit name = winner_among files (dropin_places unit) name
 -- a name among others in byte order, once
 abbrev pub with_name : List ℕ → List (List ℕ) → List (List ℕ)
 with_name name [] = name ∷ []
-with_name name (first ∷ names) = match_ordering (slice_cmp nat_cmp name first) (name ∷ first ∷ names) (first ∷ names) (first ∷ with_name name names)
+with_name name (first ∷ names) = match_ordering (slice_cmp nat_cmp name first) (name ∷ first ∷ names) (first ∷ names)
+    (first ∷ with_name name names)
 
 -- names in byte order, each once
 abbrev pub in_byte_order : List (List ℕ) → List (List ℕ)

@@ -42,18 +42,26 @@ module _ (table : calls.Table) (site : Site) (before after : Service) (one : IsO
 
   text_is : IsAsked second → told_text first second ≡ effect_text table site found
   text_is is =
-      ap (λ (list : List Question). effect_text (world_in second).calls (world_in second).site (changes_by (launch_in first) (launch_in second) second.bounded.service.program list (world_in second).site.rows)) is.questions
-      ∙ ap₂ (λ (a b : Service). effect_text b.world.calls b.world.site (changes_by (launch_of a.world) (launch_of b.world) b.program (questions b.world.calls b.world.site) b.world.site.rows)) same_first same_second
-      ∙ ap₂ (λ (t : calls.Table) (s : Site). effect_text t s (changes_by (launch_of before.world) (launch_of after.world) after.program (questions t s) s.rows)) (own_calls table site after other) (own_site table site after other)
+      ap (λ (list : List Question). effect_text (world_in second).calls (world_in second).site
+      (changes_by (launch_in first) (launch_in second) second.bounded.service.program list (world_in second).site.rows)) is.questions
+      ∙ ap₂ (λ (a b : Service). effect_text b.world.calls b.world.site
+      (changes_by (launch_of a.world) (launch_of b.world) b.program (questions b.world.calls b.world.site) b.world.site.rows))
+      same_first same_second
+      ∙ ap₂ (λ (t : calls.Table) (s : Site). effect_text t s
+      (changes_by (launch_of before.world) (launch_of after.world) after.program (questions t s) s.rows))
+      (own_calls table site after other) (own_site table site after other)
 
-  pub compared : ChangesAreTrue → IsAsked second → (ending : Ending) (text : List ℕ) → ending ≡ Done → text ≡ told_text first second → TellsBoth table site (Launched before) (Launched after) ending text
+  pub compared : ChangesAreTrue → IsAsked second → (ending : Ending) (text : List ℕ) → ending ≡ Done → text ≡ told_text first second
+      → TellsBoth table site (Launched before) (Launched after) ending text
   compared are_true is ending text ends says = (
     ends,
     (
       found,
       (
-        are_true table site before.world after.world before.program after.program one.launched.is_served one.launched.runs_its_program other.launched.is_served other.launched.runs_its_program
-            (own_calls table site before one) (own_site table site before one) (own_calls table site after other) (own_site table site after other),
+        are_true table site before.world after.world before.program after.program one.launched.is_served one.launched.runs_its_program
+            other.launched.is_served other.launched.runs_its_program
+            (own_calls table site before one) (own_site table site before one) (own_calls table site after other)
+            (own_site table site after other),
         says ∙ text_is is,
       ),
     ),

@@ -40,7 +40,8 @@ module _ (before after : Asked) (list : List Question) (rows : List Row) where
   same_asked = refl
 
   asked_lines : flat_map (λ question. lines_in after (changes_at before after question)) list ≡ lines_in after ruled
-  asked_lines = flattened (change_lines (world_in after).calls (world_in after).site) (changes_at before after) list ∙ ap (lines_in after) same_asked
+  asked_lines = flattened (change_lines (world_in after).calls (world_in after).site) (changes_at before after) list
+      ∙ ap (lines_in after) same_asked
 
   asked_kinds : flat_map (λ question. map kind_of (changes_at before after question)) list ≡ map kind_of ruled
   asked_kinds = mapped kind_of (changes_at before after) list ∙ ap (map kind_of) same_asked
@@ -52,16 +53,21 @@ module _ (before after : Asked) (list : List Question) (rows : List Row) where
   seen_kinds = mapped kind_of (turns_at before after) rows
 
   all_told :
-      (flat_map (λ question. lines_in after (changes_at before after question)) list ++ flat_map (λ row. lines_in after (turns_at before after row)) rows)
-      ++ counts_line (flat_map (λ question. map kind_of (changes_at before after question)) list ++ flat_map (λ row. map kind_of (turns_at before after row)) rows)
-      ≡ effect_text (world_in after).calls (world_in after).site (changes_by (launch_in before) (launch_in after) after.bounded.service.program list rows)
+      (flat_map (λ question. lines_in after (changes_at before after question)) list ++ flat_map
+      (λ row. lines_in after (turns_at before after row)) rows)
+      ++ counts_line (flat_map (λ question. map kind_of (changes_at before after question)) list ++ flat_map
+      (λ row. map kind_of (turns_at before after row)) rows)
+      ≡ effect_text (world_in after).calls (world_in after).site
+      (changes_by (launch_in before) (launch_in after) after.bounded.service.program list rows)
   all_told =
       ap₂ (λ lines kinds. lines ++ counts_line kinds)
-      (ap₂ (λ one other. one ++ other) asked_lines seen_lines ∙ sym (flat_map-append (change_lines (world_in after).calls (world_in after).site) ruled seen))
+      (ap₂ (λ one other. one ++ other) asked_lines seen_lines
+      ∙ sym (flat_map-append (change_lines (world_in after).calls (world_in after).site) ruled seen))
       (ap₂ (λ one other. one ++ other) asked_kinds seen_kinds ∙ sym (map-append kind_of ruled seen))
 
 -- what is told of what is found is what is told of the change
-pub verdict_told : (after : Asked) (table : Table) (site : Site) (question : Question) (found : VerdictChange) (changes : List Change) → table ≡ (world_in after).calls → site ≡ (world_in after).site → change_of question found ≡ changes
+pub verdict_told : (after : Asked) (table : Table) (site : Site) (question : Question) (found : VerdictChange) (changes : List Change)
+    → table ≡ (world_in after).calls → site ≡ (world_in after).site → change_of question found ≡ changes
     → verdict_lines table site question found ≡ lines_in after changes
 verdict_told after table site question found changes tables sites is =
     by found ∙ ap₂ (λ (t : Table) (s : Site). flat_map (change_lines t s) (change_of question found)) tables sites ∙ ap (lines_in after) is
@@ -71,21 +77,24 @@ verdict_told after table site question found changes tables sites is =
     by verdict.Closed = sym (append-nil _)
     by (verdict.Opened list) = sym (append-nil _)
 
-pub verdict_counted : (question : Question) (found : VerdictChange) (changes : List Change) → change_of question found ≡ changes → verdict_kinds found ≡ map kind_of changes
+pub verdict_counted : (question : Question) (found : VerdictChange) (changes : List Change) → change_of question found ≡ changes
+    → verdict_kinds found ≡ map kind_of changes
 verdict_counted question found changes is = by found ∙ ap (map kind_of) is where
   by : (found : VerdictChange) → verdict_kinds found ≡ map kind_of (change_of question found)
   by verdict.Same = refl
   by verdict.Closed = refl
   by (verdict.Opened list) = refl
 
-pub folder_told : (after : Asked) (path : Path) (found : FolderChange) (changes : List Change) → turn_of path found ≡ changes → folder_lines path found ≡ lines_in after changes
+pub folder_told : (after : Asked) (path : Path) (found : FolderChange) (changes : List Change) → turn_of path found ≡ changes
+    → folder_lines path found ≡ lines_in after changes
 folder_told after path found changes is = by found ∙ ap (lines_in after) is where
   by : (found : FolderChange) → folder_lines path found ≡ lines_in after (turn_of path found)
   by folder.Same = refl
   by folder.Hidden = sym (append-nil _)
   by folder.Shown = sym (append-nil _)
 
-pub folder_counted : (path : Path) (found : FolderChange) (changes : List Change) → turn_of path found ≡ changes → folder_kinds found ≡ map kind_of changes
+pub folder_counted : (path : Path) (found : FolderChange) (changes : List Change) → turn_of path found ≡ changes
+    → folder_kinds found ≡ map kind_of changes
 folder_counted path found changes is = by found ∙ ap (map kind_of) is where
   by : (found : FolderChange) → folder_kinds found ≡ map kind_of (turn_of path found)
   by folder.Same = refl
@@ -93,11 +102,16 @@ folder_counted path found changes is = by found ∙ ap (map kind_of) is where
   by folder.Shown = refl
 
 -- piece behind piece
-pub told_is : (before after : Asked) (list : List Question) (rows : List Row) (first second last : List ℕ) (text : List ℕ) → list ≡ after.questions.items → rows ≡ (world_in after).site.rows
-    → first ≡ flat_map (λ question. lines_in after (changes_at before after question)) list → second ≡ first ++ flat_map (λ row. lines_in after (turns_at before after row)) rows
-    → last ≡ counts_line (flat_map (λ question. map kind_of (changes_at before after question)) list ++ flat_map (λ row. map kind_of (turns_at before after row)) rows)
+pub told_is : (before after : Asked) (list : List Question) (rows : List Row) (first second last : List ℕ) (text : List ℕ)
+    → list ≡ after.questions.items → rows ≡ (world_in after).site.rows
+    → first ≡ flat_map (λ question. lines_in after (changes_at before after question)) list
+    → second ≡ first ++ flat_map (λ row. lines_in after (turns_at before after row)) rows
+    → last ≡ counts_line (flat_map (λ question. map kind_of (changes_at before after question)) list ++ flat_map
+    (λ row. map kind_of (turns_at before after row)) rows)
     → text ≡ second ++ last → text ≡ told_text before after
 told_is before after list rows first second last text listed all one two three is =
-    is ∙ ap₂ (λ these line. these ++ line) (two ∙ ap (λ these. these ++ flat_map (λ row. lines_in after (turns_at before after row)) rows) one) three
+    is ∙ ap₂ (λ these line. these ++ line)
+    (two ∙ ap (λ these. these ++ flat_map (λ row. lines_in after (turns_at before after row)) rows) one) three
     ∙ all_told before after list rows
-    ∙ ap₂ (λ own these. effect_text (world_in after).calls (world_in after).site (changes_by (launch_in before) (launch_in after) after.bounded.service.program own these)) listed all
+    ∙ ap₂ (λ own these. effect_text (world_in after).calls (world_in after).site
+    (changes_by (launch_in before) (launch_in after) after.bounded.service.program own these)) listed all

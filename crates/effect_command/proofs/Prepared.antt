@@ -40,27 +40,36 @@ module _ (unit : List ℕ) (inputs : Inputs) (more : UnitText) where
   Answers result = Prepares (λ made. TellsWith inputs more (ending_of made) (text_of made)) (refusals_behind_dropin unit inputs more) result
 
   -- the unit is refused
-  pub answers_refused : (stop : Stop) → Prepares {T = UnitLaunch} (StartsAs inputs) (start_refusals unit inputs) (Err stop) → Answers (Err stop)
-  answers_refused (stop.Refused line) is = ap (λ found. first_refusal (found ∷ (option_map with_line (first_start unit (with_dropin inputs more)) ∷ []))) is
+  pub answers_refused : (stop : Stop) → Prepares {T = UnitLaunch} (StartsAs inputs) (start_refusals unit inputs) (Err stop)
+      → Answers (Err stop)
+  answers_refused (stop.Refused line) is =
+      ap (λ found. first_refusal (found ∷ (option_map with_line (first_start unit (with_dropin inputs more)) ∷ []))) is
   answers_refused stop.ReadFault is = tt
   answers_refused stop.Memory is = tt
 
   module _ (first : UnitLaunch) (starts : Prepares (StartsAs inputs) (start_refusals unit inputs) (Ok first)) where
-    behind_unit : first_refusal (refusals_behind_dropin unit inputs more) ≡ first_refusal (option_map with_line (first_start unit (with_dropin inputs more)) ∷ [])
+    behind_unit : first_refusal (refusals_behind_dropin unit inputs more)
+        ≡ first_refusal (option_map with_line (first_start unit (with_dropin inputs more)) ∷ [])
     behind_unit = ap (λ found. first_refusal (found ∷ (option_map with_line (first_start unit (with_dropin inputs more)) ∷ []))) starts.0
 
     -- the unit with the drop-in is
-    pub answers_refused_with : (why : Stop) → Prepares {T = UnitLaunch} (StartsAs (with_dropin inputs more)) (option_map with_line (first_start unit (with_dropin inputs more)) ∷ []) (Err why) → Answers (Err why)
-    answers_refused_with why is = stops_as (λ made. TellsWith inputs more (ending_of made) (text_of made)) why (option_map with_line (first_start unit (with_dropin inputs more)) ∷ []) (refusals_behind_dropin unit inputs more) behind_unit (as_any why is)
+    pub answers_refused_with : (why : Stop) → Prepares {T = UnitLaunch} (StartsAs (with_dropin inputs more))
+        (option_map with_line (first_start unit (with_dropin inputs more)) ∷ []) (Err why) → Answers (Err why)
+    answers_refused_with why is = stops_as (λ made. TellsWith inputs more (ending_of made) (text_of made)) why
+        (option_map with_line (first_start unit (with_dropin inputs more)) ∷ []) (refusals_behind_dropin unit inputs more) behind_unit
+        (as_any why is)
       where
-        as_any : (why : Stop) → Prepares {T = UnitLaunch} (StartsAs (with_dropin inputs more)) (option_map with_line (first_start unit (with_dropin inputs more)) ∷ []) (Err why)
-            → Prepares (λ (made : ReadyText). TellsWith inputs more (ending_of made) (text_of made)) (option_map with_line (first_start unit (with_dropin inputs more)) ∷ []) (Err why)
+        as_any : (why : Stop) → Prepares {T = UnitLaunch} (StartsAs (with_dropin inputs more))
+            (option_map with_line (first_start unit (with_dropin inputs more)) ∷ []) (Err why)
+            → Prepares (λ (made : ReadyText). TellsWith inputs more (ending_of made) (text_of made))
+            (option_map with_line (first_start unit (with_dropin inputs more)) ∷ []) (Err why)
         as_any (stop.Refused line) is = is
         as_any stop.ReadFault is = tt
         as_any stop.Memory is = tt
 
     -- both start, and are compared
-    pub answers_both : (second : UnitLaunch) → Prepares (StartsAs (with_dropin inputs more)) (option_map with_line (first_start unit (with_dropin inputs more)) ∷ []) (Ok second)
+    pub answers_both : (second : UnitLaunch) → Prepares (StartsAs (with_dropin inputs more))
+        (option_map with_line (first_start unit (with_dropin inputs more)) ∷ []) (Ok second)
         → (result : Result ReadyText Stop) → IsReadyWith (TellsBoth inputs.calls inputs.site first second) result → Answers result
     answers_both second starts_with (Ok effect) ready = (behind_unit ∙ starts_with.0, record { first = first; starts = starts.1; second = second; starts_with = starts_with.1; tells = ready })
     answers_both second starts_with (Err (stop.Refused line)) ready = absurd ready
@@ -76,17 +85,24 @@ starts_over inputs (Launched service) is = record { settings = is.settings; plan
 starts_over inputs (Refused refusal) is = tt
 
 -- the unit with the drop-in
-pub longer_is : (unit : Resolved) (more : UnitText) (result : Result Resolved AllocError) → IfOk result (λ longer. longer.name ≡ unit.name) → IfOk result (λ longer. longer.files ≡ unit.files ++ record { path = []; text = more } ∷ []) → IfOk result (λ longer. longer ≡ longer_unit unit more)
+pub longer_is : (unit : Resolved) (more : UnitText) (result : Result Resolved AllocError)
+    → IfOk result (λ longer. longer.name ≡ unit.name) → IfOk result
+    (λ longer. longer.files ≡ unit.files ++ record { path = []; text = more } ∷ []) → IfOk result (λ longer. longer ≡ longer_unit unit more)
 longer_is unit more (Err error) named filed = tt
 longer_is unit more (Ok longer) named filed = ap (λ name. unit_with name longer.files) named ∙ ap (unit_with unit.name) filed
 
-pub with_longer : (name : List ℕ) (calls : Table) (site : Site) (unit : Resolved) (more : UnitText) (own : Resolved) → own ≡ longer_unit unit more → (result : Result UnitLaunch Stop)
+pub with_longer : (name : List ℕ) (calls : Table) (site : Site) (unit : Resolved) (more : UnitText) (own : Resolved)
+    → own ≡ longer_unit unit more → (result : Result UnitLaunch Stop)
     → Prepares (StartsAs (given own calls site)) (option_map with_line (first_start name (given own calls site)) ∷ []) result
-    → Prepares (StartsAs (with_dropin (given unit calls site) more)) (option_map with_line (first_start name (with_dropin (given unit calls site) more)) ∷ []) result
-with_longer name calls site unit more own is result said = subst (λ (these : Resolved). Prepares (StartsAs (given these calls site)) (option_map with_line (first_start name (given these calls site)) ∷ []) result) is said
+    → Prepares (StartsAs (with_dropin (given unit calls site) more))
+    (option_map with_line (first_start name (with_dropin (given unit calls site) more)) ∷ []) result
+with_longer name calls site unit more own is result said = subst
+    (λ (these : Resolved). Prepares (StartsAs (given these calls site))
+    (option_map with_line (first_start name (given these calls site)) ∷ []) result) is said
 
 -- each ends as it may
-ends_so : (table : Table) (site : Site) (first second : UnitLaunch) (ending : Ending) (text : List ℕ) → TellsBoth table site first second ending text → (ending ≡ Done) ⊎ (ending ≡ LaunchRefused)
+ends_so : (table : Table) (site : Site) (first second : UnitLaunch) (ending : Ending) (text : List ℕ)
+    → TellsBoth table site first second ending text → (ending ≡ Done) ⊎ (ending ≡ LaunchRefused)
 ends_so table site (Refused refusal) second ending text tells = inr tells.0
 ends_so table site (Launched before) (Refused refusal) ending text tells = inr tells.0
 ends_so table site (Launched before) (Launched after) ending text tells = inl tells.0
@@ -102,17 +118,24 @@ module _ (told : Option Files) (unit path : List ℕ) where
   together = go_together (effect_laws unit path) told answered
 
 -- an input is refused
-pub stops_at_inputs : (P : Files → UnitInputs → Type 0) (told : Option Files) (unit path : List ℕ) (stop : Stop) → IfSome told (λ files. Prepares (P files) (input_refusals files unit) (Err stop)) → IsAdmitted (laws_over told (effect_laws unit path)) ending_of text_of (Err stop)
+pub stops_at_inputs : (P : Files → UnitInputs → Type 0) (told : Option Files) (unit path : List ℕ) (stop : Stop)
+    → IfSome told (λ files. Prepares (P files) (input_refusals files unit) (Err stop))
+    → IsAdmitted (laws_over told (effect_laws unit path)) ending_of text_of (Err stop)
 stops_at_inputs P told unit path stop said =
     stop_is_admitted (effect_laws unit path) ending_of text_of (λ (made : ReadyText). Unit {0}) told stop
-    (steps.stops_at_inputs P (λ files (made : ReadyText). Unit {0}) told unit (λ files. refusals_by (refusals_behind files unit path) (inputs_of files unit)) stop said)
+    (steps.stops_at_inputs P (λ files (made : ReadyText). Unit {0}) told unit
+    (λ files. refusals_by (refusals_behind files unit path) (inputs_of files unit)) stop said)
 
 -- behind inputs that are read
-behind_inputs : (files : Files) (unit path : List ℕ) (inputs : UnitInputs) → AreRead files unit inputs → first_refusal (effect_refusals files unit path) ≡ first_refusal (refusals_by_dropin unit (inputs_view inputs) (dropin_in files path))
-behind_inputs files unit path inputs read = refusals_with files unit (input_refusals files unit) (refusals_behind files unit path) (inputs_view inputs) read.0 read.1
+behind_inputs : (files : Files) (unit path : List ℕ) (inputs : UnitInputs) → AreRead files unit inputs
+    → first_refusal (effect_refusals files unit path) ≡ first_refusal (refusals_by_dropin unit (inputs_view inputs) (dropin_in files path))
+behind_inputs files unit path inputs read = refusals_with files unit (input_refusals files unit) (refusals_behind files unit path)
+    (inputs_view inputs) read.0 read.1
 
 -- the drop-in is refused
-refused_dropin : (unit : List ℕ) (inputs : Inputs) (found : Result UnitText (List ℕ)) (stop : Stop) → IsAnswer {T = UnitText} (λ more. more) (Err stop) found → Prepares (λ (made : ReadyText). Unit {0}) (refusals_by_dropin unit inputs found) (Err stop)
+refused_dropin : (unit : List ℕ) (inputs : Inputs) (found : Result UnitText (List ℕ)) (stop : Stop)
+    → IsAnswer {T = UnitText} (λ more. more) (Err stop) found
+    → Prepares (λ (made : ReadyText). Unit {0}) (refusals_by_dropin unit inputs found) (Err stop)
 refused_dropin unit inputs found (stop.Refused line) is = ap (λ one. first_refusal (refusals_by_dropin unit inputs one)) is
 refused_dropin unit inputs found stop.ReadFault is = tt
 refused_dropin unit inputs found stop.Memory is = tt
@@ -121,12 +144,15 @@ pub stops_at_dropin : (told now : Option Files) (unit path : List ℕ) (inputs :
     → IfSome told (λ files. AreRead files unit inputs)
     → IfSome now (λ files. IsAnswer {T = UnitText} (λ more. more) (Err stop) (dropin_in files path))
     → IsAdmitted (laws_over told (effect_laws unit path)) ending_of text_of (Err stop)
-stops_at_dropin told now unit path inputs stop same read said = stop_is_admitted (effect_laws unit path) ending_of text_of (λ (made : ReadyText). Unit {0}) told stop (at_dropin told same read)
+stops_at_dropin told now unit path inputs stop same read said =
+    stop_is_admitted (effect_laws unit path) ending_of text_of (λ (made : ReadyText). Unit {0}) told stop (at_dropin told same read)
   where
-    at_dropin : (told : Option Files) → now ≡ told → IfSome told (λ files. AreRead files unit inputs) → IfSome told (λ files. Prepares (λ (made : ReadyText). Unit {0}) (effect_refusals files unit path) (Err stop))
+    at_dropin : (told : Option Files) → now ≡ told → IfSome told (λ files. AreRead files unit inputs)
+        → IfSome told (λ files. Prepares (λ (made : ReadyText). Unit {0}) (effect_refusals files unit path) (Err stop))
     at_dropin None same read = tt
     at_dropin (Some files) same read =
-        stops_as (λ (made : ReadyText). Unit {0}) stop (refusals_by_dropin unit (inputs_view inputs) (dropin_in files path)) (effect_refusals files unit path) (behind_inputs files unit path inputs read)
+        stops_as (λ (made : ReadyText). Unit {0}) stop (refusals_by_dropin unit (inputs_view inputs) (dropin_in files path))
+        (effect_refusals files unit path) (behind_inputs files unit path inputs read)
         (refused_dropin unit (inputs_view inputs) (dropin_in files path) stop
         (subst (λ own. IfSome own (λ files. IsAnswer {T = UnitText} (λ more. more) (Err stop) (dropin_in files path))) same said))
 
@@ -134,27 +160,37 @@ stops_at_dropin told now unit path inputs stop same read said = stop_is_admitted
 module _ (told now : Option Files) (unit path : List ℕ) (inputs : UnitInputs) (more : UnitText) (same : now ≡ told)
     (are : IfSome told (λ files. AreRead files unit inputs)) (said : IfSome now (λ files. IsAnswer (λ (more : UnitText). more) (Ok more) (dropin_in files path))) where
   dropin_is : (files : Files) → told ≡ Some files → dropin_in files path ≡ Ok more
-  dropin_is files e = subst (λ own. IfSome own (λ files. IsAnswer (λ (more : UnitText). more) (Ok more) (dropin_in files path))) (same ∙ e) said
+  dropin_is files e = subst (λ own. IfSome own (λ files. IsAnswer (λ (more : UnitText). more) (Ok more) (dropin_in files path)))
+      (same ∙ e) said
 
   read_is : (files : Files) → told ≡ Some files → AreRead files unit inputs
   read_is files e = subst (λ own. IfSome own (λ files. AreRead files unit inputs)) e are
 
-  behind_dropin : (files : Files) → told ≡ Some files → first_refusal (effect_refusals files unit path) ≡ first_refusal (refusals_behind_dropin unit (inputs_view inputs) more)
+  behind_dropin : (files : Files) → told ≡ Some files → first_refusal (effect_refusals files unit path)
+      ≡ first_refusal (refusals_behind_dropin unit (inputs_view inputs) more)
   behind_dropin files e =
       behind_inputs files unit path inputs (read_is files e)
       ∙ ap (λ one. first_refusal (refusals_by_dropin unit (inputs_view inputs) one)) (dropin_is files e)
 
   -- what is answered is admitted
-  admitted : (result : Result ReadyText Stop) → Prepares (λ made. TellsWith (inputs_view inputs) more (ending_of made) (text_of made)) (refusals_behind_dropin unit (inputs_view inputs) more) result
+  admitted : (result : Result ReadyText Stop) → Prepares (λ made. TellsWith (inputs_view inputs) more (ending_of made) (text_of made))
+      (refusals_behind_dropin unit (inputs_view inputs) more) result
       → IsAdmitted (laws_over told (effect_laws unit path)) ending_of text_of result
-  admitted (Err stop) answers = stop_is_admitted (effect_laws unit path) ending_of text_of (λ made. TellsWith (inputs_view inputs) more (ending_of made) (text_of made)) told stop (at_stop told refl)
+  admitted (Err stop) answers = stop_is_admitted (effect_laws unit path) ending_of text_of
+      (λ made. TellsWith (inputs_view inputs) more (ending_of made) (text_of made)) told stop (at_stop told refl)
     where
-      at_stop : (own : Option Files) → told ≡ own → IfSome own (λ files. Prepares (λ made. TellsWith (inputs_view inputs) more (ending_of made) (text_of made)) (effect_refusals files unit path) (Err stop))
+      at_stop : (own : Option Files) → told ≡ own → IfSome own
+          (λ files. Prepares (λ made. TellsWith (inputs_view inputs) more (ending_of made) (text_of made))
+          (effect_refusals files unit path) (Err stop))
       at_stop None e = tt
-      at_stop (Some files) e = stops_as (λ made. TellsWith (inputs_view inputs) more (ending_of made) (text_of made)) stop (refusals_behind_dropin unit (inputs_view inputs) more) (effect_refusals files unit path) (behind_dropin files e) answers
-  admitted (Ok made) answers = ready_is_admitted (effect_laws unit path) ending_of text_of told made (ends_so (inputs_view inputs).calls (inputs_view inputs).site answers.1.first answers.1.second (ending_of made) (text_of made) answers.1.tells) (printed told refl)
+      at_stop (Some files) e = stops_as (λ made. TellsWith (inputs_view inputs) more (ending_of made) (text_of made)) stop
+          (refusals_behind_dropin unit (inputs_view inputs) more) (effect_refusals files unit path) (behind_dropin files e) answers
+  admitted (Ok made) answers = ready_is_admitted (effect_laws unit path) ending_of text_of told made
+      (ends_so (inputs_view inputs).calls (inputs_view inputs).site answers.1.first answers.1.second (ending_of made)
+      (text_of made) answers.1.tells) (printed told refl)
     where
-      printed : (own : Option Files) → told ≡ own → IfSome own (λ files. AcceptsFiles (effect_laws unit path) files × PrintsEffect files unit path (ending_of made) (text_of made))
+      printed : (own : Option Files) → told ≡ own → IfSome own
+          (λ files. AcceptsFiles (effect_laws unit path) files × PrintsEffect files unit path (ending_of made) (text_of made))
       printed None e = tt
       printed (Some files) e = (
         behind_dropin files e ∙ answers.0,
@@ -172,4 +208,5 @@ module _ (told now : Option Files) (unit path : List ℕ) (inputs : UnitInputs) 
       → Prepares (λ made. TellsWith own more (ending_of made) (text_of made)) (refusals_behind_dropin unit own more) result
       → IsAdmitted (laws_over told (effect_laws unit path)) ending_of text_of result
   admitted_as own result is answers =
-      admitted result (subst (λ these. Prepares (λ made. TellsWith these more (ending_of made) (text_of made)) (refusals_behind_dropin unit these more) result) is answers)
+      admitted result (subst (λ these. Prepares (λ made. TellsWith these more (ending_of made) (text_of made))
+      (refusals_behind_dropin unit these more) result) is answers)

@@ -11,7 +11,8 @@ use Rattle.judge_command.specs.asked_service.started_units.Starting.{StartsAs, f
 use Rattle.effect_command.specs.Lines.{with_line}
 use Rattle.effect_command.specs.Stopping.{IsBehindWith}
 
-pub behind_tells : (line : Result (Vec ℕ Global) AllocError) (first : Vec ℕ Global) (told : Stop) → told ≡ stop_of line → IfOk line (λ l. l.items ≡ with_line first.items) → IsBehindWith (stop.Refused first) told
+pub behind_tells : (line : Result (Vec ℕ Global) AllocError) (first : Vec ℕ Global) (told : Stop) → told ≡ stop_of line
+    → IfOk line (λ l. l.items ≡ with_line first.items) → IsBehindWith (stop.Refused first) told
 behind_tells (Ok line) first told is holds = subst (IsBehindWith (stop.Refused first)) (sym is) holds
 behind_tells (Err none) first told is holds = subst (IsBehindWith (stop.Refused first)) (sym is) tt
 
@@ -20,17 +21,23 @@ module _ (unit : List ℕ) (inputs : Inputs) where
   IsStarted result = Prepares (StartsAs inputs) (start_refusals unit inputs) result
 
   -- the same behind the word
-  pub starts_with_ok : (launch : UnitLaunch) → IsStarted (Ok launch) → Prepares (StartsAs inputs) (option_map with_line (first_start unit inputs) ∷ []) (Ok launch)
+  pub starts_with_ok : (launch : UnitLaunch) → IsStarted (Ok launch)
+      → Prepares (StartsAs inputs) (option_map with_line (first_start unit inputs) ∷ []) (Ok launch)
   starts_with_ok launch is = (ap (λ found. first_refusal (option_map with_line found ∷ [])) is.0, is.1)
 
-  pub starts_with_stop : (why told : Stop) → IsStarted (Err why) → IsBehindWith why told → Prepares (StartsAs inputs) (option_map with_line (first_start unit inputs) ∷ []) (Err told)
-  starts_with_stop (stop.Refused line) (stop.Refused told) is behind = ap (λ found. first_refusal (option_map with_line found ∷ [])) is ∙ ap Some (sym behind)
+  pub starts_with_stop : (why told : Stop) → IsStarted (Err why) → IsBehindWith why told
+      → Prepares (StartsAs inputs) (option_map with_line (first_start unit inputs) ∷ []) (Err told)
+  starts_with_stop (stop.Refused line) (stop.Refused told) is behind = ap (λ found. first_refusal (option_map with_line found ∷ [])) is
+      ∙ ap Some (sym behind)
   starts_with_stop (stop.Refused line) stop.ReadFault is behind = absurd behind
   starts_with_stop (stop.Refused line) stop.Memory is behind = tt
-  starts_with_stop stop.ReadFault told is behind = subst (λ one. Prepares (StartsAs inputs) (option_map with_line (first_start unit inputs) ∷ []) (Err one)) (sym behind) tt
-  starts_with_stop stop.Memory told is behind = subst (λ one. Prepares (StartsAs inputs) (option_map with_line (first_start unit inputs) ∷ []) (Err one)) (sym behind) tt
+  starts_with_stop stop.ReadFault told is behind =
+      subst (λ one. Prepares (StartsAs inputs) (option_map with_line (first_start unit inputs) ∷ []) (Err one)) (sym behind) tt
+  starts_with_stop stop.Memory told is behind =
+      subst (λ one. Prepares (StartsAs inputs) (option_map with_line (first_start unit inputs) ∷ []) (Err one)) (sym behind) tt
 
-pub behind_reads_nothing : (why told : Stop) → (IsErrOf {T = UnitLaunch} (Err why) stop.ReadFault → ⊥) → IsBehindWith why told → IsErrOf {T = UnitLaunch} (Err told) stop.ReadFault → ⊥
+pub behind_reads_nothing : (why told : Stop) → (IsErrOf {T = UnitLaunch} (Err why) stop.ReadFault → ⊥) → IsBehindWith why told
+    → IsErrOf {T = UnitLaunch} (Err told) stop.ReadFault → ⊥
 behind_reads_nothing (stop.Refused line) (stop.Refused other) nothing behind e = cc
 behind_reads_nothing (stop.Refused line) stop.ReadFault nothing behind e = absurd behind
 behind_reads_nothing (stop.Refused line) stop.Memory nothing behind e = cc

@@ -48,7 +48,8 @@ count_of wanted kinds = count_by (is_same wanted) kinds
 abbrev pub counts_line : List Kind → List ℕ
 counts_line kinds =
     codes "effect closed " ++ (decimal (count_of kind.Closed kinds) ++ (codes " opened " ++ (decimal (count_of kind.Opened kinds)
-    ++ (codes " hidden " ++ (decimal (count_of kind.Hidden kinds) ++ (codes " shown " ++ (decimal (count_of kind.Shown kinds) ++ 10 ∷ [])))))))
+    ++ (codes " hidden " ++ (decimal (count_of kind.Hidden kinds) ++
+    (codes " shown " ++ (decimal (count_of kind.Shown kinds) ++ 10 ∷ [])))))))
 
 -- the changes, one behind the other, and their counts
 abbrev pub effect_text : calls.Table → Site → List Change → List ℕ

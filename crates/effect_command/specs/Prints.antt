@@ -24,7 +24,8 @@ abbrev pub TellsBoth : calls.Table → Site → UnitLaunch → UnitLaunch → En
 TellsBoth table site (Refused refusal) second ending text = (ending ≡ LaunchRefused) × (text ≡ refusal_line refusal)
 TellsBoth table site (Launched before) (Refused refusal) ending text = (ending ≡ LaunchRefused) × (text ≡ with_line (refusal_line refusal))
 TellsBoth table site (Launched before) (Launched after) ending text =
-    (ending ≡ Done) × ((changes : List Change) × (AreChanges table site before.world after.world changes × (text ≡ effect_text table site changes)))
+    (ending ≡ Done) × ((changes : List Change) ×
+    (AreChanges table site before.world after.world changes × (text ≡ effect_text table site changes)))
 
 -- what the unit and the unit with the drop-in are launched to, and what is told of that
 pub record TellsWith (inputs : Inputs) (more : UnitText) (ending : Ending) (text : List ℕ) : Type 0 where

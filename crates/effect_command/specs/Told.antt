@@ -31,7 +31,8 @@ turns_at before after row = row_change (launch_in before) (launch_in after) row
 abbrev pub verdict_lines : calls.Table → Site → Question → VerdictChange → List ℕ
 verdict_lines table site question verdict.Same = []
 verdict_lines table site question verdict.Closed = question_line (codes "closed") table site question
-verdict_lines table site question (verdict.Opened list) = question_line (codes "opened") table site question ++ flat_map (call_line table) list.items
+verdict_lines table site question (verdict.Opened list) = question_line (codes "opened") table site question ++ flat_map
+    (call_line table) list.items
 
 abbrev pub folder_lines : Path → FolderChange → List ℕ
 folder_lines path folder.Same = []

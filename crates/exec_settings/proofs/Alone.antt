@@ -8,15 +8,19 @@ use Rattle.cred_settings.specs.dropin_merge.declared.unit_values.value.Value.{Va
 use Rattle.cred_settings.specs.dropin_merge.unit_values.Notes.{note_at, noted}
 use Rattle.cred_settings.specs.dropin_merge.unit_values.Lines.{listed_line}
 use Rattle.cred_settings.proofs.DropinMerge.OneMore.{after_last-push}
-use Rattle.std.proofs.Common.{◌≡◌, ℕ, Bool, true, false, Ok, Option, Some, None, List, [], ◌∷◌, ◌++◌, map, codes, refl, sym, ap, ◌∙◌, append-nil, subst}
-use Rattle.std.specs.Prelude.{◌||◌, ◌&&◌, ◌==◌, not, is_some, nat_lt, length, slice_get, flat_map, Result, filter, find, cond, option_and_then}
+use Rattle.std.proofs.Common.{◌≡◌, ℕ, Bool, true, false, Ok, Option, Some, None, List, [], ◌∷◌, ◌++◌, map, codes, refl, sym, ap, ◌∙◌}
+use Rattle.std.proofs.Common.{append-nil, subst}
+use Rattle.std.specs.Prelude.{◌||◌, ◌&&◌, ◌==◌, not, is_some, nat_lt, length, slice_get, flat_map, Result, filter, find, cond}
+use Rattle.std.specs.Prelude.{option_and_then}
 use Rattle.std.specs.List.{cons_option, filter_map, list_any}
 use Rattle.std.specs.Str.{bytes_eq}
 use Rattle.cred_settings.specs.dropin_merge.declared.resolved.Resolved.{Resolved}
 use Rattle.cred_settings.specs.dropin_merge.unit_values.Flags.{flag_value, unit_flag, unit_flag_notes}
-use Rattle.cred_settings.specs.dropin_merge.unit_values.Lasting.{last_read, last_text, unit_last, unit_last_notes, unit_last_text, unread_notes}
+use Rattle.cred_settings.specs.dropin_merge.unit_values.Lasting.{last_read, last_text, unit_last, unit_last_notes, unit_last_text}
+use Rattle.cred_settings.specs.dropin_merge.unit_values.Lasting.{unread_notes}
 use Rattle.cred_settings.specs.dropin_merge.unit_values.Listed.{listed, unit_listed, unit_listed_notes}
-use Rattle.cred_settings.specs.dropin_merge.unit_values.Values.{expanded_at, given_by, in_force as in_force_values, note_of, noted_unless, notes_of, unexpanded_at, values_of}
+use Rattle.cred_settings.specs.dropin_merge.unit_values.Values.{expanded_at, given_by, in_force as in_force_values, note_of, noted_unless}
+use Rattle.cred_settings.specs.dropin_merge.unit_values.Values.{notes_of, unexpanded_at, values_of}
 use Rattle.cred_settings.specs.dropin_merge.unit_values.Words.{split, unit_words, unit_words_notes, words_in}
 use Rattle.cred_settings.specs.cap_sets.Sets.{all, minus, none, union}
 use Rattle.filter_settings.specs.call_rules.declared.actions.Action.TheVariants.{KillProcess}
@@ -36,7 +40,8 @@ use Rattle.filter_settings.specs.ErrorActions.{default_action, error_action_valu
 use Rattle.filter_settings.specs.FamilyLists.{family_list, family_notes, unit_family_list, unit_family_list_notes}
 use Rattle.filter_settings.specs.Lines.{in_force}
 use Rattle.filter_settings.specs.Namespaces.{namespaces_notes, namespaces_of, unit_namespaces, unit_namespaces_notes}
-use Rattle.filter_settings.specs.Settings.{filter_notes, list_notes, protection_notes as flag_protection_notes, restriction_notes, settings_of}
+use Rattle.filter_settings.specs.Settings.{filter_notes, list_notes, protection_notes as flag_protection_notes, restriction_notes}
+use Rattle.filter_settings.specs.Settings.{settings_of}
 use Rattle.cred_settings.specs.declared.accounts.Identity.{Identity}
 use Rattle.cred_settings.specs.declared.error.IdentityError.{IdentityError}
 use Rattle.cred_settings.specs.Ambient.{ambient_of}
@@ -114,7 +119,8 @@ still : {X : Type 0} (a b c : List X) → a ≡ c → b ≡ [] → a ++ b ≡ c
 still a b c e f = ap (λ xs. a ++ xs) f ∙ append-nil a ∙ e
 
 -- a value by itself that is launched is in force and is not noted
-launched_value : (value : Value) (path : Path) (b : Bool) (o : Option Command) → program_path (slice_get (cond b [] (cons_option o [])) 0) ≡ Some path →
+launched_value : (value : Value) (path : Path) (b : Bool) (o : Option Command)
+    → program_path (slice_get (cond b [] (cons_option o [])) 0) ≡ Some path →
     cons_option (cond (not b && not (is_some o)) (Some (note_at value ValueCause)) None) [] ≡ []
 launched_value value path true o launched = refl
 launched_value value path false None launched = cc
@@ -124,7 +130,8 @@ later_alone : (value : Value) (b : Bool) → noted later_causes (cond b [] (valu
 later_alone value true = refl
 later_alone value false = refl
 
-cond_commands : (value : Value) (b : Bool) → filter_map (λ one. command_of one.text) (cond b [] (value ∷ [])) ≡ cond b [] (cons_option (command_of value.text) [])
+cond_commands : (value : Value) (b : Bool) → filter_map (λ one. command_of one.text) (cond b [] (value ∷ []))
+    ≡ cond b [] (cons_option (command_of value.text) [])
 cond_commands value true = refl
 cond_commands value false = refl
 
@@ -133,11 +140,14 @@ launched_one value path launched =
     let kept : in_force_values (value ∷ []) ≡ cond (length value.text == 0) [] (value ∷ []) = after_last-push (λ one. length one.text == 0) [] value in
     none_of _ _
     (launched_value value path (length value.text == 0) (command_of value.text)
-    (sym (ap (λ commands. program_path (slice_get commands 0)) (ap (filter_map (λ one. command_of one.text)) kept ∙ cond_commands value (length value.text == 0))) ∙ launched))
+    (sym (ap (λ commands. program_path (slice_get commands 0))
+    (ap (filter_map (λ one. command_of one.text)) kept ∙ cond_commands value (length value.text == 0))) ∙ launched))
     (ap (noted later_causes) kept ∙ later_alone value (length value.text == 0))
 
-launched_alone : (place : Place) (path : Path) (text : Option (List ℕ)) → program_path (launched_of (cons_option (option_map (λ text. record { place = place; text = text }) text) [])) ≡ Some path →
-    cons_option (noted_unless text place) [] ++ command_notes (cons_option (option_map (λ text. record { place = place; text = text }) text) []) ≡ []
+launched_alone : (place : Place) (path : Path) (text : Option (List ℕ))
+    → program_path (launched_of (cons_option (option_map (λ text. record { place = place; text = text }) text) [])) ≡ Some path →
+    cons_option (noted_unless text place) [] ++ command_notes
+    (cons_option (option_map (λ text. record { place = place; text = text }) text) []) ≡ []
 launched_alone place path None launched = cc
 launched_alone place path (Some text) launched = launched_one (record { place = place; text = text }) path launched
 
@@ -146,9 +156,11 @@ module _ (unit : Resolved) (h : HasCommandAlone unit) where
   nothing : (key : List ℕ) → bytes_eq (codes "ExecStart") key ≡ false → values_of unit key ≡ []
   nothing key differs =
       ap (filter_map (given_by unit.name key)) h.alone
-      ∙ ap (λ is. cons_option (cond is (expanded_at unit.name (h.place, h.assignment)) None) []) (ap (λ name. bytes_eq name key) h.command ∙ differs)
+      ∙ ap (λ is. cons_option (cond is (expanded_at unit.name (h.place, h.assignment)) None) [])
+      (ap (λ name. bytes_eq name key) h.command ∙ differs)
 
-  unsaid : {X : Type 0} (read : List ℕ → Option X) (default : X) (key : List ℕ) → bytes_eq (codes "ExecStart") key ≡ false → unit_last read default unit key ≡ default
+  unsaid : {X : Type 0} (read : List ℕ → Option X) (default : X) (key : List ℕ) → bytes_eq (codes "ExecStart") key ≡ false
+      → unit_last read default unit key ≡ default
   unfolding unit_last
   unsaid read default key differs = ap (last_read read default) (nothing key differs)
 
@@ -186,14 +198,21 @@ module _ (unit : Resolved) (h : HasCommandAlone unit) where
   no_second_refused : (table : Table) → unit_refuses_second unit table (codes "SystemCallArchitectures") ≡ false
   unfolding unit_refuses_second
   no_second_refused table =
-      ap (λ (values : List Value). is_some table.second && (list_any is_read (in_force_values values) && not (list_any (is_second table) (unit_words unit (codes "SystemCallArchitectures"))))) (nothing (codes "SystemCallArchitectures") refl)
+      ap (λ (values : List Value). is_some table.second &&
+      (list_any is_read (in_force_values values) && not
+      (list_any (is_second table) (unit_words unit (codes "SystemCallArchitectures")))))
+      (nothing (codes "SystemCallArchitectures") refl)
       ∙ and_right (is_some table.second) false refl
 
   settings_bare : (table : Table) → settings_of unit table ≡ bare
   settings_bare table =
-      same_settings _ None _ KillProcess _ None _ any_namespace _ false _ false _ false _ false _ false _ false _ false _ false _ false _ false
-      (no_calls table) killing (no_families table) all_namespaces (off (codes "MemoryDenyWriteExecute") refl) (off (codes "RestrictRealtime") refl) (off (codes "RestrictSUIDSGID") refl)
-      (off (codes "LockPersonality") refl) (off (codes "ProtectHostname") refl) (off (codes "ProtectKernelModules") refl) (off (codes "ProtectKernelLogs") refl) (off (codes "ProtectClock") refl) (off (codes "PrivateDevices") refl) (no_second_refused table)
+      same_settings _ None _ KillProcess _ None _ any_namespace _ false _ false _ false _ false _ false _ false _ false _ false _ false _
+      false
+      (no_calls table) killing (no_families table) all_namespaces (off (codes "MemoryDenyWriteExecute") refl)
+      (off (codes "RestrictRealtime") refl) (off (codes "RestrictSUIDSGID") refl)
+      (off (codes "LockPersonality") refl) (off (codes "ProtectHostname") refl) (off (codes "ProtectKernelModules") refl)
+      (off (codes "ProtectKernelLogs") refl) (off (codes "ProtectClock") refl) (off (codes "PrivateDevices") refl)
+      (no_second_refused table)
 
   not_dynamic : is_dynamic unit ≡ false
   unfolding is_dynamic
@@ -201,7 +220,8 @@ module _ (unit : Resolved) (h : HasCommandAlone unit) where
 
   filters_bare : (table : Table) → unit_filters unit table ≡ bare
   unfolding unit_filters
-  filters_bare table = ap (λ on. with_dynamic_user on (settings_of unit table)) not_dynamic ∙ ap (with_dynamic_user false) (settings_bare table)
+  filters_bare table = ap (λ on. with_dynamic_user on (settings_of unit table)) not_dynamic
+      ∙ ap (with_dynamic_user false) (settings_bare table)
 
   none_on : (table : Table) → installed (unit_filters unit table) table ≡ []
   none_on table = ap (λ settings. installed settings table) (filters_bare table) ∙ none_installed table.second
@@ -238,7 +258,8 @@ module _ (unit : Resolved) (h : HasCommandAlone unit) where
   unfolding unit_written
   nothing_written =
       ap (λ assignments. written (filter_map (assigned_by unit.name) assignments)) h.alone
-      ∙ ap (λ key. written (cons_option (option_and_then (given_to unit.name (h.place, h.assignment)) key) [])) (ap (λ name. find (λ key. bytes_eq (name_of key) name) path_keys) h.command)
+      ∙ ap (λ key. written (cons_option (option_and_then (given_to unit.name (h.place, h.assignment)) key) []))
+      (ap (λ name. find (λ key. bytes_eq (name_of key) name) path_keys) h.command)
 
   none_switched : unit_switches unit ≡ unswitched
   unfolding unit_switches
@@ -270,9 +291,11 @@ module _ (unit : Resolved) (h : HasCommandAlone unit) where
   unnoted : (key : List ℕ) → bytes_eq (codes "ExecStart") key ≡ false → notes_of unit key ≡ []
   unnoted key differs =
       ap (filter_map (note_of unit.name key)) h.alone
-      ∙ ap (λ is. cons_option (cond is (unexpanded_at unit.name (h.place, h.assignment)) None) []) (ap (λ name. bytes_eq name key) h.command ∙ differs)
+      ∙ ap (λ is. cons_option (cond is (unexpanded_at unit.name (h.place, h.assignment)) None) [])
+      (ap (λ name. bytes_eq name key) h.command ∙ differs)
 
-  read_unnoted : {X : Type 0} (read : List ℕ → Option X) (key : List ℕ) → bytes_eq (codes "ExecStart") key ≡ false → unit_last_notes read unit key ≡ []
+  read_unnoted : {X : Type 0} (read : List ℕ → Option X) (key : List ℕ) → bytes_eq (codes "ExecStart") key ≡ false
+      → unit_last_notes read unit key ≡ []
   unfolding unit_last_notes
   read_unnoted read key differs = none_of _ _ (unnoted key differs) (ap (unread_notes read) (nothing key differs))
 
@@ -293,52 +316,68 @@ module _ (unit : Resolved) (h : HasCommandAlone unit) where
 
   calls_unnoted : (table : Table) → unit_call_list_notes unit table (codes "SystemCallFilter") ≡ []
   unfolding unit_call_list_notes
-  calls_unnoted table = none_of _ _ (lines_unnoted (codes "SystemCallFilter") refl) (ap (call_notes table) (unlisted (codes "SystemCallFilter") refl))
+  calls_unnoted table = none_of _ _ (lines_unnoted (codes "SystemCallFilter") refl)
+      (ap (call_notes table) (unlisted (codes "SystemCallFilter") refl))
 
   families_unnoted : (table : Table) → unit_family_list_notes unit table (codes "RestrictAddressFamilies") ≡ []
   unfolding unit_family_list_notes
-  families_unnoted table = none_of _ _ (lines_unnoted (codes "RestrictAddressFamilies") refl) (ap (family_notes table) (unlisted (codes "RestrictAddressFamilies") refl))
+  families_unnoted table = none_of _ _ (lines_unnoted (codes "RestrictAddressFamilies") refl)
+      (ap (family_notes table) (unlisted (codes "RestrictAddressFamilies") refl))
 
   types_unnoted : unit_namespaces_notes unit (codes "RestrictNamespaces") ≡ []
   unfolding unit_namespaces_notes
-  types_unnoted = none_of _ _ (lines_unnoted (codes "RestrictNamespaces") refl) (ap namespaces_notes (unlisted (codes "RestrictNamespaces") refl))
+  types_unnoted = none_of _ _ (lines_unnoted (codes "RestrictNamespaces") refl)
+      (ap namespaces_notes (unlisted (codes "RestrictNamespaces") refl))
 
   architectures_unnoted : (table : Table) → unit_architectures_notes unit table (codes "SystemCallArchitectures") ≡ []
   unfolding unit_architectures_notes
-  architectures_unnoted table = none_of _ _ (words_unnoted (codes "SystemCallArchitectures") refl) (ap (flat_map (value_notes table)) (nothing (codes "SystemCallArchitectures") refl))
+  architectures_unnoted table = none_of _ _ (words_unnoted (codes "SystemCallArchitectures") refl)
+      (ap (flat_map (value_notes table)) (nothing (codes "SystemCallArchitectures") refl))
 
   filters_unnoted : (table : Table) → filter_notes unit table ≡ []
   unfolding filter_notes restriction_notes flag_protection_notes list_notes
   filters_unnoted table =
       none_of _ _
       (none_of _ _
-      (none_of _ _ (none_of _ _ (none_of _ _ (flag_unnoted (codes "MemoryDenyWriteExecute") refl) (flag_unnoted (codes "RestrictRealtime") refl)) (flag_unnoted (codes "RestrictSUIDSGID") refl)) (flag_unnoted (codes "LockPersonality") refl))
-      (none_of _ _ (none_of _ _ (none_of _ _ (none_of _ _ (flag_unnoted (codes "ProtectHostname") refl) (flag_unnoted (codes "ProtectKernelModules") refl)) (flag_unnoted (codes "ProtectKernelLogs") refl)) (flag_unnoted (codes "ProtectClock") refl)) (flag_unnoted (codes "PrivateDevices") refl)))
-      (none_of _ _ (none_of _ _ (none_of _ _ (none_of _ _ (read_unnoted error_action_value (codes "SystemCallErrorNumber") refl) types_unnoted) (families_unnoted table)) (calls_unnoted table)) (architectures_unnoted table))
+      (none_of _ _ (none_of _ _
+      (none_of _ _ (flag_unnoted (codes "MemoryDenyWriteExecute") refl) (flag_unnoted (codes "RestrictRealtime") refl))
+      (flag_unnoted (codes "RestrictSUIDSGID") refl)) (flag_unnoted (codes "LockPersonality") refl))
+      (none_of _ _ (none_of _ _
+      (none_of _ _ (none_of _ _ (flag_unnoted (codes "ProtectHostname") refl) (flag_unnoted (codes "ProtectKernelModules") refl))
+      (flag_unnoted (codes "ProtectKernelLogs") refl)) (flag_unnoted (codes "ProtectClock") refl))
+      (flag_unnoted (codes "PrivateDevices") refl)))
+      (none_of _ _ (none_of _ _
+      (none_of _ _ (none_of _ _ (read_unnoted error_action_value (codes "SystemCallErrorNumber") refl) types_unnoted)
+      (families_unnoted table)) (calls_unnoted table)) (architectures_unnoted table))
 
   identity_unnoted : identity_notes unit ≡ []
   unfolding identity_notes
-  identity_unnoted = none_of _ _ (none_of _ _ (unnoted (codes "User") refl) (unnoted (codes "Group") refl)) (words_unnoted (codes "SupplementaryGroups") refl)
+  identity_unnoted = none_of _ _ (none_of _ _ (unnoted (codes "User") refl) (unnoted (codes "Group") refl))
+      (words_unnoted (codes "SupplementaryGroups") refl)
 
   credentials_unnoted : credential_notes unit ≡ []
   unfolding credential_notes dynamic_notes
   credentials_unnoted =
       none_of _ _ (flag_unnoted (codes "DynamicUser") refl)
       (none_of _ _ (caps_unnoted (codes "CapabilityBoundingSet") refl)
-      (none_of _ _ (caps_unnoted (codes "AmbientCapabilities") refl) (none_of _ _ (flag_unnoted (codes "NoNewPrivileges") refl) identity_unnoted)))
+      (none_of _ _ (caps_unnoted (codes "AmbientCapabilities") refl)
+      (none_of _ _ (flag_unnoted (codes "NoNewPrivileges") refl) identity_unnoted)))
 
   protections_unnoted : protection_notes unit ≡ []
   unfolding protection_notes
   protections_unnoted =
       none_of _ _
-      (none_of _ _ (none_of _ _ (none_of _ _ (read_unnoted system_value (codes "ProtectSystem") refl) (read_unnoted home_value (codes "ProtectHome") refl)) (read_unnoted tmp_value (codes "PrivateTmp") refl)) (flag_unnoted (codes "ProtectKernelTunables") refl))
+      (none_of _ _ (none_of _ _
+      (none_of _ _ (read_unnoted system_value (codes "ProtectSystem") refl) (read_unnoted home_value (codes "ProtectHome") refl))
+      (read_unnoted tmp_value (codes "PrivateTmp") refl)) (flag_unnoted (codes "ProtectKernelTunables") refl))
       (flag_unnoted (codes "ProtectControlGroups") refl)
 
   paths_unnoted : written_notes unit ≡ []
   unfolding written_notes
   paths_unnoted =
       ap (flat_map (notes_by unit.name)) h.alone
-      ∙ ap (λ key. option_map_or (given_notes unit.name (h.place, h.assignment)) key [] ++ []) (ap (λ name. find (λ key. bytes_eq (name_of key) name) path_keys) h.command)
+      ∙ ap (λ key. option_map_or (given_notes unit.name (h.place, h.assignment)) key [] ++ [])
+      (ap (λ name. find (λ key. bytes_eq (name_of key) name) path_keys) h.command)
 
   all_judged : unjudged_notes unit ≡ []
   unfolding unjudged_notes keys
@@ -351,27 +390,32 @@ module _ (unit : Resolved) (h : HasCommandAlone unit) where
   text_by_grammar = still _ _ _ refl all_judged
 
   -- the one value of ExecStart=, if it can be expanded
-  command_value : values_of unit (codes "ExecStart") ≡ cons_option (option_map (λ text. record { place = h.place; text = text }) (expansion unit.name h.assignment.value)) []
+  command_value : values_of unit (codes "ExecStart") ≡ cons_option
+      (option_map (λ text. record { place = h.place; text = text }) (expansion unit.name h.assignment.value)) []
   command_value =
       ap (filter_map (given_by unit.name (codes "ExecStart"))) h.alone
-      ∙ ap (λ name. cons_option (cond (bytes_eq name (codes "ExecStart")) (expanded_at unit.name (h.place, h.assignment)) None) []) h.command
+      ∙ ap (λ name. cons_option (cond (bytes_eq name (codes "ExecStart")) (expanded_at unit.name (h.place, h.assignment)) None) [])
+      h.command
 
   command_note : notes_of unit (codes "ExecStart") ≡ cons_option (noted_unless (expansion unit.name h.assignment.value) h.place) []
   command_note =
       ap (filter_map (note_of unit.name (codes "ExecStart"))) h.alone
-      ∙ ap (λ name. cons_option (cond (bytes_eq name (codes "ExecStart")) (unexpanded_at unit.name (h.place, h.assignment)) None) []) h.command
+      ∙ ap (λ name. cons_option (cond (bytes_eq name (codes "ExecStart")) (unexpanded_at unit.name (h.place, h.assignment)) None) [])
+      h.command
 
   command_unnoted : (path : Path) → unit_program unit ≡ Some path → unit_command_notes unit ≡ []
   unfolding unit_program unit_command unit_command_notes
   command_unnoted path launched =
       ap (λ notes. notes ++ command_notes (values_of unit (codes "ExecStart"))) command_note
       ∙ ap (λ values. cons_option (noted_unless (expansion unit.name h.assignment.value) h.place) [] ++ command_notes values) command_value
-      ∙ launched_alone h.place path (expansion unit.name h.assignment.value) (sym (ap (λ values. program_path (launched_of values)) command_value) ∙ launched)
+      ∙ launched_alone h.place path (expansion unit.name h.assignment.value)
+      (sym (ap (λ values. program_path (launched_of values)) command_value) ∙ launched)
 
   noted_by_grammar : (table : Table) (path : Path) → unit_program unit ≡ Some path → all_notes unit table ≡ grammar_notes unit
   unfolding all_notes
   noted_by_grammar table path launched =
-      still _ _ _ (still _ _ _ (still _ _ _ (still _ _ _ (still _ _ _ text_by_grammar paths_unnoted) (command_unnoted path launched)) credentials_unnoted) (filters_unnoted table)) protections_unnoted
+      still _ _ _ (still _ _ _ (still _ _ _ (still _ _ _ (still _ _ _ text_by_grammar paths_unnoted) (command_unnoted path launched))
+      credentials_unnoted) (filters_unnoted table)) protections_unnoted
 
   settings_are_bare : (table : Table) (site : Site) (made : Settings) → AreSettings unit table site made → AreBare unit made
   settings_are_bare table site made are =
@@ -385,7 +429,8 @@ module _ (unit : Resolved) (h : HasCommandAlone unit) where
         new_privileges = are.new_privileges ∙ no_new table made.uid;
         filters = no_names made.filters.items (are.filters_as_wanted.exactly_those_on ∙ none_on table);
         mentions = are.mentions_written_and_implied ∙ no_mentions site;
-        notes = subst (λ notes. AreInOrder notes made.notes.items) (noted_by_grammar table made.program are.launches_the_first_command) are.all_notes_in_order;
+        notes = subst (λ notes. AreInOrder notes made.notes.items)
+            (noted_by_grammar table made.program are.launches_the_first_command) are.all_notes_in_order;
       }
 
   -- refusals

@@ -10,28 +10,34 @@ use Rattle.exec_settings.specs.Profile.{outside_key}
 use Rattle.exec_settings.specs.Refusals.{command_refusal, first_reason, no_command, outside, privileged}
 
 module _ (unit : Resolved) where
-  reasons : command_refusal unit ≡ first_reason (no_command (unit_command unit) ∷ privileged (unit_command unit) ∷ outside unit (unit_command unit) ∷ [])
+  reasons : command_refusal unit
+      ≡ first_reason (no_command (unit_command unit) ∷ privileged (unit_command unit) ∷ outside unit (unit_command unit) ∷ [])
   unfolding command_refusal
   reasons = refl
 
-  by_command : (command : Option Command) → unit_command unit ≡ command → command_refusal unit ≡ first_reason (no_command command ∷ privileged command ∷ outside unit command ∷ [])
+  by_command : (command : Option Command) → unit_command unit ≡ command
+      → command_refusal unit ≡ first_reason (no_command command ∷ privileged command ∷ outside unit command ∷ [])
   by_command command is = reasons ∙ ap (λ one. first_reason (no_command one ∷ privileged one ∷ outside unit one ∷ [])) is
 
   pub none_is_first : unit_command unit ≡ None → command_refusal unit ≡ Some NoCommand
   none_is_first is = by_command None is
 
   -- by whether the command keeps privileges
-  behind_command : (command : Command) → unit_command unit ≡ Some command → command_refusal unit ≡ first_reason (cond command.is_privileged (Some PrivilegedCommand) None ∷ outside unit (Some command) ∷ [])
+  behind_command : (command : Command) → unit_command unit ≡ Some command
+      → command_refusal unit ≡ first_reason (cond command.is_privileged (Some PrivilegedCommand) None ∷ outside unit (Some command) ∷ [])
   behind_command command is = by_command (Some command) is
 
-  pub privileged_is_first : (command : Command) → unit_command unit ≡ Some command → command.is_privileged ≡ true → command_refusal unit ≡ Some PrivilegedCommand
-  privileged_is_first command is keeps = behind_command command is ∙ ap (λ b. first_reason (cond b (Some PrivilegedCommand) None ∷ outside unit (Some command) ∷ [])) keeps
+  pub privileged_is_first : (command : Command) → unit_command unit ≡ Some command → command.is_privileged ≡ true
+      → command_refusal unit ≡ Some PrivilegedCommand
+  privileged_is_first command is keeps = behind_command command is
+      ∙ ap (λ b. first_reason (cond b (Some PrivilegedCommand) None ∷ outside unit (Some command) ∷ [])) keeps
 
   alone : (reason : Option SettingsError) → first_reason (reason ∷ []) ≡ reason
   alone None = refl
   alone (Some reason) = refl
 
-  pub outside_is_last : (command : Command) → unit_command unit ≡ Some command → command.is_privileged ≡ false → command_refusal unit ≡ option_map OutsideProfile (outside_key unit command)
+  pub outside_is_last : (command : Command) → unit_command unit ≡ Some command → command.is_privileged ≡ false
+      → command_refusal unit ≡ option_map OutsideProfile (outside_key unit command)
   outside_is_last command is keeps =
       behind_command command is
       ∙ ap (λ b. first_reason (cond b (Some PrivilegedCommand) None ∷ outside unit (Some command) ∷ [])) keeps

@@ -1,5 +1,6 @@
 -- Settings ask a site for accounts and for implied paths alone.
-use Rattle.std.proofs.Common.{◌≡◌, ◌∙◌, ℕ, zero, suc, length, ltb, arith, Bool, true, false, cond, List, [], ◌∷◌, ◌++◌, Option, Some, None, refl, ap, sym}
+use Rattle.std.proofs.Common.{◌≡◌, ◌∙◌, ℕ, zero, suc, length, ltb, arith, Bool, true, false, cond, List, [], ◌∷◌, ◌++◌, Option, Some, None}
+use Rattle.std.proofs.Common.{refl, ap, sym}
 use Rattle.std.specs.Prelude.{find, position, is_some, option_map, slice_get, filter}
 use Rattle.std.specs.List.{AllByRecursion, position_or_len}
 use Rattle.std.proofs.lemmas.Bool.Decides.{nat_tests}
@@ -19,9 +20,11 @@ use Rattle.exec_settings.specs.Mounts.{unit_mentions}
 use Rattle.exec_settings.specs.OtherSites.{AreSameFor, implied_by, SettingsRestOnFew}
 
 -- tests that agree on each leave the same
-filter_agrees : (p q : Mention → Bool) (mentions : List Mention) → AllByRecursion (λ mention. p mention ≡ q mention) mentions → filter p mentions ≡ filter q mentions
+filter_agrees : (p q : Mention → Bool) (mentions : List Mention) → AllByRecursion (λ mention. p mention ≡ q mention) mentions
+    → filter p mentions ≡ filter q mentions
 filter_agrees p q [] same = refl
-filter_agrees p q (mention ∷ mentions) same = ap (λ b. cond b (mention ∷ filter p mentions) (filter p mentions)) same.0 ∙ ap (λ (rest : List Mention). cond (q mention) (mention ∷ rest) rest) (filter_agrees p q mentions same.1)
+filter_agrees p q (mention ∷ mentions) same = ap (λ b. cond b (mention ∷ filter p mentions) (filter p mentions)) same.0
+    ∙ ap (λ (rest : List Mention). cond (q mention) (mention ∷ rest) rest) (filter_agrees p q mentions same.1)
 
 -- ---- implied paths
 -- where a row is found it has a place
@@ -42,27 +45,39 @@ some_if true n = refl
 some_if false n = refl
 
 placed : (p : Row → Bool) (rows : List Row) → is_some (position p rows) ≡ is_some (option_map (λ (row : Row). row.kind) (find p rows))
-placed p rows = some_if (ltb (position_or_len p rows) (length rows)) (position_or_len p rows) ∙ sym (get_within rows (position_or_len p rows)) ∙ sym (ap is_some (find_at p rows)) ∙ sym (some_kind (find p rows))
+placed p rows = some_if (ltb (position_or_len p rows) (length rows)) (position_or_len p rows)
+    ∙ sym (get_within rows (position_or_len p rows)) ∙ sym (ap is_some (find_at p rows)) ∙ sym (some_kind (find p rows))
 
-stands_same : (site other : Site) (mention : Mention) → kind_at other.rows mention.path ≡ kind_at site.rows mention.path → stands other mention ≡ stands site mention
-stands_same site other mention same = placed (λ row. is_same row.path mention.path) other.rows ∙ ap is_some same ∙ sym (placed (λ row. is_same row.path mention.path) site.rows)
+stands_same : (site other : Site) (mention : Mention) → kind_at other.rows mention.path ≡ kind_at site.rows mention.path
+    → stands other mention ≡ stands site mention
+stands_same site other mention same = placed (λ row. is_same row.path mention.path) other.rows ∙ ap is_some same
+    ∙ sym (placed (λ row. is_same row.path mention.path) site.rows)
 
-each_stands : (site other : Site) (mentions : List Mention) → AllByRecursion (λ mention. kind_at other.rows mention.path ≡ kind_at site.rows mention.path) mentions → AllByRecursion (λ mention. stands other mention ≡ stands site mention) mentions
+each_stands : (site other : Site) (mentions : List Mention) → AllByRecursion
+    (λ mention. kind_at other.rows mention.path ≡ kind_at site.rows mention.path) mentions
+    → AllByRecursion (λ mention. stands other mention ≡ stands site mention) mentions
 each_stands site other [] same = tt
 each_stands site other (mention ∷ mentions) same = (stands_same site other mention same.0, each_stands site other mentions same.1)
 
-mentions_same : (unit : Resolved) (site other : Site) → AllByRecursion (λ mention. kind_at other.rows mention.path ≡ kind_at site.rows mention.path) (implied_by unit) → unit_mentions unit other ≡ unit_mentions unit site
+mentions_same : (unit : Resolved) (site other : Site) → AllByRecursion
+    (λ mention. kind_at other.rows mention.path ≡ kind_at site.rows mention.path) (implied_by unit)
+    → unit_mentions unit other ≡ unit_mentions unit site
 unfolding unit_mentions mentions_of implied
 mentions_same unit site other same =
-    ap (λ (more : List Mention). as_written (unit_written unit) ++ more) (filter_agrees (stands other) (stands site) (implied_by unit) (each_stands site other (implied_by unit) same))
+    ap (λ (more : List Mention). as_written (unit_written unit) ++ more)
+    (filter_agrees (stands other) (stands site) (implied_by unit) (each_stands site other (implied_by unit) same))
 
 -- ---- ids ask a site for no row
-ids_same : (unit : Resolved) (site other : Site) → AreSameFor unit site other → identity_of unit other (is_dynamic unit) ≡ identity_of unit site (is_dynamic unit)
+ids_same : (unit : Resolved) (site other : Site) → AreSameFor unit site other
+    → identity_of unit other (is_dynamic unit) ≡ identity_of unit site (is_dynamic unit)
 unfolding identity_of
 ids_same unit site other agree =
-    ap (λ uid. identity_of unit (site_with uid other.user_namespaces other.rows other.users other.groups) (is_dynamic unit)) agree.dynamic_uid
-    ∙ ap (λ (users : _). identity_of unit (site_with site.dynamic_uid other.user_namespaces other.rows users other.groups) (is_dynamic unit)) agree.users
-    ∙ ap (λ (groups : _). identity_of unit (site_with site.dynamic_uid other.user_namespaces other.rows site.users groups) (is_dynamic unit)) agree.groups
+    ap (λ uid. identity_of unit (site_with uid other.user_namespaces other.rows other.users other.groups) (is_dynamic unit))
+    agree.dynamic_uid
+    ∙ ap (λ (users : _). identity_of unit (site_with site.dynamic_uid other.user_namespaces other.rows users other.groups)
+    (is_dynamic unit)) agree.users
+    ∙ ap (λ (groups : _). identity_of unit (site_with site.dynamic_uid other.user_namespaces other.rows site.users groups)
+    (is_dynamic unit)) agree.groups
 
 pub settings_rest : SettingsRestOnFew
 settings_rest unit table site other made same own = record {

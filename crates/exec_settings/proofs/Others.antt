@@ -10,7 +10,8 @@ use Rattle.cred_settings.specs.dropin_merge.declared.resolved.UnitFile.{UnitFile
 use Rattle.cred_settings.specs.unit_grammar.Before.{last_of}
 use Rattle.cred_settings.specs.dropin_merge.unit_values.Assignments.{service_alone, without_others}
 use Rattle.cred_settings.specs.dropin_merge.unit_values.Flags.{flag_value, unit_flag, unit_flag_notes}
-use Rattle.cred_settings.specs.dropin_merge.unit_values.Lasting.{last_read, last_text, unit_last, unit_last_notes, unit_last_text, unread_notes}
+use Rattle.cred_settings.specs.dropin_merge.unit_values.Lasting.{last_read, last_text, unit_last, unit_last_notes, unit_last_text}
+use Rattle.cred_settings.specs.dropin_merge.unit_values.Lasting.{unread_notes}
 use Rattle.cred_settings.specs.dropin_merge.unit_values.Lines.{listed_line}
 use Rattle.cred_settings.specs.dropin_merge.unit_values.Listed.{listed, unit_listed, unit_listed_notes}
 use Rattle.cred_settings.specs.dropin_merge.unit_values.Words.{split, unit_words, unit_words_notes, words_in}
@@ -23,7 +24,8 @@ use Rattle.filter_settings.specs.FamilyLists.{family_list, family_notes, unit_fa
 use Rattle.filter_settings.specs.Lines.{in_force}
 use Rattle.filter_settings.specs.Architectures.{is_second, is_read, value_notes, unit_refuses_second, unit_architectures_notes}
 use Rattle.filter_settings.specs.Namespaces.{namespaces_notes, namespaces_of, unit_namespaces, unit_namespaces_notes}
-use Rattle.filter_settings.specs.Settings.{filter_notes, list_notes, protection_notes as flag_protection_notes, restriction_notes, settings_of}
+use Rattle.filter_settings.specs.Settings.{filter_notes, list_notes, protection_notes as flag_protection_notes, restriction_notes}
+use Rattle.filter_settings.specs.Settings.{settings_of}
 use Rattle.cred_settings.specs.Ambient.{ambient_of}
 use Rattle.cred_settings.specs.Bounding.{bounding_of}
 use Rattle.cred_settings.specs.CapLists.{caps_by, names_notes, unit_caps, unit_caps_notes}
@@ -59,13 +61,15 @@ use Rattle.exec_settings.specs.Mounts.{paths_refusal, unit_mentions, unit_switch
 use Rattle.exec_settings.specs.Notes.{all_notes, credential_notes, grammar_notes, grammar_notes_in, text_notes}
 use Rattle.exec_settings.specs.Order.{AreInOrder}
 use Rattle.exec_settings.specs.Profile.{asked_by, is_asked, is_outside, is_outside_by, outside_key}
-use Rattle.exec_settings.specs.Refusals.{command_refusal, first_reason, group_refusal, identity_reason, identity_refusal, no_command, outside, privileged, refusal_of}
+use Rattle.exec_settings.specs.Refusals.{command_refusal, first_reason, group_refusal, identity_reason, identity_refusal, no_command}
+use Rattle.exec_settings.specs.Refusals.{outside, privileged, refusal_of}
 use Rattle.exec_settings.specs.Sections.{SameWithoutOthers}
 use Rattle.exec_settings.specs.Settings.{has_filter, program_path, unit_bounding, unit_new_privileges, unit_program}
 use Rattle.exec_settings.proofs.FilterSame.{same_settings}
 
 same_grammar : (number : ℕ) (files : List UnitFile) →
-    flat_map (λ place. grammar_notes_in place.0 place.1) (enumerate_from number (map without_others files)) ≡ flat_map (λ place. grammar_notes_in place.0 place.1) (enumerate_from number files)
+    flat_map (λ place. grammar_notes_in place.0 place.1) (enumerate_from number (map without_others files))
+    ≡ flat_map (λ place. grammar_notes_in place.0 place.1) (enumerate_from number files)
 same_grammar number [] = refl
 same_grammar number (file ∷ files) = ap (λ notes. grammar_notes_in number file ++ notes) (same_grammar (number + 1) files)
 
@@ -79,17 +83,20 @@ both a b c d e f = cc
 four : {X : Type 0} (a a' b b' c c' d d' : List X) → a ≡ a' → b ≡ b' → c ≡ c' → d ≡ d' → ((a ++ b) ++ c) ++ d ≡ ((a' ++ b') ++ c') ++ d'
 four a a' b b' c c' d d' e f g h = cc
 
-five : {X : Type 0} (a a' b b' c c' d d' i i' : List X) → a ≡ a' → b ≡ b' → c ≡ c' → d ≡ d' → i ≡ i' → (((a ++ b) ++ c) ++ d) ++ i ≡ (((a' ++ b') ++ c') ++ d') ++ i'
+five : {X : Type 0} (a a' b b' c c' d d' i i' : List X) → a ≡ a' → b ≡ b' → c ≡ c' → d ≡ d' → i ≡ i'
+    → (((a ++ b) ++ c) ++ d) ++ i ≡ (((a' ++ b') ++ c') ++ d') ++ i'
 five a a' b b' c c' d d' i i' e f g h k = cc
 
-onward : {X : Type 0} (a a' b b' c c' d d' i i' : List X) → a ≡ a' → b ≡ b' → c ≡ c' → d ≡ d' → i ≡ i' → a ++ (b ++ (c ++ (d ++ i))) ≡ a' ++ (b' ++ (c' ++ (d' ++ i')))
+onward : {X : Type 0} (a a' b b' c c' d d' i i' : List X) → a ≡ a' → b ≡ b' → c ≡ c' → d ≡ d' → i ≡ i'
+    → a ++ (b ++ (c ++ (d ++ i))) ≡ a' ++ (b' ++ (c' ++ (d' ++ i')))
 onward a a' b b' c c' d d' i i' e f g h k = cc
 
 module _ (unit : Resolved) where
   abbrev alone : Resolved
   alone = service_alone unit
 
-  last : {X : Type 0} (read : List ℕ → Option X) (default : X) (key : List ℕ) → unit_last read default alone key ≡ unit_last read default unit key
+  last : {X : Type 0} (read : List ℕ → Option X) (default : X) (key : List ℕ)
+      → unit_last read default alone key ≡ unit_last read default unit key
   unfolding unit_last
   last read default key = ap (last_read read default) (same_values unit key)
 
@@ -151,8 +158,10 @@ module _ (unit : Resolved) where
   unpermitted : (table : Table) (key : List ℕ) → unit_refuses_second alone table key ≡ unit_refuses_second unit table key
   unfolding unit_refuses_second
   unpermitted table key =
-      ap (λ (values : List Value). is_some table.second && (list_any is_read (in_force_values values) && not (list_any (is_second table) (unit_words alone key)))) (same_values unit key)
-      ∙ ap (λ ws. is_some table.second && (list_any is_read (in_force_values (values_of unit key)) && not (list_any (is_second table) ws))) (words key)
+      ap (λ (values : List Value). is_some table.second &&
+      (list_any is_read (in_force_values values) && not (list_any (is_second table) (unit_words alone key)))) (same_values unit key)
+      ∙ ap (λ ws. is_some table.second &&
+      (list_any is_read (in_force_values (values_of unit key)) && not (list_any (is_second table) ws))) (words key)
 
   unpermitted_notes : (table : Table) (key : List ℕ) → unit_architectures_notes alone table key ≡ unit_architectures_notes unit table key
   unfolding unit_architectures_notes
@@ -160,12 +169,20 @@ module _ (unit : Resolved) where
 
   settings_same : (table : Table) → settings_of alone table ≡ settings_of unit table
   settings_same table =
-      same_settings _ (unit_call_list unit table (codes "SystemCallFilter")) _ (unit_error_action unit (codes "SystemCallErrorNumber")) _ (unit_family_list unit table (codes "RestrictAddressFamilies")) _ (unit_namespaces unit (codes "RestrictNamespaces"))
-      _ (unit_flag unit (codes "MemoryDenyWriteExecute")) _ (unit_flag unit (codes "RestrictRealtime")) _ (unit_flag unit (codes "RestrictSUIDSGID")) _ (unit_flag unit (codes "LockPersonality"))
-      _ (unit_flag unit (codes "ProtectHostname")) _ (unit_flag unit (codes "ProtectKernelModules")) _ (unit_flag unit (codes "ProtectKernelLogs")) _ (unit_flag unit (codes "ProtectClock")) _ (unit_flag unit (codes "PrivateDevices")) _ (unit_refuses_second unit table (codes "SystemCallArchitectures"))
-      (calls table (codes "SystemCallFilter")) (ap (λ value. value.action) (last error_action_value default_action (codes "SystemCallErrorNumber"))) (families table (codes "RestrictAddressFamilies")) (types (codes "RestrictNamespaces"))
-      (flag (codes "MemoryDenyWriteExecute")) (flag (codes "RestrictRealtime")) (flag (codes "RestrictSUIDSGID")) (flag (codes "LockPersonality"))
-      (flag (codes "ProtectHostname")) (flag (codes "ProtectKernelModules")) (flag (codes "ProtectKernelLogs")) (flag (codes "ProtectClock")) (flag (codes "PrivateDevices")) (unpermitted table (codes "SystemCallArchitectures"))
+      same_settings _ (unit_call_list unit table (codes "SystemCallFilter")) _ (unit_error_action unit (codes "SystemCallErrorNumber")) _
+      (unit_family_list unit table (codes "RestrictAddressFamilies")) _ (unit_namespaces unit (codes "RestrictNamespaces"))
+      _ (unit_flag unit (codes "MemoryDenyWriteExecute")) _ (unit_flag unit (codes "RestrictRealtime")) _
+      (unit_flag unit (codes "RestrictSUIDSGID")) _ (unit_flag unit (codes "LockPersonality"))
+      _ (unit_flag unit (codes "ProtectHostname")) _ (unit_flag unit (codes "ProtectKernelModules")) _
+      (unit_flag unit (codes "ProtectKernelLogs")) _ (unit_flag unit (codes "ProtectClock")) _
+      (unit_flag unit (codes "PrivateDevices")) _ (unit_refuses_second unit table (codes "SystemCallArchitectures"))
+      (calls table (codes "SystemCallFilter"))
+      (ap (λ value. value.action) (last error_action_value default_action (codes "SystemCallErrorNumber")))
+      (families table (codes "RestrictAddressFamilies")) (types (codes "RestrictNamespaces"))
+      (flag (codes "MemoryDenyWriteExecute")) (flag (codes "RestrictRealtime")) (flag (codes "RestrictSUIDSGID"))
+      (flag (codes "LockPersonality"))
+      (flag (codes "ProtectHostname")) (flag (codes "ProtectKernelModules")) (flag (codes "ProtectKernelLogs"))
+      (flag (codes "ProtectClock")) (flag (codes "PrivateDevices")) (unpermitted table (codes "SystemCallArchitectures"))
 
   dynamic : is_dynamic alone ≡ is_dynamic unit
   unfolding is_dynamic
@@ -173,22 +190,27 @@ module _ (unit : Resolved) where
 
   filters : (table : Table) → unit_filters alone table ≡ unit_filters unit table
   unfolding unit_filters
-  filters table = ap (λ on. with_dynamic_user on (settings_of alone table)) dynamic ∙ ap (with_dynamic_user (is_dynamic unit)) (settings_same table)
+  filters table = ap (λ on. with_dynamic_user on (settings_of alone table)) dynamic
+      ∙ ap (with_dynamic_user (is_dynamic unit)) (settings_same table)
 
   restrictions_noted : restriction_notes alone ≡ restriction_notes unit
   unfolding restriction_notes
   restrictions_noted =
-      four _ _ _ _ _ _ _ _ (flag_notes (codes "MemoryDenyWriteExecute")) (flag_notes (codes "RestrictRealtime")) (flag_notes (codes "RestrictSUIDSGID")) (flag_notes (codes "LockPersonality"))
+      four _ _ _ _ _ _ _ _ (flag_notes (codes "MemoryDenyWriteExecute")) (flag_notes (codes "RestrictRealtime"))
+      (flag_notes (codes "RestrictSUIDSGID")) (flag_notes (codes "LockPersonality"))
 
   flags_noted : flag_protection_notes alone ≡ flag_protection_notes unit
   unfolding flag_protection_notes
   flags_noted =
-      five _ _ _ _ _ _ _ _ _ _ (flag_notes (codes "ProtectHostname")) (flag_notes (codes "ProtectKernelModules")) (flag_notes (codes "ProtectKernelLogs")) (flag_notes (codes "ProtectClock")) (flag_notes (codes "PrivateDevices"))
+      five _ _ _ _ _ _ _ _ _ _ (flag_notes (codes "ProtectHostname")) (flag_notes (codes "ProtectKernelModules"))
+      (flag_notes (codes "ProtectKernelLogs")) (flag_notes (codes "ProtectClock")) (flag_notes (codes "PrivateDevices"))
 
   lists_noted : (table : Table) → list_notes alone table ≡ list_notes unit table
   unfolding list_notes
   lists_noted table =
-      five _ _ _ _ _ _ _ _ _ _ (last_notes error_action_value (codes "SystemCallErrorNumber")) (types_notes (codes "RestrictNamespaces")) (families_notes table (codes "RestrictAddressFamilies")) (calls_notes table (codes "SystemCallFilter")) (unpermitted_notes table (codes "SystemCallArchitectures"))
+      five _ _ _ _ _ _ _ _ _ _ (last_notes error_action_value (codes "SystemCallErrorNumber")) (types_notes (codes "RestrictNamespaces"))
+      (families_notes table (codes "RestrictAddressFamilies")) (calls_notes table (codes "SystemCallFilter"))
+      (unpermitted_notes table (codes "SystemCallArchitectures"))
 
   filters_noted : (table : Table) → filter_notes alone table ≡ filter_notes unit table
   unfolding filter_notes
@@ -214,13 +236,15 @@ module _ (unit : Resolved) where
   caps_notes key = both _ _ _ _ (lines_notes key) (ap (flat_map names_notes) (lines key))
 
   bounding : (table : Table) → unit_bounding alone table ≡ unit_bounding unit table
-  bounding table = ap (λ set. left_of set (unit_filters alone table)) (caps (codes "CapabilityBoundingSet") _) ∙ ap (left_of (bounding_of unit)) (filters table)
+  bounding table = ap (λ set. left_of set (unit_filters alone table)) (caps (codes "CapabilityBoundingSet") _)
+      ∙ ap (left_of (bounding_of unit)) (filters table)
 
   ambient : ambient_of alone ≡ ambient_of unit
   ambient = caps (codes "AmbientCapabilities") _
 
   sets : sets_new_privileges alone ≡ sets_new_privileges unit
-  sets = ap (λ on. on || is_dynamic alone) (flag (codes "NoNewPrivileges")) ∙ ap (λ on. unit_flag unit (codes "NoNewPrivileges") || on) dynamic
+  sets = ap (λ on. on || is_dynamic alone) (flag (codes "NoNewPrivileges"))
+      ∙ ap (λ on. unit_flag unit (codes "NoNewPrivileges") || on) dynamic
 
   new_privileges : (table : Table) (uid : ℕ) → unit_new_privileges alone table uid ≡ unit_new_privileges unit table uid
   new_privileges table uid =
@@ -230,12 +254,14 @@ module _ (unit : Resolved) where
 
   identity_noted : identity_notes alone ≡ identity_notes unit
   unfolding identity_notes
-  identity_noted = both _ _ _ _ (both _ _ _ _ (same_notes unit (codes "User")) (same_notes unit (codes "Group"))) (words_notes (codes "SupplementaryGroups"))
+  identity_noted = both _ _ _ _ (both _ _ _ _ (same_notes unit (codes "User")) (same_notes unit (codes "Group")))
+      (words_notes (codes "SupplementaryGroups"))
 
   credentials_noted : credential_notes alone ≡ credential_notes unit
   unfolding credential_notes dynamic_notes
   credentials_noted =
-      onward _ _ _ _ _ _ _ _ _ _ (flag_notes (codes "DynamicUser")) (caps_notes (codes "CapabilityBoundingSet")) (caps_notes (codes "AmbientCapabilities")) (flag_notes (codes "NoNewPrivileges")) identity_noted
+      onward _ _ _ _ _ _ _ _ _ _ (flag_notes (codes "DynamicUser")) (caps_notes (codes "CapabilityBoundingSet"))
+      (caps_notes (codes "AmbientCapabilities")) (flag_notes (codes "NoNewPrivileges")) identity_noted
 
   -- paths
   paths : unit_written alone ≡ unit_written unit
@@ -268,13 +294,16 @@ module _ (unit : Resolved) where
   protections_noted : protection_notes alone ≡ protection_notes unit
   unfolding protection_notes
   protections_noted =
-      five _ _ _ _ _ _ _ _ _ _ (last_notes system_value (codes "ProtectSystem")) (last_notes home_value (codes "ProtectHome")) (last_notes tmp_value (codes "PrivateTmp")) (flag_notes (codes "ProtectKernelTunables")) (flag_notes (codes "ProtectControlGroups"))
+      five _ _ _ _ _ _ _ _ _ _ (last_notes system_value (codes "ProtectSystem")) (last_notes home_value (codes "ProtectHome"))
+      (last_notes tmp_value (codes "PrivateTmp")) (flag_notes (codes "ProtectKernelTunables"))
+      (flag_notes (codes "ProtectControlGroups"))
 
   mentions : (site : Site) → unit_mentions alone site ≡ unit_mentions unit site
   unfolding unit_mentions
   mentions site =
       ap (λ on. mentions_of site on (protections_of alone on) (unit_written alone)) switches
-      ∙ ap (λ said. mentions_of site (unit_switches unit) (in_effect (unit_switches unit).dynamic_user said) (unit_written alone)) protections
+      ∙ ap (λ said. mentions_of site (unit_switches unit) (in_effect (unit_switches unit).dynamic_user said) (unit_written alone))
+      protections
       ∙ ap (mentions_of site (unit_switches unit) (protections_of unit (unit_switches unit))) paths
 
   -- the command
@@ -307,7 +336,8 @@ module _ (unit : Resolved) where
 
   outside_key_same : (launched : Command) → outside_key alone launched ≡ outside_key unit launched
   unfolding outside_key
-  outside_key_same launched = ap (option_map (λ row. row.0)) (find_agree (is_outside alone launched) (is_outside unit launched) (outside_same launched) keys)
+  outside_key_same launched = ap (option_map (λ row. row.0))
+      (find_agree (is_outside alone launched) (is_outside unit launched) (outside_same launched) keys)
 
   outside_for : (launched : Option Command) → outside alone launched ≡ outside unit launched
   outside_for None = refl
@@ -318,7 +348,8 @@ module _ (unit : Resolved) where
   unfolding command_refusal
   command_refused =
       ap (λ launched. first_reason (no_command launched ∷ privileged launched ∷ outside alone launched ∷ [])) command
-      ∙ ap (λ reason. first_reason (no_command (unit_command unit) ∷ privileged (unit_command unit) ∷ reason ∷ [])) (outside_for (unit_command unit))
+      ∙ ap (λ reason. first_reason (no_command (unit_command unit) ∷ privileged (unit_command unit) ∷ reason ∷ []))
+      (outside_for (unit_command unit))
 
   identity_refused : (site : Site) → identity_refusal alone site ≡ identity_refusal unit site
   unfolding identity_refusal
@@ -335,10 +366,14 @@ module _ (unit : Resolved) where
   refused : (table : Table) (site : Site) → refusal_of alone table site ≡ refusal_of unit table site
   unfolding refusal_of
   refused table site =
-      ap (λ reason. first_reason (reason ∷ identity_refusal alone site ∷ group_refusal alone table ∷ paths_refusal alone ∷ [])) command_refused
-      ∙ ap (λ reason. first_reason (command_refusal unit ∷ reason ∷ group_refusal alone table ∷ paths_refusal alone ∷ [])) (identity_refused site)
-      ∙ ap (λ reason. first_reason (command_refusal unit ∷ identity_refusal unit site ∷ reason ∷ paths_refusal alone ∷ [])) (group_refused table)
-      ∙ ap (λ reason. first_reason (command_refusal unit ∷ identity_refusal unit site ∷ group_refusal unit table ∷ reason ∷ [])) paths_refused
+      ap (λ reason. first_reason (reason ∷ identity_refusal alone site ∷ group_refusal alone table ∷ paths_refusal alone ∷ []))
+      command_refused
+      ∙ ap (λ reason. first_reason (command_refusal unit ∷ reason ∷ group_refusal alone table ∷ paths_refusal alone ∷ []))
+      (identity_refused site)
+      ∙ ap (λ reason. first_reason (command_refusal unit ∷ identity_refusal unit site ∷ reason ∷ paths_refusal alone ∷ []))
+      (group_refused table)
+      ∙ ap (λ reason. first_reason (command_refusal unit ∷ identity_refusal unit site ∷ group_refusal unit table ∷ reason ∷ []))
+      paths_refused
 
   -- what is noted
   text_noted : text_notes alone ≡ text_notes unit
@@ -347,7 +382,8 @@ module _ (unit : Resolved) where
 
   noted : (table : Table) → all_notes alone table ≡ all_notes unit table
   unfolding all_notes
-  noted table = both _ _ _ _ (five _ _ _ _ _ _ _ _ _ _ text_noted paths_noted commands_noted credentials_noted (filters_noted table)) protections_noted
+  noted table = both _ _ _ _ (five _ _ _ _ _ _ _ _ _ _ text_noted paths_noted commands_noted credentials_noted (filters_noted table))
+      protections_noted
 
   -- what its settings are
   of_whole : (table : Table) (site : Site) (made : Settings) → AreSettings alone table site made → AreSettings unit table site made

@@ -22,7 +22,8 @@ none_passes p [] i x is none = cc
 none_passes p (y ∷ xs) zero x is none = let same : y ≡ x = cc in subst (λ z. p z ≡ false) same (passed (p y) y (find p xs) none).0
 none_passes p (y ∷ xs) (suc i) x is none = none_passes p xs i x is (passed (p y) y (find p xs) none).1
 
-none_of_four : {X : Type 0} (p : X → Bool) (a b c d : X) → p a ≡ false → p b ≡ false → p c ≡ false → p d ≡ false → find p (a ∷ b ∷ c ∷ d ∷ []) ≡ None
+none_of_four : {X : Type 0} (p : X → Bool) (a b c d : X) → p a ≡ false → p b ≡ false → p c ≡ false → p d ≡ false
+    → find p (a ∷ b ∷ c ∷ d ∷ []) ≡ None
 none_of_four p a b c d not_a not_b not_c not_d =
     ap (λ v. cond v (Some a) (find p (b ∷ c ∷ d ∷ []))) not_a
     ∙ ap (λ v. cond v (Some b) (find p (c ∷ d ∷ []))) not_b
@@ -36,7 +37,8 @@ none_mapped f (Some x) e = cc
 module _ (unit : Resolved) (command : Command) (none : outside_key unit command ≡ None) where
   unused : (i : ℕ) (row : List ℕ × Meaning) → slice_get keys i ≡ Some row → is_outside unit command row ≡ false
   unfolding outside_key
-  unused i row is = none_passes (is_outside unit command) keys i row is (none_mapped (λ row. row.0) (find (is_outside unit command) keys) none)
+  unused i row is = none_passes (is_outside unit command) keys i row is
+      (none_mapped (λ row. row.0) (find (is_outside unit command) keys) none)
 
   -- the program is an absolute path
   pub not_relative : command.program ≡ Relative → ⊥

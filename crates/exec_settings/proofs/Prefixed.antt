@@ -15,4 +15,5 @@ prefix_boundary bs zero u e = IsCharBoundary-start bs u
 prefix_boundary bs (suc k) u e =
     let lt : k < prefix_len is_prefix bs = omega arith in
     let in_text : k < length bs = omega (arith, prefix_len-le-length is_prefix bs) in
-    subst (IsCharBoundary bs) (omega arith) (IsCharBoundary-after_ascii bs k u in_text (is_prefix-ascii _ (prefix_len_passes is_prefix bs k 0 lt)))
+    subst (IsCharBoundary bs) (omega arith)
+    (IsCharBoundary-after_ascii bs k u in_text (is_prefix-ascii _ (prefix_len_passes is_prefix bs k 0 lt)))

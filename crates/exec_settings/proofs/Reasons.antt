@@ -6,7 +6,8 @@ use Rattle.filter_settings.specs.call_table.Table.{Table}
 use Rattle.cred_settings.specs.dropin_merge.declared.resolved.Resolved.{Resolved}
 use Rattle.cred_settings.specs.site_table.Table.{Site}
 use Rattle.exec_settings.specs.declared.errors.SettingsError.{SettingsError}
-use Rattle.exec_settings.specs.declared.errors.SettingsError.TheVariants.{NoCommand, PrivilegedCommand, OutsideProfile, NoSuchUser, NoSuchGroup, MissingGroup, TooManyPaths, Memory}
+use Rattle.exec_settings.specs.declared.errors.SettingsError.TheVariants.{NoCommand, PrivilegedCommand, OutsideProfile, NoSuchUser}
+use Rattle.exec_settings.specs.declared.errors.SettingsError.TheVariants.{NoSuchGroup, MissingGroup, TooManyPaths, Memory}
 use Rattle.exec_settings.specs.Mounts.{paths_refusal}
 use Rattle.exec_settings.specs.Refusals.{IsReason, RefusesFirst, command_refusal, first_reason, group_refusal, identity_refusal, refusal_of}
 
@@ -18,7 +19,8 @@ alone None = refl
 alone (Some reason) = refl
 
 -- an error that is handed on
-pub handed_on : {X : Type 0} (reason : Option SettingsError) (error : SettingsError) (r : Result X SettingsError) → IsErrAnd r (λ told. told ≡ error) → IsReason reason error → RefusesFirst reason r
+pub handed_on : {X : Type 0} (reason : Option SettingsError) (error : SettingsError) (r : Result X SettingsError)
+    → IsErrAnd r (λ told. told ≡ error) → IsReason reason error → RefusesFirst reason r
 handed_on reason error r told is = let p = err_from_is_err_and r told in rw (p.1, p.2) is
 
 module _ (unit : Resolved) (table : Table) (site : Site) where
@@ -30,7 +32,9 @@ module _ (unit : Resolved) (table : Table) (site : Site) where
   reasons = refl
 
   -- an error that is the reason of a part is the whole reason
-  as_reason : (part : Option SettingsError) (error : SettingsError) → ((found : SettingsError) → part ≡ Some found → refusal_of unit table site ≡ Some found) → IsReason part error → IsReason (refusal_of unit table site) error
+  as_reason : (part : Option SettingsError) (error : SettingsError)
+      → ((found : SettingsError) → part ≡ Some found → refusal_of unit table site ≡ Some found) → IsReason part error
+      → IsReason (refusal_of unit table site) error
   as_reason part Memory whole is = is
   as_reason part NoCommand whole is = whole NoCommand is
   as_reason part PrivilegedCommand whole is = whole PrivilegedCommand is
@@ -41,7 +45,8 @@ module _ (unit : Resolved) (table : Table) (site : Site) where
   as_reason part (MissingGroup name) whole is = whole (MissingGroup name) is
 
   pub command_first : (error : SettingsError) → IsReason (command_refusal unit) error → IsReason (refusal_of unit table site) error
-  command_first error is = as_reason (command_refusal unit) error (λ found e. reasons ∙ ap (λ o. four o (identity_refusal unit site) missing (paths_refusal unit)) e) is
+  command_first error is = as_reason (command_refusal unit) error
+      (λ found e. reasons ∙ ap (λ o. four o (identity_refusal unit site) missing (paths_refusal unit)) e) is
 
   -- where the command is launched
   module _ (launched : command_refusal unit ≡ None) where
@@ -49,7 +54,8 @@ module _ (unit : Resolved) (table : Table) (site : Site) where
     behind_launched = reasons ∙ ap (λ o. four o (identity_refusal unit site) missing (paths_refusal unit)) launched
 
     pub identity_next : (error : SettingsError) → IsReason (identity_refusal unit site) error → IsReason (refusal_of unit table site) error
-    identity_next error is = as_reason (identity_refusal unit site) error (λ found e. behind_launched ∙ ap (λ o. four None o missing (paths_refusal unit)) e) is
+    identity_next error is = as_reason (identity_refusal unit site) error
+        (λ found e. behind_launched ∙ ap (λ o. four None o missing (paths_refusal unit)) e) is
 
     -- as somebody
     module _ (somebody : identity_refusal unit site ≡ None) where
@@ -57,7 +63,8 @@ module _ (unit : Resolved) (table : Table) (site : Site) where
       behind_somebody = behind_launched ∙ ap (λ o. four None o missing (paths_refusal unit)) somebody
 
       pub missing_next : (error : SettingsError) → IsReason (group_refusal unit table) error → IsReason (refusal_of unit table site) error
-      missing_next error is = as_reason (group_refusal unit table) error (λ found e. behind_somebody ∙ ap (λ o. four None None o (paths_refusal unit)) e) is
+      missing_next error is = as_reason (group_refusal unit table) error
+          (λ found e. behind_somebody ∙ ap (λ o. four None None o (paths_refusal unit)) e) is
 
       -- with all groups of calls
       module _ (grouped : group_refusal unit table ≡ None) where

@@ -16,7 +16,8 @@ or_false true b = refl
 or_false false true = refl
 or_false false false = refl
 
-pub any_next : {X : Type 0} (p : X → Bool) (xs : List X) (i : ℕ) (x : X) (now next : Bool) → i < length xs → x ≡ get_or xs i x → now ≡ list_any p (take i xs) → next ≡ (now || p x) → next ≡ list_any p (take (i + 1) xs)
+pub any_next : {X : Type 0} (p : X → Bool) (xs : List X) (i : ℕ) (x : X) (now next : Bool) → i < length xs → x ≡ get_or xs i x
+    → now ≡ list_any p (take i xs) → next ≡ (now || p x) → next ≡ list_any p (take (i + 1) xs)
 any_next p xs i x now next lt is before step =
     step
     ∙ ap (λ b. b || p x) before
@@ -24,6 +25,10 @@ any_next p xs i x now next lt is before step =
     ∙ sym (list_any-append p (take i xs) (x ∷ []))
     ∙ ap (list_any p) (sym (take_item xs i x lt is))
 
-pub later_next : (values : List Value) (i : ℕ) (value : Value) (seen : Bool) (old now next : List FileNote) → i < length values → value ≡ get_or values i value → seen ≡ list_any is_command (take i values) → now ≡ old ++ noted later_causes (take i values) → next ≡ now ++ notes_at value (cond (seen && is_command value) (Unjudged ∷ []) []) → next ≡ old ++ noted later_causes (take (i + 1) values)
+pub later_next : (values : List Value) (i : ℕ) (value : Value) (seen : Bool) (old now next : List FileNote) → i < length values
+    → value ≡ get_or values i value → seen ≡ list_any is_command (take i values) → now ≡ old ++ noted later_causes (take i values)
+    → next ≡ now ++ notes_at value (cond (seen && is_command value) (Unjudged ∷ []) [])
+    → next ≡ old ++ noted later_causes (take (i + 1) values)
 later_next values i value seen old now next lt is same before step =
-    noted_next later_causes values i value old now next lt is before (step ∙ ap (λ b. now ++ notes_at value (cond (b && is_command value) (Unjudged ∷ []) [])) same)
+    noted_next later_causes values i value old now next lt is before
+    (step ∙ ap (λ b. now ++ notes_at value (cond (b && is_command value) (Unjudged ∷ []) [])) same)

@@ -20,24 +20,33 @@ use Rattle.exec_settings.specs.Bounding.{taken_caps}
 use Rattle.exec_settings.specs.Settings.{has_filter, unit_bounding, unit_new_privileges}
 use Rattle.exec_settings.specs.Dynamic.{sets_new_privileges, unit_filters}
 
-pub filters_are : (settings found : FilterSettings) (table : Table) (filters : List Filter) → found ≡ settings → map place_of filters ≡ installed found table → All (HasWantedRules found table) filters → All (λ one. CanCompile one.rules) filters → most_room filters ≤ 32768 → All (λ one. All HasShortCases one.rules.calls) filters → AreRefusing found → AreFilters settings table filters
-filters_are settings found table filters is named wanted compiles fits short refuse = subst (λ all. AreFilters all table filters) is (record {
-  exactly_those_on = named;
-  do_as_wanted = wanted;
-  can_be_compiled = compiles;
-  fit_into_a_stack = fits;
-  cases_are_short = short;
-  refuse_by_numbers = refuse;
-})
+pub filters_are : (settings found : FilterSettings) (table : Table) (filters : List Filter) → found ≡ settings
+    → map place_of filters ≡ installed found table → All (HasWantedRules found table) filters → All (λ one. CanCompile one.rules) filters
+    → most_room filters ≤ 32768 → All (λ one. All HasShortCases one.rules.calls) filters → AreRefusing found
+    → AreFilters settings table filters
+filters_are settings found table filters is named wanted compiles fits short refuse =
+    subst (λ all. AreFilters all table filters) is (record {
+      exactly_those_on = named;
+      do_as_wanted = wanted;
+      can_be_compiled = compiles;
+      fit_into_a_stack = fits;
+      cases_are_short = short;
+      refuse_by_numbers = refuse;
+    })
 
 module _ (unit : Resolved) (table : Table) where
-  pub bounding_is : (bounding taken left : ℕ) → bounding ≡ bounding_of unit → taken ≡ taken_caps (unit_filters unit table) → left ≡ minus bounding taken → left ≡ unit_bounding unit table
+  pub bounding_is : (bounding taken left : ℕ) → bounding ≡ bounding_of unit → taken ≡ taken_caps (unit_filters unit table)
+      → left ≡ minus bounding taken → left ≡ unit_bounding unit table
   bounding_is bounding taken left by_key takes is = is ∙ ap (λ set. minus set taken) by_key ∙ ap (minus (bounding_of unit)) takes
 
-  some_filter : (filters : List Filter) → map place_of filters ≡ installed (unit_filters unit table) table → not (length filters == 0) ≡ has_filter (unit_filters unit table) table
+  some_filter : (filters : List Filter) → map place_of filters ≡ installed (unit_filters unit table) table
+      → not (length filters == 0) ≡ has_filter (unit_filters unit table) table
   some_filter filters named = ap (λ n. not (n == 0)) (sym (length-map filters place_of) ∙ ap length named)
 
-  pub new_privileges_are : (filters : List Filter) (is_set has on : Bool) (uid ambient : ℕ) → map place_of filters ≡ installed (unit_filters unit table) table → is_set ≡ sets_new_privileges unit → has ≡ not (length filters == 0) → ambient ≡ ambient_of unit → on ≡ is_in_effect is_set has uid ambient → on ≡ unit_new_privileges unit table uid
+  pub new_privileges_are : (filters : List Filter) (is_set has on : Bool) (uid ambient : ℕ)
+      → map place_of filters ≡ installed (unit_filters unit table) table → is_set ≡ sets_new_privileges unit
+      → has ≡ not (length filters == 0) → ambient ≡ ambient_of unit → on ≡ is_in_effect is_set has uid ambient
+      → on ≡ unit_new_privileges unit table uid
   new_privileges_are filters is_set has on uid ambient named by_keys counted kept effect =
       effect
       ∙ ap (λ b. is_in_effect b has uid ambient) by_keys

@@ -28,7 +28,8 @@ use Rattle.exec_settings.specs.Settings.{unit_bounding, unit_new_privileges, uni
 abbrev pub HasWantedRules : FilterSettings → Table → Filter → Type 0
 HasWantedRules settings table one = (input : CallData) → case_action one.rules input ≡ wanted_action one.name settings table one.abi input
 
--- exactly the programs of the filters that are on, in the order in which they are installed; each can be compiled, all fit into one stack of
+-- exactly the programs of the filters that are on, in the order in which they are installed; each can be compiled, all fit into one stack
+-- of
 -- programs, at most eight cases stand for a call or one whole value of one argument for each, and what is refused ends the
 -- process or answers an error number
 pub record AreFilters (settings : FilterSettings) (table : Table) (filters : List Filter) : Type 0 where

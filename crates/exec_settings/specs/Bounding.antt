@@ -1,6 +1,7 @@
 -- Capabilities that the settings of a unit take from its bounding set (systemd.exec(5), Sandboxing; capabilities(7)).
 use Rattle.std.specs.Prelude.{ℕ, Bool, cond}
-use Rattle.cred_settings.specs.linux_numbers.Capabilities.{cap_sys_module, cap_sys_rawio, cap_sys_time, cap_mknod, cap_syslog, cap_wake_alarm}
+use Rattle.cred_settings.specs.linux_numbers.Capabilities.{cap_sys_module, cap_sys_rawio, cap_sys_time, cap_mknod, cap_syslog}
+use Rattle.cred_settings.specs.linux_numbers.Capabilities.{cap_wake_alarm}
 use Rattle.cred_settings.specs.cap_sets.Sets.{minus, none, single, union}
 use Rattle.filter_settings.specs.declared.filter_rules.settings.FilterSettings.{FilterSettings}
 

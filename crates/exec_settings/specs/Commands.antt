@@ -1,5 +1,6 @@
 -- The commands of a service (systemd.service(5), ExecStart=).
-use Rattle.std.specs.Prelude.{ℕ, ◌==◌, ◌||◌, ◌&&◌, not, nat_le, cond, is_some, Bool, codes, Option, Some, None, List, [], ◌∷◌, ◌++◌, length, drop, take, slice_get, option_and_then}
+use Rattle.std.specs.Prelude.{ℕ, ◌==◌, ◌||◌, ◌&&◌, not, nat_le, cond, is_some, Bool, codes, Option, Some, None, List, [], ◌∷◌, ◌++◌, length}
+use Rattle.std.specs.Prelude.{drop, take, slice_get, option_and_then}
 use Rattle.std.specs.List.{filter_map, list_any, prefix_len}
 use Rattle.std.specs.Option.{option_map}
 use Rattle.std.specs.Str.{byte as ascii}
@@ -47,7 +48,8 @@ program_of text = program_by (fault_of text) text
 
 -- what the first word of a command says
 abbrev pub command_of_word : List ℕ → Option Command
-command_of_word word = option_map (λ program. record { is_privileged = list_any keeps_privileges (prefixes_of word); program = program }) (program_of (behind_prefixes word))
+command_of_word word = option_map (λ program. record { is_privileged = list_any keeps_privileges (prefixes_of word); program = program })
+    (program_of (behind_prefixes word))
 
 abbrev pub first_word : List ℕ → Option (List ℕ)
 first_word text = option_and_then (λ words. slice_get words 0) (words_if (words_of text))

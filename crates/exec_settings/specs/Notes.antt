@@ -34,7 +34,8 @@ text_notes unit = grammar_notes unit ++ unjudged_notes unit
 
 -- of users, groups and capabilities
 unfoldable pub credential_notes : Resolved → List FileNote
-credential_notes unit = dynamic_notes unit ++ (bounding_notes unit ++ (ambient_notes unit ++ (new_privileges_notes unit ++ identity_notes unit)))
+credential_notes unit = dynamic_notes unit ++
+    (bounding_notes unit ++ (ambient_notes unit ++ (new_privileges_notes unit ++ identity_notes unit)))
 
 -- all that is noted; of one key in the order of its values and words
 unfoldable pub all_notes : Resolved → Table → List FileNote

@@ -25,4 +25,5 @@ pub record AreSameFor (unit : Resolved) (site other : Site) : Type 0 where
 
 -- such sites give a unit the same settings
 abbrev pub SettingsRestOnFew : Type 0
-SettingsRestOnFew = (unit : Resolved) (table : Table) (site other : Site) (made : Settings) → AreSameFor unit site other → AreSettings unit table site made → AreSettings unit table other made
+SettingsRestOnFew = (unit : Resolved) (table : Table) (site other : Site) (made : Settings) → AreSameFor unit site other
+    → AreSettings unit table site made → AreSettings unit table other made

@@ -10,7 +10,8 @@ use Rattle.cred_settings.specs.declared.error.IdentityError.{IdentityError}
 use Rattle.cred_settings.specs.declared.error.IdentityError.TheVariants as ids
 use Rattle.exec_settings.specs.declared.commands.Command.{Command}
 use Rattle.exec_settings.specs.declared.errors.SettingsError.{SettingsError}
-use Rattle.exec_settings.specs.declared.errors.SettingsError.TheVariants.{NoCommand, PrivilegedCommand, OutsideProfile, NoSuchUser, NoSuchGroup, MissingGroup, TooManyPaths, Memory}
+use Rattle.exec_settings.specs.declared.errors.SettingsError.TheVariants.{NoCommand, PrivilegedCommand, OutsideProfile, NoSuchUser}
+use Rattle.exec_settings.specs.declared.errors.SettingsError.TheVariants.{NoSuchGroup, MissingGroup, TooManyPaths, Memory}
 use Rattle.exec_settings.specs.Commands.{unit_command}
 use Rattle.exec_settings.specs.Dynamic.{is_dynamic, unit_filters}
 use Rattle.exec_settings.specs.Groups.{missing_group}
@@ -37,7 +38,8 @@ outside unit command = option_map OutsideProfile (option_and_then (outside_key u
 
 -- why its command is not launched
 unfoldable pub command_refusal : Resolved → Option SettingsError
-command_refusal unit = first_reason (no_command (unit_command unit) ∷ privileged (unit_command unit) ∷ outside unit (unit_command unit) ∷ [])
+command_refusal unit = first_reason
+    (no_command (unit_command unit) ∷ privileged (unit_command unit) ∷ outside unit (unit_command unit) ∷ [])
 
 -- why its users and groups are refused
 abbrev pub identity_reason : Result Identity IdentityError → Option SettingsError

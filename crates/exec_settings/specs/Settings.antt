@@ -36,4 +36,5 @@ has_filter settings table = not (length (installed settings table) == 0)
 
 -- NoNewPrivileges= is in effect for a service with this uid
 abbrev pub unit_new_privileges : Resolved → Table → ℕ → Bool
-unit_new_privileges unit table uid = is_in_effect (sets_new_privileges unit) (has_filter (unit_filters unit table) table) uid (ambient_of unit)
+unit_new_privileges unit table uid = is_in_effect (sets_new_privileges unit) (has_filter (unit_filters unit table) table) uid
+    (ambient_of unit)

@@ -11,7 +11,8 @@ abbrev Agrees : List ℕ → List ℕ → List ℕ → Type 0
 Agrees front text name = bytes_eq (front ++ name) text ≡ option_map_or (λ end. bytes_eq name end) (after front text) false
 
 first_agrees : (b : Bool) (front text name : List ℕ) → Agrees front text name
-    → (b && bytes_eq (front ++ name) text) ≡ option_map_or (λ end. bytes_eq name end) (cond (b && bytes_eq front (take (length front) text)) (Some (drop (length front) text)) None) false
+    → (b && bytes_eq (front ++ name) text) ≡ option_map_or (λ end. bytes_eq name end)
+    (cond (b && bytes_eq front (take (length front) text)) (Some (drop (length front) text)) None) false
 first_agrees true front text name h = h
 first_agrees false front text name h = refl
 
@@ -25,7 +26,8 @@ pub found : (front text end : List ℕ) (names : List (List ℕ)) → after fron
     → list_any (λ name. bytes_eq (front ++ name) text) names ≡ list_any (λ name. bytes_eq name end) names
 found front text end [] e = refl
 found front text end (name ∷ names) e =
-    ap (λ b. b || list_any (λ name. bytes_eq (front ++ name) text) names) (agrees front text name ∙ ap (λ rest. option_map_or (λ end. bytes_eq name end) rest false) e)
+    ap (λ b. b || list_any (λ name. bytes_eq (front ++ name) text) names)
+    (agrees front text name ∙ ap (λ rest. option_map_or (λ end. bytes_eq name end) rest false) e)
     ∙ ap (λ b. bytes_eq name end || b) (found front text end names e)
 
 -- and none does where the front does not stand there
@@ -33,5 +35,6 @@ pub not_found : (front text : List ℕ) (names : List (List ℕ)) → after fron
     → list_any (λ name. bytes_eq (front ++ name) text) names ≡ false
 not_found front text [] e = refl
 not_found front text (name ∷ names) e =
-    ap (λ b. b || list_any (λ name. bytes_eq (front ++ name) text) names) (agrees front text name ∙ ap (λ rest. option_map_or (λ end. bytes_eq name end) rest false) e)
+    ap (λ b. b || list_any (λ name. bytes_eq (front ++ name) text) names)
+    (agrees front text name ∙ ap (λ rest. option_map_or (λ end. bytes_eq name end) rest false) e)
     ∙ not_found front text names e

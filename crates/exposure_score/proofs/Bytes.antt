@@ -27,16 +27,20 @@ no_tree bytes h = by (is_utf8 bytes) refl
     by false e = refl
 
 -- too many tests, or all
-pub all_read : (members : List Member) (many : Bool) → first_fault members ≡ None → nat_lt 512 (length members) ≡ many → policy_in members ≡ unless_fault None many (tests_of members)
+pub all_read : (members : List Member) (many : Bool) → first_fault members ≡ None → nat_lt 512 (length members) ≡ many
+    → policy_in members ≡ unless_fault None many (tests_of members)
 all_read members many none e =
-    ap (λ fault. unless_fault fault (nat_lt 512 (length members)) (tests_of members)) none ∙ ap (λ b. unless_fault None b (tests_of members)) e
+    ap (λ fault. unless_fault fault (nat_lt 512 (length members)) (tests_of members)) none
+    ∙ ap (λ b. unless_fault None b (tests_of members)) e
 
 -- what the answer says of the bytes
-pub said_if_ok : (wanted : Result (List PolicyTest) PolicyError) (result : Result (List PolicyTest) PolicyError) → IsUnlessMemory result wanted → IfOk result (λ policy. wanted ≡ Ok policy)
+pub said_if_ok : (wanted : Result (List PolicyTest) PolicyError) (result : Result (List PolicyTest) PolicyError)
+    → IsUnlessMemory result wanted → IfOk result (λ policy. wanted ≡ Ok policy)
 said_if_ok wanted (Ok policy) h = h
 said_if_ok wanted (Err error) h = tt
 
-pub told_if_err : (wanted : Result (List PolicyTest) PolicyError) (result : Result (List PolicyTest) PolicyError) → IsUnlessMemory result wanted → IfErr result (λ error. error ≢ Memory → wanted ≡ Err error)
+pub told_if_err : (wanted : Result (List PolicyTest) PolicyError) (result : Result (List PolicyTest) PolicyError)
+    → IsUnlessMemory result wanted → IfErr result (λ error. error ≢ Memory → wanted ≡ Err error)
 told_if_err wanted (Ok policy) h = tt
 told_if_err wanted (Err Memory) h = λ other. absurd (other refl)
 told_if_err wanted (Err NotJson) h = λ other. h

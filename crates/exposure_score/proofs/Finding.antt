@@ -12,5 +12,6 @@ find_later test x xs e = ap (λ b. cond b (Some x) (find test xs)) e
 pub gives_none : {A B : Type 0} (give : A → Option B) (x : A) (xs : List A) → give x ≡ None → filter_map give (x ∷ xs) ≡ filter_map give xs
 gives_none give x xs e = rw e
 
-pub gives_one : {A B : Type 0} (give : A → Option B) (x : A) (xs : List A) (y : B) → give x ≡ Some y → filter_map give (x ∷ xs) ≡ y ∷ filter_map give xs
+pub gives_one : {A B : Type 0} (give : A → Option B) (x : A) (xs : List A) (y : B) → give x ≡ Some y
+    → filter_map give (x ∷ xs) ≡ y ∷ filter_map give xs
 gives_one give x xs y e = rw e

@@ -28,5 +28,6 @@ pub record IsReading (all rest : List Member) (tests : List PolicyTest) : Type 0
 pub begins : (all : List Member) → IsReading all all []
 begins all = record { same_fault = refl; same_tests = refl }
 
-pub begins_at : (entries iterator : List Entry) (tests : List PolicyTest) → iterator ≡ entries → tests ≡ [] → IsReading (members_of (members_view entries)) (map member_at iterator) tests
+pub begins_at : (entries iterator : List Entry) (tests : List PolicyTest) → iterator ≡ entries → tests ≡ []
+    → IsReading (members_of (members_view entries)) (map member_at iterator) tests
 begins_at entries iterator tests same none = rw (same, none, members_of_entries entries) (begins (map member_at entries))

@@ -1,5 +1,6 @@
 -- Members stand in byte order of their names: as a map holds them, and as a text is read.
-use Rattle.std.proofs.Common.{◌≡◌, ℕ, Bool, true, false, cond, List, [], ◌∷◌, map, Some, None, Option, String, Global, Ordering, Less, Equal, Greater, string_bytes, string_cmp, nat_cmp, refl, ap, ◌∙◌, subst}
+use Rattle.std.proofs.Common.{◌≡◌, ℕ, Bool, true, false, cond, List, [], ◌∷◌, map, Some, None, Option, String, Global, Ordering, Less}
+use Rattle.std.proofs.Common.{Equal, Greater, string_bytes, string_cmp, nat_cmp, refl, ap, ◌∙◌, subst}
 use Rattle.std.specs.Prelude.{option_map, option_and_then}
 use Rattle.std.specs.Cmp.Lexicographic.{slice_cmp}
 use Rattle.std.specs.List.{AllByRecursion}
@@ -36,22 +37,29 @@ entries_ascend (entry ∷ entries) h = (keys_above entry.0 entries h.0, entries_
 abbrev pub Above : List ℕ → List ℕ → Type 0
 Above name other = slice_cmp nat_cmp name other ≡ Less
 
-pub above_through : (name other : List ℕ) (others : List (List ℕ)) → Above name other → AllByRecursion (Above other) others → AllByRecursion (Above name) others
+pub above_through : (name other : List ℕ) (others : List (List ℕ)) → Above name other → AllByRecursion (Above other) others
+    → AllByRecursion (Above name) others
 above_through name other [] h all = tt
-above_through name other (third ∷ others) h all = (nat_list_cmp_total.trans name other third h all.0, above_through name other others h all.1)
+above_through name other (third ∷ others) h all =
+    (nat_list_cmp_total.trans name other third h all.0, above_through name other others h all.1)
 
-put_above_at : (o : Ordering) (name k l : List ℕ) (d e : Data) (members : Members) → Above name k → AllByRecursion (Above name) (names_of (member l e members))
+put_above_at : (o : Ordering) (name k l : List ℕ) (d e : Data) (members : Members) → Above name k
+    → AllByRecursion (Above name) (names_of (member l e members))
     → AllByRecursion (Above name) (names_of (put k d members))
-    → AllByRecursion (Above name) (names_of (match_ordering o (member k d (member l e members)) (member l d members) (member l e (put k d members))))
+    → AllByRecursion (Above name)
+    (names_of (match_ordering o (member k d (member l e members)) (member l d members) (member l e (put k d members))))
 put_above_at Less name k l d e members h all more = (h, all)
 put_above_at Equal name k l d e members h all more = all
 put_above_at Greater name k l d e members h all more = (all.0, more)
 
-put_above : (name k : List ℕ) (d : Data) (members : Members) → Above name k → AllByRecursion (Above name) (names_of members) → AllByRecursion (Above name) (names_of (put k d members))
+put_above : (name k : List ℕ) (d : Data) (members : Members) → Above name k → AllByRecursion (Above name) (names_of members)
+    → AllByRecursion (Above name) (names_of (put k d members))
 put_above name k d no_members h all = (h, tt)
-put_above name k d (member l e members) h all = put_above_at (slice_cmp nat_cmp k l) name k l d e members h all (put_above name k d members h all.1)
+put_above name k d (member l e members) h all = put_above_at (slice_cmp nat_cmp k l) name k l d e members h all
+    (put_above name k d members h all.1)
 
-put_ascends_at : (o : Ordering) (k l : List ℕ) (d e : Data) (members : Members) → slice_cmp nat_cmp k l ≡ o → AreAscending (names_of (member l e members)) → AreAscending (names_of (put k d members))
+put_ascends_at : (o : Ordering) (k l : List ℕ) (d e : Data) (members : Members) → slice_cmp nat_cmp k l ≡ o
+    → AreAscending (names_of (member l e members)) → AreAscending (names_of (put k d members))
     → AreAscending (names_of (match_ordering o (member k d (member l e members)) (member l d members) (member l e (put k d members))))
 unfolding IsStrictlySortedBy
 put_ascends_at Less k l d e members is up more = ((is, above_through k l (names_of members) is up.0), up)
@@ -60,7 +68,8 @@ put_ascends_at Greater k l d e members is up more =
     let above : Above l k = nat_list_cmp_total.antisymm l k ∙ ap ordering_reverse is in
     (put_above l k d members above up.0, more)
 
-pub tail_ascends : (l : List ℕ) (e : Data) (members : Members) → AreAscending (names_of (member l e members)) → AreAscending (names_of members)
+pub tail_ascends : (l : List ℕ) (e : Data) (members : Members) → AreAscending (names_of (member l e members))
+    → AreAscending (names_of members)
 unfolding IsStrictlySortedBy
 tail_ascends l e members up = up.1
 
@@ -77,7 +86,8 @@ put_ascends k d no_members up = one_ascends k
 put_ascends k d (member l e members) up =
     put_ascends_at (slice_cmp nat_cmp k l) k l d e members refl up (put_ascends k d members (tail_ascends l e members up))
 
-members_ascend : (members : json.Members) (found result : Members) → AreAscending (names_of found) → of_members members found ≡ Some result → AreAscending (names_of result)
+members_ascend : (members : json.Members) (found result : Members) → AreAscending (names_of found)
+    → of_members members found ≡ Some result → AreAscending (names_of result)
 members_ascend json.no_members found result up e =
     let same : found ≡ result = cc in
     subst (λ (one : Members). AreAscending (names_of one)) same up
@@ -103,7 +113,8 @@ json_ascends (json.boolean b) members e = cc
 json_ascends (json.number s) members e = absurd (number_is_none (number_of s) members e)
 json_ascends (json.string s) members e = cc
 json_ascends (json.array items) members e = absurd (array_is_none (of_items items) members e)
-json_ascends (json.object found) members e = members_ascend found no_members members none_ascends (object_is (of_members found no_members) members e)
+json_ascends (json.object found) members e = members_ascend found no_members members none_ascends
+    (object_is (of_members found no_members) members e)
 
 tree_ascends : (tree : Data) (members : Members) → as_object tree ≡ Some members → tree ≡ object members
 tree_ascends null members e = cc

@@ -33,7 +33,8 @@ either_weighs one other = by_tests (nat_lt 0 one) refl (nat_lt 0 other) refl
 
 -- of the tests that count
 module _ (counts : PolicyTest → Bool) where
-  pub any_weighs : (policy : List PolicyTest) → list_any (λ test. nat_lt 0 test.weight && counts test) policy ≡ nat_lt 0 (sum_by (λ test. test.weight) (filter counts policy))
+  pub any_weighs : (policy : List PolicyTest) → list_any (λ test. nat_lt 0 test.weight && counts test) policy
+      ≡ nat_lt 0 (sum_by (λ test. test.weight) (filter counts policy))
   any_weighs [] = refl
   any_weighs (test ∷ policy) = by_test (any_weighs policy) (counts test)
     where
@@ -45,11 +46,14 @@ module _ (counts : PolicyTest → Bool) where
       neither true = refl
       neither false = refl
 
-      by_test : list_any (λ test. nat_lt 0 test.weight && counts test) policy ≡ nat_lt 0 (sum_by (λ test. test.weight) (filter counts policy)) → (b : Bool)
-          → ((nat_lt 0 test.weight && b) || list_any (λ test. nat_lt 0 test.weight && counts test) policy) ≡ nat_lt 0 (sum_by (λ test. test.weight) (cond b (test ∷ filter counts policy) (filter counts policy)))
+      by_test : list_any (λ test. nat_lt 0 test.weight && counts test) policy
+          ≡ nat_lt 0 (sum_by (λ test. test.weight) (filter counts policy)) → (b : Bool)
+          → ((nat_lt 0 test.weight && b) || list_any (λ test. nat_lt 0 test.weight && counts test) policy)
+          ≡ nat_lt 0 (sum_by (λ test. test.weight) (cond b (test ∷ filter counts policy) (filter counts policy)))
       by_test rest true =
           ap (λ b. b || list_any (λ test. nat_lt 0 test.weight && counts test) policy) (both (nat_lt 0 test.weight))
           ∙ ap (λ b. nat_lt 0 test.weight || b) rest
           ∙ either_weighs test.weight (sum_by (λ (test : PolicyTest). test.weight) (filter counts policy))
           ∙ ap (nat_lt 0) (sym (sum_by-cons (λ (test : PolicyTest). test.weight) test (filter counts policy)))
-      by_test rest false = ap (λ b. b || list_any (λ test. nat_lt 0 test.weight && counts test) policy) (neither (nat_lt 0 test.weight)) ∙ rest
+      by_test rest false = ap (λ b. b || list_any (λ test. nat_lt 0 test.weight && counts test) policy) (neither (nat_lt 0 test.weight))
+          ∙ rest

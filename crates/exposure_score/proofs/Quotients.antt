@@ -37,4 +37,5 @@ min_below badness range = omega arith
 pub term_below : (badness range weight : ℕ) → 0 < range → term badness range weight ≤ weight
 term_below badness range weight some =
     let part : min badness range * weight ≤ range * weight = mul-le-mul_right weight (min_below badness range) in
-    (term_is_rounded_up badness range weight some).least weight (subst (λ (n : ℕ). min badness range * weight ≤ n) (mul_comm range weight) part)
+    (term_is_rounded_up badness range weight some).least weight
+    (subst (λ (n : ℕ). min badness range * weight ≤ n) (mul_comm range weight) part)

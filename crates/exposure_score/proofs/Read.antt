@@ -26,7 +26,8 @@ module _ (entries : List Entry) where
       let same : length read_members ≡ length entries = as_many_entries entries in
       grind (arith, nat_tests)
 
-  pub is_policy_read : (number : ℕ) (tests : List PolicyTest) → number ≡ length entries → number ≤ 512 → IsStrictlySortedBy string_cmp (keys_of entries)
+  pub is_policy_read : (number : ℕ) (tests : List PolicyTest) → number ≡ length entries → number ≤ 512
+      → IsStrictlySortedBy string_cmp (keys_of entries)
       → first_fault read_members ≡ None → tests ≡ tests_of read_members → IsPolicy tests
   is_policy_read number tests is few ordered none same =
       let many : length read_members ≡ length entries = as_many_entries entries in

@@ -9,13 +9,16 @@ use Rattle.exec_settings.specs.call_table.Table.{Table}
 use Rattle.exposure_score.specs.declared.facts.Fact.{Fact}
 use Rattle.exposure_score.specs.declared.service_facts.sandbox.Sandbox.{Sandbox}
 use Rattle.exposure_score.specs.declared.service_facts.lines.Matter.{Matter}
-use Rattle.exposure_score.specs.declared.service_facts.lines.Matter.TheVariants.{RunsAsRoot, NamesGroups, GainsPrivileges, HasAmbient, Lacks, WritesSystem, SeesHomes, EachCapability, EachNamespaceType, EachFamily, InternetFamilies, EachGroup}
+use Rattle.exposure_score.specs.declared.service_facts.lines.Matter.TheVariants.{RunsAsRoot, NamesGroups, GainsPrivileges, HasAmbient}
+use Rattle.exposure_score.specs.declared.service_facts.lines.Matter.TheVariants.{Lacks, WritesSystem, SeesHomes, EachCapability}
+use Rattle.exposure_score.specs.declared.service_facts.lines.Matter.TheVariants.{EachNamespaceType, EachFamily, InternetFamilies, EachGroup}
 use Rattle.exposure_score.specs.service_facts.Each.{End, ends, names, has_internet, alone}
 use Rattle.exposure_score.specs.service_facts.Table.{Line, lines}
 use Rattle.exposure_score.specs.service_facts.Facts.{Told, told, behind, told_by_line, told_by_lines, AreTests, is_of_line, is_known}
 use Rattle.exposure_score.proofs.Mapped.{list_any-map}
 
-first_of_pairs : {X : Type 0} (name : X → List ℕ) (badness : X → ℕ) (xs : List X) → map (λ (end : End). end.0) (map (λ x. (name x, badness x)) xs) ≡ map name xs
+first_of_pairs : {X : Type 0} (name : X → List ℕ) (badness : X → ℕ) (xs : List X)
+    → map (λ (end : End). end.0) (map (λ x. (name x, badness x)) xs) ≡ map name xs
 first_of_pairs name badness [] = refl
 first_of_pairs name badness (x ∷ xs) = ap (λ more. name x ∷ more) (first_of_pairs name badness xs)
 
@@ -23,7 +26,8 @@ first_where : (b : Bool) (badness : ℕ) → map (λ (end : End). end.0) (cond b
 first_where true badness = refl
 first_where false badness = refl
 
-names_of_ends : (sandbox : Sandbox) (table : Table) (matter : Matter) → map (λ (end : End). end.0) (ends sandbox table matter) ≡ names table matter
+names_of_ends : (sandbox : Sandbox) (table : Table) (matter : Matter)
+    → map (λ (end : End). end.0) (ends sandbox table matter) ≡ names table matter
 names_of_ends sandbox table RunsAsRoot = refl
 names_of_ends sandbox table NamesGroups = refl
 names_of_ends sandbox table GainsPrivileges = refl
@@ -38,7 +42,8 @@ names_of_ends sandbox table InternetFamilies = first_where (has_internet table) 
 names_of_ends sandbox table EachGroup = first_of_pairs _ _ table.groups
 
 -- of one line
-in_line : (sandbox : Sandbox) (table : Table) (id : List ℕ) (line : Line) → list_any (λ (one : Told). bytes_eq one.0 id) (told_by_line sandbox table line) ≡ is_of_line table id line
+in_line : (sandbox : Sandbox) (table : Table) (id : List ℕ) (line : Line)
+    → list_any (λ (one : Told). bytes_eq one.0 id) (told_by_line sandbox table line) ≡ is_of_line table id line
 in_line sandbox table id line =
     list_any-map (λ (one : Told). bytes_eq one.0 id) (behind line.0) (ends sandbox table line.1)
     ∙ (sym (list_any-map (λ name. bytes_eq (line.0 ++ name) id) (λ (end : End). end.0) (ends sandbox table line.1))
@@ -50,7 +55,8 @@ in_lines : (sandbox : Sandbox) (table : Table) (id : List ℕ) (rows : List Line
 in_lines sandbox table id [] = refl
 in_lines sandbox table id (line ∷ rows) =
     list_any-append (λ (one : Told). bytes_eq one.0 id) (told_by_line sandbox table line) (flat_map (told_by_line sandbox table) rows)
-    ∙ (ap (λ b. b || list_any (λ (one : Told). bytes_eq one.0 id) (flat_map (told_by_line sandbox table) rows)) (in_line sandbox table id line)
+    ∙ (ap (λ b. b || list_any (λ (one : Told). bytes_eq one.0 id) (flat_map (told_by_line sandbox table) rows))
+    (in_line sandbox table id line)
     ∙ ap (λ b. is_of_line table id line || b) (in_lines sandbox table id rows))
 
 pub have_facts : (sandbox : Sandbox) (table : Table) (facts : List Fact) (id : List ℕ) → AreTests sandbox table facts

@@ -1,5 +1,6 @@
 -- The sums over the rows of a score.
-use Rattle.std.proofs.Common.{◌≡◌, ◌≤◌, ◌+◌, ◌*◌, ℕ, suc, Bool, true, false, cond, List, [], ◌∷◌, length, Some, None, Option, refl, sym, ap, ◌∙◌, subst, zero-add, arith}
+use Rattle.std.proofs.Common.{◌≡◌, ◌≤◌, ◌+◌, ◌*◌, ℕ, suc, Bool, true, false, cond, List, [], ◌∷◌, length, Some, None, Option, refl, sym, ap}
+use Rattle.std.proofs.Common.{◌∙◌, subst, zero-add, arith}
 use Rattle.std.specs.Prelude.{is_some, ◌||◌, filter, sum_by}
 use Rattle.std.specs.List.{AllZip, AllByRecursion}
 use Rattle.std.proofs.lemmas.List.Sums.{sum_by-cons}
@@ -13,12 +14,16 @@ use Rattle.exposure_score.specs.Arithmetic.{exposure}
 use Rattle.exposure_score.proofs.Quotients.{term_below}
 
 -- of a sum over what passes a test, the first
-sum_filter : {A : Type 0} (passes : A → Bool) (f : A → ℕ) (x : A) (xs : List A) (b : Bool) → passes x ≡ b → sum_by f (filter passes (x ∷ xs)) ≡ cond b (f x) 0 + sum_by f (filter passes xs)
-sum_filter passes f x xs true e = ap (λ c. sum_by f (cond c (x ∷ filter passes xs) (filter passes xs))) e ∙ sum_by-cons f x (filter passes xs)
-sum_filter passes f x xs false e = ap (λ c. sum_by f (cond c (x ∷ filter passes xs) (filter passes xs))) e ∙ sym (zero-add (sum_by f (filter passes xs)))
+sum_filter : {A : Type 0} (passes : A → Bool) (f : A → ℕ) (x : A) (xs : List A) (b : Bool) → passes x ≡ b
+    → sum_by f (filter passes (x ∷ xs)) ≡ cond b (f x) 0 + sum_by f (filter passes xs)
+sum_filter passes f x xs true e = ap (λ c. sum_by f (cond c (x ∷ filter passes xs) (filter passes xs))) e
+    ∙ sum_by-cons f x (filter passes xs)
+sum_filter passes f x xs false e = ap (λ c. sum_by f (cond c (x ∷ filter passes xs) (filter passes xs))) e
+    ∙ sym (zero-add (sum_by f (filter passes xs)))
 
 -- a test has a badness exactly where it is known
-known_by : {T : Type 0} (Answers : T → ℕ → Type 0) (fact : Option Fact) (stored : Option T) (badness : Option ℕ) → IsBadness Answers fact stored badness → (is_some fact || is_some stored) ≡ is_some badness
+known_by : {T : Type 0} (Answers : T → ℕ → Type 0) (fact : Option Fact) (stored : Option T) (badness : Option ℕ)
+    → IsBadness Answers fact stored badness → (is_some fact || is_some stored) ≡ is_some badness
 known_by Answers (Some fact) stored badness h = ap is_some (sym h)
 known_by Answers None (Some test) badness h = ap is_some (sym h.2)
 known_by Answers None None badness h = ap is_some (sym h)
@@ -34,7 +39,8 @@ adds_at test None is = record { weight = refl; term = omega arith; few = omega a
 adds_at test (Some badness) is = record { weight = refl; term = term_below badness test.range test.weight is.least_range; few = is.weight }
 
 module _ {T : Type 0} (id_of : T → List ℕ) (Answers : T → ℕ → Type 0) (facts : List Fact) (tests : List T) where
-  adds : (test : PolicyTest) (row : ScoreRow) → IsTest test → IsRow id_of Answers facts tests test row → Adds test (is_known id_of facts tests test.id) row
+  adds : (test : PolicyTest) (row : ScoreRow) → IsTest test → IsRow id_of Answers facts tests test row
+      → Adds test (is_known id_of facts tests test.id) row
   adds test row is h =
       let known = known_by Answers (fact_of facts test.id) (stored_of id_of tests test.id) h.badness h.has in
       subst (λ (b : Bool). Adds test b row) (sym known) (subst (Adds test (is_some h.badness)) (sym h.says) (adds_at test h.badness is))
@@ -46,7 +52,8 @@ module _ {T : Type 0} (id_of : T → List ℕ) (Answers : T → ℕ → Type 0) 
     pub few : sum_by (λ row. row.weight) rows ≤ 1000000 * length policy
     pub as_many : length rows ≡ length policy
 
-  pub sums : (policy : List PolicyTest) (rows : List ScoreRow) → AllByRecursion IsTest policy → AllZip (IsRow id_of Answers facts tests) policy rows → Sums policy rows
+  pub sums : (policy : List PolicyTest) (rows : List ScoreRow) → AllByRecursion IsTest policy
+      → AllZip (IsRow id_of Answers facts tests) policy rows → Sums policy rows
   sums [] [] are zip = record { weights = refl; terms = omega arith; few = omega arith; as_many = refl }
   sums [] (row ∷ rows) are zip = absurd zip
   sums (test ∷ policy) [] are zip = absurd zip
@@ -66,14 +73,17 @@ module _ {T : Type 0} (id_of : T → List ℕ) (Answers : T → ℕ → Type 0) 
     pub few_weights : sum_by (λ row. row.weight) rows ≤ 512000000
     pub few_rows : length rows ≤ 512
 
-  totals_of : (policy : List PolicyTest) (rows : List ScoreRow) → IsPolicy policy → AllZip (IsRow id_of Answers facts tests) policy rows → Totals policy rows
+  totals_of : (policy : List PolicyTest) (rows : List ScoreRow) → IsPolicy policy → AllZip (IsRow id_of Answers facts tests) policy rows
+      → Totals policy rows
   totals_of policy rows is zip =
       let s = sums policy rows is.each_test zip in
       let few : length policy ≤ 512 = is.few in
       record { zip = zip; weights = s.weights; terms = s.terms; few_weights = omega (arith, s.few); few_rows = omega (arith, s.as_many) }
 
-  pub totals : (policy held : List PolicyTest) (rows : List ScoreRow) → held ≡ policy → IsPolicy policy → AllZip (IsRow id_of Answers facts tests) held rows → Totals policy rows
-  totals policy held rows same is zip = totals_of policy rows is (subst (λ (one : List PolicyTest). AllZip (IsRow id_of Answers facts tests) one rows) same zip)
+  pub totals : (policy held : List PolicyTest) (rows : List ScoreRow) → held ≡ policy → IsPolicy policy
+      → AllZip (IsRow id_of Answers facts tests) held rows → Totals policy rows
+  totals policy held rows same is zip = totals_of policy rows is
+      (subst (λ (one : List PolicyTest). AllZip (IsRow id_of Answers facts tests) one rows) same zip)
 
   module _ (policy : List PolicyTest) (rows shown : List ScoreRow) (made : Totals policy rows) (same : shown ≡ rows) where
     pub few_shown : length shown ≤ 512
@@ -97,7 +107,8 @@ module _ {T : Type 0} (id_of : T → List ℕ) (Answers : T → ℕ → Type 0) 
           let t = terms_are in
           omega (arith, made.terms)
 
-      pub is_score : (last : List ScoreRow) (bad : ℕ) → last ≡ rows → bad ≡ exposure terms weights → IsScore id_of Answers facts tests policy (record { rows = last; exposure = bad })
+      pub is_score : (last : List ScoreRow) (bad : ℕ) → last ≡ rows → bad ≡ exposure terms weights
+          → IsScore id_of Answers facts tests policy (record { rows = last; exposure = bad })
       is_score last bad end says = record {
         rows = subst (λ (one : List ScoreRow). AllZip (IsRow id_of Answers facts tests) policy one) (sym end) made.zip;
         exposure = says ∙ ap (λ n. exposure n weights) (terms_are ∙ ap (sum_by (λ (row : ScoreRow). row.term)) (sym end))

@@ -26,12 +26,15 @@ module _ (p q : PolicyTest → Bool) (same : (test : PolicyTest) → p test ≡ 
       ∙ ap (λ these. cond (q test) (test ∷ these) these) (filtered policy)
 
 -- by facts that are those of a unit
-pub weighs_alike : (unit : Resolved) (table : Table) (settings : Settings) (facts : Facts) (stored : StoredTests) (policy : List PolicyTest) → AreFacts unit table settings facts
+pub weighs_alike : (unit : Resolved) (table : Table) (settings : Settings) (facts : Facts) (stored : StoredTests)
+    (policy : List PolicyTest) → AreFacts unit table settings facts
     → counted_weight stored.id_of facts.tests stored.tests policy ≡ weight_of table stored policy
 unfolding is_counted
 weighs_alike unit table settings facts stored policy are =
     ap (λ (these : List PolicyTest). sum_by (λ (test : PolicyTest). test.weight) these)
-    (filtered (λ test. is_known_by stored.id_of facts.tests stored.tests test.id) (λ test. is_counted table stored.id_of stored.tests test.id)
+    (filtered (λ test. is_known_by stored.id_of facts.tests stored.tests test.id)
+    (λ test. is_counted table stored.id_of stored.tests test.id)
     (λ test. ap (λ b. b || is_some (stored_of stored.id_of stored.tests test.id))
-    (found (λ (fact : Fact). bytes_eq fact.id test.id) facts.tests ∙ have_facts (sandbox_of unit table settings) table facts.tests test.id are.tests))
+    (found (λ (fact : Fact). bytes_eq fact.id test.id) facts.tests
+    ∙ have_facts (sandbox_of unit table settings) table facts.tests test.id are.tests))
     policy)

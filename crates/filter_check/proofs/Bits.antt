@@ -26,7 +26,8 @@ min_one a b lt e = omega arith
 -- the bits that are known are those of the word
 pub known_bit : (word known bits place : ℕ) → bit_and word known ≡ bits → bit_at known place ≡ 1 → bit_at word place ≡ bit_at bits place
 known_bit word known bits place h one =
-    sym (min_one (bit_at word place) (bit_at known place) (bit_at-lt word place) one) ∙ sym (bit_at_and word known place) ∙ ap (λ n. bit_at n place) h
+    sym (min_one (bit_at word place) (bit_at known place) (bit_at-lt word place) one) ∙ sym (bit_at_and word known place)
+    ∙ ap (λ n. bit_at n place) h
 
 pub clear_bit : (known bits place : ℕ) → bit_and bits known ≡ bits → bit_at known place ≡ 0 → bit_at bits place ≡ 0
 clear_bit known bits place h e =
@@ -41,27 +42,34 @@ pub record Wider (known bits wide more place v : ℕ) : Type 0 where
   pub bit : bit_at more place ≡ v
   pub others : (i : ℕ) → (i ≡ place → ⊥) → bit_at more i ≡ bit_at bits i
 
-pub from_wider : (known bits wide more place v word : ℕ) → Wider known bits wide more place v → bit_and word wide ≡ more → bit_and word known ≡ bits
+pub from_wider : (known bits wide more place v word : ℕ) → Wider known bits wide more place v → bit_and word wide ≡ more
+    → bit_and word known ≡ bits
 from_wider known bits wide more place v word w h = same_from_bits _ _ (λ i.
     elim (cases_eq i place) [
       | inl e ↦ subst (λ j. bit_at (bit_and word known) j ≡ bit_at bits j) (sym e)
-          (bit_at_and word known place ∙ min_zero (bit_at word place) (bit_at known place) w.unknown ∙ sym (clear_bit known bits place w.clear w.unknown))
-      | inr ne ↦ bit_at_and word known i ∙ ap (λ n. min (bit_at word i) n) (sym (w.elsewhere i ne)) ∙ sym (bit_at_and word wide i) ∙ ap (λ n. bit_at n i) h ∙ w.others i ne
+          (bit_at_and word known place ∙ min_zero (bit_at word place) (bit_at known place) w.unknown
+          ∙ sym (clear_bit known bits place w.clear w.unknown))
+      | inr ne ↦ bit_at_and word known i ∙ ap (λ n. min (bit_at word i) n) (sym (w.elsewhere i ne)) ∙ sym (bit_at_and word wide i)
+          ∙ ap (λ n. bit_at n i) h ∙ w.others i ne
     ])
 
-pub to_wider : (known bits wide more place v word : ℕ) → Wider known bits wide more place v → bit_and word known ≡ bits → bit_at word place ≡ v → bit_and word wide ≡ more
+pub to_wider : (known bits wide more place v word : ℕ) → Wider known bits wide more place v → bit_and word known ≡ bits
+    → bit_at word place ≡ v → bit_and word wide ≡ more
 to_wider known bits wide more place v word w h e = same_from_bits _ _ (λ i.
     elim (cases_eq i place) [
       | inl i_is ↦ subst (λ j. bit_at (bit_and word wide) j ≡ bit_at more j) (sym i_is)
           (bit_at_and word wide place ∙ min_one (bit_at word place) (bit_at wide place) (bit_at-lt word place) w.here ∙ e ∙ sym w.bit)
-      | inr ne ↦ bit_at_and word wide i ∙ ap (λ n. min (bit_at word i) n) (w.elsewhere i ne) ∙ sym (bit_at_and word known i) ∙ ap (λ n. bit_at n i) h ∙ sym (w.others i ne)
+      | inr ne ↦ bit_at_and word wide i ∙ ap (λ n. min (bit_at word i) n) (w.elsewhere i ne) ∙ sym (bit_at_and word known i)
+          ∙ ap (λ n. bit_at n i) h ∙ sym (w.others i ne)
     ])
 
-pub wider_bit : (known bits wide more place v word : ℕ) → Wider known bits wide more place v → bit_and word wide ≡ more → bit_at word place ≡ v
+pub wider_bit : (known bits wide more place v word : ℕ) → Wider known bits wide more place v → bit_and word wide ≡ more
+    → bit_at word place ≡ v
 wider_bit known bits wide more place v word w h = known_bit word wide more place h w.here ∙ w.bit
 
 -- the two ways in which a place becomes known
-pub wider_one : (known bits place : ℕ) → place < 32 → bit_at known place ≡ 0 → bit_and bits known ≡ bits → Wider known bits (bit_or known (1 * 2 ^ place % 2 ^ 32)) (bit_or bits (1 * 2 ^ place % 2 ^ 32)) place 1
+pub wider_one : (known bits place : ℕ) → place < 32 → bit_at known place ≡ 0 → bit_and bits known ≡ bits
+    → Wider known bits (bit_or known (1 * 2 ^ place % 2 ^ 32)) (bit_or bits (1 * 2 ^ place % 2 ^ 32)) place 1
 wider_one known bits place lt unknown clear = record {
   unknown = unknown;
   clear = clear;
@@ -71,7 +79,8 @@ wider_one known bits place lt unknown clear = record {
   others = λ i ne. bit_at_set_other w32 bits place lt i ne;
 }
 
-pub wider_zero : (known bits place : ℕ) → place < 32 → bit_at known place ≡ 0 → bit_and bits known ≡ bits → Wider known bits (bit_or known (1 * 2 ^ place % 2 ^ 32)) bits place 0
+pub wider_zero : (known bits place : ℕ) → place < 32 → bit_at known place ≡ 0 → bit_and bits known ≡ bits
+    → Wider known bits (bit_or known (1 * 2 ^ place % 2 ^ 32)) bits place 0
 wider_zero known bits place lt unknown clear = record {
   unknown = unknown;
   clear = clear;
@@ -87,7 +96,8 @@ wider_clear known bits wide more place v w = same_from_bits _ _ (λ i.
     elim (cases_eq i place) [
       | inl e ↦ subst (λ j. bit_at (bit_and more wide) j ≡ bit_at more j) (sym e)
           (bit_at_and more wide place ∙ min_one (bit_at more place) (bit_at wide place) (bit_at-lt more place) w.here)
-      | inr ne ↦ bit_at_and more wide i ∙ ap (λ n. min n (bit_at wide i)) (w.others i ne) ∙ ap (λ n. min (bit_at bits i) n) (w.elsewhere i ne)
+      | inr ne ↦ bit_at_and more wide i ∙ ap (λ n. min n (bit_at wide i)) (w.others i ne)
+          ∙ ap (λ n. min (bit_at bits i) n) (w.elsewhere i ne)
           ∙ sym (bit_at_and bits known i) ∙ ap (λ n. bit_at n i) w.clear ∙ sym (w.others i ne)
     ])
 
@@ -122,29 +132,39 @@ pub set_to : (word place : ℕ) (set : Bool) → is_set word place ≡ set → b
 set_to word place true e = eqb-true (bit_at word place) 1 e
 set_to word place false e = unset word place e
 
-pub in_wider : (known bits wide more place word : ℕ) (set : Bool) → Wider known bits wide more place (bit_of set) → (bit_and word wide == more) ≡ ((bit_and word known == bits) && same (is_set word place) set)
+pub in_wider : (known bits wide more place word : ℕ) (set : Bool) → Wider known bits wide more place (bit_of set)
+    → (bit_and word wide == more) ≡ ((bit_and word known == bits) && same (is_set word place) set)
 in_wider known bits wide more place word set w = same_bools _ _
     (λ h. let e = eqb-true (bit_and word wide) more h in
-    and_from _ _ (eq-eqb (bit_and word known) bits (from_wider known bits wide more place (bit_of set) word w e)) (is_same _ _ (set_from word place set (wider_bit known bits wide more place (bit_of set) word w e))))
+    and_from _ _ (eq-eqb (bit_and word known) bits (from_wider known bits wide more place (bit_of set) word w e))
+    (is_same _ _ (set_from word place set (wider_bit known bits wide more place (bit_of set) word w e))))
     (λ h. let p = and_parts (bit_and word known == bits) (same (is_set word place) set) h in
-    eq-eqb (bit_and word wide) more (to_wider known bits wide more place (bit_of set) word w (eqb-true (bit_and word known) bits p.0) (set_to word place set (same_is _ _ p.1))))
+    eq-eqb (bit_and word wide) more
+    (to_wider known bits wide more place (bit_of set) word w (eqb-true (bit_and word known) bits p.0)
+    (set_to word place set (same_is _ _ p.1))))
 
-pub one_known : (known bits place : ℕ) → place < 32 → is_set known place ≡ false → bit_and bits known ≡ bits → Wider known bits (bit_or known (1 * 2 ^ place % 2 ^ 32)) (bit_or bits (1 * 2 ^ place % 2 ^ 32)) place (bit_of true)
+pub one_known : (known bits place : ℕ) → place < 32 → is_set known place ≡ false → bit_and bits known ≡ bits
+    → Wider known bits (bit_or known (1 * 2 ^ place % 2 ^ 32)) (bit_or bits (1 * 2 ^ place % 2 ^ 32)) place (bit_of true)
 one_known known bits place lt unknown clear = wider_one known bits place lt (unset known place unknown) clear
 
-pub zero_known : (known bits place : ℕ) → place < 32 → is_set known place ≡ false → bit_and bits known ≡ bits → Wider known bits (bit_or known (1 * 2 ^ place % 2 ^ 32)) bits place (bit_of false)
+pub zero_known : (known bits place : ℕ) → place < 32 → is_set known place ≡ false → bit_and bits known ≡ bits
+    → Wider known bits (bit_or known (1 * 2 ^ place % 2 ^ 32)) bits place (bit_of false)
 zero_known known bits place lt unknown clear = wider_zero known bits place lt (unset known place unknown) clear
 
 -- where the place is known already, its bit is that of the set
-pub known_set : (word known bits place : ℕ) → (bit_and word known == bits) ≡ true → is_set known place ≡ true → is_set word place ≡ is_set bits place
-known_set word known bits place h one = ap (λ n. n == 1) (known_bit word known bits place (eqb-true _ _ h) (eqb-true (bit_at known place) 1 one))
+pub known_set : (word known bits place : ℕ) → (bit_and word known == bits) ≡ true → is_set known place ≡ true
+    → is_set word place ≡ is_set bits place
+known_set word known bits place h one =
+    ap (λ n. n == 1) (known_bit word known bits place (eqb-true _ _ h) (eqb-true (bit_at known place) 1 one))
 
-pub in_known_same : (word known bits place : ℕ) (set : Bool) → is_set known place ≡ true → is_set bits place ≡ set → (bit_and word known == bits) ≡ ((bit_and word known == bits) && same (is_set word place) set)
+pub in_known_same : (word known bits place : ℕ) (set : Bool) → is_set known place ≡ true → is_set bits place ≡ set
+    → (bit_and word known == bits) ≡ ((bit_and word known == bits) && same (is_set word place) set)
 in_known_same word known bits place set one e = same_bools _ _
     (λ h. and_from _ _ h (is_same _ _ (known_set word known bits place h one ∙ e)))
     (λ h. (and_parts (bit_and word known == bits) (same (is_set word place) set) h).0)
 
-pub in_known_other : (word known bits place : ℕ) (set : Bool) → is_set known place ≡ true → (is_set bits place ≡ set → ⊥) → false ≡ ((bit_and word known == bits) && same (is_set word place) set)
+pub in_known_other : (word known bits place : ℕ) (set : Bool) → is_set known place ≡ true → (is_set bits place ≡ set → ⊥)
+    → false ≡ ((bit_and word known == bits) && same (is_set word place) set)
 in_known_other word known bits place set one ne = same_bools _ _
     (λ h. absurd (both_ways false refl h))
     (λ h. let p = and_parts (bit_and word known == bits) (same (is_set word place) set) h in
@@ -152,7 +172,8 @@ in_known_other word known bits place set one ne = same_bools _ _
 
 -- a bit under a mask
 pub masked_on : (word mask place : ℕ) → is_set mask place ≡ true → is_set (bit_and word mask) place ≡ is_set word place
-masked_on word mask place h = ap (λ n. n == 1) (bit_at_and word mask place ∙ min_one (bit_at word place) (bit_at mask place) (bit_at-lt word place) (eqb-true (bit_at mask place) 1 h))
+masked_on word mask place h = ap (λ n. n == 1) (bit_at_and word mask place
+    ∙ min_one (bit_at word place) (bit_at mask place) (bit_at-lt word place) (eqb-true (bit_at mask place) 1 h))
 
 pub masked_off : (word mask place : ℕ) → is_set mask place ≡ false → is_set (bit_and word mask) place ≡ false
 masked_off word mask place h = ne_eqb (bit_at (bit_and word mask) place) 1 (λ one. let zero : bit_at (bit_and word mask) place ≡ 0 = bit_at_and word mask place ∙ min_zero (bit_at word place) (bit_at mask place) (unset mask place h) in absurd (omega (arith, one, zero)))

@@ -18,7 +18,8 @@ one_less (x ∷ xs) zero lt = refl
 one_less (x ∷ xs) (suc k) lt = ap suc (one_less xs k (omega (arith, lt)))
 
 -- what stands at another place stays
-stays : (xs : List (List ℕ)) (k j : ℕ) (path : List ℕ) → j ≢ k → slice_get xs j ≡ Some path → (i : ℕ) × (slice_get (without xs k) i ≡ Some path)
+stays : (xs : List (List ℕ)) (k j : ℕ) (path : List ℕ) → j ≢ k → slice_get xs j ≡ Some path
+    → (i : ℕ) × (slice_get (without xs k) i ≡ Some path)
 unfolding without
 stays [] k j path ne e = (j, e)
 stays (x ∷ xs) zero zero path ne e = absurd (ne refl)
@@ -33,7 +34,8 @@ once_behind : (x : List ℕ) (xs : List (List ℕ)) → EachOnce (x ∷ xs) → 
 once_behind x xs once one other path e f = let h = once (suc one) (suc other) path e f in omega (arith, h)
 
 -- paths that stand once, each of which stands in the others, are at most as many as those
-at_most : (xs ys : List (List ℕ)) → EachOnce xs → ((k : ℕ) (path : List ℕ) → slice_get xs k ≡ Some path → (j : ℕ) × (slice_get ys j ≡ Some path)) → length xs ≤ length ys
+at_most : (xs ys : List (List ℕ)) → EachOnce xs
+    → ((k : ℕ) (path : List ℕ) → slice_get xs k ≡ Some path → (j : ℕ) × (slice_get ys j ≡ Some path)) → length xs ≤ length ys
 at_most [] ys once inside = omega arith
 at_most (x ∷ xs) ys once inside =
     let here = inside 0 x refl in
@@ -46,9 +48,11 @@ at_most (x ∷ xs) ys once inside =
     let less = one_less ys here.0 (slice_get_within ys here.0 x here.1) in
     omega (arith, rest, less)
 
-few_paths : (code : List Insn) (some : List (List ℕ)) (count : ℕ) → EachOnce some → ((path : List ℕ) → Contains some path → IsPath code path) → HasPaths code count → length some ≤ count
+few_paths : (code : List Insn) (some : List (List ℕ)) (count : ℕ) → EachOnce some
+    → ((path : List ℕ) → Contains some path → IsPath code path) → HasPaths code count → length some ≤ count
 few_paths code some count once are (paths, all, e) =
-    subst (λ n. length some ≤ n) e (at_most some paths once (λ k path at. found_of paths path (all.all_paths path (are path (contains_from some k path at)))))
+    subst (λ n. length some ≤ n) e
+    (at_most some paths once (λ k path at. found_of paths path (all.all_paths path (are path (contains_from some k path at)))))
 
 pub one_count : (code : List Insn) (one other : ℕ) → HasPaths code one → HasPaths code other → one ≡ other
 one_count code one other h g =

@@ -20,17 +20,21 @@ use Rattle.filter_check.specs.declared.outcome.CheckError.TheVariants.{Memory}
 use Rattle.filter_check.specs.Finding.{AnswersAs, IsLeastDifference, IsLeastByRules, Finds, memory, same, differs, wanted_by}
 use Rattle.filter_check.proofs.Least.{one_answer}
 
-pub none_differs : (code ours : List Insn) (wanted : CallData → ℕ) (ends : List End) → AreEndsFor code IsCallData ends → AnswersAs ours wanted → IsLeastFrom ends ours None → AnswersAs code wanted
+pub none_differs : (code ours : List Insn) (wanted : CallData → ℕ) (ends : List End) → AreEndsFor code IsCallData ends
+    → AnswersAs ours wanted → IsLeastFrom ends ours None → AnswersAs code wanted
 none_differs code ours wanted ends are decides least = λ input fits.
     let a = are.all_data input fits fits in
     let one : IsEndFor code IsCallData a.1 = subst (IsEndFor code IsCallData) a.3 (are.each a.0 a.1 a.2) in
     let answers = one.answers input fits a.4 in
     elim (cases_eq a.1.answer (wanted input)) [
       | inl e ↦ subst (Answers code input) e answers
-      | inr ne ↦ absurd (least.no_later input a.1.answer (wanted input) record { fits = fits; of_end = (a.0, a.1, a.2, a.3, (a.4, refl)); answers = decides input fits; differ = ne })
+      | inr ne ↦ absurd (least.no_later input a.1.answer (wanted input) record
+          { fits = fits; of_end = (a.0, a.1, a.2, a.3, (a.4, refl)); answers = decides input fits; differ = ne })
     ]
 
-pub least_differs : (code ours : List Insn) (wanted : CallData → ℕ) (ends : List End) (found : Difference) → AreEndsFor code IsCallData ends → AnswersAs ours wanted → IsLeastFrom ends ours (Some found) → IsLeastDifference code wanted found.at found.theirs found.ours
+pub least_differs : (code ours : List Insn) (wanted : CallData → ℕ) (ends : List End) (found : Difference)
+    → AreEndsFor code IsCallData ends → AnswersAs ours wanted → IsLeastFrom ends ours (Some found)
+    → IsLeastDifference code wanted found.at found.theirs found.ours
 least_differs code ours wanted ends found are decides least =
     let h = least.is_one in
     let own = h.of_end in
@@ -50,15 +54,21 @@ least_differs code ours wanted ends found are decides least =
     }
 
 -- want of memory may come at any program
-pub memory_found : (code : List Insn) (wanted : CallData → ℕ) (result : Result Outcome CheckError) → IsErrAnd result (λ error. error ≡ Memory) → Finds code wanted result
+pub memory_found : (code : List Insn) (wanted : CallData → ℕ) (result : Result Outcome CheckError)
+    → IsErrAnd result (λ error. error ≡ Memory) → Finds code wanted result
 memory_found code wanted (Ok outcome) is = absurd is
 memory_found code wanted (Err error) is = subst (λ e. Finds code wanted (Err e)) (sym is) memory
 
 -- what the ends of a program give
-pub same_found : (code : List Insn) (rules : RuleSet) (ends : List End) → length ends ≤ 16384 → AreOfForm code → HasPaths code (length ends) → AreEndsFor code IsCallData ends → IsLeastByRules ends rules None → Finds code (wanted_by rules) (Ok (Same (length ends)))
+pub same_found : (code : List Insn) (rules : RuleSet) (ends : List End) → length ends ≤ 16384 → AreOfForm code
+    → HasPaths code (length ends) → AreEndsFor code IsCallData ends → IsLeastByRules ends rules None
+    → Finds code (wanted_by rules) (Ok (Same (length ends)))
 same_found code rules ends few form paths are (ours, answers, least) =
     same (length ends) record { form = form; paths = paths; few = few } (none_differs code ours (wanted_by rules) ends are answers least)
 
-pub differs_found : (code : List Insn) (rules : RuleSet) (ends : List End) (found : Difference) → length ends ≤ 16384 → AreOfForm code → HasPaths code (length ends) → AreEndsFor code IsCallData ends → IsLeastByRules ends rules (Some found) → Finds code (wanted_by rules) (Ok (Differs found.at found.theirs found.ours))
+pub differs_found : (code : List Insn) (rules : RuleSet) (ends : List End) (found : Difference) → length ends ≤ 16384 → AreOfForm code
+    → HasPaths code (length ends) → AreEndsFor code IsCallData ends → IsLeastByRules ends rules (Some found)
+    → Finds code (wanted_by rules) (Ok (Differs found.at found.theirs found.ours))
 differs_found code rules ends found few form paths are (ours, answers, least) =
-    differs (length ends) found.at found.theirs found.ours record { form = form; paths = paths; few = few } (least_differs code ours (wanted_by rules) ends found are answers least)
+    differs (length ends) found.at found.theirs found.ours record { form = form; paths = paths; few = few }
+    (least_differs code ours (wanted_by rules) ends found are answers least)

@@ -14,7 +14,9 @@ same_some : (x y : Insn) → Some x ≡ Some y → x ≡ y
 same_some x y e = cc
 
 -- what an instruction does is one thing
-same_effect : (code : List Insn) (input : CallData) (at : ℕ) (regs : Regs) (insn other : Insn) (one two : Option (Effect × Regs)) → slice_get code at ≡ Some insn → effect_by (op_of insn.code) insn regs input ≡ one → slice_get code at ≡ Some other → effect_by (op_of other.code) other regs input ≡ two → one ≡ two
+same_effect : (code : List Insn) (input : CallData) (at : ℕ) (regs : Regs) (insn other : Insn) (one two : Option (Effect × Regs))
+    → slice_get code at ≡ Some insn → effect_by (op_of insn.code) insn regs input ≡ one → slice_get code at ≡ Some other
+    → effect_by (op_of other.code) other regs input ≡ two → one ≡ two
 same_effect code input at regs insn other one two found effect found_other effect_other =
     let e : insn ≡ other = same_some insn other (sym found ∙ found_other) in
     sym effect ∙ ap (λ i. effect_by (op_of i.code) i regs input) e ∙ effect_other
@@ -33,25 +35,33 @@ regs_in : Regs → Option (Effect × Regs) → Regs
 regs_in other None = other
 regs_in other (Some (effect, regs)) = regs
 
-ends_or_goes_on : (answer skip : ℕ) (regs after : Regs) → ◌≡◌ {A = Option (Effect × Regs)} (Some (End answer, regs)) (Some (Skip skip, after)) → ⊥
+ends_or_goes_on : (answer skip : ℕ) (regs after : Regs) → ◌≡◌ {A = Option (Effect × Regs)} (Some (End answer, regs))
+    (Some (Skip skip, after)) → ⊥
 unfolding is_end
 ends_or_goes_on answer skip regs after e = true≢false (ap is_end e)
 
-same_skip : (one other : ℕ) (regs after : Regs) → ◌≡◌ {A = Option (Effect × Regs)} (Some (Skip one, regs)) (Some (Skip other, after)) → one ≡ other
+same_skip : (one other : ℕ) (regs after : Regs) → ◌≡◌ {A = Option (Effect × Regs)} (Some (Skip one, regs)) (Some (Skip other, after))
+    → one ≡ other
 unfolding skip_in
 same_skip one other regs after e = ap skip_in e
 
-same_after : (one other : ℕ) (regs after : Regs) → ◌≡◌ {A = Option (Effect × Regs)} (Some (Skip one, regs)) (Some (Skip other, after)) → regs ≡ after
+same_after : (one other : ℕ) (regs after : Regs) → ◌≡◌ {A = Option (Effect × Regs)} (Some (Skip one, regs)) (Some (Skip other, after))
+    → regs ≡ after
 unfolding regs_in
 same_after one other regs after e = ap (regs_in regs) e
 
-pub same_path : (code : List Insn) (input : CallData) (at : ℕ) (regs : Regs) (path other : List ℕ) (answer own : ℕ) → Takes code input at regs path answer → Takes code input at regs other own → path ≡ other
-same_path code input at regs path other answer own (ends _ _ after insn _ found effect) (ends _ _ then next _ found_other effect_other) = refl
-same_path code input at regs path other answer own (ends _ _ after insn _ found effect) (goes_on _ skip _ then next _ _ found_other effect_other more) =
+pub same_path : (code : List Insn) (input : CallData) (at : ℕ) (regs : Regs) (path other : List ℕ) (answer own : ℕ)
+    → Takes code input at regs path answer → Takes code input at regs other own → path ≡ other
+same_path code input at regs path other answer own (ends _ _ after insn _ found effect) (ends _ _ then next _ found_other effect_other) =
+    refl
+same_path code input at regs path other answer own (ends _ _ after insn _ found effect)
+    (goes_on _ skip _ then next _ _ found_other effect_other more) =
     absurd (ends_or_goes_on answer skip after then (same_effect code input at regs insn next _ _ found effect found_other effect_other))
-same_path code input at regs path other answer own (goes_on _ skip _ after insn _ _ found effect more) (ends _ _ then next _ found_other effect_other) =
+same_path code input at regs path other answer own (goes_on _ skip _ after insn _ _ found effect more)
+    (ends _ _ then next _ found_other effect_other) =
     absurd (ends_or_goes_on own skip then after (same_effect code input at regs next insn _ _ found_other effect_other found effect))
-same_path code input at regs path other answer own (goes_on _ skip _ after insn rest _ found effect more) (goes_on _ far _ then next others _ found_other effect_other further) =
+same_path code input at regs path other answer own (goes_on _ skip _ after insn rest _ found effect more)
+    (goes_on _ far _ then next others _ found_other effect_other further) =
     let e = same_effect code input at regs insn next _ _ found effect found_other effect_other in
     let here : Takes code input (at + 1 + skip) after others own =
     subst (λ n. Takes code input (at + 1 + n) after others own) (sym (same_skip skip far after then e))

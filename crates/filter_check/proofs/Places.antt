@@ -1,5 +1,6 @@
 -- How a masked word stands to a number, place by place from the highest on.
-use Rattle.std.proofs.Common.{◌≡◌, ℕ, ◌+◌, ◌*◌, ◌/◌, ◌%◌, ◌^◌, ◌<◌, ◌≤◌, Bool, true, false, not, ◌&&◌, ◌||◌, List, [], ◌∷◌, ◌++◌, refl, sym, ◌∙◌, ap, arith, inl, inr}
+use Rattle.std.proofs.Common.{◌≡◌, ℕ, ◌+◌, ◌*◌, ◌/◌, ◌%◌, ◌^◌, ◌<◌, ◌≤◌, Bool, true, false, not, ◌&&◌, ◌||◌, List, [], ◌∷◌, ◌++◌, refl, sym}
+use Rattle.std.proofs.Common.{◌∙◌, ap, arith, inl, inr}
 use Rattle.std.specs.Prelude.{◌==◌, bit_and, if◌then◌else◌}
 use Rattle.std.specs.Int.{bit_at}
 use Rattle.std.proofs.lemmas.Bool.{cases_lt, eqb-true, eq-eqb, ne_eqb, lt-ltb, le-ltb, and_parts, and_from, both_ways}
@@ -48,19 +49,26 @@ wants_below : (orders : Orders) (a b : ℕ) → a < b → wants orders a b ≡ o
 wants_below orders a b lt = ap (λ t. if t then orders.below else (if a == b then orders.equal else orders.above)) (lt-ltb a b lt)
 
 wants_above : (orders : Orders) (a b : ℕ) → b < a → wants orders a b ≡ orders.above
-wants_above orders a b lt = ap (λ t. if t then orders.below else (if a == b then orders.equal else orders.above)) (le-ltb a b (omega (arith, lt)))
+wants_above orders a b lt = ap (λ t. if t then orders.below else (if a == b then orders.equal else orders.above))
+    (le-ltb a b (omega (arith, lt)))
     ∙ ap (λ t. if t then orders.equal else orders.above) (ne_eqb a b (λ e. absurd (omega (arith, lt, e))))
 
 pub wants_equal : (orders : Orders) (a b : ℕ) → a ≡ b → wants orders a b ≡ orders.equal
-wants_equal orders a b e = ap (λ t. if t then orders.below else (if a == b then orders.equal else orders.above)) (le-ltb a b (omega (arith, e)))
+wants_equal orders a b e = ap (λ t. if t then orders.below else (if a == b then orders.equal else orders.above))
+    (le-ltb a b (omega (arith, e)))
     ∙ ap (λ t. if t then orders.equal else orders.above) (eq-eqb a b e)
 
-order_at : (orders : Orders) (a b place : ℕ) (set : Bool) → is_set b place ≡ set → a / 2 ^ (place + 1) ≡ b / 2 ^ (place + 1) → is_set a place ≡ not set → wants orders a b ≡ (if set then orders.below else orders.above)
-order_at orders a b place true one e zero_bit = wants_below orders a b (lower a b place e (set_to a place false zero_bit) (set_to b place true one))
-order_at orders a b place false zero_bit e one = wants_above orders a b (lower b a place (sym e) (set_to b place false zero_bit) (set_to a place true one))
+order_at : (orders : Orders) (a b place : ℕ) (set : Bool) → is_set b place ≡ set → a / 2 ^ (place + 1) ≡ b / 2 ^ (place + 1)
+    → is_set a place ≡ not set → wants orders a b ≡ (if set then orders.below else orders.above)
+order_at orders a b place true one e zero_bit = wants_below orders a b
+    (lower a b place e (set_to a place false zero_bit) (set_to b place true one))
+order_at orders a b place false zero_bit e one = wants_above orders a b
+    (lower b a place (sym e) (set_to b place false zero_bit) (set_to a place true one))
 
-pub decided_order : (orders : Orders) (a b place : ℕ) → same_high a b (place + 1) ≡ true → same (is_set a place) (is_set b place) ≡ false → wants orders a b ≡ (if is_set b place then orders.below else orders.above)
-decided_order orders a b place h d = order_at orders a b place (is_set b place) refl (eqb-true (a / 2 ^ (place + 1)) (b / 2 ^ (place + 1)) h) (not_same _ _ d)
+pub decided_order : (orders : Orders) (a b place : ℕ) → same_high a b (place + 1) ≡ true → same (is_set a place) (is_set b place) ≡ false
+    → wants orders a b ≡ (if is_set b place then orders.below else orders.above)
+decided_order orders a b place h d = order_at orders a b place (is_set b place) refl
+    (eqb-true (a / 2 ^ (place + 1)) (b / 2 ^ (place + 1)) h) (not_same _ _ d)
 
 same_not : (a b : Bool) → same a (not b) ≡ not (same a b)
 same_not true true = refl
@@ -68,7 +76,8 @@ same_not true false = refl
 same_not false true = refl
 same_not false false = refl
 
-merge : (old within h s m w : Bool) → (h ≡ true → s ≡ false → m ≡ w) → ((old || (within && (not h && m))) || ((within && h) && (w && not s))) ≡ (old || (within && (not (h && s) && m)))
+merge : (old within h s m w : Bool) → (h ≡ true → s ≡ false → m ≡ w)
+    → ((old || (within && (not h && m))) || ((within && h) && (w && not s))) ≡ (old || (within && (not (h && s) && m)))
 merge true within h s m w k = refl
 merge false false h s m w k = refl
 merge false true false s true w k = refl
@@ -96,8 +105,10 @@ or_false : (a : Bool) → (a || false) ≡ a
 or_false true = refl
 or_false false = refl
 
-pub any_push : (cubes : List Cube) (cube : Cube) (word : ℕ) → is_in_any (cubes ++ cube ∷ []) word ≡ (is_in_any cubes word || is_in cube word)
-any_push cubes cube word = list_any-append (λ one. is_in one word) cubes (cube ∷ []) ∙ ap (λ t. is_in_any cubes word || t) (or_false (is_in cube word))
+pub any_push : (cubes : List Cube) (cube : Cube) (word : ℕ) → is_in_any (cubes ++ cube ∷ []) word
+    ≡ (is_in_any cubes word || is_in cube word)
+any_push cubes cube word = list_any-append (λ one. is_in one word) cubes (cube ∷ [])
+    ∙ ap (λ t. is_in_any cubes word || t) (or_false (is_in cube word))
 
 -- which words are left at a place, and which were found to meet the condition
 abbrev pub high_of : Condition → ℕ → ℕ → Bool
@@ -107,7 +118,8 @@ abbrev pub LeftIs : Cube → Condition → Cube → ℕ → Type 0
 LeftIs cube condition left place = (word : ℕ) → word < 2 ^ 32 → is_in left word ≡ (is_in cube word && high_of condition place word)
 
 abbrev pub FoundIs : List Cube → Cube → Condition → List Cube → ℕ → Type 0
-FoundIs old cube condition found place = (word : ℕ) → word < 2 ^ 32 → is_in_any found word ≡ (is_in_any old word || (is_in cube word && (not (high_of condition place word) && meets condition word)))
+FoundIs old cube condition found place = (word : ℕ) → word < 2 ^ 32
+    → is_in_any found word ≡ (is_in_any old word || (is_in cube word && (not (high_of condition place word) && meets condition word)))
 
 and_same : (a b c : Bool) → ((a && b) && c) ≡ (a && (b && c))
 and_same true b c = refl
@@ -115,12 +127,17 @@ and_same false b c = refl
 
 -- the words with the number's bit at the place, and those that are decided there
 abbrev pub SameIs : Condition → Cube → (ℕ → Bool) → ℕ → Type 0
-SameIs condition left some place = (word : ℕ) → some word ≡ (is_in left word && same (is_set (bit_and word condition.mask) place) (is_set condition.number place))
+SameIs condition left some place = (word : ℕ)
+    → some word ≡ (is_in left word && same (is_set (bit_and word condition.mask) place) (is_set condition.number place))
 
 abbrev pub DecidedIs : Condition → Cube → List Cube → List Cube → ℕ → Type 0
-DecidedIs condition left old found place = (word : ℕ) → is_in_any found word ≡ (is_in_any old word || (is_in left word && (wanted_off condition place && same (is_set (bit_and word condition.mask) place) (not (is_set condition.number place)))))
+DecidedIs condition left old found place = (word : ℕ) → is_in_any found word
+    ≡ (is_in_any old word ||
+    (is_in left word && (wanted_off condition place && same (is_set (bit_and word condition.mask) place)
+    (not (is_set condition.number place)))))
 
-pub next_left : (cube left some : Cube) (condition : Condition) (above place : ℕ) → above ≡ place + 1 → LeftIs cube condition left above → SameIs condition left (is_in some) place → LeftIs cube condition some place
+pub next_left : (cube left some : Cube) (condition : Condition) (above place : ℕ) → above ≡ place + 1 → LeftIs cube condition left above
+    → SameIs condition left (is_in some) place → LeftIs cube condition some place
 next_left cube left some condition above place e l k word lt =
     let masked = bit_and word condition.mask in
     k word ∙ ap (λ t. t && same (is_set masked place) (is_set condition.number place)) (l word lt)
@@ -128,7 +145,9 @@ next_left cube left some condition above place e l k word lt =
     ∙ ap (λ n. is_in cube word && (same_high masked condition.number n && same (is_set masked place) (is_set condition.number place))) e
     ∙ ap (λ t. is_in cube word && t) (sym (split_high masked condition.number place))
 
-pub next_found : (old found next : List Cube) (cube left : Cube) (condition : Condition) (above place : ℕ) → above ≡ place + 1 → LeftIs cube condition left above → FoundIs old cube condition found above → DecidedIs condition left found next place → FoundIs old cube condition next place
+pub next_found : (old found next : List Cube) (cube left : Cube) (condition : Condition) (above place : ℕ) → above ≡ place + 1
+    → LeftIs cube condition left above → FoundIs old cube condition found above → DecidedIs condition left found next place
+    → FoundIs old cube condition next place
 next_found old found next cube left condition above place e l f d word lt =
     let masked = bit_and word condition.mask in
     let number = condition.number in
@@ -142,27 +161,33 @@ next_found old found next cube left condition above place e l f d word lt =
     d word
     ∙ ap (λ t. t || (is_in left word && (w && same (is_set masked place) (not (is_set number place))))) f'
     ∙ ap (λ t. (is_in_any old word || (within && (not h && m))) || (t && (w && same (is_set masked place) (not (is_set number place))))) l'
-    ∙ ap (λ t. (is_in_any old word || (within && (not h && m))) || ((within && h) && (w && t))) (same_not (is_set masked place) (is_set number place))
+    ∙ ap (λ t. (is_in_any old word || (within && (not h && m))) || ((within && h) && (w && t)))
+    (same_not (is_set masked place) (is_set number place))
     ∙ merge (is_in_any old word) within h s m w (decided_order condition.orders masked number place)
     ∙ ap (λ t. is_in_any old word || (within && (not t && m))) (sym (split_high masked number place))
 
 -- what is found at the end
 abbrev pub MeetingIs : List Cube → Cube → Condition → List Cube → Type 0
-MeetingIs old cube condition found = (word : ℕ) → word < 2 ^ 32 → is_in_any found word ≡ (is_in_any old word || (is_in cube word && meets condition word))
+MeetingIs old cube condition found = (word : ℕ) → word < 2 ^ 32
+    → is_in_any found word ≡ (is_in_any old word || (is_in cube word && meets condition word))
 
-pub ends_early : (old found : List Cube) (cube left : Cube) (condition : Condition) (above place : ℕ) → above ≡ place + 1 → LeftIs cube condition left above → SameIs condition left (λ word. false) place → FoundIs old cube condition found place → MeetingIs old cube condition found
+pub ends_early : (old found : List Cube) (cube left : Cube) (condition : Condition) (above place : ℕ) → above ≡ place + 1
+    → LeftIs cube condition left above → SameIs condition left (λ word. false) place → FoundIs old cube condition found place
+    → MeetingIs old cube condition found
 ends_early old found cube left condition above place e l k f word lt =
     let masked = bit_and word condition.mask in
     let s = same (is_set masked place) (is_set condition.number place) in
     let h = same_high masked condition.number (place + 1) in
     f word lt
     ∙ ap (λ t. is_in_any old word || (is_in cube word && (not t && meets condition word))) (split_high masked condition.number place)
-    ∙ none_left (is_in_any old word) (is_in cube word) h s (meets condition word) (k word ∙ ap (λ t. t && s) (l word lt ∙ ap (λ n. is_in cube word && same_high masked condition.number n) e))
+    ∙ none_left (is_in_any old word) (is_in cube word) h s (meets condition word)
+    (k word ∙ ap (λ t. t && s) (l word lt ∙ ap (λ n. is_in cube word && same_high masked condition.number n) e))
 
 whole : (a b : ℕ) → same_high a b 0 ≡ true → a ≡ b
 whole a b h = let e = eqb-true (a / 2 ^ 0) (b / 2 ^ 0) h in omega (arith, e)
 
-pub ends_with_equal : (old found last : List Cube) (cube left : Cube) (condition : Condition) → condition.orders.equal ≡ true → LeftIs cube condition left 0 → FoundIs old cube condition found 0 → last ≡ found ++ left ∷ [] → MeetingIs old cube condition last
+pub ends_with_equal : (old found last : List Cube) (cube left : Cube) (condition : Condition) → condition.orders.equal ≡ true
+    → LeftIs cube condition left 0 → FoundIs old cube condition found 0 → last ≡ found ++ left ∷ [] → MeetingIs old cube condition last
 ends_with_equal old found last cube left condition equal l f e word lt =
     ap (λ cubes. is_in_any cubes word) e ∙ any_push found left word
     ∙ ap (λ t. t || is_in left word) (f word lt)

@@ -33,10 +33,12 @@ line_refused lines (Digits number) is = other_line number is
 line_refused lines (Program error) is = absurd is
 line_refused lines Memory is = no_memory_lines
 
-pub lines_refused : (lines : List (List ℕ)) (error : FileError) (result : Result (List Insn) FileError) → IsErrAnd result (λ e. e ≡ error) → IsRefusedLine lines error → ReadsLines lines result
+pub lines_refused : (lines : List (List ℕ)) (error : FileError) (result : Result (List Insn) FileError) → IsErrAnd result (λ e. e ≡ error)
+    → IsRefusedLine lines error → ReadsLines lines result
 lines_refused lines error (Ok code) same is = absurd same
 lines_refused lines error (Err own) same is = subst (λ e. ReadsLines lines (Err e)) (sym same) (line_refused lines error is)
 
-pub out_of_memory : (lines : List (List ℕ)) (result : Result (List Insn) FileError) → IsErrAnd result (λ e. e ≡ Memory) → ReadsLines lines result
+pub out_of_memory : (lines : List (List ℕ)) (result : Result (List Insn) FileError) → IsErrAnd result (λ e. e ≡ Memory)
+    → ReadsLines lines result
 out_of_memory lines (Ok code) same = absurd same
 out_of_memory lines (Err own) same = subst (λ e. ReadsLines lines (Err e)) (sym same) no_memory_lines

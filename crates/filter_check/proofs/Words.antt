@@ -22,7 +22,8 @@ small_at (word ∷ words) (suc at) h = small_at words at h.1
 pub word_fits : (input : CallData) (at : ℕ) → IsCallData input → slice_index (words_of input) at < 2 ^ 32
 word_fits input at fits =
     let ip = small_halves input.ip fits.ip in
-    small_at (words_of input) at (fits.nr, (fits.arch, (ip.0, (ip.1, small_args input.args (recursion_from_All (λ arg. arg < 2 ^ 64) input.args fits.args)))))
+    small_at (words_of input) at
+    (fits.nr, (fits.arch, (ip.0, (ip.1, small_args input.args (recursion_from_All (λ arg. arg < 2 ^ 64) input.args fits.args)))))
 
 length_args : (args : List ℕ) → length (flat_map halves args) ≡ 2 * length args
 length_args [] = refl

@@ -50,7 +50,8 @@ pub data Finds (code : List Insn) (wanted : CallData → ℕ) : Result Outcome C
   foreign : (place : ℕ) → IsFirstForeign code place → Finds code wanted (Err (Form place))
   too_many : AreOfForm code → HasMorePaths code most_paths → Finds code wanted (Err TooManyPaths)
   same : (count : ℕ) → IsCompared code count → AnswersAs code wanted → Finds code wanted (Ok (Same count))
-  differs : (count : ℕ) (at : CallData) (theirs ours : ℕ) → IsCompared code count → IsLeastDifference code wanted at theirs ours → Finds code wanted (Ok (Differs at theirs ours))
+  differs : (count : ℕ) (at : CallData) (theirs ours : ℕ) → IsCompared code count → IsLeastDifference code wanted at theirs ours
+      → Finds code wanted (Ok (Differs at theirs ours))
   memory : Finds code wanted (Err Memory)
 
 -- so each answer but want of memory comes exactly where it is found: no other one is found there

@@ -29,16 +29,25 @@ done_is_answer unit ending done = subst (λ e. IsTrue (is_answer e)) (sym done) 
 pub together : (told : Option Files) (unit : List ℕ) → GoTogether (laws_over told (filter_laws unit))
 together told unit = go_together (filter_laws unit) told (done_is_answer unit)
 
-prints_them : (told : Option Files) (unit : List ℕ) (one : SettledUnit) (made : List FilterProgram) → IfSome told (λ files. (first_refusal (unit_refusals files unit) ≡ None) × (inputs_of files unit ≡ Some (inputs_view one.inputs))) → AreFilters (unit_filters (inputs_view one.inputs).unit (inputs_view one.inputs).calls) (inputs_view one.inputs).calls made → IfSome told (λ files. AcceptsFiles (filter_laws unit) files × PrintsFilters files unit (text_of made))
+prints_them : (told : Option Files) (unit : List ℕ) (one : SettledUnit) (made : List FilterProgram)
+    → IfSome told (λ files. (first_refusal (unit_refusals files unit) ≡ None) × (inputs_of files unit ≡ Some (inputs_view one.inputs)))
+    → AreFilters (unit_filters (inputs_view one.inputs).unit (inputs_view one.inputs).calls) (inputs_view one.inputs).calls made
+    → IfSome told (λ files. AcceptsFiles (filter_laws unit) files × PrintsFilters files unit (text_of made))
 prints_them None unit one made settles are = tt
-prints_them (Some files) unit one made settles are = (settles.0, record { inputs = inputs_view one.inputs; inputs_are = settles.1; filters = made; are_filters = are; is_their_text = refl })
+prints_them (Some files) unit one made settles are =
+    (settles.0, record { inputs = inputs_view one.inputs; inputs_are = settles.1; filters = made; are_filters = are; is_their_text = refl })
 
 -- the programs of the settings' filters are ready
-pub prepared : (told : Option Files) (unit : List ℕ) (one : SettledUnit) (given : List Filter) (result : Result Filters Stop) → given ≡ one.settings.value.filters.items → IfSome told (λ files. (first_refusal (unit_refusals files unit) ≡ None) × (inputs_of files unit ≡ Some (inputs_view one.inputs))) → AreSettled (inputs_view one.inputs) one.settings.value → IfOk result (λ made. AreProgramsOf given made.programs) → RefusesNothing result → IsAdmitted (laws_over told (filter_laws unit)) ending_of filters_text result
+pub prepared : (told : Option Files) (unit : List ℕ) (one : SettledUnit) (given : List Filter) (result : Result Filters Stop)
+    → given ≡ one.settings.value.filters.items → IfSome told
+    (λ files. (first_refusal (unit_refusals files unit) ≡ None) × (inputs_of files unit ≡ Some (inputs_view one.inputs)))
+    → AreSettled (inputs_view one.inputs) one.settings.value → IfOk result (λ made. AreProgramsOf given made.programs)
+    → RefusesNothing result → IsAdmitted (laws_over told (filter_laws unit)) ending_of filters_text result
 prepared told unit one given (Ok made) same settles are compiled refuses_nothing =
     ready_is_admitted (filter_laws unit) ending_of filters_text told made refl
     (prints_them told unit one made.programs settles
-    (are_filters (unit_filters (inputs_view one.inputs).unit (inputs_view one.inputs).calls) (inputs_view one.inputs).calls one.settings.value.filters.items made.programs are.filters_as_wanted
+    (are_filters (unit_filters (inputs_view one.inputs).unit (inputs_view one.inputs).calls)
+    (inputs_view one.inputs).calls one.settings.value.filters.items made.programs are.filters_as_wanted
     (subst (λ filters. AreProgramsOf filters made.programs) same compiled)))
 prepared told unit one given (Err (stop.Refused line)) same settles are compiled refuses_nothing = absurd refuses_nothing
 prepared told unit one given (Err stop.ReadFault) same settles are compiled refuses_nothing = tt

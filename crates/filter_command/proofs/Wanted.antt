@@ -22,35 +22,45 @@ use Rattle.filter_command.specs.Compiled.{AreFilters, DoesAsWanted, room_of}
 its_place : (filter : Filter) (one : FilterProgram) → IsProgramOf filter one → (one.name, one.abi) ≡ place_of filter
 its_place filter one is = ap (λ name. (name, one.abi)) is.named ∙ ap (λ abi. (filter.name, abi)) is.own_abi
 
-names : (filters : List Filter) (made : List FilterProgram) → AreProgramsOf filters made → map (λ one. (one.name, one.abi)) made ≡ map place_of filters
+names : (filters : List Filter) (made : List FilterProgram) → AreProgramsOf filters made
+    → map (λ one. (one.name, one.abi)) made ≡ map place_of filters
 names [] [] are = refl
 names [] (one ∷ made) are = absurd are
 names (rules ∷ filters) [] are = absurd are
-names (rules ∷ filters) (one ∷ made) are = ap (λ place. place ∷ map (λ one. (one.name, one.abi)) made) (its_place rules one are.0) ∙ ap (λ rest. place_of rules ∷ rest) (names filters made are.1)
+names (rules ∷ filters) (one ∷ made) are = ap (λ place. place ∷ map (λ one. (one.name, one.abi)) made) (its_place rules one are.0)
+    ∙ ap (λ rest. place_of rules ∷ rest) (names filters made are.1)
 
 -- a program that decides as rules do what is wanted does so too
-one_does : (settings : FilterSettings) (table : Table) (filter : Filter) (one : FilterProgram) → IsProgramOf filter one → HasWantedRules settings table filter → All HasShortCases filter.rules.calls → DoesAsWanted settings table one
+one_does : (settings : FilterSettings) (table : Table) (filter : Filter) (one : FilterProgram) → IsProgramOf filter one
+    → HasWantedRules settings table filter → All HasShortCases filter.rules.calls → DoesAsWanted settings table one
 one_does settings table filter one is wanted short = λ input is_data.
-    subst (λ action. AnswersWithin 96 one.program input (word_of action)) (wanted input ∙ ap (λ (place : Place). wanted_action place.0 settings table place.1 input) (sym (its_place filter one is))) (is.decides_soon short input is_data)
+    subst (λ action. AnswersWithin 96 one.program input (word_of action))
+    (wanted input ∙ ap (λ (place : Place). wanted_action place.0 settings table place.1 input) (sym (its_place filter one is)))
+    (is.decides_soon short input is_data)
 
 -- the rules of each filter have short cases
 abbrev AreShort : List Filter → Type 0
 AreShort filters = All (λ (one : Filter). All HasShortCases one.rules.calls) filters
 
-all_do : (settings : FilterSettings) (table : Table) (filters : List Filter) (made : List FilterProgram) → AreProgramsOf filters made → All (HasWantedRules settings table) filters → AreShort filters → All (DoesAsWanted settings table) made
+all_do : (settings : FilterSettings) (table : Table) (filters : List Filter) (made : List FilterProgram) → AreProgramsOf filters made
+    → All (HasWantedRules settings table) filters → AreShort filters → All (DoesAsWanted settings table) made
 all_do settings table [] [] are wanted short = All-nil (DoesAsWanted settings table)
 all_do settings table [] (one ∷ made) are wanted short = absurd are
 all_do settings table (rules ∷ filters) [] are wanted short = absurd are
 all_do settings table (rules ∷ filters) (one ∷ made) are wanted short =
     All-cons (DoesAsWanted settings table) one made
-    (one_does settings table rules one are.0 (All-head (HasWantedRules settings table) rules filters wanted) (All-head (λ (one : Filter). All HasShortCases one.rules.calls) rules filters short))
-    (all_do settings table filters made are.1 (All-tail (HasWantedRules settings table) rules filters wanted) (All-tail (λ (one : Filter). All HasShortCases one.rules.calls) rules filters short))
+    (one_does settings table rules one are.0 (All-head (HasWantedRules settings table) rules filters wanted)
+    (All-head (λ (one : Filter). All HasShortCases one.rules.calls) rules filters short))
+    (all_do settings table filters made are.1 (All-tail (HasWantedRules settings table) rules filters wanted)
+    (All-tail (λ (one : Filter). All HasShortCases one.rules.calls) rules filters short))
 
-all_accepted : (filters : List Filter) (made : List FilterProgram) → AreProgramsOf filters made → All (λ one. Accepts (bytes_of one.program) one.program) made
+all_accepted : (filters : List Filter) (made : List FilterProgram) → AreProgramsOf filters made
+    → All (λ one. Accepts (bytes_of one.program) one.program) made
 all_accepted [] [] are = All-nil (λ one. Accepts (bytes_of one.program) one.program)
 all_accepted [] (one ∷ made) are = absurd are
 all_accepted (rules ∷ filters) [] are = absurd are
-all_accepted (rules ∷ filters) (one ∷ made) are = All-cons (λ one. Accepts (bytes_of one.program) one.program) one made are.0.taken (all_accepted filters made are.1)
+all_accepted (rules ∷ filters) (one ∷ made) are = All-cons (λ one. Accepts (bytes_of one.program) one.program) one made are.0.taken
+    (all_accepted filters made are.1)
 
 room : (filters : List Filter) (made : List FilterProgram) → AreProgramsOf filters made → room_of made ≤ most_room filters
 room [] [] are = omega arith
@@ -62,7 +72,8 @@ room (rules ∷ filters) (one ∷ made) are =
     omega (arith, mine, theirs, are.0.matches.short, room filters made are.1)
 
 -- programs of rules that are wanted are the filters that are wanted
-pub are_filters : (settings : FilterSettings) (table : Table) (filters : List Filter) (made : List FilterProgram) → AreRules settings table filters → AreProgramsOf filters made → AreFilters settings table made
+pub are_filters : (settings : FilterSettings) (table : Table) (filters : List Filter) (made : List FilterProgram)
+    → AreRules settings table filters → AreProgramsOf filters made → AreFilters settings table made
 are_filters settings table filters made rules are = record {
   placed = names filters made are ∙ rules.exactly_those_on;
   do_as_wanted = all_do settings table filters made are rules.do_as_wanted rules.cases_are_short;

@@ -14,7 +14,8 @@ use Rattle.launcher.specs.declared.filters.FilterProgram.{FilterProgram}
 -- whatever the data of a call, the program answers the action that the settings want of the filter of its name for its ABI, after
 -- at most 96 instructions
 abbrev pub DoesAsWanted : FilterSettings → Table → FilterProgram → Type 0
-DoesAsWanted settings table one = (input : CallData) → IsCallData input → AnswersWithin 96 one.program input (word_of (wanted_action one.name settings table one.abi input))
+DoesAsWanted settings table one = (input : CallData) → IsCallData input
+    → AnswersWithin 96 one.program input (word_of (wanted_action one.name settings table one.abi input))
 
 -- the room that programs take in a stack: each takes 4 beside its instructions (seccomp(2), ENOMEM)
 abbrev pub room_of : List FilterProgram → ℕ

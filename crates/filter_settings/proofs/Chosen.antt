@@ -19,7 +19,8 @@ and_true : (b : Bool) → (b && true) ≡ b
 and_true true = refl
 and_true false = refl
 
-case_given : (input : CallData) (given : Option Tested) (action : Action) (test : Tested) → case_holds input (case_with given action test) ≡ (given_holds input given && test_holds input test)
+case_given : (input : CallData) (given : Option Tested) (action : Action) (test : Tested)
+    → case_holds input (case_with given action test) ≡ (given_holds input given && test_holds input test)
 case_given input None action test = and_true (test_holds input test)
 case_given input (Some first) action test = ap (λ b. test_holds input first && b) (and_true (test_holds input test))
 
@@ -28,7 +29,8 @@ pushed true case o rest = refl
 pushed false case o rest = refl
 
 -- one more test before the others
-step : (given test any : Bool) (action rest tail : Action) → tail ≡ cond (given && any) action rest → cond (given && test) action tail ≡ cond (given && (test || any)) action rest
+step : (given test any : Bool) (action rest tail : Action) → tail ≡ cond (given && any) action rest
+    → cond (given && test) action tail ≡ cond (given && (test || any)) action rest
 step true true any action rest tail h = refl
 step true false any action rest tail h = h
 step false test any action rest tail h = h
@@ -38,13 +40,16 @@ nothing true action rest = refl
 nothing false action rest = refl
 
 first_passing : (input : CallData) (given : Option Tested) (action rest : Action) (tests : List Tested) →
-    option_map_or (λ case. case.action) (find (case_holds input) (map (case_with given action) tests)) rest ≡ cond (given_holds input given && list_any (test_holds input) tests) action rest
+    option_map_or (λ case. case.action) (find (case_holds input) (map (case_with given action) tests)) rest
+    ≡ cond (given_holds input given && list_any (test_holds input) tests) action rest
 first_passing input given action rest [] = nothing (given_holds input given) action rest
 first_passing input given action rest (test ∷ tests) =
     let others : Option Case = find (case_holds input) (map (case_with given action) tests) in
     pushed (case_holds input (case_with given action test)) (case_with given action test) others rest
     ∙ ap (λ b. cond b action (option_map_or (λ case. case.action) others rest)) (case_given input given action test)
-    ∙ step (given_holds input given) (test_holds input test) (list_any (test_holds input) tests) action rest (option_map_or (λ case. case.action) others rest) (first_passing input given action rest tests)
+    ∙ step (given_holds input given) (test_holds input test) (list_any (test_holds input) tests) action rest
+    (option_map_or (λ case. case.action) others rest) (first_passing input given action rest tests)
 
-pub rule_chooses : (input : CallData) (number : ℕ) (choice : Choice) → call_action input (rule_with number choice) ≡ choice_action input choice
+pub rule_chooses : (input : CallData) (number : ℕ) (choice : Choice)
+    → call_action input (rule_with number choice) ≡ choice_action input choice
 rule_chooses input number choice = first_passing input choice.given choice.action choice.rest choice.any

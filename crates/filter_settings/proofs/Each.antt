@@ -19,7 +19,8 @@ pub each_of_all : {X Y : Type 0} (P : Y → Type 0) (f : X → List Y) → ((x :
 each_of_all P f h [] = All-nil P
 each_of_all P f h (x ∷ xs) = All-append P (f x) (flat_map f xs) (h x) (each_of_all P f h xs)
 
-last_has : {X : Type 0} (P : X → Type 0) (default : X) → P default → (xs : List X) → AllByRecursion P xs → P (unwrap_or (last_of xs) default)
+last_has : {X : Type 0} (P : X → Type 0) (default : X) → P default → (xs : List X) → AllByRecursion P xs
+    → P (unwrap_or (last_of xs) default)
 last_has P default d [] h = d
 last_has P default d (x ∷ []) h = h.0
 last_has P default d (x ∷ y ∷ xs) h = last_has P default d (y ∷ xs) h.1

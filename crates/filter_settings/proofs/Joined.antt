@@ -17,7 +17,8 @@ use Rattle.filter_settings.specs.declared.settings.Booleans.{Booleans}
 use Rattle.filter_settings.specs.Settings.{flags_of, settings_of}
 
 -- the settings that these make
-abbrev pub made : Bool → Bool → Bool → Bool → Bool → Bool → Bool → Bool → Bool → Action → NamespaceTypes → Option FamilyList → Option CallList → Bool → FilterSettings
+abbrev pub made : Bool → Bool → Bool → Bool → Bool → Bool → Bool → Bool → Bool → Action → NamespaceTypes → Option FamilyList
+    → Option CallList → Bool → FilterSettings
 made memory realtime suid personality hostname modules logs clock devices action types families calls refused =
     record {
       calls = calls;
@@ -36,25 +37,42 @@ made memory realtime suid personality hostname modules logs clock devices action
       second_abi_refused = refused;
     }
 
-pub joined_settings : (unit : Resolved) (table : Table) {memory realtime suid personality hostname modules logs clock devices : Bool} {action : Action} {types : NamespaceTypes} {families : Option FamilyList} {calls : Option CallList} {refused : Bool}
-    → memory ≡ unit_flag unit (codes "MemoryDenyWriteExecute") → realtime ≡ unit_flag unit (codes "RestrictRealtime") → suid ≡ unit_flag unit (codes "RestrictSUIDSGID") → personality ≡ unit_flag unit (codes "LockPersonality")
-    → hostname ≡ unit_flag unit (codes "ProtectHostname") → modules ≡ unit_flag unit (codes "ProtectKernelModules") → logs ≡ unit_flag unit (codes "ProtectKernelLogs") → clock ≡ unit_flag unit (codes "ProtectClock")
-    → devices ≡ unit_flag unit (codes "PrivateDevices") → action ≡ unit_error_action unit (codes "SystemCallErrorNumber") → types ≡ unit_namespaces unit (codes "RestrictNamespaces")
-    → families ≡ unit_family_list unit table (codes "RestrictAddressFamilies") → calls ≡ unit_call_list unit table (codes "SystemCallFilter") → refused ≡ unit_refuses_second unit table (codes "SystemCallArchitectures")
+pub joined_settings : (unit : Resolved) (table : Table) {memory realtime suid personality hostname modules logs clock devices : Bool}
+    {action : Action} {types : NamespaceTypes} {families : Option FamilyList} {calls : Option CallList} {refused : Bool}
+    → memory ≡ unit_flag unit (codes "MemoryDenyWriteExecute") → realtime ≡ unit_flag unit (codes "RestrictRealtime")
+    → suid ≡ unit_flag unit (codes "RestrictSUIDSGID") → personality ≡ unit_flag unit (codes "LockPersonality")
+    → hostname ≡ unit_flag unit (codes "ProtectHostname") → modules ≡ unit_flag unit (codes "ProtectKernelModules")
+    → logs ≡ unit_flag unit (codes "ProtectKernelLogs") → clock ≡ unit_flag unit (codes "ProtectClock")
+    → devices ≡ unit_flag unit (codes "PrivateDevices") → action ≡ unit_error_action unit (codes "SystemCallErrorNumber")
+    → types ≡ unit_namespaces unit (codes "RestrictNamespaces")
+    → families ≡ unit_family_list unit table (codes "RestrictAddressFamilies")
+    → calls ≡ unit_call_list unit table (codes "SystemCallFilter")
+    → refused ≡ unit_refuses_second unit table (codes "SystemCallArchitectures")
     → made memory realtime suid personality hostname modules logs clock devices action types families calls refused ≡ settings_of unit table
 joined_settings unit table a b c d e f g h i j k l m n = cc
 
 pub joined_flags : (unit : Resolved) {memory realtime suid personality hostname modules logs clock devices : Bool}
-    → memory ≡ unit_flag unit (codes "MemoryDenyWriteExecute") → realtime ≡ unit_flag unit (codes "RestrictRealtime") → suid ≡ unit_flag unit (codes "RestrictSUIDSGID") → personality ≡ unit_flag unit (codes "LockPersonality")
-    → hostname ≡ unit_flag unit (codes "ProtectHostname") → modules ≡ unit_flag unit (codes "ProtectKernelModules") → logs ≡ unit_flag unit (codes "ProtectKernelLogs") → clock ≡ unit_flag unit (codes "ProtectClock")
+    → memory ≡ unit_flag unit (codes "MemoryDenyWriteExecute") → realtime ≡ unit_flag unit (codes "RestrictRealtime")
+    → suid ≡ unit_flag unit (codes "RestrictSUIDSGID") → personality ≡ unit_flag unit (codes "LockPersonality")
+    → hostname ≡ unit_flag unit (codes "ProtectHostname") → modules ≡ unit_flag unit (codes "ProtectKernelModules")
+    → logs ≡ unit_flag unit (codes "ProtectKernelLogs") → clock ≡ unit_flag unit (codes "ProtectClock")
     → devices ≡ unit_flag unit (codes "PrivateDevices")
     → record { memory_deny_write_execute = memory; restrict_realtime = realtime; restrict_suid_sgid = suid; lock_personality = personality; protect_hostname = hostname; protect_kernel_modules = modules; protect_kernel_logs = logs; protect_clock = clock; private_devices = devices } ≡ flags_of unit
 joined_flags unit a b c d e f g h i = cc
 
-pub settings_by_flags : (unit : Resolved) (table : Table) {flags : Booleans} {action : Action} {types : NamespaceTypes} {families : Option FamilyList} {calls : Option CallList} {refused : Bool}
-    → flags ≡ flags_of unit → action ≡ unit_error_action unit (codes "SystemCallErrorNumber") → types ≡ unit_namespaces unit (codes "RestrictNamespaces")
-    → families ≡ unit_family_list unit table (codes "RestrictAddressFamilies") → calls ≡ unit_call_list unit table (codes "SystemCallFilter") → refused ≡ unit_refuses_second unit table (codes "SystemCallArchitectures")
-    → made flags.memory_deny_write_execute flags.restrict_realtime flags.restrict_suid_sgid flags.lock_personality flags.protect_hostname flags.protect_kernel_modules flags.protect_kernel_logs flags.protect_clock flags.private_devices action types families calls refused ≡ settings_of unit table
+pub settings_by_flags : (unit : Resolved) (table : Table) {flags : Booleans} {action : Action} {types : NamespaceTypes}
+    {families : Option FamilyList} {calls : Option CallList} {refused : Bool}
+    → flags ≡ flags_of unit → action ≡ unit_error_action unit (codes "SystemCallErrorNumber")
+    → types ≡ unit_namespaces unit (codes "RestrictNamespaces")
+    → families ≡ unit_family_list unit table (codes "RestrictAddressFamilies")
+    → calls ≡ unit_call_list unit table (codes "SystemCallFilter")
+    → refused ≡ unit_refuses_second unit table (codes "SystemCallArchitectures")
+    → made flags.memory_deny_write_execute flags.restrict_realtime flags.restrict_suid_sgid flags.lock_personality flags.protect_hostname
+    flags.protect_kernel_modules flags.protect_kernel_logs flags.protect_clock flags.private_devices action types families calls
+    refused ≡ settings_of unit table
 settings_by_flags unit table f a b c d e =
-    joined_settings unit table (ap (λ (x : Booleans). x.memory_deny_write_execute) f) (ap (λ (x : Booleans). x.restrict_realtime) f) (ap (λ (x : Booleans). x.restrict_suid_sgid) f) (ap (λ (x : Booleans). x.lock_personality) f)
-    (ap (λ (x : Booleans). x.protect_hostname) f) (ap (λ (x : Booleans). x.protect_kernel_modules) f) (ap (λ (x : Booleans). x.protect_kernel_logs) f) (ap (λ (x : Booleans). x.protect_clock) f) (ap (λ (x : Booleans). x.private_devices) f) a b c d e
+    joined_settings unit table (ap (λ (x : Booleans). x.memory_deny_write_execute) f) (ap (λ (x : Booleans). x.restrict_realtime) f)
+    (ap (λ (x : Booleans). x.restrict_suid_sgid) f) (ap (λ (x : Booleans). x.lock_personality) f)
+    (ap (λ (x : Booleans). x.protect_hostname) f) (ap (λ (x : Booleans). x.protect_kernel_modules) f)
+    (ap (λ (x : Booleans). x.protect_kernel_logs) f) (ap (λ (x : Booleans). x.protect_clock) f)
+    (ap (λ (x : Booleans). x.private_devices) f) a b c d e

@@ -16,7 +16,8 @@ use Rattle.filter_settings.specs.declared.filter_rules.mentions.FamilyList.{Fami
 use Rattle.filter_settings.specs.filter_rules.Known.{IsKnown}
 use Rattle.filter_settings.specs.Lines.{in_force}
 use Rattle.filter_settings.specs.Modes.{list_mode, adds_to}
-use Rattle.filter_settings.specs.FamilyLists.{family_mention, family_mentions, is_none_line, list_of, begun_by, family_list, unit_family_list}
+use Rattle.filter_settings.specs.FamilyLists.{family_mention, family_mentions, is_none_line, list_of, begun_by, family_list}
+use Rattle.filter_settings.specs.FamilyLists.{unit_family_list}
 use Rattle.filter_settings.proofs.Each.{each_some, each_of_all, for_some}
 
 same_passes : (n : ℕ) (rest : Bool) → (eqb n n || rest) ≡ true
@@ -30,22 +31,26 @@ or_true true = refl
 or_true false = refl
 
 -- what is found by its name stands in the list
-found_known : (word : List ℕ) (families : List CallLine) → IfSome (named word families) (λ found. list_any (has_number found.number) families ≡ true)
+found_known : (word : List ℕ) (families : List CallLine) → IfSome (named word families)
+    (λ found. list_any (has_number found.number) families ≡ true)
 found_known word [] = tt
 found_known word (family ∷ families) = first (has_name word family) (named word families) (found_known word families)
   where
-    later : (o : Option CallLine) → IfSome o (λ found. list_any (has_number found.number) families ≡ true) → IfSome o (λ found. (has_number found.number family || list_any (has_number found.number) families) ≡ true)
+    later : (o : Option CallLine) → IfSome o (λ found. list_any (has_number found.number) families ≡ true)
+        → IfSome o (λ found. (has_number found.number family || list_any (has_number found.number) families) ≡ true)
     later None h = tt
     later (Some found) h = ap (λ b. has_number found.number family || b) h ∙ or_true (has_number found.number family)
 
-    first : (b : Bool) (o : Option CallLine) → IfSome o (λ found. list_any (has_number found.number) families ≡ true) → IfSome (cond b (Some family) o) (λ found. (has_number found.number family || list_any (has_number found.number) families) ≡ true)
+    first : (b : Bool) (o : Option CallLine) → IfSome o (λ found. list_any (has_number found.number) families ≡ true)
+        → IfSome (cond b (Some family) o) (λ found. (has_number found.number family || list_any (has_number found.number) families) ≡ true)
     first true o h = same_passes family.number (list_any (has_number family.number) families)
     first false o h = later o h
 
 mention_known : (table : Table) (adds : Bool) (word : List ℕ) → IfSome (family_mention table adds word) (IsKnown table)
 mention_known table adds word = by (named word table.families) (found_known word table.families)
   where
-    by : (o : Option CallLine) → IfSome o (λ found. list_any (has_number found.number) table.families ≡ true) → IfSome (option_map (λ number. record { adds = adds; number = number }) (option_map (λ family. family.number) o)) (IsKnown table)
+    by : (o : Option CallLine) → IfSome o (λ found. list_any (has_number found.number) table.families ≡ true)
+        → IfSome (option_map (λ number. record { adds = adds; number = number }) (option_map (λ family. family.number) o)) (IsKnown table)
     by None h = tt
     by (Some family) h = h
 
@@ -55,7 +60,8 @@ AllKnown table list = All (IsKnown table) list.mentions
 lines_known : (table : Table) (mode : Mode) (lines : List Listed) → AllKnown table (list_of table mode lines)
 lines_known table mode lines =
     each_of_all (IsKnown table) (λ one. family_mentions table mode one.line)
-    (λ one. each_some (IsKnown table) (family_mention table (adds_to mode one.line)) (mention_known table (adds_to mode one.line)) one.line.words)
+    (λ one. each_some (IsKnown table) (family_mention table (adds_to mode one.line))
+    (mention_known table (adds_to mode one.line)) one.line.words)
     lines
 
 begun_known : (table : Table) (lines : List Listed) → IfSome (begun_by table lines) (AllKnown table)
@@ -72,6 +78,8 @@ list_known table lines = by (list_any is_none_line lines)
     by true = lines_known table Allow (after_last is_none_line lines)
     by false = begun_known table lines
 
-pub unit_families_known : (unit : Resolved) (table : Table) (key : List ℕ) → ForSome (unit_family_list unit table key) (λ list. All (IsKnown table) list.mentions)
+pub unit_families_known : (unit : Resolved) (table : Table) (key : List ℕ)
+    → ForSome (unit_family_list unit table key) (λ list. All (IsKnown table) list.mentions)
 unfolding unit_family_list
-unit_families_known unit table key = for_some (AllKnown table) (family_list table (in_force (unit_listed unit key))) (list_known table (in_force (unit_listed unit key)))
+unit_families_known unit table key = for_some (AllKnown table) (family_list table (in_force (unit_listed unit key)))
+    (list_known table (in_force (unit_listed unit key)))

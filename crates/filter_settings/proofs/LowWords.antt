@@ -19,7 +19,9 @@ masked n = and_mask (n % 2 ^ 32) 32 ∙ omega arith
 pub whole_holds : (input : CallData) (at value : ℕ) → test_holds input (whole at value) ≡ (low input at == value)
 whole_holds input at value = ap (λ word. word == value) (masked (slice_index input.args at))
 
-pub some_whole : (input : CallData) (at : ℕ) (values : List ℕ) → list_any (test_holds input) (map (whole at) values) ≡ list_any (λ value. low input at == value) values
+pub some_whole : (input : CallData) (at : ℕ) (values : List ℕ)
+    → list_any (test_holds input) (map (whole at) values) ≡ list_any (λ value. low input at == value) values
 some_whole input at [] = refl
 some_whole input at (value ∷ values) =
-    ap (λ b. b || list_any (test_holds input) (map (whole at) values)) (whole_holds input at value) ∙ ap (λ b. (low input at == value) || b) (some_whole input at values)
+    ap (λ b. b || list_any (test_holds input) (map (whole at) values)) (whole_holds input at value)
+    ∙ ap (λ b. (low input at == value) || b) (some_whole input at values)

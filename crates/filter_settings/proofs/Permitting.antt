@@ -14,7 +14,8 @@ use Rattle.filter_settings.specs.Lines.{in_force}
 use Rattle.filter_settings.specs.Namespaces.{is_plain, has_plain, says_of, is_permitted, types_by, namespaces_of}
 use Rattle.filter_settings.specs.Steps.{next_types, next_plain}
 
-permitted_next : (all : List Listed) (one : Listed) (kind : NamespaceType) → is_permitted (all ++ one ∷ []) kind ≡ unwrap_or (says_of kind (all, one)) (is_permitted all kind)
+permitted_next : (all : List Listed) (one : Listed) (kind : NamespaceType)
+    → is_permitted (all ++ one ∷ []) kind ≡ unwrap_or (says_of kind (all, one)) (is_permitted all kind)
 permitted_next all one kind =
     ap (λ o. unwrap_or o true) (last_more (says_of kind) all one)
     ∙ unwrap_later (says_of kind (all, one)) (last_of (filter_map (says_of kind) (with_before [] all))) true
@@ -31,13 +32,16 @@ types_same f g h =
     let m = h Uts in
     cc
 
-pub namespaces_next : (all : List Listed) (i : ℕ) (one : Listed) → i < length all → one ≡ get_or all i one → namespaces_of (take (i + 1) all) ≡ next_types (has_plain (take i all)) one (namespaces_of (take i all))
+pub namespaces_next : (all : List Listed) (i : ℕ) (one : Listed) → i < length all → one ≡ get_or all i one
+    → namespaces_of (take (i + 1) all) ≡ next_types (has_plain (take i all)) one (namespaces_of (take i all))
 namespaces_next all i one lt is =
     ap namespaces_of (take_item all i one lt is)
-    ∙ types_same (is_permitted (take i all ++ one ∷ [])) (λ kind. unwrap_or (says_of kind (take i all, one)) (is_permitted (take i all) kind)) (permitted_next (take i all) one)
+    ∙ types_same (is_permitted (take i all ++ one ∷ []))
+    (λ kind. unwrap_or (says_of kind (take i all, one)) (is_permitted (take i all) kind)) (permitted_next (take i all) one)
 
 -- an empty value resets
-plain_cond : (b : Bool) (all : List Listed) (one : Listed) → list_any is_plain (cond b [] (all ++ one ∷ [])) ≡ (not b && (list_any is_plain all || is_plain one))
+plain_cond : (b : Bool) (all : List Listed) (one : Listed) → list_any is_plain (cond b [] (all ++ one ∷ []))
+    ≡ (not b && (list_any is_plain all || is_plain one))
 plain_cond true all one = refl
 plain_cond false all one = list_any-append is_plain all (one ∷ []) ∙ ap (λ b. list_any is_plain all || b) (or_false (is_plain one))
   where
@@ -45,7 +49,8 @@ plain_cond false all one = list_any-append is_plain all (one ∷ []) ∙ ap (λ 
     or_false true = refl
     or_false false = refl
 
-pub has_plain_next : (all : List Listed) (i : ℕ) (one : Listed) → i < length all → one ≡ get_or all i one → has_plain (take (i + 1) all) ≡ next_plain (has_plain (take i all)) one
+pub has_plain_next : (all : List Listed) (i : ℕ) (one : Listed) → i < length all → one ≡ get_or all i one
+    → has_plain (take (i + 1) all) ≡ next_plain (has_plain (take i all)) one
 has_plain_next all i one lt is =
     ap has_plain (take_item all i one lt is)
     ∙ ap (list_any is_plain) (after_last-push is_reset (take i all) one)

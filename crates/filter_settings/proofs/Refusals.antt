@@ -33,7 +33,8 @@ action_refuses : (text : List ℕ) → IfSome (error_action text) IsRefusing
 unfolding error_action
 action_refuses text = by (bytes_eq text (codes "kill")) (errno_value text) (errno_bounded text)
   where
-    by : (b : Bool) (o : Option ℕ) → IfSome o (λ number. number ≤ max_errno) → IfSome (cond b (Some KillProcess) (option_map Errno o)) IsRefusing
+    by : (b : Bool) (o : Option ℕ) → IfSome o (λ number. number ≤ max_errno)
+        → IfSome (cond b (Some KillProcess) (option_map Errno o)) IsRefusing
     by true o h = tt
     by false None h = tt
     by false (Some number) h = h
@@ -42,13 +43,16 @@ value_refuses : (text : List ℕ) → IfSome (error_action_value text) (λ value
 value_refuses [] = tt
 value_refuses (byte ∷ text) = by (error_action (byte ∷ text)) (action_refuses (byte ∷ text))
   where
-    by : (o : Option Action) → IfSome o IsRefusing → IfSome (option_map (λ action. record { action = action }) o) (λ (value : ErrorAction). IsRefusing value.action)
+    by : (o : Option Action) → IfSome o IsRefusing → IfSome (option_map (λ action. record { action = action }) o)
+        (λ (value : ErrorAction). IsRefusing value.action)
     by None h = tt
     by (Some action) h = h
 
 default_refuses : (unit : Resolved) (key : List ℕ) → IsRefusing (unit_error_action unit key)
 unfolding unit_last
-default_refuses unit key = last_of_all (λ value. IsRefusing value.action) default_action tt _ (each_some (λ value. IsRefusing value.action) (λ value. error_action_value value.text) (λ value. value_refuses value.text) (values_of unit key))
+default_refuses unit key = last_of_all (λ value. IsRefusing value.action) default_action tt _
+    (each_some (λ value. IsRefusing value.action) (λ value. error_action_value value.text) (λ value. value_refuses value.text)
+    (values_of unit key))
 
 abbrev Refuses : CallWord → Type 0
 Refuses word = IfSome word.action IsRefusing
@@ -56,7 +60,8 @@ Refuses word = IfSome word.action IsRefusing
 suffix_refuses : (may : Bool) (name suffix : List ℕ) → IfSome (suffixed may name suffix) Refuses
 suffix_refuses true name suffix = by (error_action suffix) (action_refuses suffix)
   where
-    by : (o : Option Action) → IfSome o IsRefusing → IfSome (option_map (λ action. record { name = name; action = Some action; has_stray = false }) o) Refuses
+    by : (o : Option Action) → IfSome o IsRefusing
+        → IfSome (option_map (λ action. record { name = name; action = Some action; has_stray = false }) o) Refuses
     by None h = tt
     by (Some action) h = h
 suffix_refuses false name suffix = tt
@@ -71,7 +76,8 @@ word_refuses may word = by (cut_at (ascii ":") word)
 mention_refuses : (table : Table) (mode : Mode) (adds : Bool) (word : List ℕ) → IfSome (word_mention table mode adds word) HasRefusal
 mention_refuses table mode adds word = by (word_of (may_have_suffix mode adds) word) (word_refuses (may_have_suffix mode adds) word)
   where
-    known : (b : Bool) (read : CallWord) → Refuses read → IfSome (cond b (Some (record { adds = adds; name = read.name; action = read.action })) None) HasRefusal
+    known : (b : Bool) (read : CallWord) → Refuses read → IfSome
+        (cond b (Some (record { adds = adds; name = read.name; action = read.action })) None) HasRefusal
     known true read h = h
     known false read h = tt
 
@@ -89,7 +95,9 @@ implied_refuse Deny = All-nil HasRefusal
 lines_refuse : (table : Table) (mode : Mode) (lines : List Listed) → AllRefuse (list_of table mode lines)
 lines_refuse table mode lines =
     All-append HasRefusal (implied mode) _ (implied_refuse mode)
-    (each_of_all HasRefusal (λ one. line_mentions table mode one.line) (λ one. each_some HasRefusal (word_mention table mode (adds_to mode one.line)) (mention_refuses table mode (adds_to mode one.line)) one.line.words) lines)
+    (each_of_all HasRefusal (λ one. line_mentions table mode one.line)
+    (λ one. each_some HasRefusal (word_mention table mode (adds_to mode one.line))
+    (mention_refuses table mode (adds_to mode one.line)) one.line.words) lines)
 
 list_refuses : (table : Table) (lines : List Listed) → IfSome (call_list table lines) AllRefuse
 list_refuses table lines = by (list_mode lines)

@@ -27,7 +27,8 @@ one_fits made within = omega (arith, within.calls, within.cases, within.tests)
 abbrev taken_at : Place → ℕ
 taken_at place = most_taken place.0
 
-all_fit : (filters : List Filter) → AllByRecursion (λ made. KeepsWithin (most_costs made.name) made.rules) filters → most_room filters ≤ sum_by taken_at (map place_of filters)
+all_fit : (filters : List Filter) → AllByRecursion (λ made. KeepsWithin (most_costs made.name) made.rules) filters
+    → most_room filters ≤ sum_by taken_at (map place_of filters)
 all_fit [] within = omega arith
 all_fit (made ∷ filters) within =
     omega (
@@ -46,17 +47,25 @@ all_few : (second : Option Abi) → sum_by taken_at (all_programs second) ≤ 23
 all_few None = omega arith
 all_few (Some second) = omega arith
 
-pub fit_together : (settings : FilterSettings) (table : Table) (filters : List Filter) → map place_of filters ≡ installed settings table → All (λ made. KeepsWithin (most_costs made.name) made.rules) filters → most_room filters ≤ 32768
+pub fit_together : (settings : FilterSettings) (table : Table) (filters : List Filter) → map place_of filters ≡ installed settings table
+    → All (λ made. KeepsWithin (most_costs made.name) made.rules) filters → most_room filters ≤ 32768
 fit_together settings table filters places within =
     let all = all_fit filters (recursion_from_All (λ made. KeepsWithin (most_costs made.name) made.rules) filters within) in
     let those : most_room filters ≤ sum_by taken_at (installed settings table) = subst (λ on. most_room filters ≤ sum_by taken_at on) places all in
     omega (arith, those, those_on (is_installed settings) (all_programs table.second), all_few table.second)
 
-pub within_costs : {E : Type 0} (settings : FilterSettings) (table : Table) (result : Result (Vec Filter Global) E) → IfOk result (λ filters. All (λ made. AreRulesOf made.name settings table made.abi made.rules) filters.items) → IfOk result (λ filters. All (λ made. KeepsWithin (most_costs made.name) made.rules) filters.items)
-within_costs settings table (Ok filters) rules = All-weaker (λ made. AreRulesOf made.name settings table made.abi made.rules) (λ made. KeepsWithin (most_costs made.name) made.rules) (λ made h. h.within) filters.items rules
+pub within_costs : {E : Type 0} (settings : FilterSettings) (table : Table) (result : Result (Vec Filter Global) E)
+    → IfOk result (λ filters. All (λ made. AreRulesOf made.name settings table made.abi made.rules) filters.items)
+    → IfOk result (λ filters. All (λ made. KeepsWithin (most_costs made.name) made.rules) filters.items)
+within_costs settings table (Ok filters) rules = All-weaker (λ made. AreRulesOf made.name settings table made.abi made.rules)
+    (λ made. KeepsWithin (most_costs made.name) made.rules) (λ made h. h.within) filters.items rules
 within_costs settings table (Err error) rules = rules
 
 -- the same of an answer
-pub answer_fits : {E : Type 0} (settings : FilterSettings) (table : Table) (all : List Place) → all ≡ all_programs table.second → (result : Result (Vec Filter Global) E) → IfOk result (λ filters. map place_of filters.items ≡ filter (is_installed settings) all) → IfOk result (λ filters. All (λ made. KeepsWithin (most_costs made.name) made.rules) filters.items) → IfOk result (λ filters. most_room filters.items ≤ 32768)
-answer_fits settings table all same (Ok filters) places within = fit_together settings table filters.items (places ∙ ap (filter (is_installed settings)) same) within
+pub answer_fits : {E : Type 0} (settings : FilterSettings) (table : Table) (all : List Place) → all ≡ all_programs table.second
+    → (result : Result (Vec Filter Global) E) → IfOk result (λ filters. map place_of filters.items ≡ filter (is_installed settings) all)
+    → IfOk result (λ filters. All (λ made. KeepsWithin (most_costs made.name) made.rules) filters.items)
+    → IfOk result (λ filters. most_room filters.items ≤ 32768)
+answer_fits settings table all same (Ok filters) places within =
+    fit_together settings table filters.items (places ∙ ap (filter (is_installed settings)) same) within
 answer_fits settings table all same (Err error) places within = places

@@ -34,44 +34,57 @@ abbrev pub AreSmall : ℕ → ℕ → (List ℕ → Option Choice) → Type 0
 AreSmall cases tests choose = (name : List ℕ) → IfSome (choose name) (IsSmall cases tests)
 
 -- what holds of the rule of each small choice holds of all rules
-each : (P : CallRule → Type 0) (cases tests : ℕ) (choose : List ℕ → Option Choice) → AreSmall cases tests choose → ((number : ℕ) (choice : Choice) → IsSmall cases tests choice → P (rule_with number choice)) →
+each : (P : CallRule → Type 0) (cases tests : ℕ) (choose : List ℕ → Option Choice) → AreSmall cases tests choose
+    → ((number : ℕ) (choice : Choice) → IsSmall cases tests choice → P (rule_with number choice)) →
     (calls : List CallLine) → AllByRecursion P (rules_of choose calls)
 each P cases tests choose small h [] = tt
 each P cases tests choose small h (call ∷ calls) = one (choose call.name) (small call.name) (each P cases tests choose small h calls)
   where
-    one : (o : Option Choice) → IfSome o (IsSmall cases tests) → AllByRecursion P (rules_of choose calls) → AllByRecursion P (cons_option (option_map (rule_with call.number) o) (rules_of choose calls))
+    one : (o : Option Choice) → IfSome o (IsSmall cases tests) → AllByRecursion P (rules_of choose calls)
+        → AllByRecursion P (cons_option (option_map (rule_with call.number) o) (rules_of choose calls))
     one None s rest = rest
     one (Some choice) s rest = (h call.number choice s, rest)
 
-pub all_rules : (P : CallRule → Type 0) (cases tests : ℕ) (choose : List ℕ → Option Choice) → AreSmall cases tests choose → ((number : ℕ) (choice : Choice) → IsSmall cases tests choice → P (rule_with number choice)) →
+pub all_rules : (P : CallRule → Type 0) (cases tests : ℕ) (choose : List ℕ → Option Choice) → AreSmall cases tests choose
+    → ((number : ℕ) (choice : Choice) → IsSmall cases tests choice → P (rule_with number choice)) →
     (calls : List CallLine) → All P (rules_of choose calls)
 all_rules P cases tests choose small h calls = All-from_recursion P (rules_of choose calls) (each P cases tests choose small h calls)
 
 -- how many tests a case has
-length_case : (given : Option Tested) (action : Action) (test : Tested) → length ((case_with given action test).tests) ≡ length (option_to_list given) + 1
+length_case : (given : Option Tested) (action : Action) (test : Tested)
+    → length ((case_with given action test).tests) ≡ length (option_to_list given) + 1
 length_case None action test = refl
 length_case (Some first) action test = refl
 
-each_case : (most : ℕ) (given : Option Tested) (action : Action) (tests : List Tested) → length (option_to_list given) + 1 ≤ most → AllByRecursion (λ case. length case.tests ≤ most) (map (case_with given action) tests)
+each_case : (most : ℕ) (given : Option Tested) (action : Action) (tests : List Tested) → length (option_to_list given) + 1 ≤ most
+    → AllByRecursion (λ case. length case.tests ≤ most) (map (case_with given action) tests)
 each_case most given action [] h = tt
-each_case most given action (test ∷ tests) h = (subst (λ n. n ≤ most) (sym (length_case given action test)) h, each_case most given action tests h)
+each_case most given action (test ∷ tests) h =
+    (subst (λ n. n ≤ most) (sym (length_case given action test)) h, each_case most given action tests h)
 
-cases_few : (most number : ℕ) (choice : Choice) → length (option_to_list choice.given) + 1 ≤ most → All (λ case. length case.tests ≤ most) ((rule_with number choice).cases)
-cases_few most number choice h = All-from_recursion (λ case. length case.tests ≤ most) (map (case_with choice.given choice.action) choice.any) (each_case most choice.given choice.action choice.any h)
+cases_few : (most number : ℕ) (choice : Choice) → length (option_to_list choice.given) + 1 ≤ most
+    → All (λ case. length case.tests ≤ most) ((rule_with number choice).cases)
+cases_few most number choice h = All-from_recursion (λ case. length case.tests ≤ most)
+    (map (case_with choice.given choice.action) choice.any) (each_case most choice.given choice.action choice.any h)
 
-pub few_tests : (cases tests : ℕ) → tests ≤ 2 → (number : ℕ) (choice : Choice) → IsSmall cases tests choice → HaveFewTests ((rule_with number choice).cases)
+pub few_tests : (cases tests : ℕ) → tests ≤ 2 → (number : ℕ) (choice : Choice) → IsSmall cases tests choice
+    → HaveFewTests ((rule_with number choice).cases)
 few_tests cases tests two number choice s = cases_few 2 number choice (omega (arith, s.tests_fit))
 
 -- the cases of a rule, and the tests of all its cases
-pub case_bound : (cases tests : ℕ) (number : ℕ) (choice : Choice) → IsSmall cases tests choice → length ((rule_with number choice).cases) ≤ cases
-case_bound cases tests number choice s = subst (λ n. n ≤ cases) (sym (length-map choice.any (case_with choice.given choice.action))) s.cases_fit
+pub case_bound : (cases tests : ℕ) (number : ℕ) (choice : Choice) → IsSmall cases tests choice
+    → length ((rule_with number choice).cases) ≤ cases
+case_bound cases tests number choice s = subst (λ n. n ≤ cases)
+    (sym (length-map choice.any (case_with choice.given choice.action))) s.cases_fit
 
-pub test_bound : (cases tests : ℕ) (number : ℕ) (choice : Choice) → IsSmall cases tests choice → sum_by (λ case. length case.tests) ((rule_with number choice).cases) ≤ cases * tests
+pub test_bound : (cases tests : ℕ) (number : ℕ) (choice : Choice) → IsSmall cases tests choice
+    → sum_by (λ case. length case.tests) ((rule_with number choice).cases) ≤ cases * tests
 test_bound cases tests number choice s =
     let each_fits = sum_by-le (λ case. length case.tests) tests ((rule_with number choice).cases) (cases_few tests number choice s.tests_fit) in
     le_trans each_fits (mul-le-mul (case_bound cases tests number choice s) (le_refl tests))
 
-whole_cases : (at : ℕ) (action : Action) (values : List ℕ) → AllByRecursion (λ case. (value : ℕ) × (case.tests ≡ whole at value ∷ [])) (map (case_with None action) (map (whole at) values))
+whole_cases : (at : ℕ) (action : Action) (values : List ℕ) → AllByRecursion (λ case. (value : ℕ) × (case.tests ≡ whole at value ∷ []))
+    (map (case_with None action) (map (whole at) values))
 whole_cases at action [] = tt
 whole_cases at action (value ∷ values) = ((value, refl), whole_cases at action values)
 
@@ -85,5 +98,6 @@ short_cases cases tests number choice s = by s.short
           w.at,
           subst (λ given. AreWhole w.at (map (case_with given choice.action) choice.any)) (sym w.alone)
               (subst (λ tests. AreWhole w.at (map (case_with None choice.action) tests)) (sym w.are)
-              (All-from_recursion (λ case. (value : ℕ) × (case.tests ≡ whole w.at value ∷ [])) (map (case_with None choice.action) (map (whole w.at) w.values)) (whole_cases w.at choice.action w.values))),
+              (All-from_recursion (λ case. (value : ℕ) × (case.tests ≡ whole w.at value ∷ []))
+              (map (case_with None choice.action) (map (whole w.at) w.values)) (whole_cases w.at choice.action w.values))),
         )

@@ -1,5 +1,6 @@
 -- RestrictAddressFamilies=: the rules do what is wanted.
-use Rattle.std.proofs.Common.{◌≡◌, ℕ, ◌≤◌, Bool, true, false, cond, eqb, Option, Some, None, List, [], ◌∷◌, length, map, find, reverse, refl, sym, ap, ◌∙◌, arith, inr, codes, subst}
+use Rattle.std.proofs.Common.{◌≡◌, ℕ, ◌≤◌, Bool, true, false, cond, eqb, Option, Some, None, List, [], ◌∷◌, length, map, find, reverse}
+use Rattle.std.proofs.Common.{refl, sym, ap, ◌∙◌, arith, inr, codes, subst}
 use Rattle.std.specs.Prelude.{◌||◌, ◌&&◌, ◌==◌, not, filter, is_some, if◌then◌else◌, option_and_then}
 use Rattle.std.specs.Option.{option_map_or, IfSome, ForSome}
 use Rattle.std.specs.List.{list_any, All, AllByRecursion}
@@ -37,22 +38,35 @@ eqb_swap : (x y : ℕ) → eqb x y ≡ eqb y x
 eqb_swap x y =
     elim (eqb y x) as (λ b. eqb y x ≡ b → eqb x y ≡ b) [
       | true ↦ λ e. eq-eqb x y (sym (eqb-true y x e))
-      | false ↦ λ e. elim (eqb x y) as (λ b. eqb x y ≡ b → b ≡ false) [ true ↦ λ f. sym (eq-eqb y x (sym (eqb-true x y f))) ∙ e | false ↦ λ f. refl ] refl
+      | false ↦ λ e. elim (eqb x y) as (λ b. eqb x y ≡ b → b ≡ false)
+          [ true ↦ λ f. sym (eq-eqb y x (sym (eqb-true x y f))) ∙ e | false ↦ λ f. refl ] refl
     ] refl
 
 -- the word that decides is known
-known_of : (table : Table) (number : ℕ) (mentions : List FamilyMention) → AllByRecursion (IsKnown table) mentions → is_some (find (λ mention. mention.number == number) mentions) ≡ true → list_any (has_number number) table.families ≡ true
+known_of : (table : Table) (number : ℕ) (mentions : List FamilyMention) → AllByRecursion (IsKnown table) mentions
+    → is_some (find (λ mention. mention.number == number) mentions) ≡ true → list_any (has_number number) table.families ≡ true
 known_of table number [] h some = cc
 known_of table number (mention ∷ mentions) h some =
-    elim (mention.number == number) as (λ b. (mention.number == number) ≡ b → is_some (cond b (Some mention) (find (λ mention. mention.number == number) mentions)) ≡ true → list_any (has_number number) table.families ≡ true)
-    [ true ↦ λ e some. subst (λ n. list_any (has_number n) table.families ≡ true) (eqb-true mention.number number e) h.0 | false ↦ λ e some. known_of table number mentions h.1 some ] refl some
+    elim (mention.number == number) as (λ b. (mention.number == number) ≡ b
+    → is_some (cond b (Some mention) (find (λ mention. mention.number == number) mentions)) ≡ true
+    → list_any (has_number number) table.families ≡ true) [
+      | true ↦ λ e some. subst (λ n. list_any (has_number n) table.families ≡ true) (eqb-true mention.number number e) h.0
+      | false ↦
+          λ e some. known_of table number mentions h.1 some
+    ] refl some
 
 -- a listed family is one of the table
-listed_known : (table : Table) (mentions : List FamilyMention) (number : ℕ) → All (IsKnown table) mentions → (is_listed_family mentions number && list_any (has_number number) table.families) ≡ is_listed_family mentions number
+listed_known : (table : Table) (mentions : List FamilyMention) (number : ℕ) → All (IsKnown table) mentions
+    → (is_listed_family mentions number && list_any (has_number number) table.families) ≡ is_listed_family mentions number
 listed_known table mentions number h =
-    by_word (last_family mentions number) (known_of table number (reverse mentions) (recursion_from_All (IsKnown table) (reverse mentions) (All-permutation (IsKnown table) mentions (reverse mentions) (IsPermutation-reverse mentions) h)))
+    by_word (last_family mentions number)
+    (known_of table number (reverse mentions)
+    (recursion_from_All (IsKnown table) (reverse mentions)
+    (All-permutation (IsKnown table) mentions (reverse mentions) (IsPermutation-reverse mentions) h)))
   where
-    by_word : (o : Option FamilyMention) → (is_some o ≡ true → list_any (has_number number) table.families ≡ true) → (option_map_or (λ mention. mention.adds) o false && list_any (has_number number) table.families) ≡ option_map_or (λ mention. mention.adds) o false
+    by_word : (o : Option FamilyMention) → (is_some o ≡ true → list_any (has_number number) table.families ≡ true)
+        → (option_map_or (λ mention. mention.adds) o false && list_any (has_number number) table.families)
+        ≡ option_map_or (λ mention. mention.adds) o false
     by_word None k = refl
     by_word (Some mention) k = ap (λ b. mention.adds && b) (k refl) ∙ both mention.adds
       where
@@ -65,16 +79,21 @@ any_agree test other [] h = refl
 any_agree test other (x ∷ xs) h = ap (λ b. b || list_any test xs) (h x) ∙ ap (λ b. other x || b) (any_agree test other xs h)
 
 -- some test holds exactly where the family is listed
-some_family : (table : Table) (mentions : List FamilyMention) (input : CallData) → All (IsKnown table) mentions → list_any (test_holds input) (family_tests mentions table.families) ≡ is_listed_family mentions (low input 0)
+some_family : (table : Table) (mentions : List FamilyMention) (input : CallData) → All (IsKnown table) mentions
+    → list_any (test_holds input) (family_tests mentions table.families) ≡ is_listed_family mentions (low input 0)
 some_family table mentions input h =
-    list_any-map (test_holds input) (λ family. whole 0 family.number) (filter (λ family. is_listed_family mentions family.number) table.families)
-    ∙ any_agree (λ family. test_holds input (whole 0 family.number)) (has_number (low input 0)) (filter (λ family. is_listed_family mentions family.number) table.families)
+    list_any-map (test_holds input) (λ family. whole 0 family.number)
+    (filter (λ family. is_listed_family mentions family.number) table.families)
+    ∙ any_agree (λ family. test_holds input (whole 0 family.number)) (has_number (low input 0))
+    (filter (λ family. is_listed_family mentions family.number) table.families)
     (λ family. whole_holds input 0 family.number ∙ eqb_swap (low input 0) family.number)
-    ∙ any-filter_same (has_number (low input 0)) (λ family. is_listed_family mentions family.number) (is_listed_family mentions (low input 0))
+    ∙ any-filter_same (has_number (low input 0)) (λ family. is_listed_family mentions family.number)
+    (is_listed_family mentions (low input 0))
     (λ family e. ap (is_listed_family mentions) (eqb-true family.number (low input 0) e)) table.families
     ∙ listed_known table mentions (low input 0) h
 
-by_mode : (mode : Mode) (tests : List Tested) (listed : Bool) (input : CallData) → list_any (test_holds input) tests ≡ listed → choice_action input (family_choice mode tests) ≡ unless_refused eafnosupport (is_refused_by mode listed)
+by_mode : (mode : Mode) (tests : List Tested) (listed : Bool) (input : CallData) → list_any (test_holds input) tests ≡ listed
+    → choice_action input (family_choice mode tests) ≡ unless_refused eafnosupport (is_refused_by mode listed)
 by_mode Allow tests listed input e = ap (λ b. cond b action.Allow (action.Errno eafnosupport)) e ∙ turned listed
   where
     turned : (b : Bool) → cond b action.Allow (action.Errno eafnosupport) ≡ cond (not b) (action.Errno eafnosupport) action.Allow
@@ -82,25 +101,32 @@ by_mode Allow tests listed input e = ap (λ b. cond b action.Allow (action.Errno
     turned false = refl
 by_mode Deny tests listed input e = ap (λ b. cond b (action.Errno eafnosupport) action.Allow) e
 
-pub families_mean : (table : Table) (families : Option FamilyList) → ForSome families (λ list. All (IsKnown table) list.mentions) → (name : List ℕ) (input : CallData) →
-    option_map_or (choice_action input) (families_choice table families name) action.Allow ≡ unless_refused eafnosupport (refuses_family families name input)
+pub families_mean : (table : Table) (families : Option FamilyList) → ForSome families (λ list. All (IsKnown table) list.mentions)
+    → (name : List ℕ) (input : CallData) →
+    option_map_or (choice_action input) (families_choice table families name) action.Allow
+    ≡ unless_refused eafnosupport (refuses_family families name input)
 families_mean table families h name input = by_name (bytes_eq name (codes "socket")) families h
   where
     by_list : (families : Option FamilyList) → ForSome families (λ list. All (IsKnown table) list.mentions) →
-        option_map_or (choice_action input) (option_and_then (λ list. Some (socket_choice table list)) families) action.Allow ≡ unless_refused eafnosupport (option_map_or (λ list. is_refused_family list (low input 0)) families false)
+        option_map_or (choice_action input) (option_and_then (λ list. Some (socket_choice table list)) families) action.Allow
+        ≡ unless_refused eafnosupport (option_map_or (λ list. is_refused_family list (low input 0)) families false)
     by_list None h = refl
-    by_list (Some list) h = by_mode list.mode (family_tests list.mentions table.families) (is_listed_family list.mentions (low input 0)) input (some_family table list.mentions input (h list refl))
+    by_list (Some list) h = by_mode list.mode (family_tests list.mentions table.families)
+        (is_listed_family list.mentions (low input 0)) input (some_family table list.mentions input (h list refl))
 
     by_name : (b : Bool) (families : Option FamilyList) → ForSome families (λ list. All (IsKnown table) list.mentions) →
-        option_map_or (choice_action input) (if b then option_and_then (λ list. Some (socket_choice table list)) families else None) action.Allow ≡ unless_refused eafnosupport (b && option_map_or (λ list. is_refused_family list (low input 0)) families false)
+        option_map_or (choice_action input) (if b then option_and_then (λ list. Some (socket_choice table list)) families else None)
+        action.Allow ≡ unless_refused eafnosupport (b && option_map_or (λ list. is_refused_family list (low input 0)) families false)
     by_name true families h = by_list families h
     by_name false families h = refl
 
-few_families : (table : Table) (mentions : List FamilyMention) → length table.families ≤ 128 → length (family_tests mentions table.families) ≤ 128
+few_families : (table : Table) (mentions : List FamilyMention) → length table.families ≤ 128
+    → length (family_tests mentions table.families) ≤ 128
 few_families table mentions few =
     omega (arith, length-map (filter (λ family. is_listed_family mentions family.number) table.families) (λ family. whole 0 family.number), length_filter_le (λ family. is_listed_family mentions family.number) table.families)
 
-map-map : (families : List CallLine) → map (λ family. whole 0 family.number) families ≡ map (whole 0) (map (λ family. family.number) families)
+map-map : (families : List CallLine) → map (λ family. whole 0 family.number) families
+    ≡ map (whole 0) (map (λ family. family.number) families)
 map-map [] = refl
 map-map (family ∷ families) = ap (λ ts. whole 0 family.number ∷ ts) (map-map families)
 
@@ -119,13 +145,16 @@ socket_small table list few = by_list_mode list.mode
       short = inr (record { alone = refl; at = 0; values = map (λ family. family.number) (filter (λ family. is_listed_family list.mentions family.number) table.families); are = map-map (filter (λ family. is_listed_family list.mentions family.number) table.families) });
     }
 
-pub families_small : (table : Table) (families : Option FamilyList) → length table.families ≤ 128 → AreSmall 128 1 (families_choice table families)
+pub families_small : (table : Table) (families : Option FamilyList) → length table.families ≤ 128
+    → AreSmall 128 1 (families_choice table families)
 families_small table families few name = by_name (bytes_eq name (codes "socket")) families
   where
-    by_name : (b : Bool) (families : Option FamilyList) → IfSome (if b then option_and_then (λ list. Some (socket_choice table list)) families else None) (IsSmall 128 1)
+    by_name : (b : Bool) (families : Option FamilyList) → IfSome
+        (if b then option_and_then (λ list. Some (socket_choice table list)) families else None) (IsSmall 128 1)
     by_name true None = tt
     by_name true (Some list) = socket_small table list few
     by_name false families = tt
 
 pub families_among : (table : Table) (families : Option FamilyList) → AreAmong (codes "socket" ∷ []) (families_choice table families)
-families_among table families = one_name (codes "socket") (families_choice table families) (λ name e. ap (λ b. if b then option_and_then (λ list. Some (socket_choice table list)) families else None) e)
+families_among table families = one_name (codes "socket") (families_choice table families)
+    (λ name e. ap (λ b. if b then option_and_then (λ list. Some (socket_choice table list)) families else None) e)

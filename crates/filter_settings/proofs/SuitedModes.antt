@@ -9,7 +9,8 @@ use Rattle.dropin_merge.specs.linux_numbers.Errnos.{eperm}
 use Rattle.call_rules.specs.declared.actions.Action.TheVariants.{Allow}
 use Rattle.filter_settings.specs.filter_rules.Actions.{unless_refused, low, has_bits, is_one_of}
 use Rattle.filter_settings.specs.filter_rules.Choices.{choice_action, bits}
-use Rattle.filter_settings.specs.filter_rules.Suid.{mode_argument, flags_argument, sets_id_bit, refuses_mode, set_user_id, set_group_id, o_creat}
+use Rattle.filter_settings.specs.filter_rules.Suid.{mode_argument, flags_argument, sets_id_bit, refuses_mode, set_user_id, set_group_id}
+use Rattle.filter_settings.specs.filter_rules.Suid.{o_creat}
 use Rattle.filter_settings.specs.filter_rules.SuidChoice.{suid_choice, mode_choice, mode_test}
 use Rattle.filter_settings.proofs.LowWords.{or_false}
 use Rattle.filter_settings.proofs.Suited.{IsSmall, AreSmall}
@@ -17,13 +18,17 @@ use Rattle.filter_settings.proofs.Counted.{AreAmong}
 
 by_arguments : (input : CallData) (flags mode : Option ℕ) →
     option_map_or (choice_action input) (option_map (mode_choice (option_map (λ at. bits at o_creat) flags)) mode) Allow
-    ≡ unless_refused eperm (option_map_or (λ at. option_map_or (λ at. has_bits (low input at) o_creat) flags true && sets_id_bit (low input at)) mode false)
+    ≡ unless_refused eperm (option_map_or
+    (λ at. option_map_or (λ at. has_bits (low input at) o_creat) flags true && sets_id_bit (low input at)) mode false)
 by_arguments input flags None = refl
-by_arguments input None (Some at) = ap (λ b. unless_refused eperm (has_bits (low input at) set_user_id || b)) (or_false (has_bits (low input at) set_group_id))
+by_arguments input None (Some at) = ap (λ b. unless_refused eperm (has_bits (low input at) set_user_id || b))
+    (or_false (has_bits (low input at) set_group_id))
 by_arguments input (Some other) (Some at) =
-    ap (λ b. unless_refused eperm (has_bits (low input other) o_creat && (has_bits (low input at) set_user_id || b))) (or_false (has_bits (low input at) set_group_id))
+    ap (λ b. unless_refused eperm (has_bits (low input other) o_creat && (has_bits (low input at) set_user_id || b)))
+    (or_false (has_bits (low input at) set_group_id))
 
-pub suid_means : (name : List ℕ) (input : CallData) → option_map_or (choice_action input) (suid_choice name) Allow ≡ unless_refused eperm (refuses_mode name input)
+pub suid_means : (name : List ℕ) (input : CallData) → option_map_or (choice_action input) (suid_choice name) Allow
+    ≡ unless_refused eperm (refuses_mode name input)
 suid_means name input = by_arguments input (flags_argument name) (mode_argument name)
 
 pub suid_small : AreSmall 2 2 suid_choice
@@ -57,7 +62,9 @@ suid_among name some =
     ∙ ap (λ b. is_one_of name first_names || b) (list_any-append (λ other. bytes_eq name other) second_names third_names)
     ∙ named (is_one_of name first_names) (is_one_of name second_names) (bytes_eq name (codes "openat")) some
   where
-    named : (a b c : Bool) → is_some (option_map (mode_choice (mode_test name)) (if a then Some 1 else if b then Some 2 else if c then Some 3 else None)) ≡ true → (a || (b || (c || false))) ≡ true
+    named : (a b c : Bool) → is_some
+        (option_map (mode_choice (mode_test name)) (if a then Some 1 else if b then Some 2 else if c then Some 3 else None)) ≡ true
+        → (a || (b || (c || false))) ≡ true
     named true b c h = refl
     named false true c h = refl
     named false false true h = refl

@@ -1,5 +1,6 @@
 -- RestrictNamespaces=: the rules do what is wanted.
-use Rattle.std.proofs.Common.{◌≡◌, ℕ, ◌≤◌, Bool, true, false, cond, Option, Some, None, List, [], ◌∷◌, length, map, refl, sym, ap, ◌∙◌, arith, inl, codes}
+use Rattle.std.proofs.Common.{◌≡◌, ℕ, ◌≤◌, Bool, true, false, cond, Option, Some, None, List, [], ◌∷◌, length, map, refl, sym, ap, ◌∙◌}
+use Rattle.std.proofs.Common.{arith, inl, codes}
 use Rattle.std.specs.Prelude.{◌||◌, ◌&&◌, ◌==◌, not, filter, is_some, if◌then◌else◌}
 use Rattle.std.specs.Option.{option_map_or, option_map, IfSome}
 use Rattle.std.specs.List.{list_any}
@@ -22,14 +23,17 @@ use Rattle.filter_settings.proofs.LowWords.{or_false, whole_holds}
 use Rattle.filter_settings.proofs.Suited.{IsSmall, AreSmall}
 use Rattle.filter_settings.proofs.Counted.{AreAmong}
 
-any_type : (input : CallData) (setns : Bool) → list_any (test_holds input) (if setns then whole 1 0 ∷ [] else []) ≡ (setns && low input 1 == 0)
+any_type : (input : CallData) (setns : Bool) → list_any (test_holds input) (if setns then whole 1 0 ∷ [] else [])
+    ≡ (setns && low input 1 == 0)
 any_type input true = or_false (test_holds input (whole 1 0)) ∙ whole_holds input 1 0
 any_type input false = refl
 
-some_test : (types : NamespaceTypes) (name : List ℕ) (input : CallData) (at : ℕ) → list_any (test_holds input) (namespace_tests types name at) ≡ (enters_any name input || has_forbidden types (low input at))
+some_test : (types : NamespaceTypes) (name : List ℕ) (input : CallData) (at : ℕ)
+    → list_any (test_holds input) (namespace_tests types name at) ≡ (enters_any name input || has_forbidden types (low input at))
 some_test types name input at =
     list_any-append (test_holds input) (any_type_tests name) (map (flag_test at) (forbidden_types types))
-    ∙ ap (λ b. b || list_any (test_holds input) (map (flag_test at) (forbidden_types types))) (any_type input (bytes_eq name (codes "setns")))
+    ∙ ap (λ b. b || list_any (test_holds input) (map (flag_test at) (forbidden_types types)))
+    (any_type input (bytes_eq name (codes "setns")))
     ∙ ap (λ b. enters_any name input || b) (list_any-map (test_holds input) (flag_test at) (forbidden_types types))
 
 abbrev argument_by : Bool → Bool → Option ℕ
@@ -44,17 +48,20 @@ none_enters false false zero_type e = refl
 by_argument : (types : NamespaceTypes) (name : List ℕ) (input : CallData) (at : Option ℕ) → types_argument name ≡ at →
     option_map_or (choice_action input) (option_map (λ at. refused_where (namespace_tests types name at)) at) Allow
     ≡ unless_refused eperm (enters_any name input || option_map_or (λ at. has_forbidden types (low input at)) at false)
-by_argument types name input None e = ap (unless_refused eperm) (sym (none_enters (is_one_of name (codes "unshare" ∷ codes "clone" ∷ [])) (bytes_eq name (codes "setns")) (low input 1 == 0) e))
+by_argument types name input None e = ap (unless_refused eperm)
+    (sym (none_enters (is_one_of name (codes "unshare" ∷ codes "clone" ∷ [])) (bytes_eq name (codes "setns")) (low input 1 == 0) e))
 by_argument types name input (Some at) e = ap (unless_refused eperm) (some_test types name input at)
 
-pub namespaces_means : (types : NamespaceTypes) (name : List ℕ) (input : CallData) → option_map_or (choice_action input) (namespaces_choice types name) Allow ≡ unless_refused eperm (refuses_namespace types name input)
+pub namespaces_means : (types : NamespaceTypes) (name : List ℕ) (input : CallData)
+    → option_map_or (choice_action input) (namespaces_choice types name) Allow ≡ unless_refused eperm (refuses_namespace types name input)
 namespaces_means types name input = by_argument types name input (types_argument name) refl
 
 pub length_filter_le : {X : Type 0} (test : X → Bool) (xs : List X) → length (filter test xs) ≤ length xs
 length_filter_le test [] = omega arith
 length_filter_le test (x ∷ xs) =
     let rest : length (filter test xs) ≤ length xs = length_filter_le test xs in
-    elim (test x) as (λ b. length (cond b (x ∷ filter test xs) (filter test xs)) ≤ length (x ∷ xs)) [ true ↦ omega arith | false ↦ omega arith ]
+    elim (test x) as (λ b. length (cond b (x ∷ filter test xs) (filter test xs)) ≤ length (x ∷ xs))
+    [ true ↦ omega arith | false ↦ omega arith ]
 
 few_types : (types : NamespaceTypes) → length (forbidden_types types) ≤ 7
 few_types types = length_filter_le (λ kind. not (permits types kind)) all_types
@@ -85,7 +92,9 @@ pub namespaces_among : (types : NamespaceTypes) → AreAmong namespaces_names (n
 unfolding namespaces_names
 namespaces_among types name = named (bytes_eq name (codes "unshare")) (bytes_eq name (codes "clone")) (bytes_eq name (codes "setns"))
   where
-    named : (a b c : Bool) → is_some (option_map (λ at. refused_where (namespace_tests types name at)) (if a || (b || false) then Some 0 else if c then Some 1 else None)) ≡ true → (a || (b || (c || false))) ≡ true
+    named : (a b c : Bool) → is_some
+        (option_map (λ at. refused_where (namespace_tests types name at))
+        (if a || (b || false) then Some 0 else if c then Some 1 else None)) ≡ true → (a || (b || (c || false))) ≡ true
     named true b c h = refl
     named false true c h = refl
     named false false true h = refl

@@ -1,5 +1,6 @@
 -- systemd.exec(5), SystemCallArchitectures=: which ABIs are permitted.
-use Rattle.std.specs.Prelude.{ℕ, ◌&&◌, ◌||◌, not, Bool, false, is_some, if◌then◌else◌, Option, List, [], ◌∷◌, ◌++◌, flat_map, unwrap_or, codes}
+use Rattle.std.specs.Prelude.{ℕ, ◌&&◌, ◌||◌, not, Bool, false, is_some, if◌then◌else◌, Option, List, [], ◌∷◌, ◌++◌, flat_map, unwrap_or}
+use Rattle.std.specs.Prelude.{codes}
 use Rattle.std.specs.Option.{option_map_or}
 use Rattle.std.specs.List.{list_any}
 use Rattle.std.specs.Str.{bytes_eq}

@@ -50,7 +50,8 @@ is_known table name = is_known_by table name (behind_at name)
 -- a known name is mentioned
 abbrev pub mention_of : Table → Bool → Option CallWord → Option Mention
 mention_of table adds None = None
-mention_of table adds (Some word) = if is_known table word.name then Some (record { adds = adds; name = word.name; action = word.action }) else None
+mention_of table adds (Some word) = if is_known table word.name then Some
+    (record { adds = adds; name = word.name; action = word.action }) else None
 
 abbrev pub word_mention : Table → Mode → Bool → List ℕ → Option Mention
 word_mention table mode adds word = mention_of table adds (word_of (may_have_suffix mode adds) word)
@@ -58,7 +59,8 @@ word_mention table mode adds word = mention_of table adds (word_of (may_have_suf
 -- a word that cannot be read is noted, or else a suffix that is dropped, and then a name that is not known
 abbrev pub causes_of : Table → Option CallWord → List NoteCause
 causes_of table None = ValueCause ∷ []
-causes_of table (Some word) = (if word.has_stray then ValueCause ∷ [] else []) ++ (if is_known table word.name then [] else UnknownName ∷ [])
+causes_of table (Some word) = (if word.has_stray then ValueCause ∷ [] else []) ++
+    (if is_known table word.name then [] else UnknownName ∷ [])
 
 abbrev pub word_causes : Table → Mode → Bool → List ℕ → List NoteCause
 word_causes table mode adds word = causes_of table (word_of (may_have_suffix mode adds) word)

@@ -50,7 +50,8 @@ begun_by table lines = option_map (λ mode. list_of table mode lines) (list_mode
 
 -- behind the last `none`, if there is one, lines go on from a list that allows nothing
 abbrev pub family_list : Table → List Listed → Option FamilyList
-family_list table lines = cond (list_any is_none_line lines) (Some (list_of table Allow (after_last is_none_line lines))) (begun_by table lines)
+family_list table lines = cond (list_any is_none_line lines) (Some (list_of table Allow (after_last is_none_line lines)))
+    (begun_by table lines)
 
 -- an unknown family is noted
 abbrev pub family_causes : Option ℕ → List NoteCause

@@ -1,5 +1,6 @@
 -- systemd.exec(5), RestrictNamespaces=: which types of namespaces are permitted (namespaces(7)).
-use Rattle.std.specs.Prelude.{ℕ, ◌||◌, ◌&&◌, not, Bool, true, false, cond, if◌then◌else◌, is_some, Option, Some, None, List, [], ◌∷◌, ◌++◌, flat_map, unwrap_or}
+use Rattle.std.specs.Prelude.{ℕ, ◌||◌, ◌&&◌, not, Bool, true, false, cond, if◌then◌else◌, is_some, Option, Some, None, List, [], ◌∷◌, ◌++◌}
+use Rattle.std.specs.Prelude.{flat_map, unwrap_or}
 use Rattle.std.specs.List.{filter_map, list_any}
 use Rattle.std.specs.Str.{bytes_eq}
 use Rattle.dropin_merge.specs.text_forms.Booleans.{bool_value}

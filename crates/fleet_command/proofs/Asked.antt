@@ -1,5 +1,6 @@
 -- The calls of `fleet`, step by step.
-use Rattle.std.proofs.Common.{◌≡◌, ◌∙◌, ℕ, Bool, true, false, cond, Box, Vec, Global, List, [], ◌∷◌, Option, Some, None, Result, Ok, Err, refl, sym, ap, subst}
+use Rattle.std.proofs.Common.{◌≡◌, ◌∙◌, ℕ, Bool, true, false, cond, Box, Vec, Global, List, [], ◌∷◌, Option, Some, None, Result, Ok, Err}
+use Rattle.std.proofs.Common.{refl, sym, ap, subst}
 use Rattle.std.specs.Prelude.{◌==◌, IfSome}
 use Rattle.score_command.specs.host_io.Calls.{Ask, ShelfCall, Course, Whole, Went}
 use Rattle.score_command.specs.host_io.Files.{Files}
@@ -34,71 +35,114 @@ use Rattle.fleet_command.proofs.Prepared.{refused_as}
 
 -- what the units are named by, and what they are reported by, said as of a step of preparing
 module _ {S : Type 0} (asks : S → ShelfCall → S → Type 0) (told : Option Files) (a b : S) where
-  pub named_so : (result end : Result (Vec Name Global) NamesError) → result ≡ end → IfSome told (λ files. Went asks a b (names_asks files) (names_course result)) → AsksInOrder asks told names_asks a b (names_course end)
-  named_so result end same made = record { by_the_files = subst (λ (own : Result (Vec Name Global) NamesError). IfSome told (λ files. Went asks a b (names_asks files) (names_course own))) same made }
+  pub named_so : (result end : Result (Vec Name Global) NamesError) → result ≡ end
+      → IfSome told (λ files. Went asks a b (names_asks files) (names_course result))
+      → AsksInOrder asks told names_asks a b (names_course end)
+  named_so result end same made =
+      record {
+        by_the_files = subst
+            (λ (own : Result (Vec Name Global) NamesError). IfSome told (λ files. Went asks a b (names_asks files) (names_course own))) same
+            made;
+      }
 
-  pub reported_so : (inputs : FleetInputs) (stored : StoredTests) (names : List Name) (table : Table) (result end : Result (Vec FleetRow Global) FleetError) → names ≡ inputs.names.items → table ≡ inputs.calls.value → result ≡ end
-      → IfSome told (λ files. Went asks a b (unless_weightless (weight_of table stored inputs.policy) (rows_asks files names)) (rows_course result))
-      → AsksInOrder asks told (λ files. unless_weightless (weight_of (inputs_view inputs).calls stored (inputs_view inputs).policy) (rows_asks files (inputs_view inputs).names)) a b (rows_course end)
+  pub reported_so : (inputs : FleetInputs) (stored : StoredTests) (names : List Name) (table : Table)
+      (result end : Result (Vec FleetRow Global) FleetError) → names ≡ inputs.names.items → table ≡ inputs.calls.value → result ≡ end
+      → IfSome told (λ files. Went asks a b (unless_weightless (weight_of table stored inputs.policy) (rows_asks files names))
+      (rows_course result))
+      → AsksInOrder asks told (λ files. unless_weightless (weight_of (inputs_view inputs).calls stored (inputs_view inputs).policy)
+      (rows_asks files (inputs_view inputs).names)) a b (rows_course end)
   reported_so inputs stored names table result end first second same made = record {
     by_the_files =
-        subst (λ own. IfSome told (λ files. Went asks a b (unless_weightless (weight_of own stored inputs.policy) (rows_asks files inputs.names.items)) (rows_course end))) second
-        (subst (λ own. IfSome told (λ files. Went asks a b (unless_weightless (weight_of table stored inputs.policy) (rows_asks files own)) (rows_course end))) first
-        (subst (λ (own : Result (Vec FleetRow Global) FleetError). IfSome told (λ files. Went asks a b (unless_weightless (weight_of table stored inputs.policy) (rows_asks files names)) (rows_course own))) same made));
+        subst (λ own. IfSome told
+        (λ files. Went asks a b (unless_weightless (weight_of own stored inputs.policy) (rows_asks files inputs.names.items))
+        (rows_course end))) second
+        (subst (λ own. IfSome told
+        (λ files. Went asks a b (unless_weightless (weight_of table stored inputs.policy) (rows_asks files own)) (rows_course end)))
+        first
+        (subst (λ (own : Result (Vec FleetRow Global) FleetError). IfSome told
+        (λ files. Went asks a b (unless_weightless (weight_of table stored inputs.policy) (rows_asks files names)) (rows_course own)))
+        same made));
   }
 
 module _ {S : Type 0} (asks : S → ShelfCall → S → Type 0) (told : Option Files) (path : List ℕ) where
   -- ---- what is read before the first unit
   module _ (a b : S) where
-    pub stops_at_names : (why : Stop) → IfSome told (λ files. IsAnswer {T = Vec Name Global} (λ own. own.items) (Err why) (names_in files)) → AsksInOrder asks told names_asks a b (course {T = Vec Name Global} (Err why))
+    pub stops_at_names : (why : Stop)
+        → IfSome told (λ files. IsAnswer {T = Vec Name Global} (λ own. own.items) (Err why) (names_in files))
+        → AsksInOrder asks told names_asks a b (course {T = Vec Name Global} (Err why))
         → AsksInOrder asks told (λ files. read_asks files path) a b (course {T = Vec Name Global} (Err why))
-    stops_at_names why said made = order_refused asks told names_asks a b (λ (own : Vec Name Global). own.items) names_in (λ files. behind_names files path) why said made
+    stops_at_names why said made = order_refused asks told names_asks a b (λ (own : Vec Name Global). own.items) names_in
+        (λ files. behind_names files path) why said made
 
-    pub behind_the_names : (c : S) (between : Option Files) (own : Vec Name Global) (how : Course) → between ≡ told → IfSome told (λ files. names_in files ≡ Ok own.items) → AsksInOrder asks told names_asks a b Whole
-        → AsksInOrder asks between (λ files. behind_names files path) b c how → AsksInOrder asks told (λ files. read_asks files path) a c how
+    pub behind_the_names : (c : S) (between : Option Files) (own : Vec Name Global) (how : Course) → between ≡ told
+        → IfSome told (λ files. names_in files ≡ Ok own.items) → AsksInOrder asks told names_asks a b Whole
+        → AsksInOrder asks between (λ files. behind_names files path) b c how
+        → AsksInOrder asks told (λ files. read_asks files path) a c how
     behind_the_names c between own how same said first second =
-        order_answered asks told names_asks a b (λ (own : Vec Name Global). own.items) names_in (λ files. behind_names files path) c between own how same said first second
+        order_answered asks told names_asks a b (λ (own : Vec Name Global). own.items) names_in
+        (λ files. behind_names files path) c between own how same said first second
 
-    pub stops_at_table : (why : Stop) → IfSome told (λ files. IsAnswer {T = Box Table Global} (λ own. own.value) (Err why) (calls_in files)) → Went asks a b table_asks (course {T = Box Table Global} (Err why))
+    pub stops_at_table : (why : Stop)
+        → IfSome told (λ files. IsAnswer {T = Box Table Global} (λ own. own.value) (Err why) (calls_in files))
+        → Went asks a b table_asks (course {T = Box Table Global} (Err why))
         → AsksInOrder asks told (λ files. behind_names files path) a b (course {T = Box Table Global} (Err why))
     stops_at_table why said made =
-        order_refused asks told (λ files. table_asks) a b (λ (own : Box Table Global). own.value) calls_in (λ files. behind_site files path) why said (asked_so asks told table_asks a b (course {T = Box Table Global} (Err why)) made)
+        order_refused asks told (λ files. table_asks) a b (λ (own : Box Table Global). own.value) calls_in
+        (λ files. behind_site files path) why said (asked_so asks told table_asks a b (course {T = Box Table Global} (Err why)) made)
 
-    pub behind_the_table : (c : S) (between : Option Files) (own : Box Table Global) (how : Course) → between ≡ told → IfSome told (λ files. calls_in files ≡ Ok own.value) → Went asks a b table_asks Whole
-        → AsksInOrder asks between (λ files. behind_site files path) b c how → AsksInOrder asks told (λ files. behind_names files path) a c how
+    pub behind_the_table : (c : S) (between : Option Files) (own : Box Table Global) (how : Course) → between ≡ told
+        → IfSome told (λ files. calls_in files ≡ Ok own.value) → Went asks a b table_asks Whole
+        → AsksInOrder asks between (λ files. behind_site files path) b c how
+        → AsksInOrder asks told (λ files. behind_names files path) a c how
     behind_the_table c between own how same said first second =
-        order_answered asks told (λ files. table_asks) a b (λ (own : Box Table Global). own.value) calls_in (λ files. behind_site files path) c between own how same said (asked_so asks told table_asks a b Whole first) second
+        order_answered asks told (λ files. table_asks) a b (λ (own : Box Table Global). own.value) calls_in
+        (λ files. behind_site files path) c between own how same said (asked_so asks told table_asks a b Whole first) second
 
-    pub stops_at_site : (why : Stop) → IfSome told (λ files. IsAnswer {T = Box Site Global} (λ own. own.value) (Err why) (site_in files)) → Went asks a b site_asks (course {T = Box Site Global} (Err why))
+    pub stops_at_site : (why : Stop) → IfSome told (λ files. IsAnswer {T = Box Site Global} (λ own. own.value) (Err why) (site_in files))
+        → Went asks a b site_asks (course {T = Box Site Global} (Err why))
         → AsksInOrder asks told (λ files. behind_site files path) a b (course {T = Box Site Global} (Err why))
     stops_at_site why said made =
-        order_refused asks told (λ files. site_asks) a b (λ (own : Box Site Global). own.value) site_in (λ files. input_file path ∷ []) why said (asked_so asks told site_asks a b (course {T = Box Site Global} (Err why)) made)
+        order_refused asks told (λ files. site_asks) a b (λ (own : Box Site Global). own.value) site_in
+        (λ files. input_file path ∷ []) why said (asked_so asks told site_asks a b (course {T = Box Site Global} (Err why)) made)
 
-    pub behind_the_site : (c : S) (between : Option Files) (own : Box Site Global) (how : Course) → between ≡ told → IfSome told (λ files. site_in files ≡ Ok own.value) → Went asks a b site_asks Whole
+    pub behind_the_site : (c : S) (between : Option Files) (own : Box Site Global) (how : Course) → between ≡ told
+        → IfSome told (λ files. site_in files ≡ Ok own.value) → Went asks a b site_asks Whole
         → Went asks b c (input_file path ∷ []) how → AsksInOrder asks told (λ files. behind_site files path) a c how
     behind_the_site c between own how same said first second =
-        order_answered asks told (λ files. site_asks) a b (λ (own : Box Site Global). own.value) site_in (λ files. input_file path ∷ []) c between own how same said (asked_so asks told site_asks a b Whole first)
+        order_answered asks told (λ files. site_asks) a b (λ (own : Box Site Global). own.value) site_in
+        (λ files. input_file path ∷ []) c between own how same said (asked_so asks told site_asks a b Whole first)
         (asked_so asks between (input_file path ∷ []) b c how second)
 
   -- ---- the units
   module _ (stored : StoredTests) (a b : S) where
     -- something is refused, or a read failed, or memory ran out, before the first unit is read
-    stopped_none : (files : Files) (why : Stop) → Prepares {T = FleetInputs} (λ inputs. AreInputs files path (inputs_view inputs)) (read_refusals files path) (Err why)
-        → course {T = FleetInputs} (Err why) ≡ Whole → unless_told (first_refusal (fleet_refusals files path stored)) (rows_asks files (units_of files)) ≡ []
+    stopped_none : (files : Files) (why : Stop) → Prepares {T = FleetInputs} (λ inputs. AreInputs files path (inputs_view inputs))
+        (read_refusals files path) (Err why)
+        → course {T = FleetInputs} (Err why) ≡ Whole → unless_told (first_refusal (fleet_refusals files path stored))
+        (rows_asks files (units_of files)) ≡ []
     stopped_none files (stop.Refused line) said whole =
-        ap (λ found. unless_told found (rows_asks files (units_of files))) (before_others (read_refusals files path) (weights_in path stored (calls_in files) (policy_in files path)) line.items said)
+        ap (λ found. unless_told found (rows_asks files (units_of files)))
+        (before_others (read_refusals files path) (weights_in path stored (calls_in files) (policy_in files path)) line.items said)
     stopped_none files stop.ReadFault said whole = cc
     stopped_none files stop.Memory said whole = cc
 
-    pub stops_before : (why : Stop) → IfSome told (λ files. Prepares {T = FleetInputs} (λ inputs. AreInputs files path (inputs_view inputs)) (read_refusals files path) (Err why))
-        → AsksInOrder asks told (λ files. read_asks files path) a b (course {T = FleetInputs} (Err why)) → AsksInOrder asks told (λ files. fleet_asks files path stored) a b (course {T = FleetInputs} (Err why))
+    pub stops_before : (why : Stop)
+        → IfSome told (λ files. Prepares {T = FleetInputs} (λ inputs. AreInputs files path (inputs_view inputs))
+        (read_refusals files path) (Err why))
+        → AsksInOrder asks told (λ files. read_asks files path) a b (course {T = FleetInputs} (Err why))
+        → AsksInOrder asks told (λ files. fleet_asks files path stored) a b (course {T = FleetInputs} (Err why))
     stops_before why said made = record {
       by_the_files =
-          told_short asks told a b (λ files. read_asks files path) (λ files. unless_told (first_refusal (fleet_refusals files path stored)) (rows_asks files (units_of files))) (course {T = FleetInputs} (Err why)) made.by_the_files (none told said);
+          told_short asks told a b (λ files. read_asks files path)
+          (λ files. unless_told (first_refusal (fleet_refusals files path stored)) (rows_asks files (units_of files)))
+          (course {T = FleetInputs} (Err why)) made.by_the_files (none told said);
     }
       where
-        none : (known : Option Files) → IfSome known (λ files. Prepares {T = FleetInputs} (λ inputs. AreInputs files path (inputs_view inputs)) (read_refusals files path) (Err why))
-            → IfSome known (λ files. course {T = FleetInputs} (Err why) ≡ Whole → unless_told (first_refusal (fleet_refusals files path stored)) (rows_asks files (units_of files)) ≡ [])
+        none : (known : Option Files)
+            → IfSome known (λ files. Prepares {T = FleetInputs} (λ inputs. AreInputs files path (inputs_view inputs))
+            (read_refusals files path) (Err why))
+            → IfSome known (λ files. course {T = FleetInputs} (Err why) ≡ Whole
+            → unless_told (first_refusal (fleet_refusals files path stored)) (rows_asks files (units_of files)) ≡ [])
         none None said = tt
         none (Some files) said = stopped_none files why said
 
@@ -107,29 +151,44 @@ module _ {S : Type 0} (asks : S → ShelfCall → S → Type 0) (told : Option F
     names_are true own names is = cc
     names_are false own names is = cc
 
-    weighed_as : (weight : ℕ) (wanted : List Ask) → unless_weightless weight wanted ≡ unless_told (first_refusal (weight_refusal path weight ∷ [])) wanted
+    weighed_as : (weight : ℕ) (wanted : List Ask) → unless_weightless weight wanted
+        ≡ unless_told (first_refusal (weight_refusal path weight ∷ [])) wanted
     weighed_as weight wanted = by_test (weight == 0)
       where
-        by_test : (test : Bool) → cond test [] wanted ≡ unless_told (first_refusal (cond test (Some (no_weight_line path)) None ∷ [])) wanted
+        by_test : (test : Bool) → cond test [] wanted ≡ unless_told
+            (first_refusal (cond test (Some (no_weight_line path)) None ∷ [])) wanted
         by_test true = refl
         by_test false = refl
 
     -- nothing is, and the units are read where the policy weighs something
     pub reads_units : (c : S) (between : Option Files) (inputs : FleetInputs) (how : Course) → between ≡ told
-        → IfSome told (λ files. Prepares {T = FleetInputs} (λ inputs. AreInputs files path (inputs_view inputs)) (read_refusals files path) (Ok inputs))
+        → IfSome told (λ files. Prepares {T = FleetInputs} (λ inputs. AreInputs files path (inputs_view inputs))
+        (read_refusals files path) (Ok inputs))
         → AsksInOrder asks told (λ files. read_asks files path) a b Whole
-        → AsksInOrder asks between (λ files. unless_weightless (weight_of (inputs_view inputs).calls stored (inputs_view inputs).policy) (rows_asks files (inputs_view inputs).names)) b c how
+        → AsksInOrder asks between
+        (λ files. unless_weightless (weight_of (inputs_view inputs).calls stored (inputs_view inputs).policy)
+        (rows_asks files (inputs_view inputs).names)) b c how
         → AsksInOrder asks told (λ files. fleet_asks files path stored) a c how
     reads_units c between inputs how same said first second = record {
       by_the_files =
-          told_behind asks told a b c between (λ files. read_asks files path) (λ files. unless_weightless (weight_of (inputs_view inputs).calls stored (inputs_view inputs).policy) (rows_asks files (inputs_view inputs).names))
-          (λ files. unless_told (first_refusal (fleet_refusals files path stored)) (rows_asks files (units_of files))) how same first.by_the_files second.by_the_files (tails told said);
+          told_behind asks told a b c between (λ files. read_asks files path)
+          (λ files. unless_weightless (weight_of (inputs_view inputs).calls stored (inputs_view inputs).policy)
+          (rows_asks files (inputs_view inputs).names))
+          (λ files. unless_told (first_refusal (fleet_refusals files path stored)) (rows_asks files (units_of files))) how same
+          first.by_the_files second.by_the_files (tails told said);
     }
       where
-        tails : (known : Option Files) → IfSome known (λ files. Prepares {T = FleetInputs} (λ inputs. AreInputs files path (inputs_view inputs)) (read_refusals files path) (Ok inputs))
-            → IfSome known (λ files. unless_weightless (weight_of (inputs_view inputs).calls stored (inputs_view inputs).policy) (rows_asks files (inputs_view inputs).names) ≡ unless_told (first_refusal (fleet_refusals files path stored)) (rows_asks files (units_of files)))
+        tails : (known : Option Files)
+            → IfSome known (λ files. Prepares {T = FleetInputs} (λ inputs. AreInputs files path (inputs_view inputs))
+            (read_refusals files path) (Ok inputs))
+            → IfSome known (λ files. unless_weightless (weight_of (inputs_view inputs).calls stored (inputs_view inputs).policy)
+            (rows_asks files (inputs_view inputs).names)
+            ≡ unless_told (first_refusal (fleet_refusals files path stored)) (rows_asks files (units_of files)))
         tails None said = tt
         tails (Some files) said =
-            weighed_as (weight_of (inputs_view inputs).calls stored (inputs_view inputs).policy) (rows_asks files (inputs_view inputs).names)
-            ∙ ap (λ found. unless_told found (rows_asks files (inputs_view inputs).names)) (sym (refused_as (Some files) path stored inputs said files said))
-            ∙ ap (λ names. unless_told (first_refusal (fleet_refusals files path stored)) (rows_asks files names)) (sym (names_are (are_too_many files) (units_of files) (inputs_view inputs).names said.1.names))
+            weighed_as (weight_of (inputs_view inputs).calls stored (inputs_view inputs).policy)
+            (rows_asks files (inputs_view inputs).names)
+            ∙ ap (λ found. unless_told found (rows_asks files (inputs_view inputs).names))
+            (sym (refused_as (Some files) path stored inputs said files said))
+            ∙ ap (λ names. unless_told (first_refusal (fleet_refusals files path stored)) (rows_asks files names))
+            (sym (names_are (are_too_many files) (units_of files) (inputs_view inputs).names said.1.names))

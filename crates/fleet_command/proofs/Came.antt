@@ -15,14 +15,16 @@ use Rattle.score_command.specs.exposure_score.service_facts.Facts.{AreFacts}
 use Rattle.fleet_command.specs.declared.fleet_report.errors.FleetError.{FleetError}
 use Rattle.fleet_command.specs.declared.fleet_report.errors.FleetError.TheVariants.{NoWeight}
 
-pub weighs_each : (unit : Resolved) (table : Table) (settings : Settings) (facts : Facts) (stored : StoredTests) (policy : List PolicyTest) → AreFacts unit table settings facts
+pub weighs_each : (unit : Resolved) (table : Table) (settings : Settings) (facts : Facts) (stored : StoredTests)
+    (policy : List PolicyTest) → AreFacts unit table settings facts
     → 0 < weight_of table stored policy → counted_weight stored.id_of facts.tests stored.tests policy ≡ 0 → ⊥
 weighs_each unit table settings facts stored policy are some none =
     let same : weight_of table stored policy ≡ 0 = sym (weighs_alike unit table settings facts stored policy are) ∙ none in
     omega (arith, some, same)
 
 -- an error that is passed on is none of weight, where it was none
-pub passed_on : {T U : Type 0} (result : Result T FleetError) (error : FleetError) → IsErrAnd result (λ e. e ≡ error) → (IsErrOf {T = U} (Err error) NoWeight → ⊥) → IsErrOf result NoWeight → ⊥
+pub passed_on : {T U : Type 0} (result : Result T FleetError) (error : FleetError) → IsErrAnd result (λ e. e ≡ error)
+    → (IsErrOf {T = U} (Err error) NoWeight → ⊥) → IsErrOf result NoWeight → ⊥
 passed_on (Ok value) error is never weightless = absurd is
 passed_on (Err other) error is never weightless = (let same : other ≡ NoWeight = cc in never (ap Err (sym is ∙ same)))
 
@@ -30,5 +32,7 @@ weight_is_some : true ≡ nat_lt 0 0 → ⊥
 weight_is_some e = cc
 
 -- where the policy weighs something there is no such error
-pub weighs_something : {T : Type 0} (result : Result T FleetError) (weight : ℕ) (answer : Bool) → answer ≡ nat_lt 0 weight → answer ≡ true → (IsErrOf result NoWeight → ⊥) → IsErrOf result NoWeight ↔ (weight ≡ 0)
-weighs_something result weight answer is some never = (λ weightless. absurd (never weightless), λ none. absurd (weight_is_some (sym some ∙ is ∙ ap (nat_lt 0) none)))
+pub weighs_something : {T : Type 0} (result : Result T FleetError) (weight : ℕ) (answer : Bool) → answer ≡ nat_lt 0 weight → answer ≡ true
+    → (IsErrOf result NoWeight → ⊥) → IsErrOf result NoWeight ↔ (weight ≡ 0)
+weighs_something result weight answer is some never =
+    (λ weightless. absurd (never weightless), λ none. absurd (weight_is_some (sym some ∙ is ∙ ap (nat_lt 0) none)))

@@ -1,5 +1,6 @@
 -- The units of a host, by the map that holds them.
-use Rattle.std.proofs.Common.{◌≡◌, ℕ, ◌<◌, ◌≤◌, Bool, true, false, cond, length, Option, None, Ok, Err, map, Vec, String, Global, refl, sym, ap, ◌∙◌, arith}
+use Rattle.std.proofs.Common.{◌≡◌, ℕ, ◌<◌, ◌≤◌, Bool, true, false, cond, length, Option, None, Ok, Err, map, Vec, String, Global, refl, sym}
+use Rattle.std.proofs.Common.{ap, ◌∙◌, arith}
 use Rattle.std.specs.Prelude.{◌||◌, nat_lt, IfSome, flat_map}
 use Rattle.std.specs.List.{list_any}
 use Rattle.std.specs.Map.{values_of}
@@ -19,7 +20,8 @@ use Rattle.fleet_command.specs.fleet_names.Answers.{AreNamed}
 use Rattle.fleet_command.specs.fleet_names.Steps.{CollectsUnits}
 use Rattle.fleet_command.specs.fleet_names.Units.{are_too_many, units_of}
 use Rattle.fleet_command.specs.declared.fleet_names.errors.NamesError.TheVariants.{TooMany}
-use Rattle.fleet_command.proofs.Keyed.{given, keyed, lookup_given, lookup_keyed, same_from_lookups, sorted_given, sorted_keyed, values_given, values_keyed}
+use Rattle.fleet_command.proofs.Keyed.{given, keyed, lookup_given, lookup_keyed, same_from_lookups, sorted_given, sorted_keyed}
+use Rattle.fleet_command.proofs.Keyed.{values_given, values_keyed}
 
 above : (n : ℕ) → 1024 < n → nat_lt 1024 n ≡ true
 above n h = grind (arith, nat_tests)
@@ -43,7 +45,8 @@ module _ (files : Files) (units : BTreeMap (String Global) Name) (ordered : IsOr
 
   values_are : values_of units.entries ≡ units_of files
   values_are =
-      sym (values_keyed units.entries) ∙ ap values_of entries_are ∙ values_given name_of (in_byte_order (flat_map (names_in files) locations))
+      sym (values_keyed units.entries) ∙ ap values_of entries_are
+      ∙ values_given name_of (in_byte_order (flat_map (names_in files) locations))
 
   count_is : length (units_of files) ≡ length units.entries
   count_is = ap length (sym values_are) ∙ length-values_of units.entries
@@ -59,13 +62,16 @@ module _ (files : Files) (units : BTreeMap (String Global) Name) (ordered : IsOr
 
 -- what was answered of the files that are told
 module _ (told : Option Files) where
-  pub refuses_many : (units : BTreeMap (String Global) Name) → IsOrdered string_cmp units → IfSome told (λ files. CollectsUnits files locations (Ok units)) → 1024 < length units.entries
+  pub refuses_many : (units : BTreeMap (String Global) Name) → IsOrdered string_cmp units
+      → IfSome told (λ files. CollectsUnits files locations (Ok units)) → 1024 < length units.entries
       → IfSome told (λ files. AreNamed files (Err TooMany))
   refuses_many units ordered collected h =
       told_to (λ files. AreNamed files (Err TooMany)) told
-      (λ files known. too_many files units ordered (told_from (λ files. CollectsUnits files locations (Ok units)) told collected files known) h)
+      (λ files known. too_many files units ordered
+      (told_from (λ files. CollectsUnits files locations (Ok units)) told collected files known) h)
 
-  pub names_units : (units : BTreeMap (String Global) Name) (names : Vec Name Global) → IsOrdered string_cmp units → IfSome told (λ files. CollectsUnits files locations (Ok units)) → length units.entries ≤ 1024
+  pub names_units : (units : BTreeMap (String Global) Name) (names : Vec Name Global) → IsOrdered string_cmp units
+      → IfSome told (λ files. CollectsUnits files locations (Ok units)) → length units.entries ≤ 1024
       → names.items ≡ values_of units.entries → IfSome told (λ files. AreNamed files (Ok names))
   names_units units names ordered collected h given =
       told_to (λ files. AreNamed files (Ok names)) told

@@ -51,18 +51,22 @@ by_parts_is (Unset one) (Unset other) = refl
 outcomes_total : IsTotalOrder outcome_cmp
 outcomes_total = record {
   antisymm = λ one other. by_parts_is one other ∙ parts_total.antisymm one other ∙ ap ordering_reverse (sym (by_parts_is other one));
-  trans = λ one other third less lesser. by_parts_is one third ∙ parts_total.trans one other third (sym (by_parts_is one other) ∙ less) (sym (by_parts_is other third) ∙ lesser);
-  congr = λ one other third same. by_parts_is one third ∙ parts_total.congr one other third (sym (by_parts_is one other) ∙ same) ∙ sym (by_parts_is other third);
+  trans = λ one other third less lesser. by_parts_is one third
+      ∙ parts_total.trans one other third (sym (by_parts_is one other) ∙ less) (sym (by_parts_is other third) ∙ lesser);
+  congr = λ one other third same. by_parts_is one third ∙ parts_total.congr one other third (sym (by_parts_is one other) ∙ same)
+      ∙ sym (by_parts_is other third);
 }
 
 pub rows_total : IsTotalOrder row_cmp
-rows_total = then_total (on_total (λ (row : FleetRow). row.outcome) outcomes_total) (on_total (λ (row : FleetRow). text_of row.name) nat_list_cmp_total)
+rows_total = then_total (on_total (λ (row : FleetRow). row.outcome) outcomes_total)
+    (on_total (λ (row : FleetRow). text_of row.name) nat_list_cmp_total)
 
 -- ---- rows that are sorted by it
 below : (one other : ℕ) → nat_cmp one other ≡ Greater → other < one
 below one other e = by_tests (nat_lt one other) refl (one == other) refl e
   where
-    by_tests : (a : Bool) → nat_lt one other ≡ a → (b : Bool) → (one == other) ≡ b → cond a Less (cond b Equal Greater) ≡ Greater → other < one
+    by_tests : (a : Bool) → nat_lt one other ≡ a → (b : Bool) → (one == other) ≡ b → cond a Less (cond b Equal Greater) ≡ Greater
+        → other < one
     by_tests true is b also e = cc
     by_tests false is true also e = cc
     by_tests false is false also e = grind (arith, nat_tests)
@@ -70,17 +74,20 @@ below one other e = by_tests (nat_lt one other) refl (one == other) refl e
 equal : (one other : ℕ) → nat_cmp one other ≡ Equal → one ≡ other
 equal one other e = by_tests (nat_lt one other) refl (one == other) refl e
   where
-    by_tests : (a : Bool) → nat_lt one other ≡ a → (b : Bool) → (one == other) ≡ b → cond a Less (cond b Equal Greater) ≡ Equal → one ≡ other
+    by_tests : (a : Bool) → nat_lt one other ≡ a → (b : Bool) → (one == other) ≡ b → cond a Less (cond b Equal Greater) ≡ Equal
+        → one ≡ other
     by_tests true is b also e = cc
     by_tests false is true also e = grind (arith, nat_tests)
     by_tests false is false also e = cc
 
-stand_scored : (one other : ℕ) (names : Ordering) (order : Ordering) → nat_cmp one other ≡ order → is_lt (ordering_then order names) ≡ false → (other < one) ⊎ ((one ≡ other) × (is_lt names ≡ false))
+stand_scored : (one other : ℕ) (names : Ordering) (order : Ordering) → nat_cmp one other ≡ order
+    → is_lt (ordering_then order names) ≡ false → (other < one) ⊎ ((one ≡ other) × (is_lt names ≡ false))
 stand_scored one other names Less e h = cc
 stand_scored one other names Equal e h = inr (equal one other e, h)
 stand_scored one other names Greater e h = inl (below one other e)
 
-stand : (one other : FleetOutcome) (names : Ordering) → is_lt (ordering_then (outcome_cmp other one) names) ≡ false → StandBy one other (is_lt names ≡ false)
+stand : (one other : FleetOutcome) (names : Ordering) → is_lt (ordering_then (outcome_cmp other one) names) ≡ false
+    → StandBy one other (is_lt names ≡ false)
 stand (Scored one) (Scored other) names h = stand_scored one other names (nat_cmp one other) refl h
 stand (Scored one) (Unresolved other) names h = tt
 stand (Scored one) (Unset other) names h = tt
@@ -93,5 +100,7 @@ stand (Unset one) (Unset other) names h = h
 
 pub in_order : (rows : List FleetRow) → IsSortedBy (λ one other. is_lt (row_cmp one other)) rows → AreInOrder rows
 in_order rows sorted = λ i j d h inside.
-    stand (get_or rows i d).outcome (get_or rows j d).outcome (slice_cmp nat_cmp (text_of (get_or rows j d).name) (text_of (get_or rows i d).name))
-    (sorted_far (λ one other. is_lt (row_cmp one other)) (ranks_by rows_total (λ (row : FleetRow). row)) rows sorted i j d (omega (arith, h)) inside)
+    stand (get_or rows i d).outcome (get_or rows j d).outcome
+    (slice_cmp nat_cmp (text_of (get_or rows j d).name) (text_of (get_or rows i d).name))
+    (sorted_far (λ one other. is_lt (row_cmp one other)) (ranks_by rows_total (λ (row : FleetRow). row)) rows sorted i j d
+    (omega (arith, h)) inside)

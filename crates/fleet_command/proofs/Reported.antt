@@ -1,5 +1,6 @@
 -- A report of all units, or the line of a policy that weighs nothing.
-use Rattle.std.proofs.Common.{◌≡◌, ◌∙◌, ℕ, Bool, true, false, Option, Some, None, List, [], ◌∷◌, map, Vec, Global, Result, Ok, Err, refl, sym, ap, subst, cond, arith}
+use Rattle.std.proofs.Common.{◌≡◌, ◌∙◌, ℕ, Bool, true, false, Option, Some, None, List, [], ◌∷◌, map, Vec, Global, Result, Ok, Err, refl}
+use Rattle.std.proofs.Common.{sym, ap, subst, cond, arith}
 use Rattle.std.specs.Prelude.{◌↔◌, ◌==◌, IfOk, IfSome, IsErrOf, IsPermutation}
 use Rattle.std.specs.List.{All}
 use Rattle.std.specs.declared.alloc.AllocError.{AllocError}
@@ -45,7 +46,8 @@ by_inputs : (told : Option Files) (path : List ℕ) (inputs : Inputs) (stored : 
     → IsPermutation inputs.names (map (λ row. row.name) rows.items)
     → IfSome told (λ files. All (IsRowOf files inputs.calls inputs.site inputs.policy stored) rows.items)
     → AreInOrder rows.items
-    → IfSome told (λ files. Prepares {T = Vec FleetRow Global} (λ rows. AreFleet files inputs stored rows.items) (weight_refusal path (weight_of inputs.calls stored inputs.policy) ∷ []) (Ok rows))
+    → IfSome told (λ files. Prepares {T = Vec FleetRow Global} (λ rows. AreFleet files inputs stored rows.items)
+    (weight_refusal path (weight_of inputs.calls stored inputs.policy) ∷ []) (Ok rows))
 by_inputs None path inputs stored rows weightless each by_files order = tt
 by_inputs (Some files) path inputs stored rows weightless each by_files order = (
   weighs_something path (weight_of inputs.calls stored inputs.policy) (λ none. never_both rows (weightless.1 none)),
@@ -53,25 +55,33 @@ by_inputs (Some files) path inputs stored rows weightless each by_files order = 
 )
 
 -- and by what is lent of it
-pub reported : (told : Option Files) (path : List ℕ) (inputs : FleetInputs) (stored : StoredTests) (names : List Name) (table : Table) (site : Site) (rows : Vec FleetRow Global)
+pub reported : (told : Option Files) (path : List ℕ) (inputs : FleetInputs) (stored : StoredTests) (names : List Name) (table : Table)
+    (site : Site) (rows : Vec FleetRow Global)
     → names ≡ inputs.names.items → table ≡ inputs.calls.value → site ≡ inputs.site.value
     → IsErrOf {T = Vec FleetRow Global} (Ok rows) NoWeight ↔ (weight_of table stored inputs.policy ≡ 0)
     → IsPermutation names (map (λ row. row.name) rows.items)
     → IfSome told (λ files. All (IsRowOf files table site inputs.policy stored) rows.items)
     → AreInOrder rows.items
-    → IfSome told (λ files. Prepares {T = Vec FleetRow Global} (λ rows. AreFleet files (inputs_view inputs) stored rows.items) (weight_refusal path (weight_of (inputs_view inputs).calls stored (inputs_view inputs).policy) ∷ []) (Ok rows))
+    → IfSome told (λ files. Prepares {T = Vec FleetRow Global} (λ rows. AreFleet files (inputs_view inputs) stored rows.items)
+    (weight_refusal path (weight_of (inputs_view inputs).calls stored (inputs_view inputs).policy) ∷ []) (Ok rows))
 reported told path inputs stored names table site rows first second third weightless each by_files order =
     let same : made names table site inputs.policy ≡ inputs_view inputs =
     ap (λ own. made own table site inputs.policy) first ∙ ap (λ own. made inputs.names.items own site inputs.policy) second ∙ ap (λ own. made inputs.names.items inputs.calls.value own inputs.policy) third in
-    subst (λ (own : Inputs). IfSome told (λ files. Prepares {T = Vec FleetRow Global} (λ rows. AreFleet files own stored rows.items) (weight_refusal path (weight_of own.calls stored own.policy) ∷ []) (Ok rows))) same
+    subst (λ (own : Inputs). IfSome told
+    (λ files. Prepares {T = Vec FleetRow Global} (λ rows. AreFleet files own stored rows.items)
+    (weight_refusal path (weight_of own.calls stored own.policy) ∷ []) (Ok rows))) same
     (by_inputs told path (made names table site inputs.policy) stored rows weightless each by_files order)
 
 -- and one that weighs nothing has its line
-pub weightless : {T : Type 0} (told : Option Files) (P : Files → T → Type 0) (path : List ℕ) (weight : ℕ) (line : Result (Vec ℕ Global) AllocError) (why : Stop) → weight ≡ 0 → why ≡ stop_of line → IfOk line (λ line. line.items ≡ no_weight_line path)
+pub weightless : {T : Type 0} (told : Option Files) (P : Files → T → Type 0) (path : List ℕ) (weight : ℕ)
+    (line : Result (Vec ℕ Global) AllocError) (why : Stop) → weight ≡ 0 → why ≡ stop_of line
+    → IfOk line (λ line. line.items ≡ no_weight_line path)
     → IfSome told (λ files. Prepares (P files) (weight_refusal path weight ∷ []) (Err why))
 weightless None P path weight line why none is tells = tt
-weightless (Some files) P path weight line why none is tells = subst (λ own. Prepares (P files) (weight_refusal path weight ∷ []) (Err own)) (sym is) (by_line line tells)
+weightless (Some files) P path weight line why none is tells =
+    subst (λ own. Prepares (P files) (weight_refusal path weight ∷ []) (Err own)) (sym is) (by_line line tells)
   where
-    by_line : (line : Result (Vec ℕ Global) AllocError) → IfOk line (λ line. line.items ≡ no_weight_line path) → Prepares (P files) (weight_refusal path weight ∷ []) (Err (stop_of line))
+    by_line : (line : Result (Vec ℕ Global) AllocError) → IfOk line (λ line. line.items ≡ no_weight_line path)
+        → Prepares (P files) (weight_refusal path weight ∷ []) (Err (stop_of line))
     by_line (Ok line) tells = ap (λ n. first_refusal (weight_refusal path n ∷ [])) none ∙ ap Some (sym tells)
     by_line (Err error) tells = tt

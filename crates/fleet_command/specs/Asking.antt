@@ -26,4 +26,5 @@ read_asks files path = names_asks files ++ unless_refused (names_in files) (behi
 -- and then every unit in byte order of their names, whatever comes of each, where none of these is refused and the policy weighs
 -- something
 abbrev pub fleet_asks : Files → List ℕ → StoredTests → List Ask
-fleet_asks files path stored = read_asks files path ++ unless_told (first_refusal (fleet_refusals files path stored)) (rows_asks files (units_of files))
+fleet_asks files path stored = read_asks files path ++ unless_told (first_refusal (fleet_refusals files path stored))
+    (rows_asks files (units_of files))

@@ -23,7 +23,8 @@ names_in files = cond (are_too_many files) (Err too_many_line) (Ok (units_of fil
 
 -- what is read before the first unit
 abbrev pub read_refusals : Files → List ℕ → List (Option (List ℕ))
-read_refusals files path = refusal_in (names_in files) ∷ refusal_in (calls_in files) ∷ refusal_in (site_in files) ∷ refusal_in (policy_in files path) ∷ []
+read_refusals files path = refusal_in (names_in files) ∷ refusal_in (calls_in files) ∷ refusal_in (site_in files) ∷ refusal_in
+    (policy_in files path) ∷ []
 
 -- of a table and a policy that are read
 abbrev pub weights_in : List ℕ → StoredTests → Result Table (List ℕ) → Result (List PolicyTest) (List ℕ) → List (Option (List ℕ))

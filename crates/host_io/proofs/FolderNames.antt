@@ -1,5 +1,6 @@
 -- The names of a folder are distinct where the files are a map.
-use Rattle.std.proofs.Common.{◌≡◌, ℕ, Bool, true, false, cond, List, [], ◌∷◌, ◌++◌, length, drop, map, Option, Some, None, Ok, Vec, String, Global, ◌<◌, ◌≤◌, refl, sym, ap, ◌∙◌, subst}
+use Rattle.std.proofs.Common.{◌≡◌, ℕ, Bool, true, false, cond, List, [], ◌∷◌, ◌++◌, length, drop, map, Option, Some, None, Ok, Vec, String}
+use Rattle.std.proofs.Common.{Global, ◌<◌, ◌≤◌, refl, sym, ap, ◌∙◌, subst}
 use Rattle.std.specs.Prelude.{◌&&◌, option_and_then, nat_eq, is_none, find, string_bytes}
 use Rattle.std.specs.Option.{option_map}
 use Rattle.std.specs.List.{cons_option, starts_with, AllByRecursion, IsDistinct}
@@ -24,7 +25,8 @@ behind_is front text rest e =
     let s : text ≡ front ++ drop (length front) text = (starts_is Decides-eqb text front _ refl).0 h.0 in
     s ∙ ap (λ r. front ++ r) h.1
 
-pub and_then_some : {A B : Type 0} (o : Option A) (f : A → Option B) (y : B) → option_and_then f o ≡ Some y → (x : A) × (o ≡ Some x) × (f x ≡ Some y)
+pub and_then_some : {A B : Type 0} (o : Option A) (f : A → Option B) (y : B) → option_and_then f o ≡ Some y
+    → (x : A) × (o ≡ Some x) × (f x ≡ Some y)
 and_then_some None f y e = cc
 and_then_some (Some x) f y e = (x, refl, e)
 
@@ -38,13 +40,15 @@ path_of_name folder path name h =
     ∙ ap (λ r. folder ++ r) (behind_is (47 ∷ []) rest.0 found.0 found.1 ∙ ap (λ r. 47 ∷ r) same.1)
 
 -- two paths with one name directly in the folder are one path
-same_path : (folder first second name other : List ℕ) → name_in folder first ≡ Some name → name_in folder second ≡ Some other → bytes_eq name other ≡ true → bytes_eq second first ≡ true
+same_path : (folder first second name other : List ℕ) → name_in folder first ≡ Some name → name_in folder second ≡ Some other
+    → bytes_eq name other ≡ true → bytes_eq second first ≡ true
 same_path folder first second name other f s e =
     let same : name ≡ other = (bytes_eq-Decides name other).0 e in
     (bytes_eq-Decides second first).1
     (path_of_name folder second other s ∙ ap (λ n. folder ++ 47 ∷ n) (sym same) ∙ sym (path_of_name folder first name f))
 
-none_by : {A B : Type 0} (b : Bool) (x : A) (rest : Option A) (f : A → B) → is_none (option_map f (cond b (Some x) rest)) ≡ true → (b ≡ false) × (is_none (option_map f rest) ≡ true)
+none_by : {A B : Type 0} (b : Bool) (x : A) (rest : Option A) (f : A → B) → is_none (option_map f (cond b (Some x) rest)) ≡ true
+    → (b ≡ false) × (is_none (option_map f rest) ≡ true)
 none_by true x rest f e = cc
 none_by false x rest f e = (refl, e)
 
@@ -54,12 +58,15 @@ bool_cases false h = refl
 
 -- the names of files of which none has the path differ from its name
 module _ (folder path name : List ℕ) where
-  differs_from : (file : List ℕ × List ℕ) (found : Option (List ℕ)) → name_in folder file.0 ≡ found → name_in folder path ≡ Some name → bytes_eq file.0 path ≡ false → (names : List (List ℕ)) → AllByRecursion (λ other. bytes_eq name other ≡ false) names → AllByRecursion (λ other. bytes_eq name other ≡ false) (cons_option found names)
+  differs_from : (file : List ℕ × List ℕ) (found : Option (List ℕ)) → name_in folder file.0 ≡ found → name_in folder path ≡ Some name
+      → bytes_eq file.0 path ≡ false → (names : List (List ℕ)) → AllByRecursion (λ other. bytes_eq name other ≡ false) names
+      → AllByRecursion (λ other. bytes_eq name other ≡ false) (cons_option found names)
   differs_from file None e h apart names all = all
   differs_from file (Some other) e h apart names all =
       (bool_cases (bytes_eq name other) (λ same. false≢true (sym apart ∙ same_path folder path file.0 name other h e same)), all)
 
-  apart_from : (files : Files) → is_none (bytes_at files path) ≡ true → name_in folder path ≡ Some name → AllByRecursion (λ other. bytes_eq name other ≡ false) (names_in files folder)
+  apart_from : (files : Files) → is_none (bytes_at files path) ≡ true → name_in folder path ≡ Some name
+      → AllByRecursion (λ other. bytes_eq name other ≡ false) (names_in files folder)
   apart_from [] none h = tt
   apart_from (file ∷ files) none h =
       let apart = none_by (bytes_eq file.0 path) file (find (λ f. bytes_eq f.0 path) files) (λ f. f.1) none in
@@ -69,7 +76,9 @@ both_true : (a b : Bool) → (a && b) ≡ true → (a ≡ true) × (b ≡ true)
 both_true true b e = (refl, e)
 both_true false b e = cc
 
-distinct_more : (folder path : List ℕ) (found : Option (List ℕ)) (files : Files) → name_in folder path ≡ found → is_none (bytes_at files path) ≡ true → IsDistinct bytes_eq (names_in files folder) → IsDistinct bytes_eq (cons_option found (names_in files folder))
+distinct_more : (folder path : List ℕ) (found : Option (List ℕ)) (files : Files) → name_in folder path ≡ found
+    → is_none (bytes_at files path) ≡ true → IsDistinct bytes_eq (names_in files folder)
+    → IsDistinct bytes_eq (cons_option found (names_in files folder))
 unfolding IsDistinct
 distinct_more folder path None files e none rest = rest
 distinct_more folder path (Some name) files e none rest = (apart_from folder path name files none e, rest)
@@ -83,7 +92,9 @@ names_in-distinct (file ∷ files) folder e =
     distinct_more folder file.0 (name_in folder file.0) files refl new.1 (names_in-distinct files folder parts.1)
 
 -- the answer of a shelf in memory to a listing that finds some names, and not too many
-lists_by : (files : Files) (folder : List ℕ) (names : Vec (String Global) Global) (b : Bool) → is_file_map files ≡ b → map string_bytes names.items ≡ names_in files folder → 0 < length (names_in files folder) → length (names_in files folder) ≤ 4096 → Lists (cond b (Some files) None) folder (Ok names)
+lists_by : (files : Files) (folder : List ℕ) (names : Vec (String Global) Global) (b : Bool) → is_file_map files ≡ b
+    → map string_bytes names.items ≡ names_in files folder → 0 < length (names_in files folder) → length (names_in files folder) ≤ 4096
+    → Lists (cond b (Some files) None) folder (Ok names)
 lists_by files folder names false e is some few = tt
 lists_by files folder names true e is some few = record {
   names_of_the_folder = subst (IsPermutation (names_in files folder)) (sym is) (IsPermutation-refl (names_in files folder));
@@ -92,5 +103,7 @@ lists_by files folder names true e is some few = record {
   not_too_many = few;
 }
 
-pub lists_names : (files : Files) (folder : List ℕ) (names : Vec (String Global) Global) → map string_bytes names.items ≡ names_in files folder → 0 < length (names_in files folder) → length (names_in files folder) ≤ 4096 → Lists (told_files files) folder (Ok names)
+pub lists_names : (files : Files) (folder : List ℕ) (names : Vec (String Global) Global)
+    → map string_bytes names.items ≡ names_in files folder → 0 < length (names_in files folder) → length (names_in files folder) ≤ 4096
+    → Lists (told_files files) folder (Ok names)
 lists_names files folder names is some few = lists_by files folder names (is_file_map files) refl is some few

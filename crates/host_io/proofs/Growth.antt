@@ -13,7 +13,8 @@ append_known-nil None = refl
 append_known-nil (Some a) = ap Some (append-nil a)
 
 -- the next part of a piece
-pub grew_more : (a b c : Option (List ℕ)) (piece : List ℕ) (n m : ℕ) → Grew a b (take n piece) → Grew b c (take m (drop n piece)) → Grew a c (take (n + m) piece)
+pub grew_more : (a b c : Option (List ℕ)) (piece : List ℕ) (n m : ℕ) → Grew a b (take n piece) → Grew b c (take m (drop n piece))
+    → Grew a c (take (n + m) piece)
 grew_more a b c piece n m f g =
     g ∙ ap (λ o. append_known o (take m (drop n piece))) f
     ∙ append_known-append a (take n piece) (take m (drop n piece))

@@ -62,7 +62,8 @@ answered asks = map answers asks
 -- where memory ran out, the first of them
 abbrev pub Went : {S : Type 0} → (S → ShelfCall → S → Type 0) → S → S → List Ask → Course → Type 0
 Went asks before now wanted Whole = Calls asks before now (answered wanted)
-Went asks before now wanted Faulted = (front rest : List Ask) × (ask : Ask) × (front ++ ask ∷ rest ≡ wanted) × Calls asks before now (answered front ++ fails ask ∷ [])
+Went asks before now wanted Faulted = (front rest : List Ask) × (ask : Ask) × (front ++ ask ∷ rest ≡ wanted) × Calls asks before now
+    (answered front ++ fails ask ∷ [])
 Went asks before now wanted Cut = (front rest : List Ask) × (front ++ rest ≡ wanted) × Calls asks before now (answered front)
 
 -- a list up to its first element of which this holds, and with that

@@ -1,5 +1,6 @@
 -- The files that a shelf tells: a map from paths to bytes.
-use Rattle.std.specs.Prelude.{ℕ, List, [], ◌∷◌, length, drop, find, nat_eq, ◌==◌, option_and_then, ◌&&◌, not, cond, is_none, Bool, true, Option, Some, None}
+use Rattle.std.specs.Prelude.{ℕ, List, [], ◌∷◌, length, drop, find, nat_eq, ◌==◌, option_and_then, ◌&&◌, not, cond, is_none, Bool, true}
+use Rattle.std.specs.Prelude.{Option, Some, None}
 use Rattle.std.specs.Option.{option_map}
 use Rattle.std.specs.List.{filter_map, starts_with, list_any}
 use Rattle.std.specs.Str.{bytes_eq}

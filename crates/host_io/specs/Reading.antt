@@ -1,5 +1,6 @@
 -- What a shelf answers, where it tells its files.
-use Rattle.std.specs.Prelude.{Vec, String, string_bytes, ◌≡◌, ◌<◌, ℕ, ◌≤◌, List, length, map, IsErrOf, Option, Some, None, Result, Ok, Err, ⊤}
+use Rattle.std.specs.Prelude.{Vec, String, string_bytes, ◌≡◌, ◌<◌, ℕ, ◌≤◌, List, length, map, IsErrOf, Option, Some, None, Result, Ok, Err}
+use Rattle.std.specs.Prelude.{⊤}
 use Rattle.std.specs.List.{IsDistinct}
 use Rattle.std.specs.List.Sorted.{IsPermutation}
 use Rattle.std.specs.Str.{bytes_eq}

@@ -17,9 +17,12 @@ dir_is_folder site path is e =
     subst (λ (p : Path). IsFolder p) (found_path site.rows path dir.row dir.there) (record { normal = of.normal; short = of.short })
 
 -- a row that is a directory is one by its path
-pub dir_listed : (site : Site) → IsSite site → (at : ℕ) (row : Row) → slice_get site.rows at ≡ Some row → row.kind ≡ Dir → kind_at site.rows row.path ≡ Some Dir
+pub dir_listed : (site : Site) → IsSite site → (at : ℕ) (row : Row) → slice_get site.rows at ≡ Some row → row.kind ≡ Dir
+    → kind_at site.rows row.path ≡ Some Dir
 dir_listed site is at row listed dir = ap (option_map (λ (r : Row). r.kind)) (known_at site is at row listed) ∙ ap (λ kind. Some kind) dir
 
 -- the same in a loop over the rows
-pub dir_at : (site : Site) → IsSite site → (rows : List Row) → rows ≡ site.rows → (at : ℕ) → at < length rows → (row : Row) → row ≡ get_or rows at row → row.kind ≡ Dir → kind_at site.rows row.path ≡ Some Dir
-dir_at site is rows same at inside row own dir = dir_listed site is at row (ap (λ (rs : List Row). slice_get rs at) (sym same) ∙ slice_get-get_or rows at row inside ∙ ap (λ (r : Row). Some r) (sym own)) dir
+pub dir_at : (site : Site) → IsSite site → (rows : List Row) → rows ≡ site.rows → (at : ℕ) → at < length rows → (row : Row)
+    → row ≡ get_or rows at row → row.kind ≡ Dir → kind_at site.rows row.path ≡ Some Dir
+dir_at site is rows same at inside row own dir = dir_listed site is at row
+    (ap (λ (rs : List Row). slice_get rs at) (sym same) ∙ slice_get-get_or rows at row inside ∙ ap (λ (r : Row). Some r) (sym own)) dir

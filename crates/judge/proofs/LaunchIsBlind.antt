@@ -1,5 +1,6 @@
 -- A launch on a site that differs below a folder alone which the launched service is blind to.
-use Rattle.std.proofs.Common.{◌≡◌, ◌∙◌, ℕ, suc, Bool, true, false, cond, codes, List, [], ◌∷◌, ◌++◌, Option, Some, None, refl, ap, sym, subst, length, arith, eqb}
+use Rattle.std.proofs.Common.{◌≡◌, ◌∙◌, ℕ, suc, Bool, true, false, cond, codes, List, [], ◌∷◌, ◌++◌, Option, Some, None, refl, ap, sym}
+use Rattle.std.proofs.Common.{subst, length, arith, eqb}
 use Rattle.std.specs.Prelude.{map, filter, not, ◌+◌}
 use Rattle.std.specs.List.{AllByRecursion}
 use Rattle.ceilings.specs.bpf_code.declared.machine.Insn.{Insn}
@@ -21,7 +22,11 @@ use Rattle.ceilings.specs.kernel_model.declared.process.Process.{Process}
 use Rattle.ceilings.specs.kernel_model.declared.reply.Reply.{Reply}
 use Rattle.ceilings.specs.kernel_model.declared.reply.Reply.TheVariants as w
 use Rattle.ceilings.specs.kernel_laws.Questions.{if_so, count_from}
-use Rattle.ceilings.specs.launcher.Launch.{Wanted, LaunchStep, Makes, Mounts, Launched, PrivilegedProgram, makes, first_call, prctl_step, launch_step, launch_steps, launch_on, launch_from, is_privileged_row, mount_steps, with_unshare, if_user, has_flags, capbset_drop, cap_ambient, ambient_raise, set_mode_filter, identity_steps, filter_steps, program_steps, group_steps, drop_steps, inherit_steps, user_steps, raise_steps, left_steps, privilege_steps}
+use Rattle.ceilings.specs.launcher.Launch.{Wanted, LaunchStep, Makes, Mounts, Launched, PrivilegedProgram, makes, first_call, prctl_step}
+use Rattle.ceilings.specs.launcher.Launch.{launch_step, launch_steps, launch_on, launch_from, is_privileged_row, mount_steps, with_unshare}
+use Rattle.ceilings.specs.launcher.Launch.{if_user, has_flags, capbset_drop, cap_ambient, ambient_raise, set_mode_filter, identity_steps}
+use Rattle.ceilings.specs.launcher.Launch.{filter_steps, program_steps, group_steps, drop_steps, inherit_steps, user_steps, raise_steps}
+use Rattle.ceilings.specs.launcher.Launch.{left_steps, privilege_steps}
 use Rattle.ceilings.specs.launcher.Launches.{HasLaunchCalls, Leaves}
 use Rattle.ceilings.proofs.OfLauncher.HostRoot.{begins_at_host}
 use Rattle.ceilings.proofs.OfLauncher.LaunchCalls.{launch_calls}
@@ -35,19 +40,23 @@ use Rattle.judge.specs.Worlds.{with_site, LaunchIsBlind}
 use Rattle.judge.proofs.Runs.{FindsSame, PayloadSame, sited, step_sited, finds_same, not_shown, site_kept}
 
 -- ---- steps that are all done make a launch
-leads_launched : (world : World) (steps : List LaunchStep) (count : ℕ) (last : World) → Leads world steps last → launch_from world steps count ≡ Launched last (count + length steps)
+leads_launched : (world : World) (steps : List LaunchStep) (count : ℕ) (last : World) → Leads world steps last
+    → launch_from world steps count ≡ Launched last (count + length steps)
 leads_launched world [] count last l = let same : count ≡ count + 0 = omega arith in ap (λ (v : World). Launched v count) l ∙ ap (Launched last) same
-leads_launched world (step ∷ steps) count last l = by (launch_step world step).0 refl l.0 ∙ leads_launched (launch_step world step).1 steps (count + 1) last l.1 ∙ ap (Launched last) number
+leads_launched world (step ∷ steps) count last l = by (launch_step world step).0 refl l.0
+    ∙ leads_launched (launch_step world step).1 steps (count + 1) last l.1 ∙ ap (Launched last) number
   where
     number : count + 1 + length steps ≡ count + suc (length steps)
     number = omega arith
 
-    by : (reply : Reply) → (launch_step world step).0 ≡ reply → IsDone reply → launch_from world (step ∷ steps) count ≡ launch_from (launch_step world step).1 steps (count + 1)
+    by : (reply : Reply) → (launch_step world step).0 ≡ reply → IsDone reply
+        → launch_from world (step ∷ steps) count ≡ launch_from (launch_step world step).1 steps (count + 1)
     by (w.Done value) is done = ap (λ (r : Reply). launch_on r (count + 1) (launch_from (launch_step world step).1 steps (count + 1))) is
     by (w.Refused errno) is done = absurd done
     by w.Killed is done = absurd done
 
-leads_join : (world : World) (first then : List LaunchStep) (mid last : World) → Leads world first mid → Leads mid then last → Leads world (first ++ then) last
+leads_join : (world : World) (first then : List LaunchStep) (mid last : World) → Leads world first mid → Leads mid then last
+    → Leads world (first ++ then) last
 leads_join world [] then mid last l m = subst (λ (v : World). Leads v then last) (sym l) m
 leads_join world (step ∷ first) then mid last l m = (l.0, leads_join (launch_step world step).1 first then mid last l.1 m)
 
@@ -83,7 +92,8 @@ module _ (site other : Site) where
   none_same (pay.Family family) table none = tt
   none_same (pay.Code bytes) table none = tt
 
-  mounted_there : (world : World) (entry : MountStep) (o : Option Process) → stepped_by (with_site other world) entry o ≡ with_site other (stepped_by world entry o)
+  mounted_there : (world : World) (entry : MountStep) (o : Option Process)
+      → stepped_by (with_site other world) entry o ≡ with_site other (stepped_by world entry o)
   mounted_there world entry None = refl
   mounted_there world entry (Some process) = refl
 
@@ -91,15 +101,19 @@ module _ (site other : Site) where
   mounted_site world entry None = refl
   mounted_site world entry (Some process) = refl
 
-  step_there : (world : World) (step : LaunchStep) → world.site ≡ site → other.user_namespaces ≡ site.user_namespaces → NamesNone step → launch_step (with_site other world) step ≡ sited site other (launch_step world step)
-  step_there world (Makes call) at spaces none = step_sited site other world call at spaces (λ process lives. none_same call.payload (table_of world process.namespace) none)
+  step_there : (world : World) (step : LaunchStep) → world.site ≡ site → other.user_namespaces ≡ site.user_namespaces → NamesNone step
+      → launch_step (with_site other world) step ≡ sited site other (launch_step world step)
+  step_there world (Makes call) at spaces none = step_sited site other world call at spaces
+      (λ process lives. none_same call.payload (table_of world process.namespace) none)
   step_there world (Mounts entry) at spaces none = ap (λ (v : World). (w.Done 0, v)) (mounted_there world entry (living_of world 1))
 
   site_there : (world : World) (step : LaunchStep) → (launch_step world step).1.site ≡ world.site
   site_there world (Makes call) = site_kept world call
   site_there world (Mounts entry) = mounted_site world entry (living_of world 1)
 
-  leads_there : (world last : World) (steps : List LaunchStep) → world.site ≡ site → other.user_namespaces ≡ site.user_namespaces → AllByRecursion NamesNone steps → Leads world steps last → Leads (with_site other world) steps (with_site other last) × (last.site ≡ site)
+  leads_there : (world last : World) (steps : List LaunchStep) → world.site ≡ site → other.user_namespaces ≡ site.user_namespaces
+      → AllByRecursion NamesNone steps → Leads world steps last
+      → Leads (with_site other world) steps (with_site other last) × (last.site ≡ site)
   leads_there world last [] at spaces none l = (ap (with_site other) l, ap (λ (v : World). v.site) (sym l) ∙ at)
   leads_there world last (step ∷ steps) at spaces none l =
       let there = step_there world step at spaces none.0 in
@@ -108,7 +122,8 @@ module _ (site other : Site) where
 
 -- ---- the steps before the program
 module _ (lines : calls.Table) where
-  none_mounts : (first : MountStep) (rest : Table) (b : Bool) → AllByRecursion NamesNone (with_unshare lines.calls (if_so b (Mounts first) ++ map Mounts rest))
+  none_mounts : (first : MountStep) (rest : Table) (b : Bool)
+      → AllByRecursion NamesNone (with_unshare lines.calls (if_so b (Mounts first) ++ map Mounts rest))
   none_mounts first rest true = (tt, (tt, all_map NamesNone Mounts rest (λ entry. tt)))
   none_mounts first [] false = tt
   none_mounts first (entry ∷ rest) false = (tt, (tt, all_map NamesNone Mounts rest (λ entry. tt)))
@@ -135,19 +150,25 @@ module _ (lines : calls.Table) where
       let three = all_appended NamesNone (group_steps own wanted ++ drop_steps own wanted ++ inherit_steps own wanted) (user_steps own wanted) two (none_user wanted.uid _ (tt, (tt, tt))) in
       let four = all_appended NamesNone (group_steps own wanted ++ drop_steps own wanted ++ inherit_steps own wanted ++ user_steps own wanted) (raise_steps own wanted) three raised in
       let five = all_appended NamesNone (group_steps own wanted ++ drop_steps own wanted ++ inherit_steps own wanted ++ user_steps own wanted ++ raise_steps own wanted) (left_steps own wanted) four (none_user wanted.uid _ (tt, tt)) in
-      all_appended NamesNone (group_steps own wanted ++ drop_steps own wanted ++ inherit_steps own wanted ++ user_steps own wanted ++ raise_steps own wanted ++ left_steps own wanted) (privilege_steps own wanted) five (all_if NamesNone wanted.no_new_privs _ tt)
+      all_appended NamesNone (group_steps own wanted ++ drop_steps own wanted ++ inherit_steps own wanted ++ user_steps own wanted ++
+      raise_steps own wanted ++ left_steps own wanted) (privilege_steps own wanted) five (all_if NamesNone wanted.no_new_privs _ tt)
 
   none_filters : (programs : List (List ℕ)) → AllByRecursion NamesNone (filter_steps lines.calls programs)
-  none_filters programs = all_map NamesNone (λ bytes. makes lines.calls (codes "seccomp") set_mode_filter 0 0 (pay.Code bytes)) programs (λ bytes. tt)
+  none_filters programs = all_map NamesNone (λ bytes. makes lines.calls (codes "seccomp") set_mode_filter 0 0 (pay.Code bytes)) programs
+      (λ bytes. tt)
 
 -- process 1 has the plan before its program runs
-living_solo : (lines : calls.Table) (site : Site) (Q : Creds → Type 0) (stack : List (List Insn)) (plan : Table) (world : World) → At lines site Q stack plan world → (process : Process) → living_of world 1 ≡ Some process → table_of world process.namespace ≡ plan
+living_solo : (lines : calls.Table) (site : Site) (Q : Creds → Type 0) (stack : List (List Insn)) (plan : Table) (world : World)
+    → At lines site Q stack plan world → (process : Process) → living_of world 1 ≡ Some process → table_of world process.namespace ≡ plan
 living_solo lines site Q stack plan world at process lives =
     let own : Some _ ≡ Some process = sym (ap (λ (v : World). living_of v 1) at.is) ∙ lives in
     let number : process.namespace ≡ at.namespace = by process own in
-    ap (table_of world) number ∙ ap (λ (v : World). table_of v at.namespace) at.is ∙ ap (λ o. steps_of (table_or o)) at.own ∙ steps_plain plan
+    ap (table_of world) number ∙ ap (λ (v : World). table_of v at.namespace) at.is ∙ ap (λ o. steps_of (table_or o)) at.own
+    ∙ steps_plain plan
   where
-    by : (process : Process) → ◌≡◌ {A = Option Process} (Some (record { creds = at.creds; stack = stack; namespace = at.namespace; user = 1; alive = true })) (Some process) → process.namespace ≡ at.namespace
+    by : (process : Process) → ◌≡◌ {A = Option Process}
+        (Some (record { creds = at.creds; stack = stack; namespace = at.namespace; user = 1; alive = true })) (Some process)
+        → process.namespace ≡ at.namespace
     by process e = let same : record { creds = at.creds; stack = stack; namespace = at.namespace; user = 1; alive = true } ≡ process = cc in ap (λ (p : Process). p.namespace) (sym same)
 
 -- what a launch leaves: process 1 lives, and has the plan as its table
@@ -156,7 +177,8 @@ pub record HasPlan (plan : Table) (last : World) : Type 0 where
   pub lives : living_of last 1 ≡ Some process
   pub own : table_of last process.namespace ≡ plan
 
-pub has_plan : {lines : calls.Table} {site : Site} {wanted : Wanted} {plan : Table} {last : World} → Leaves lines site wanted plan last → HasPlan plan last
+pub has_plan : {lines : calls.Table} {site : Site} {wanted : Wanted} {plan : Table} {last : World} → Leaves lines site wanted plan last
+    → HasPlan plan last
 has_plan {plan = plan} l = record {
   process = record { creds = l.creds; stack = l.stack; namespace = l.namespace; user = 1; alive = true };
   lives = ap (λ (ps : List Process). if_alive (of_number ps 1)) l.alone;
@@ -170,21 +192,26 @@ abbrev before_program : calls.Table → Wanted → Table → List LaunchStep
 before_program lines wanted plan = before_filters lines wanted plan ++ filter_steps lines.calls wanted.programs
 
 pub launch_is_blind : LaunchIsBlind
-launch_is_blind folder lines site other wanted plan last steps whole can small fit agree blind e = by (is_privileged_row (finds (row_at site.rows) plan wanted.program)) refl e
+launch_is_blind folder lines site other wanted plan last steps whole can small fit agree blind e =
+    by (is_privileged_row (finds (row_at site.rows) plan wanted.program)) refl e
   where
     -- the program finds the same: the launched service is blind, and has the plan as its table
     same : FindsSame site other plan wanted.program
     same =
         let has = has_plan (launch_leaves lines site wanted plan last steps whole can small e).0 in
         subst (λ (t : Table). FindsSame site other t wanted.program) has.own
-        (finds_same folder site other agree (table_of last has.process.namespace) wanted.program (not_shown folder site other agree last 1 has.process wanted.program has.lives fit (blind [] tt)))
+        (finds_same folder site other agree (table_of last has.process.namespace) wanted.program
+        (not_shown folder site other agree last 1 has.process wanted.program has.lives fit (blind [] tt)))
 
     joined : launch_steps lines.calls wanted plan ≡ before_program lines wanted plan ++ program_steps lines.calls wanted.program
-    joined = sym (append_parts (with_unshare lines.calls (mount_steps plan)) (identity_steps lines.calls wanted) (filter_steps lines.calls wanted.programs) (program_steps lines.calls wanted.program))
+    joined = sym (append_parts (with_unshare lines.calls (mount_steps plan)) (identity_steps lines.calls wanted)
+        (filter_steps lines.calls wanted.programs) (program_steps lines.calls wanted.program))
 
     by : (b : Bool) → is_privileged_row (finds (row_at site.rows) plan wanted.program) ≡ b
-        → cond b (PrivilegedProgram wanted.program) (launch_from (start_world lines site) (launch_steps lines.calls wanted plan) 0) ≡ Launched last steps
-        → cond (is_privileged_row (finds (row_at other.rows) plan wanted.program)) (PrivilegedProgram wanted.program) (launch_from (start_world lines other) (launch_steps lines.calls wanted plan) 0) ≡ Launched (with_site other last) steps
+        → cond b (PrivilegedProgram wanted.program) (launch_from (start_world lines site) (launch_steps lines.calls wanted plan) 0)
+        ≡ Launched last steps
+        → cond (is_privileged_row (finds (row_at other.rows) plan wanted.program)) (PrivilegedProgram wanted.program)
+        (launch_from (start_world lines other) (launch_steps lines.calls wanted plan) 0) ≡ Launched (with_site other last) steps
     by true is e = cc
     by false is e =
         let calls' : HasLaunchCalls lines.calls = launch_calls lines whole in
@@ -202,5 +229,7 @@ launch_is_blind folder lines site other wanted plan last steps whole can small f
         let there' = leads_join (start_world lines other) (before_program lines wanted plan) (program_steps lines.calls wanted.program) (with_site other parts.mid) (with_site other last) there.0 exec in
         let all' : Leads (start_world lines other) (launch_steps lines.calls wanted plan) (with_site other last) = subst (λ (list : List LaunchStep). Leads (start_world lines other) list (with_site other last)) (sym joined) there' in
         let number : 0 + length (launch_steps lines.calls wanted plan) ≡ steps = sym done.1 in
-        ap (λ (b : Bool). cond b (PrivilegedProgram wanted.program) (launch_from (start_world lines other) (launch_steps lines.calls wanted plan) 0)) (ap is_privileged_row same ∙ is)
-        ∙ leads_launched (start_world lines other) (launch_steps lines.calls wanted plan) 0 (with_site other last) all' ∙ ap (Launched (with_site other last)) number
+        ap (λ (b : Bool). cond b (PrivilegedProgram wanted.program)
+        (launch_from (start_world lines other) (launch_steps lines.calls wanted plan) 0)) (ap is_privileged_row same ∙ is)
+        ∙ leads_launched (start_world lines other) (launch_steps lines.calls wanted plan) 0 (with_site other last) all'
+        ∙ ap (Launched (with_site other last)) number

@@ -31,7 +31,8 @@ use Rattle.judge.proofs.Sites.{same_hosts}
 kept_normal : (mentions : List Mention) → AreKept mentions → AllByRecursion (λ mention. is_normal mention.path ≡ true) mentions
 kept_normal mentions kept =
     all_weaker (λ mention. is_whole mention ≡ true) (λ mention. is_normal mention.path ≡ true) mentions
-    (λ mention whole. (and_parts (is_normal mention.path) (nat_le (length (text_of mention.path)) 512) (and_parts (is_path mention.path) (has_whole_source mention.kind) whole).0).0)
+    (λ mention whole. (and_parts (is_normal mention.path) (nat_le (length (text_of mention.path)) 512)
+    (and_parts (is_path mention.path) (has_whole_source mention.kind) whole).0).0)
     (all_from_test is_whole mentions kept.whole)
 
 pub blind_to_others : BlindToOthers
@@ -50,6 +51,8 @@ blind_to_others folder unit table site other made plan programs last steps s fit
       settings = settings_rest unit table site other made
           (record { dynamic_uid = agree.outside.dynamic_uid; users = agree.outside.users; groups = agree.outside.groups; implied = agree.implied }) s.settings;
       planned = (s.planned.0, planned.0, s.planned.2 ∙ sym planned.1);
-      launches = launch_is_blind folder table site other wanted plan last steps s.whole s.mounts can.uid s.program agree.outside blind s.launches;
-      replies = λ calls fits. (replies_are_blind folder other last calls (subst (λ (s : Site). AgreeOutside folder s other) (sym at_site) agree.outside) blind fits).replies;
+      launches = launch_is_blind folder table site other wanted plan last steps s.whole s.mounts can.uid s.program agree.outside blind
+          s.launches;
+      replies = λ calls fits. (replies_are_blind folder other last calls
+          (subst (λ (s : Site). AgreeOutside folder s other) (sym at_site) agree.outside) blind fits).replies;
     }

@@ -14,7 +14,8 @@ by_known top None cap e = cc
 by_known top (Some Absent) cap e = refl
 by_known top (Some (Modelled rule)) cap e = refl
 
-by_plain : (top : Bounds) (known : Option KnownCall) (cap : Option ℕ) → is_some known ≡ false → can_have_cap top cap ≡ can_have_for top (rule_by known cap)
+by_plain : (top : Bounds) (known : Option KnownCall) (cap : Option ℕ) → is_some known ≡ false
+    → can_have_cap top cap ≡ can_have_for top (rule_by known cap)
 by_plain top None cap e = refl
 by_plain top (Some known) cap e = cc
 

@@ -1,5 +1,6 @@
 -- What a world asks its site for: what the paths of calls find.
-use Rattle.std.proofs.Common.{◌≡◌, ◌∙◌, ℕ, Bool, true, false, cond, List, [], ◌∷◌, ◌++◌, Option, Some, None, Result, Ok, Err, refl, ap, sym, subst, length, eqb}
+use Rattle.std.proofs.Common.{◌≡◌, ◌∙◌, ℕ, Bool, true, false, cond, List, [], ◌∷◌, ◌++◌, Option, Some, None, Result, Ok, Err, refl, ap, sym}
+use Rattle.std.proofs.Common.{subst, length, eqb}
 use Rattle.std.specs.Prelude.{nat_lt, not, ◌+◌, option_and_then}
 use Rattle.ceilings.specs.call_table.Table.{calls_in}
 use Rattle.ceilings.specs.abs_path.Paths.{Path, is_root}
@@ -24,10 +25,12 @@ use Rattle.ceilings.specs.kern_mounts.declared.step.MountStep.{MountStep}
 use Rattle.ceilings.specs.kernel_model.kern_files.Bits.{has_some, has_all}
 use Rattle.ceilings.specs.kernel_model.kern_files.Executing.{exec_answer_in}
 use Rattle.ceilings.specs.kernel_model.kern_files.Looking.{flags_at, see_answer, write_answer, open_answer}
-use Rattle.ceilings.specs.kernel_model.kern_files.MountCall.{ms_bind, ms_rec, ms_remount, ms_remount_bind, target_kind, or_found, hidden_at, kind_found, flags_of, has_other_kind}
+use Rattle.ceilings.specs.kernel_model.kern_files.MountCall.{ms_bind, ms_rec, ms_remount, ms_remount_bind, target_kind, or_found, hidden_at}
+use Rattle.ceilings.specs.kernel_model.kern_files.MountCall.{kind_found, flags_of, has_other_kind}
 use Rattle.ceilings.specs.kernel_model.kernel_calls.Calls.{FitsPayload, IsPath}
 use Rattle.ceilings.specs.kernel_model.kernel_calls.Doing as d
-use Rattle.ceilings.specs.kernel_model.kernel_calls.Doing.{Doing, doing_by, known_doing, asked_if, asked_by, asked_of, bare, by_path, by_paths, by_sets, by_ids, by_family, by_code}
+use Rattle.ceilings.specs.kernel_model.kernel_calls.Doing.{Doing, doing_by, known_doing, asked_if, asked_by, asked_of, bare, by_path}
+use Rattle.ceilings.specs.kernel_model.kernel_calls.Doing.{by_paths, by_sets, by_ids, by_family, by_code}
 use Rattle.ceilings.specs.kernel_model.kernel_calls.Rules.{rule_at}
 use Rattle.ceilings.specs.kernel_model.kernel_calls.Words.{low_word}
 use Rattle.ceilings.specs.kernel_model.declared.kernel_calls.call.Call.{Call}
@@ -38,8 +41,10 @@ use Rattle.ceilings.specs.kernel_model.declared.kernel_calls.rule.Rule.TheVarian
 use Rattle.ceilings.specs.kernel_model.Effects as f
 use Rattle.ceilings.specs.kernel_model.Effects.{Effect, effect_of, looks, creds_effect, table_effect, with_admin, with_own}
 use Rattle.ceilings.specs.kernel_model.Runs.{run, replies}
-use Rattle.ceilings.specs.kernel_model.Step.{most_processes, most_namespaces, step, step_by, decided, answered, applied, child_of, child_in, moved_in, has_user_left, decision_of}
-use Rattle.ceilings.specs.kernel_model.World.{World, living_of, mounts_of, table_of, with_process, with_copy, with_child, moved_to, host_of, caller_of, with_user, entered_by, owner_of, is_newer}
+use Rattle.ceilings.specs.kernel_model.Step.{most_processes, most_namespaces, step, step_by, decided, answered, applied, child_of, child_in}
+use Rattle.ceilings.specs.kernel_model.Step.{moved_in, has_user_left, decision_of}
+use Rattle.ceilings.specs.kernel_model.World.{World, living_of, mounts_of, table_of, with_process, with_copy, with_child, moved_to, host_of}
+use Rattle.ceilings.specs.kernel_model.World.{caller_of, with_user, entered_by, owner_of, is_newer}
 use Rattle.ceilings.specs.kernel_model.kern_files.MountsCall.{mounts_after_mount, mounts_onto, mounts_bind_found}
 use Rattle.ceilings.specs.kernel_model.declared.process.Process.{Process}
 use Rattle.ceilings.specs.kernel_model.declared.reply.Reply.{Reply}
@@ -65,15 +70,25 @@ module _ (site other : Site) where
   PayloadSame table (pay.Family family) = Unit {0}
   PayloadSame table (pay.Code bytes) = Unit {0}
 
-  mount_same : (mounts : Mounts) (source target : Path) (flags : ℕ) → FindsSame (steps_of mounts) source → FindsSame (steps_of mounts) target → mounts_after_mount (row_at other.rows) mounts source target flags ≡ mounts_after_mount (row_at site.rows) mounts source target flags
+  mount_same : (mounts : Mounts) (source target : Path) (flags : ℕ) → FindsSame (steps_of mounts) source
+      → FindsSame (steps_of mounts) target → mounts_after_mount (row_at other.rows) mounts source target flags
+      ≡ mounts_after_mount (row_at site.rows) mounts source target flags
   mount_same mounts source target flags same same' =
-      ap (λ (r : Result Mounts ℕ). cond (has_other_kind flags) (Err einval) (cond (has_all ms_remount_bind flags) (mounts_after_remount mounts target (flags_of flags)) (cond (has_some ms_remount flags) (Err einval) (cond (is_root target) (Err ebusy) r))))
-      (ap (λ (found : Found Row). mounts_onto (row_at other.rows) mounts source target flags (or_found (hidden_at target (entry_of (steps_of mounts) target)) (kind_found found))) same' ∙ onto (target_kind (row_at site.rows) (steps_of mounts) target))
+      ap (λ (r : Result Mounts ℕ). cond (has_other_kind flags) (Err einval)
+      (cond (has_all ms_remount_bind flags) (mounts_after_remount mounts target (flags_of flags))
+      (cond (has_some ms_remount flags) (Err einval) (cond (is_root target) (Err ebusy) r))))
+      (ap (λ (found : Found Row). mounts_onto (row_at other.rows) mounts source target flags
+      (or_found (hidden_at target (entry_of (steps_of mounts) target)) (kind_found found))) same'
+      ∙ onto (target_kind (row_at site.rows) (steps_of mounts) target))
     where
-      onto : (r : Result Bool ℕ) → mounts_onto (row_at other.rows) mounts source target flags r ≡ mounts_onto (row_at site.rows) mounts source target flags r
+      onto : (r : Result Bool ℕ) → mounts_onto (row_at other.rows) mounts source target flags r
+          ≡ mounts_onto (row_at site.rows) mounts source target flags r
       onto (Err errno) = refl
       onto (Ok directory) =
-          ap (λ (found : Found Row). cond (has_some ms_bind flags) (mounts_bind_found mounts source target (has_some ms_rec flags) directory (kind_found found)) (cond (not directory) (Err enotdir) (mounts_after_push mounts (record { place = target; what = Empty; flags = flags_of flags })))) same
+          ap (λ (found : Found Row). cond (has_some ms_bind flags)
+          (mounts_bind_found mounts source target (has_some ms_rec flags) directory (kind_found found))
+          (cond (not directory) (Err enotdir)
+          (mounts_after_push mounts (record { place = target; what = Empty; flags = flags_of flags })))) same
 
   -- ---- a step
   abbrev pub sited : Reply × World → Reply × World
@@ -87,7 +102,8 @@ module _ (site other : Site) where
     left_same : has_user_left (with_site other world) ≡ has_user_left world
     left_same = ap (λ n. nat_lt world.users n) (spaces ∙ ap (λ (s : Site). s.user_namespaces) (sym at_site))
 
-    born_in : (old now : World) (child : Process) (own : Bool) → child_in (with_site other old) (with_site other now) child own ≡ sited (child_in old now child own)
+    born_in : (old now : World) (child : Process) (own : Bool)
+        → child_in (with_site other old) (with_site other now) child own ≡ sited (child_in old now child own)
     born_in old now child false = refl
     born_in old now child true = by (nat_lt (length now.tables) most_namespaces)
       where
@@ -96,12 +112,17 @@ module _ (site other : Site) where
         by true = refl
         by false = refl
 
-    moved_sited : (old now : World) (own' : Process) (own : Bool) → moved_in (with_site other old) (with_site other now) pid own' own ≡ sited (moved_in old now pid own' own)
+    moved_sited : (old now : World) (own' : Process) (own : Bool)
+        → moved_in (with_site other old) (with_site other now) pid own' own ≡ sited (moved_in old now pid own' own)
     moved_sited old now own' false = refl
     moved_sited old now own' true = by (nat_lt (length now.tables) most_namespaces)
       where
-        by : (b : Bool) → cond {A = Reply × World} b (w.Done 0, with_site other (with_process (with_copy now own'.namespace own'.user) pid (moved_to own' (length now.tables)))) (w.Refused enospc, with_site other old)
-            ≡ sited (cond {A = Reply × World} b (w.Done 0, with_process (with_copy now own'.namespace own'.user) pid (moved_to own' (length now.tables))) (w.Refused enospc, old))
+        by : (b : Bool) → cond {A = Reply × World} b
+            (w.Done 0, with_site other (with_process (with_copy now own'.namespace own'.user) pid (moved_to own' (length now.tables))))
+            (w.Refused enospc, with_site other old)
+            ≡ sited (cond {A = Reply × World} b
+            (w.Done 0, with_process (with_copy now own'.namespace own'.user) pid (moved_to own' (length now.tables)))
+            (w.Refused enospc, old))
         by true = refl
         by false = refl
 
@@ -115,41 +136,59 @@ module _ (site other : Site) where
     applied_sited (f.SetTable new) = refl
     applied_sited (f.Push program) = refl
     applied_sited (f.Child own) =
-        ap (λ (out : Reply × World). cond {A = Reply × World} (nat_lt (length world.processes) most_processes) out (w.Refused eagain, with_site other world)) (born own) ∙ by (nat_lt (length world.processes) most_processes)
+        ap (λ (out : Reply × World). cond {A = Reply × World} (nat_lt (length world.processes) most_processes) out
+        (w.Refused eagain, with_site other world)) (born own) ∙ by (nat_lt (length world.processes) most_processes)
       where
-        by : (b : Bool) → cond {A = Reply × World} b (sited (child_of world process own)) (w.Refused eagain, with_site other world) ≡ sited (cond {A = Reply × World} b (child_of world process own) (w.Refused eagain, world))
+        by : (b : Bool) → cond {A = Reply × World} b (sited (child_of world process own)) (w.Refused eagain, with_site other world)
+            ≡ sited (cond {A = Reply × World} b (child_of world process own) (w.Refused eagain, world))
         by true = refl
         by false = refl
     applied_sited f.OwnTable = moved_sited world world process true
     applied_sited (f.UserChild own) =
-        ap (λ (b : Bool). cond {A = Reply × World} b (cond {A = Reply × World} (nat_lt (length world.processes) most_processes) (child_in (with_site other world) (with_site other (with_user world)) (entered_by process world.users) own) (w.Refused eagain, with_site other world)) (w.Refused enospc, with_site other world)) left_same
-        ∙ ap (λ (out : Reply × World). cond {A = Reply × World} (has_user_left world) (cond {A = Reply × World} (nat_lt (length world.processes) most_processes) out (w.Refused eagain, with_site other world)) (w.Refused enospc, with_site other world)) (born_in world (with_user world) (entered_by process world.users) own)
+        ap (λ (b : Bool). cond {A = Reply × World} b
+        (cond {A = Reply × World} (nat_lt (length world.processes) most_processes)
+        (child_in (with_site other world) (with_site other (with_user world)) (entered_by process world.users) own)
+        (w.Refused eagain, with_site other world)) (w.Refused enospc, with_site other world)) left_same
+        ∙ ap (λ (out : Reply × World). cond {A = Reply × World} (has_user_left world)
+        (cond {A = Reply × World} (nat_lt (length world.processes) most_processes) out (w.Refused eagain, with_site other world))
+        (w.Refused enospc, with_site other world)) (born_in world (with_user world) (entered_by process world.users) own)
         ∙ by (has_user_left world) (nat_lt (length world.processes) most_processes)
       where
-        by : (a b : Bool) → cond {A = Reply × World} a (cond {A = Reply × World} b (sited (child_in world (with_user world) (entered_by process world.users) own)) (w.Refused eagain, with_site other world)) (w.Refused enospc, with_site other world)
-            ≡ sited (cond {A = Reply × World} a (cond {A = Reply × World} b (child_in world (with_user world) (entered_by process world.users) own) (w.Refused eagain, world)) (w.Refused enospc, world))
+        by : (a b : Bool) → cond {A = Reply × World} a
+            (cond {A = Reply × World} b (sited (child_in world (with_user world) (entered_by process world.users) own))
+            (w.Refused eagain, with_site other world)) (w.Refused enospc, with_site other world)
+            ≡ sited (cond {A = Reply × World} a
+            (cond {A = Reply × World} b (child_in world (with_user world) (entered_by process world.users) own)
+            (w.Refused eagain, world)) (w.Refused enospc, world))
         by true true = refl
         by true false = refl
         by false b = refl
     applied_sited (f.OwnUser own) =
-        ap (λ (b : Bool). cond {A = Reply × World} b (moved_in (with_site other world) (with_site other (with_user world)) pid (entered_by process world.users) own) (w.Refused enospc, with_site other world)) left_same
-        ∙ ap (λ (out : Reply × World). cond {A = Reply × World} (has_user_left world) out (w.Refused enospc, with_site other world)) (moved_sited world (with_user world) (entered_by process world.users) own) ∙ by (has_user_left world)
+        ap (λ (b : Bool). cond {A = Reply × World} b
+        (moved_in (with_site other world) (with_site other (with_user world)) pid (entered_by process world.users) own)
+        (w.Refused enospc, with_site other world)) left_same
+        ∙ ap (λ (out : Reply × World). cond {A = Reply × World} (has_user_left world) out (w.Refused enospc, with_site other world))
+        (moved_sited world (with_user world) (entered_by process world.users) own) ∙ by (has_user_left world)
       where
-        by : (a : Bool) → cond {A = Reply × World} a (sited (moved_in world (with_user world) pid (entered_by process world.users) own)) (w.Refused enospc, with_site other world)
-            ≡ sited (cond {A = Reply × World} a (moved_in world (with_user world) pid (entered_by process world.users) own) (w.Refused enospc, world))
+        by : (a : Bool) → cond {A = Reply × World} a (sited (moved_in world (with_user world) pid (entered_by process world.users) own))
+            (w.Refused enospc, with_site other world)
+            ≡ sited (cond {A = Reply × World} a (moved_in world (with_user world) pid (entered_by process world.users) own)
+            (w.Refused enospc, world))
         by true = refl
         by false = refl
     applied_sited f.End = refl
 
     -- what is asked for comes to the same
     abbrev Same : Doing → Type 0
-    Same doing = effect_of (host_of (with_site other world)) (caller_of world process) doing ≡ effect_of (host_of world) (caller_of world process) doing
+    Same doing = effect_of (host_of (with_site other world)) (caller_of world process) doing
+        ≡ effect_of (host_of world) (caller_of world process) doing
 
     abbrev Goes : Option Doing → Type 0
     Goes doing = answered (with_site other world) pid process (asked_if doing) ≡ sited (answered world pid process (asked_if doing))
 
     doing_goes : (doing : Doing) → Same doing → Goes (Some doing)
-    doing_goes doing same = ap (applied (with_site other world) pid process) same ∙ applied_sited (effect_of (host_of world) (caller_of world process) doing)
+    doing_goes doing same = ap (applied (with_site other world) pid process) same
+        ∙ applied_sited (effect_of (host_of world) (caller_of world process) doing)
 
     bare_goes : (doing : Doing) → Same doing → (payload : Payload) → Goes (bare doing payload)
     bare_goes doing same pay.Nothing = doing_goes doing same
@@ -160,7 +199,8 @@ module _ (site other : Site) where
     bare_goes doing same (pay.Family family) = refl
     bare_goes doing same (pay.Code bytes) = refl
 
-    path_goes : (doing : Path → Doing) → ((path : Path) → FindsSame table path → Same (doing path)) → (payload : Payload) → PayloadSame table payload → Goes (by_path doing payload)
+    path_goes : (doing : Path → Doing) → ((path : Path) → FindsSame table path → Same (doing path)) → (payload : Payload)
+        → PayloadSame table payload → Goes (by_path doing payload)
     path_goes doing same pay.Nothing found = refl
     path_goes doing same (pay.OnePath path) found = doing_goes (doing path) (same path found)
     path_goes doing same (pay.TwoPaths source target) found = refl
@@ -169,7 +209,9 @@ module _ (site other : Site) where
     path_goes doing same (pay.Family family) found = refl
     path_goes doing same (pay.Code bytes) found = refl
 
-    paths_goes : (doing : Path → Path → Doing) → ((source target : Path) → FindsSame table source → FindsSame table target → Same (doing source target)) → (payload : Payload) → PayloadSame table payload → Goes (by_paths doing payload)
+    paths_goes : (doing : Path → Path → Doing)
+        → ((source target : Path) → FindsSame table source → FindsSame table target → Same (doing source target)) → (payload : Payload)
+        → PayloadSame table payload → Goes (by_paths doing payload)
     paths_goes doing same pay.Nothing found = refl
     paths_goes doing same (pay.OnePath path) found = refl
     paths_goes doing same (pay.TwoPaths source target) found = doing_goes (doing source target) (same source target found.0 found.1)
@@ -219,14 +261,22 @@ module _ (site other : Site) where
 
     mount_here : (flags : ℕ) (source target : Path) → FindsSame table source → FindsSame table target → Same (d.Mount source target flags)
     mount_here flags source target s t =
-        ap (λ (r : Result Mounts ℕ). with_own (eqb (owner_of world process.namespace) process.user) (with_admin process.creds (table_effect r))) (mount_same (mounts_of world process.namespace) source target flags s t ∙ ap (λ (own : Site). mounts_after_mount (row_at own.rows) (mounts_of world process.namespace) source target flags) (sym at_site))
+        ap (λ (r : Result Mounts ℕ). with_own (eqb (owner_of world process.namespace) process.user)
+        (with_admin process.creds (table_effect r))) (mount_same (mounts_of world process.namespace) source target flags s t
+        ∙ ap (λ (own : Site). mounts_after_mount (row_at own.rows) (mounts_of world process.namespace) source target flags)
+        (sym at_site))
 
     known_goes : (own : CallRule) (args : List ℕ) (payload : Payload) → PayloadSame table payload → Goes (known_doing own args payload)
     known_goes known.See args payload same = path_goes d.See (λ path s. ap (λ found. looks (see_answer 0 found)) (here path s)) payload same
-    known_goes (known.Open at) args payload same = path_goes (d.Open (low_word args (place_of at))) (λ path s. ap (λ found. looks (open_answer (low_word args (place_of at)) (flags_at table path) found)) (here path s)) payload same
-    known_goes known.Create args payload same = path_goes d.Create (λ path s. ap (λ found. looks (write_answer 3 (flags_at table path) found)) (here path s)) payload same
-    known_goes known.Truncate args payload same = path_goes d.Truncate (λ path s. ap (λ found. looks (write_answer 0 (flags_at table path) found)) (here path s)) payload same
-    known_goes known.Execve args payload same = path_goes d.Execve (λ path s. ap (λ found. creds_effect (exec_answer_in (is_newer process) process.creds (flags_at table path) found)) (here path s)) payload same
+    known_goes (known.Open at) args payload same = path_goes (d.Open (low_word args (place_of at)))
+        (λ path s. ap (λ found. looks (open_answer (low_word args (place_of at)) (flags_at table path) found)) (here path s)) payload same
+    known_goes known.Create args payload same = path_goes d.Create
+        (λ path s. ap (λ found. looks (write_answer 3 (flags_at table path) found)) (here path s)) payload same
+    known_goes known.Truncate args payload same = path_goes d.Truncate
+        (λ path s. ap (λ found. looks (write_answer 0 (flags_at table path) found)) (here path s)) payload same
+    known_goes known.Execve args payload same = path_goes d.Execve
+        (λ path s. ap (λ found. creds_effect (exec_answer_in (is_newer process) process.creds (flags_at table path) found)) (here path s))
+        payload same
     known_goes (known.SetMode at) args payload same = bare_goes _ refl payload
     known_goes known.Map args payload same = bare_goes _ refl payload
     known_goes known.Protect args payload same = bare_goes _ refl payload
@@ -240,7 +290,8 @@ module _ (site other : Site) where
     known_goes known.Clone args payload same = bare_goes _ refl payload
     known_goes known.Unshare args payload same = bare_goes _ refl payload
     known_goes known.Exit args payload same = bare_goes _ refl payload
-    known_goes known.Mount args payload same = paths_goes (λ source target. d.Mount source target (low_word args 3)) (mount_here (low_word args 3)) payload same
+    known_goes known.Mount args payload same = paths_goes (λ source target. d.Mount source target (low_word args 3))
+        (mount_here (low_word args 3)) payload same
     known_goes known.Umount args payload same = path_goes (λ path. d.Umount path (low_word args 1)) (λ path s. refl) payload same
     known_goes known.Setuid args payload same = bare_goes _ refl payload
     known_goes known.Setgid args payload same = bare_goes _ refl payload
@@ -255,17 +306,22 @@ module _ (site other : Site) where
     rule_goes (rule.Known own) args payload same = known_goes own args payload same
     rule_goes (rule.Plain number) args payload same = bare_goes _ refl payload
 
-    asked_goes : (call : Call) (o : Option Rule) → PayloadSame table call.payload → answered (with_site other world) pid process (asked_by o call) ≡ sited (answered world pid process (asked_by o call))
+    asked_goes : (call : Call) (o : Option Rule) → PayloadSame table call.payload
+        → answered (with_site other world) pid process (asked_by o call) ≡ sited (answered world pid process (asked_by o call))
     asked_goes call None same = refl
     asked_goes call (Some own) same = rule_goes own call.args call.payload same
 
-    decided_goes : (call : Call) → call.pid ≡ pid → PayloadSame table call.payload → (c : Decision) → decided (with_site other world) call process c ≡ sited (decided world call process c)
+    decided_goes : (call : Call) → call.pid ≡ pid → PayloadSame table call.payload → (c : Decision)
+        → decided (with_site other world) call process c ≡ sited (decided world call process c)
     decided_goes call own same decision.Pass =
-        ap (λ n. answered (with_site other world) n process (asked_of world.calls call)) own ∙ asked_goes call (rule_at (calls_in world.calls call.abi) call.nr) same ∙ ap (λ n. sited (answered world n process (asked_of world.calls call))) (sym own)
+        ap (λ n. answered (with_site other world) n process (asked_of world.calls call)) own
+        ∙ asked_goes call (rule_at (calls_in world.calls call.abi) call.nr) same
+        ∙ ap (λ n. sited (answered world n process (asked_of world.calls call))) (sym own)
     decided_goes call own same (decision.Errno errno) = refl
     decided_goes call own same decision.Kill = refl
 
-  pub step_sited : (world : World) (call : Call) → world.site ≡ site → other.user_namespaces ≡ site.user_namespaces → ((process : Process) → living_of world call.pid ≡ Some process → PayloadSame (table_of world process.namespace) call.payload)
+  pub step_sited : (world : World) (call : Call) → world.site ≡ site → other.user_namespaces ≡ site.user_namespaces
+      → ((process : Process) → living_of world call.pid ≡ Some process → PayloadSame (table_of world process.namespace) call.payload)
       → step (with_site other world) call ≡ sited (step world call)
   step_sited world call at_site spaces same = by (living_of world call.pid) refl
     where
@@ -276,10 +332,12 @@ module _ (site other : Site) where
 -- ---- runs
 module _ (folder : Path) (site other : Site) (agree : AgreeOutside folder site other) where
   -- what a path finds that shows nothing below the folder
-  pub finds_same : (table : Table) (path : Path) → ((place : Path) → host_place table path ≡ Some place → is_below place folder ≡ false) → FindsSame site other table path
+  pub finds_same : (table : Table) (path : Path) → ((place : Path) → host_place table path ≡ Some place → is_below place folder ≡ false)
+      → FindsSame site other table path
   finds_same table path out = by (entry_of table path) refl
     where
-      by_what : (entry : MountStep) (what : What) → entry.what ≡ what → entry_of table path ≡ Some entry → found_by (row_at other.rows) what entry.place path ≡ found_by (row_at site.rows) what entry.place path
+      by_what : (entry : MountStep) (what : What) → entry.what ≡ what → entry_of table path ≡ Some entry
+          → found_by (row_at other.rows) what entry.place path ≡ found_by (row_at site.rows) what entry.place path
       by_what entry (Host source) is own =
           let place : Path = source ++ rest_of entry.place path in
           let shown : host_place table path ≡ Some place = ap (option_and_then (λ (s : MountStep). host_place_by s.what s.place path)) own ∙ ap (λ (h : What). host_place_by h entry.place path) is in
@@ -291,16 +349,21 @@ module _ (folder : Path) (site other : Site) (agree : AgreeOutside folder site o
       by None is = refl
       by (Some entry) is = by_what entry entry.what refl is
 
-  pub not_shown : (world : World) (pid : ℕ) (process : Process) (path : Path) → living_of world pid ≡ Some process → IsPath path → (Exposes folder world → ⊥) → (place : Path) → host_place (table_of world process.namespace) path ≡ Some place → is_below place folder ≡ false
+  pub not_shown : (world : World) (pid : ℕ) (process : Process) (path : Path) → living_of world pid ≡ Some process → IsPath path
+      → (Exposes folder world → ⊥) → (place : Path) → host_place (table_of world process.namespace) path ≡ Some place
+      → is_below place folder ≡ false
   not_shown world pid process path lives fit blind place shown = by (is_below place folder) refl
     where
       by : (b : Bool) → is_below place folder ≡ b → b ≡ false
       by false below = refl
-      by true below = absurd (blind (record { pid = pid; process = process; lives = lives; path = path; fits = fit; place = place; shown = shown; below = below }))
+      by true below = absurd (blind
+          (record { pid = pid; process = process; lives = lives; path = path; fits = fit; place = place; shown = shown; below = below }))
 
-  payload_same : (world : World) (pid : ℕ) (process : Process) → living_of world pid ≡ Some process → (Exposes folder world → ⊥) → (payload : Payload) → FitsPayload payload → PayloadSame site other (table_of world process.namespace) payload
+  payload_same : (world : World) (pid : ℕ) (process : Process) → living_of world pid ≡ Some process → (Exposes folder world → ⊥)
+      → (payload : Payload) → FitsPayload payload → PayloadSame site other (table_of world process.namespace) payload
   payload_same world pid process lives blind pay.Nothing fit = tt
-  payload_same world pid process lives blind (pay.OnePath path) fit = finds_same (table_of world process.namespace) path (not_shown world pid process path lives fit blind)
+  payload_same world pid process lives blind (pay.OnePath path) fit =
+      finds_same (table_of world process.namespace) path (not_shown world pid process path lives fit blind)
   payload_same world pid process lives blind (pay.TwoPaths source target) fit =
       (finds_same (table_of world process.namespace) source (not_shown world pid process source lives fit.0 blind), finds_same (table_of world process.namespace) target (not_shown world pid process target lives fit.1 blind))
   payload_same world pid process lives blind (pay.Sets p e i) fit = tt
@@ -320,6 +383,7 @@ replies_are_blind folder other world (call ∷ calls) agree blind fit =
     let next : World = (step world call).1 in
     let more = replies_are_blind folder other next calls (subst (λ (s : Site). AgreeOutside folder s other) (sym (site_kept world call)) agree) (λ list fits. blind (call ∷ list) (fit.0, fits)) fit.1 in
     record {
-      replies = ap (λ (out : Reply × World). out.0 ∷ replies out.1 calls) stepped ∙ ap (λ (rs : List Reply). (step world call).0 ∷ rs) more.replies;
+      replies = ap (λ (out : Reply × World). out.0 ∷ replies out.1 calls) stepped
+          ∙ ap (λ (rs : List Reply). (step world call).0 ∷ rs) more.replies;
       runs = ap (λ (out : Reply × World). run out.1 calls) stepped ∙ more.runs;
     }

@@ -39,13 +39,15 @@ shows_nothing folder table none path place shown = by (is_prefix folder place) r
     by false leads c same = refl
     by true leads false same =
         let below : is_below place folder ≡ true = ap (λ b. b && not (is_same folder place)) leads ∙ ap not same in
-        absurd (clash (exposes false folder table) (seen_exposes folder table (record { path = path; place = place; shown = shown; below = below })) none)
+        absurd (clash (exposes false folder table)
+        (seen_exposes folder table (record { path = path; place = place; shown = shown; below = below })) none)
     by true leads true same =
         let is : folder ≡ place = same_path folder place same in
         absurd (clash (exposes false folder table) (itself_exposes folder table path (shown ∙ ap (λ (p : Path). Some p) (sym is))) none)
 
 pub blind_is_shown_nothing : BlindIsShownNothing
-blind_is_shown_nothing folder world pid process lives small fit blind = shows_nothing folder (table_of world process.namespace) (by (exposes false folder (table_of world process.namespace)) refl)
+blind_is_shown_nothing folder world pid process lives small fit blind =
+    shows_nothing folder (table_of world process.namespace) (by (exposes false folder (table_of world process.namespace)) refl)
   where
     by : (b : Bool) → exposes false folder (table_of world process.namespace) ≡ b → b ≡ false
     by false is = refl

@@ -45,6 +45,8 @@ pub record IsAlike (unit : Resolved) (table : calls.Table) (other : Site) (made 
 
 -- for every two sites that agree outside a folder for the unit, where the service is blind to the folder on one of them
 abbrev pub BlindToOthers : Type 0
-BlindToOthers = (folder : Path) (unit : Resolved) (table : calls.Table) (site other : Site) (made : Settings) (plan : Table) (programs : List (List ℕ)) (last : World) (steps : ℕ)
-    → IsServiceOf unit table site made plan programs last steps → IsFolder folder → IsBlind last folder → AgreeForUnit folder unit site other
+BlindToOthers = (folder : Path) (unit : Resolved) (table : calls.Table) (site other : Site) (made : Settings) (plan : Table)
+    (programs : List (List ℕ)) (last : World) (steps : ℕ)
+    → IsServiceOf unit table site made plan programs last steps → IsFolder folder → IsBlind last folder
+    → AgreeForUnit folder unit site other
     → IsAlike unit table other made plan programs last steps

@@ -1,5 +1,6 @@
 -- The counts of answers.
-use Rattle.std.proofs.Common.{◌≡◌, ◌∙◌, ℕ, suc, ◌+◌, ◌-◌, ◌<◌, ◌≤◌, Bool, true, false, List, [], ◌∷◌, ◌++◌, ap, ap₂, refl, sym, arith, length, get_or, take, length-append}
+use Rattle.std.proofs.Common.{◌≡◌, ◌∙◌, ℕ, suc, ◌+◌, ◌-◌, ◌<◌, ◌≤◌, Bool, true, false, List, [], ◌∷◌, ◌++◌, ap, ap₂, refl, sym, arith}
+use Rattle.std.proofs.Common.{length, get_or, take, length-append}
 use Rattle.std.specs.Prelude.{cond, filter, map, not, ◌↔◌, if◌then◌else◌}
 use Rattle.std.proofs.lemmas.List.{length-map, take_more}
 use Rattle.std.proofs.lemmas.List.Elements.{filter-append}
@@ -30,23 +31,29 @@ pub both : {X : Type 0} (test : X → Bool) (xs : List X) → length (filter tes
 both test [] = refl
 both test (x ∷ xs) = by (test x) (both test xs) where
   by : (b : Bool) → length (filter test xs) + length (filter (λ x. not (test x)) xs) ≡ length xs
-      → length (cond b (x ∷ filter test xs) (filter test xs)) + length (cond (not b) (x ∷ filter (λ x. not (test x)) xs) (filter (λ x. not (test x)) xs)) ≡ suc (length xs)
+      → length (cond b (x ∷ filter test xs) (filter test xs)) + length
+      (cond (not b) (x ∷ filter (λ x. not (test x)) xs) (filter (λ x. not (test x)) xs)) ≡ suc (length xs)
   by true h = omega (arith, h)
   by false h = omega (arith, h)
 
 module _ (launch : Launch) (program : Path) where
   -- those that are denied are those whose questions are not open
-  pub denied_are : (list : List Question) → length (filter (λ question. not (is_open launch question)) list) ≡ length (filter is_denied (map (answer_of launch program) list))
+  pub denied_are : (list : List Question) → length (filter (λ question. not (is_open launch question)) list)
+      ≡ length (filter is_denied (map (answer_of launch program) list))
   denied_are [] = refl
   denied_are (question ∷ list) = by (is_open launch question) (denied_are list) where
-    by : (b : Bool) → length (filter (λ question. not (is_open launch question)) list) ≡ length (filter is_denied (map (answer_of launch program) list))
-        → length (cond (not b) (question ∷ filter (λ question. not (is_open launch question)) list) (filter (λ question. not (is_open launch question)) list))
-        ≡ length (filter is_denied ((if b then Open question (calls_for launch program question) else Denied question) ∷ map (answer_of launch program) list))
+    by : (b : Bool) → length (filter (λ question. not (is_open launch question)) list)
+        ≡ length (filter is_denied (map (answer_of launch program) list))
+        → length (cond (not b) (question ∷ filter (λ question. not (is_open launch question)) list)
+        (filter (λ question. not (is_open launch question)) list))
+        ≡ length (filter is_denied
+        ((if b then Open question (calls_for launch program question) else Denied question) ∷ map (answer_of launch program) list))
     by true h = h
     by false h = ap suc h
 
 -- one question more
-once : (asked : Asked) (question : Question) (found : Verdict) → IsVerdict asked question found → length (filter (λ question. not (is_open (launch_in asked) question)) (question ∷ [])) ≡ denied_once found
+once : (asked : Asked) (question : Question) (found : Verdict) → IsVerdict asked question found
+    → length (filter (λ question. not (is_open (launch_in asked) question)) (question ∷ [])) ≡ denied_once found
 once asked question found is = by found (is_open (launch_in asked) question) is where
   by : (found : Verdict) (b : Bool) → (found ≡ verdict.Open) ↔ (b ≡ true) → length (cond (not b) (question ∷ []) []) ≡ denied_once found
   by verdict.Denied true is = (let same : verdict.Denied ≡ verdict.Open = is.1 refl in cc)
@@ -58,11 +65,13 @@ pub at_most_one : (found : Verdict) → denied_once found ≤ 1
 at_most_one verdict.Denied = omega arith
 at_most_one verdict.Open = omega arith
 
-pub one_more : (asked : Asked) (list : List Question) (i : ℕ) (d question : Question) (found : Verdict) → i < length list → question ≡ get_or list i d → IsVerdict asked question found
+pub one_more : (asked : Asked) (list : List Question) (i : ℕ) (d question : Question) (found : Verdict) → i < length list
+    → question ≡ get_or list i d → IsVerdict asked question found
     → denied_among asked (take i list) + denied_once found ≡ denied_among asked (take (i + 1) list)
 one_more asked list i d question found lt is verdict' =
     ap (λ n. denied_among asked (take i list) + n) (sym (once asked question found verdict'))
-    ∙ sym (length-append (filter (λ question. not (is_open (launch_in asked) question)) (take i list)) (filter (λ question. not (is_open (launch_in asked) question)) (question ∷ [])))
+    ∙ sym (length-append (filter (λ question. not (is_open (launch_in asked) question)) (take i list))
+    (filter (λ question. not (is_open (launch_in asked) question)) (question ∷ [])))
     ∙ ap length (sym (filter-append (λ question. not (is_open (launch_in asked) question)) (take i list) (question ∷ [])))
     ∙ ap (λ one. denied_among asked (take i list ++ one ∷ [])) is
     ∙ ap (denied_among asked) (sym (take_more list i d lt))
@@ -74,13 +83,15 @@ module _ (asked : Asked) (is : IsAsked asked) where
       length-map (questions (world_in asked).calls (world_in asked).site) (answer_of (launch_in asked) asked.bounded.service.program)
       ∙ ap length (sym is.questions)
 
-  pub those_denied : denied_among asked asked.questions.items ≡ length (filter is_denied (answers_of (world_in asked) asked.bounded.service.program))
+  pub those_denied : denied_among asked asked.questions.items
+      ≡ length (filter is_denied (answers_of (world_in asked) asked.bounded.service.program))
   those_denied =
       denied_are (launch_in asked) asked.bounded.service.program asked.questions.items
       ∙ ap (λ list. length (filter is_denied (map (answer_of (launch_in asked) asked.bounded.service.program) list))) is.questions
 
   -- the line of the count, by how many are denied of so many
-  pub count_is : (denied count : ℕ) → denied ≡ denied_among asked asked.questions.items → count ≡ length asked.questions.items → summary_line denied (count - denied) ≡ count_line (answers_of (world_in asked) asked.bounded.service.program)
+  pub count_is : (denied count : ℕ) → denied ≡ denied_among asked asked.questions.items → count ≡ length asked.questions.items
+      → summary_line denied (count - denied) ≡ count_line (answers_of (world_in asked) asked.bounded.service.program)
   count_is denied count told all =
       let answers = answers_of (world_in asked) asked.bounded.service.program in
       let closed : denied ≡ length (filter is_denied answers) = told ∙ those_denied in
@@ -88,7 +99,8 @@ module _ (asked : Asked) (is : IsAsked asked) where
       let rest : count - denied ≡ length (filter (λ answer. not (is_denied answer)) answers) = omega (arith, closed, whole, all, all_are) in
       ap₂ summary_line closed rest
 
-  pub few_are : (denied count : ℕ) → denied ≡ denied_among asked asked.questions.items → count ≡ length asked.questions.items → denied ≤ count
+  pub few_are : (denied count : ℕ) → denied ≡ denied_among asked asked.questions.items → count ≡ length asked.questions.items
+      → denied ≤ count
   few_are denied count told all =
       let those : denied_among asked asked.questions.items ≤ length asked.questions.items = few (λ question. not (is_open (launch_in asked) question)) asked.questions.items in
       omega (arith, told, all, those)

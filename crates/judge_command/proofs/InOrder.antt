@@ -20,7 +20,10 @@ told_whole (outcome.Refused refusal) = refl
 
 module _ {S : Type 0} (asks : S → ShelfCall → S → Type 0) (told : Option Files) (wanted : Files → List Ask) (a b : S) where
   -- what is prepared is launched and printed, or memory ran out
-  pub order_started : (unit : List ℕ) (prepared : Prepared) (ended : Ending) (output : Output) → FinishesStarted unit prepared ended output → AsksInOrder asks told wanted a b Whole → AsksInOrder asks told wanted a b (course_of_run ended)
+  pub order_started : (unit : List ℕ) (prepared : Prepared) (ended : Ending) (output : Output)
+      → FinishesStarted unit prepared ended output → AsksInOrder asks told wanted a b Whole
+      → AsksInOrder asks told wanted a b (course_of_run ended)
   order_started unit prepared ended output (inl printed) made =
-      order_printed asks told wanted a b (ending_of printed.outcome) (text_of unit prepared printed.outcome) ended output (told_whole printed.outcome) printed.prints made
+      order_printed asks told wanted a b (ending_of printed.outcome) (text_of unit prepared printed.outcome) ended output
+      (told_whole printed.outcome) printed.prints made
   order_started unit prepared ended output (inr out) made = order_out asks told wanted a b ended out.0 made

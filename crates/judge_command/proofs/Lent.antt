@@ -24,12 +24,14 @@ module _ (asked : Asked) (service : Service) (is : IsServiceOf asked service) wh
       let there : RunsProgram (launch_of service.world.now) asked.bounded.service.program = subst (λ (world : World). RunsProgram (launch_of world) asked.bounded.service.program) (sym is.0) own.program in
       subst (λ (path : Path). RunsProgram (launch_of service.world.now) path) (sym is.1) there
 
-  pub lists_it : (question : Question) → Contains (questions (world_in asked).calls (world_in asked).site) question → Contains (questions service.world.now.calls service.world.now.site) question
+  pub lists_it : (question : Question) → Contains (questions (world_in asked).calls (world_in asked).site) question
+      → Contains (questions service.world.now.calls service.world.now.site) question
   lists_it question h = subst (λ (world : World). Contains (questions world.calls world.site) question) (sym is.0) h
 
   pub opens_it : (question : Question) → is_open (launch_in asked) question ≡ true → is_open (launch_of service.world.now) question ≡ true
   opens_it question h = subst (λ (world : World). is_open (launch_of world) question ≡ true) (sym is.0) h
 
   -- the calls that are chosen are those of the service that is asked
-  pub chosen_for_it : (question : Question) → calls_for (launch_of service.world.now) service.program.now question ≡ calls_for (launch_in asked) asked.bounded.service.program question
+  pub chosen_for_it : (question : Question) → calls_for (launch_of service.world.now) service.program.now question
+      ≡ calls_for (launch_in asked) asked.bounded.service.program question
   chosen_for_it question = ap₂ (λ (world : World) (path : Path). calls_for (launch_of world) path question) is.0 is.1

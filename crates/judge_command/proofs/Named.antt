@@ -26,22 +26,26 @@ module _ (world : World) (served : IsServedWorld world) (exact : BlindIsExact) w
       let rest = name_each all rows are.1 in
       by rest (exact world row.path served (folder all row are.0)) (is_dir row.kind) refl (is_blind (launch_of world) row.path) refl
     where
-      by : NamesBlind world rows (folders_of (launch_of world) rows) → IsBlindExactly world row.path → (dir : Bool) → is_dir row.kind ≡ dir → (blind : Bool) → is_blind (launch_of world) row.path ≡ blind
+      by : NamesBlind world rows (folders_of (launch_of world) rows) → IsBlindExactly world row.path → (dir : Bool)
+          → is_dir row.kind ≡ dir → (blind : Bool) → is_blind (launch_of world) row.path ≡ blind
           → NamesBlind world (row ∷ rows) (if_so (dir && blind) row.path ++ folders_of (launch_of world) rows)
       by rest is true e true f = named row rows (folders_of (launch_of world) rows) e (is.hides f) rest
       by rest is true e false f = exposed row rows (folders_of (launch_of world) rows) e (is.exposes f) rest
       by rest is false e blind f = no_folder row rows (folders_of (launch_of world) rows) e rest
 
 -- what holds of the paths of all rows holds of the folders that are named
-named_hold : {world : World} {rows : List Row} {folders : List Path} (P : Path → Type 0) → NamesBlind world rows folders → AllByRecursion P (map (λ row. row.path) rows) → AllByRecursion P folders
+named_hold : {world : World} {rows : List Row} {folders : List Path} (P : Path → Type 0) → NamesBlind world rows folders
+    → AllByRecursion P (map (λ row. row.path) rows) → AllByRecursion P folders
 named_hold P no_more all = tt
 named_hold P (named row rows folders dir blind rest) all = (all.0, named_hold P rest all.1)
 named_hold P (exposed row rows folders dir sees rest) all = named_hold P rest all.1
 named_hold P (no_folder row rows folders other rest) all = named_hold P rest all.1
 
-named_ascend : {world : World} {rows : List Row} {folders : List Path} → NamesBlind world rows folders → AreAscending (map (λ row. row.path) rows) → AreAscending folders
+named_ascend : {world : World} {rows : List Row} {folders : List Path} → NamesBlind world rows folders
+    → AreAscending (map (λ row. row.path) rows) → AreAscending folders
 named_ascend no_more ascend = tt
-named_ascend (named row rows folders dir blind rest) ascend = (named_hold (λ later. is_before row.path later ≡ true) rest ascend.0, named_ascend rest ascend.1)
+named_ascend (named row rows folders dir blind rest) ascend =
+    (named_hold (λ later. is_before row.path later ≡ true) rest ascend.0, named_ascend rest ascend.1)
 named_ascend (exposed row rows folders dir sees rest) ascend = named_ascend rest ascend.1
 named_ascend (no_folder row rows folders other rest) ascend = named_ascend rest ascend.1
 

@@ -49,7 +49,8 @@ launch_by (outcome.Refused refusal) = launch.Refused refusal
 
 module _ (answers : AnswersAreTrue) (folders : BlindFoldersAreNamed) where
   -- over the tables that the world was launched with
-  over : (asked : Asked) → IsAsked asked → (table : calls.Table) (site : Site) → (world_in asked).calls ≡ table → (world_in asked).site ≡ site → TellsService table site asked.bounded.service (asked_text asked)
+  over : (asked : Asked) → IsAsked asked → (table : calls.Table) (site : Site) → (world_in asked).calls ≡ table
+      → (world_in asked).site ≡ site → TellsService table site asked.bounded.service (asked_text asked)
   over asked is table site tables sites =
       subst (λ own. TellsService own site asked.bounded.service (asked_text asked)) tables
       (subst (λ own. TellsService (world_in asked).calls own asked.bounded.service (asked_text asked)) sites
@@ -62,18 +63,22 @@ module _ (answers : AnswersAreTrue) (folders : BlindFoldersAreNamed) where
       }))
 
   module _ (prepared : Prepared) where
-    came_to : (came : Outcome) → IsStarted prepared came → ComesTo (inputs_in prepared).calls (inputs_in prepared).site prepared.unit.settings.value prepared.plan (launch_by came)
+    came_to : (came : Outcome) → IsStarted prepared came → ComesTo (inputs_in prepared).calls
+        (inputs_in prepared).site prepared.unit.settings.value prepared.plan (launch_by came)
     came_to (outcome.Asked asked) started = started.0
     came_to (outcome.Refused refusal) started = started
 
-    tells_it : (came : Outcome) → IsStarted prepared came → TellsLaunch (inputs_in prepared).calls (inputs_in prepared).site (launch_by came) (ending_of came) (told_text came)
+    tells_it : (came : Outcome) → IsStarted prepared came → TellsLaunch (inputs_in prepared).calls (inputs_in prepared).site
+        (launch_by came) (ending_of came) (told_text came)
     tells_it (outcome.Asked asked) started =
         (refl, over asked started.1 (inputs_in prepared).calls (inputs_in prepared).site (ap (λ made. made.calls) started.0.leaves_one_process.leaves.is) (ap (λ made. made.site) started.0.leaves_one_process.leaves.is))
     tells_it (outcome.Refused refusal) started = (refl, refl)
 
     -- what is started prints what the files say
-    prints_it : (told : Option Files) (unit : List ℕ) (came : Outcome) → IsStarted prepared came → IfSome told (λ files. Prepares (IsPrepared files unit) (plan_refusals files unit) (Ok prepared))
-        → IfSome told (λ files. AcceptsFiles (judge_laws unit) files × PrintsReport files unit (ending_of came) (text_of unit prepared came))
+    prints_it : (told : Option Files) (unit : List ℕ) (came : Outcome) → IsStarted prepared came
+        → IfSome told (λ files. Prepares (IsPrepared files unit) (plan_refusals files unit) (Ok prepared))
+        → IfSome told (λ files. AcceptsFiles (judge_laws unit) files × PrintsReport files unit (ending_of came)
+        (text_of unit prepared came))
     prints_it None unit came started is = tt
     prints_it (Some files) unit came started is = (
       is.0,
@@ -93,11 +98,14 @@ module _ (answers : AnswersAreTrue) (folders : BlindFoldersAreNamed) where
     )
 
   -- a report that is prepared
-  pub ran_prepared : (told : Option Files) (unit : List ℕ) (outside : Outside) (ended : Ending) (prepared : Prepared) → IfSome told (λ files. Prepares (IsPrepared files unit) (plan_refusals files unit) (Ok prepared))
-      → HasReadCause outside.shelf_before outside.shelf_after (Ok prepared) → FinishesStarted unit prepared ended outside.sink → IsRun (laws_over told (judge_laws unit)) ended outside
+  pub ran_prepared : (told : Option Files) (unit : List ℕ) (outside : Outside) (ended : Ending) (prepared : Prepared)
+      → IfSome told (λ files. Prepares (IsPrepared files unit) (plan_refusals files unit) (Ok prepared))
+      → HasReadCause outside.shelf_before outside.shelf_after (Ok prepared) → FinishesStarted unit prepared ended outside.sink
+      → IsRun (laws_over told (judge_laws unit)) ended outside
   ran_prepared told unit outside ended prepared is cause (inl printed) =
       ran (laws_over told (judge_laws unit)) (together told unit) outside ending_of (text_of unit prepared) (Ok printed.outcome) ended
-      (ready_is_admitted (judge_laws unit) ending_of (text_of unit prepared) told printed.outcome (ends_so printed.outcome) (prints_it prepared told unit printed.outcome printed.started is))
+      (ready_is_admitted (judge_laws unit) ending_of (text_of unit prepared) told printed.outcome (ends_so printed.outcome)
+      (prints_it prepared told unit printed.outcome printed.started is))
       (λ e. cc) (quiet outside.shelf_before outside.shelf_after (Ok printed.outcome) cause.no_other_fault (λ e. cc)) printed.prints
   ran_prepared told unit outside ended prepared is cause (inr out) =
       ran (laws_over told (judge_laws unit)) (together told unit) outside ending_of (text_of unit prepared) (Err stop.Memory) ended

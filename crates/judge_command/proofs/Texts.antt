@@ -34,7 +34,8 @@ abbrev pub launch_part : Asked → List ℕ
 launch_part asked = launched_line (told_of (world_in asked) asked.bounded.service.steps)
 
 abbrev pub answers_part : Asked → List ℕ
-answers_part asked = flat_map (answer_lines (world_in asked).calls (world_in asked).site) (answers_of (world_in asked) asked.bounded.service.program)
+answers_part asked = flat_map (answer_lines (world_in asked).calls (world_in asked).site)
+    (answers_of (world_in asked) asked.bounded.service.program)
 
 abbrev pub folders_part : Asked → List ℕ
 folders_part asked = flat_map blind_line (folders_of (launch_in asked) (world_in asked).site.rows)
@@ -48,16 +49,23 @@ not_open found true is e = (let same : verdict.Denied ≡ verdict.Open = sym e �
 not_open found false is e = refl
 
 module _ (asked : Asked) where
-  each_answer : (list : List Question) → flat_map (answer_text asked) list ≡ flat_map (answer_lines (world_in asked).calls (world_in asked).site) (map (answer_of (launch_in asked) asked.bounded.service.program) list)
+  each_answer : (list : List Question) → flat_map (answer_text asked) list
+      ≡ flat_map (answer_lines (world_in asked).calls (world_in asked).site)
+      (map (answer_of (launch_in asked) asked.bounded.service.program) list)
   each_answer [] = refl
   each_answer (question ∷ list) = ap (λ rest. answer_text asked question ++ rest) (each_answer list)
 
-  pub answers_text : IsAsked asked → flat_map (answer_text asked) asked.questions.items ≡ flat_map (answer_lines (world_in asked).calls (world_in asked).site) (answers_of (world_in asked) asked.bounded.service.program)
-  answers_text is = each_answer asked.questions.items ∙ ap (λ list. flat_map (answer_lines (world_in asked).calls (world_in asked).site) (map (answer_of (launch_in asked) asked.bounded.service.program) list)) is.questions
+  pub answers_text : IsAsked asked → flat_map (answer_text asked) asked.questions.items
+      ≡ flat_map (answer_lines (world_in asked).calls (world_in asked).site) (answers_of (world_in asked) asked.bounded.service.program)
+  answers_text is = each_answer asked.questions.items
+      ∙ ap (λ list. flat_map (answer_lines (world_in asked).calls (world_in asked).site)
+      (map (answer_of (launch_in asked) asked.bounded.service.program) list)) is.questions
 
   -- the line of what is found, by the tables of the world
-  pub own_line : (question : Question) (found own : Verdict) (table : Table) (site : Site) (line : Result (Vec ℕ Global) AllocError) → table ≡ (world_in asked).calls → site ≡ (world_in asked).site → found ≡ own
-      → IfOk line (λ told. told.items ≡ verdict_line table site question found) → IfOk line (λ told. told.items ≡ verdict_line (world_in asked).calls (world_in asked).site question own)
+  pub own_line : (question : Question) (found own : Verdict) (table : Table) (site : Site) (line : Result (Vec ℕ Global) AllocError)
+      → table ≡ (world_in asked).calls → site ≡ (world_in asked).site → found ≡ own
+      → IfOk line (λ told. told.items ≡ verdict_line table site question found)
+      → IfOk line (λ told. told.items ≡ verdict_line (world_in asked).calls (world_in asked).site question own)
   own_line question found own table site line tables sites same is =
       subst (λ these. IfOk line (λ told. told.items ≡ verdict_line these (world_in asked).site question own)) tables
       (subst (λ there. IfOk line (λ told. told.items ≡ verdict_line table there question own)) sites
@@ -65,16 +73,22 @@ module _ (asked : Asked) where
 
   -- the answer where a question is open
   pub open_text : (question : Question) → is_open (launch_in asked) question ≡ true
-      → verdict_line (world_in asked).calls (world_in asked).site question verdict.Open ++ flat_map (call_line (world_in asked).calls) (calls_for (launch_in asked) asked.bounded.service.program question) ≡ answer_text asked question
-  open_text question e = sym (ap (λ b. answer_lines (world_in asked).calls (world_in asked).site (if b then Open question (calls_for (launch_in asked) asked.bounded.service.program question) else Denied question)) e)
+      → verdict_line (world_in asked).calls (world_in asked).site question verdict.Open ++ flat_map (call_line (world_in asked).calls)
+      (calls_for (launch_in asked) asked.bounded.service.program question) ≡ answer_text asked question
+  open_text question e = sym
+      (ap (λ b. answer_lines (world_in asked).calls (world_in asked).site
+      (if b then Open question (calls_for (launch_in asked) asked.bounded.service.program question) else Denied question)) e)
 
   -- and where it is denied
   pub denied_text : (question : Question) → is_open (launch_in asked) question ≡ false
       → verdict_line (world_in asked).calls (world_in asked).site question verdict.Denied ≡ answer_text asked question
-  denied_text question e = sym (ap (λ b. answer_lines (world_in asked).calls (world_in asked).site (if b then Open question (calls_for (launch_in asked) asked.bounded.service.program question) else Denied question)) e)
+  denied_text question e = sym
+      (ap (λ b. answer_lines (world_in asked).calls (world_in asked).site
+      (if b then Open question (calls_for (launch_in asked) asked.bounded.service.program question) else Denied question)) e)
 
   -- the lines of what is found open, by the tables of the world
-  pub own_lines : (question : Question) (list : List Call) (table : Table) (site : Site) (lines : Result (Vec ℕ Global) AllocError) → table ≡ (world_in asked).calls → site ≡ (world_in asked).site
+  pub own_lines : (question : Question) (list : List Call) (table : Table) (site : Site) (lines : Result (Vec ℕ Global) AllocError)
+      → table ≡ (world_in asked).calls → site ≡ (world_in asked).site
       → list ≡ calls_for (launch_in asked) asked.bounded.service.program question → is_open (launch_in asked) question ≡ true
       → IfOk lines (λ told. told.items ≡ open_lines table site question list) → IfOk lines (λ told. told.items ≡ answer_text asked question)
   own_lines question list table site lines tables sites lists opens is =
@@ -100,15 +114,22 @@ module _ (asked : Asked) where
       ∙ sym (flat_map-append blind_line (if_so (is_named asked row) row.path) (folders_of (launch_in asked) rows))
 
   -- each part as it is put
-  pub launch_told : (own : Line) (line : Result (Vec ℕ Global) AllocError) → own ≡ told_of (world_in asked) asked.bounded.service.steps → IfOk line (λ put. put.items ≡ launched_line own) → IfOk line (λ put. put.items ≡ launch_part asked)
+  pub launch_told : (own : Line) (line : Result (Vec ℕ Global) AllocError) → own ≡ told_of (world_in asked) asked.bounded.service.steps
+      → IfOk line (λ put. put.items ≡ launched_line own) → IfOk line (λ put. put.items ≡ launch_part asked)
   launch_told own line same tells = subst (λ one. IfOk line (λ put. put.items ≡ launched_line one)) same tells
 
-  pub answers_put : (a b : Option (List ℕ)) (list : List Question) (put : Result (Unit {0}) SinkError) → IsAsked asked → list ≡ asked.questions.items → TakesText a b (flat_map (answer_text asked) list) put → TakesText a b (answers_part asked) put
-  answers_put a b list put is same takes = text_as a b (flat_map (answer_text asked) list) (answers_part asked) put (ap (flat_map (answer_text asked)) same ∙ answers_text is) takes
+  pub answers_put : (a b : Option (List ℕ)) (list : List Question) (put : Result (Unit {0}) SinkError) → IsAsked asked
+      → list ≡ asked.questions.items → TakesText a b (flat_map (answer_text asked) list) put → TakesText a b (answers_part asked) put
+  answers_put a b list put is same takes = text_as a b (flat_map (answer_text asked) list) (answers_part asked) put
+      (ap (flat_map (answer_text asked)) same ∙ answers_text is) takes
 
-  pub folders_put : (a b : Option (List ℕ)) (rows : List Row) (put : Result (Unit {0}) SinkError) → rows ≡ (world_in asked).site.rows → TakesText a b (flat_map (folder_text asked) rows) put → TakesText a b (folders_part asked) put
-  folders_put a b rows put same takes = text_as a b (flat_map (folder_text asked) rows) (folders_part asked) put (ap (flat_map (folder_text asked)) same ∙ folders_text (world_in asked).site.rows) takes
+  pub folders_put : (a b : Option (List ℕ)) (rows : List Row) (put : Result (Unit {0}) SinkError) → rows ≡ (world_in asked).site.rows
+      → TakesText a b (flat_map (folder_text asked) rows) put → TakesText a b (folders_part asked) put
+  folders_put a b rows put same takes = text_as a b (flat_map (folder_text asked) rows) (folders_part asked) put
+      (ap (flat_map (folder_text asked)) same ∙ folders_text (world_in asked).site.rows) takes
 
   -- and what comes behind the launch
-  pub behind_launch : (a b c : Option (List ℕ)) (put : Result (Unit {0}) SinkError) → Grew a b (launch_part asked) → TakesText b c (answers_part asked ++ (folders_part asked ++ count_part asked)) put → TakesText a c (asked_text asked) put
-  behind_launch a b c put launched takes = text_then a b c (launch_part asked) (answers_part asked ++ (folders_part asked ++ count_part asked)) put launched takes
+  pub behind_launch : (a b c : Option (List ℕ)) (put : Result (Unit {0}) SinkError) → Grew a b (launch_part asked)
+      → TakesText b c (answers_part asked ++ (folders_part asked ++ count_part asked)) put → TakesText a c (asked_text asked) put
+  behind_launch a b c put launched takes = text_then a b c (launch_part asked)
+      (answers_part asked ++ (folders_part asked ++ count_part asked)) put launched takes

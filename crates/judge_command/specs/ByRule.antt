@@ -31,7 +31,8 @@ folders_of launch rows = flat_map (λ row. if_so (is_named_by launch row) row.pa
 
 -- the answers are true, and the folders are those that are blind
 abbrev pub AnswersAreTrue : Type 0
-AnswersAreTrue = (world : World) (program : Path) → IsServedWorld world → RunsProgram (launch_of world) program → AreAnswers world.calls world.site world (answers_of world program)
+AnswersAreTrue = (world : World) (program : Path) → IsServedWorld world → RunsProgram (launch_of world) program
+    → AreAnswers world.calls world.site world (answers_of world program)
 
 abbrev pub BlindFoldersAreNamed : Type 0
 BlindFoldersAreNamed = (world : World) → IsServedWorld world → AreBlind world world.site (folders_of (launch_of world) world.site.rows)

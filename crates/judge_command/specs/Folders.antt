@@ -13,9 +13,12 @@ use Rattle.asked_service.specs.kernel_ways.Blindness.{IsExposed}
 -- what is no folder is left out
 pub data NamesBlind (world : World) : List Row → List Path → Type 0 where
   no_more : NamesBlind world [] []
-  named : (row : Row) (rows : List Row) (folders : List Path) → is_dir row.kind ≡ true → IsBlind world row.path → NamesBlind world rows folders → NamesBlind world (row ∷ rows) (row.path ∷ folders)
-  exposed : (row : Row) (rows : List Row) (folders : List Path) → is_dir row.kind ≡ true → IsExposed world row.path → NamesBlind world rows folders → NamesBlind world (row ∷ rows) folders
-  no_folder : (row : Row) (rows : List Row) (folders : List Path) → is_dir row.kind ≡ false → NamesBlind world rows folders → NamesBlind world (row ∷ rows) folders
+  named : (row : Row) (rows : List Row) (folders : List Path) → is_dir row.kind ≡ true → IsBlind world row.path
+      → NamesBlind world rows folders → NamesBlind world (row ∷ rows) (row.path ∷ folders)
+  exposed : (row : Row) (rows : List Row) (folders : List Path) → is_dir row.kind ≡ true → IsExposed world row.path
+      → NamesBlind world rows folders → NamesBlind world (row ∷ rows) folders
+  no_folder : (row : Row) (rows : List Row) (folders : List Path) → is_dir row.kind ≡ false → NamesBlind world rows folders
+      → NamesBlind world (row ∷ rows) folders
 
 -- exactly these folders of a site are blind, in byte order of their paths
 pub record AreBlind (world : World) (site : Site) (folders : List Path) : Type 0 where

@@ -14,8 +14,10 @@ use Rattle.judge_command.specs.declared.preparing.Prepared.{Prepared}
 
 -- the launch of what is prepared came to this: a service that is asked, or a refusal
 abbrev pub IsStarted : Prepared → Outcome → Type 0
-IsStarted prepared (Asked asked) = IsLaunched (inputs_in prepared).calls (inputs_in prepared).site prepared.unit.settings.value prepared.plan asked.bounded.service × IsAsked asked
-IsStarted prepared (Refused refusal) = IsRefused (inputs_in prepared).calls (inputs_in prepared).site prepared.unit.settings.value prepared.plan refusal
+IsStarted prepared (Asked asked) = IsLaunched (inputs_in prepared).calls
+    (inputs_in prepared).site prepared.unit.settings.value prepared.plan asked.bounded.service × IsAsked asked
+IsStarted prepared (Refused refusal) = IsRefused (inputs_in prepared).calls
+    (inputs_in prepared).site prepared.unit.settings.value prepared.plan refusal
 
 abbrev pub CanBeTold : Outcome → Type 0
 CanBeTold (Asked asked) = IsAsked asked

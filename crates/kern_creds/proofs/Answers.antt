@@ -12,6 +12,7 @@ left_err P errno = record { held = λ now e. cc }
 pub left_ok : (P : Creds → Type 0) (now : Creds) → P now → Leaves P (Ok now)
 left_ok P now p = record { held = λ new e. let same : now ≡ new = cc in subst P same p }
 
-pub left_if : (P : Creds → Type 0) (b : Bool) (x y : Result Creds ℕ) → (b ≡ true → Leaves P x) → (b ≡ false → Leaves P y) → Leaves P (cond b x y)
+pub left_if : (P : Creds → Type 0) (b : Bool) (x y : Result Creds ℕ) → (b ≡ true → Leaves P x) → (b ≡ false → Leaves P y)
+    → Leaves P (cond b x y)
 left_if P true x y p q = p refl
 left_if P false x y p q = q refl

@@ -12,7 +12,8 @@ use Rattle.kern_creds.specs.Setgroups.{after_setgroups}
 use Rattle.kern_creds.specs.Capset.{may_capset, with_sets, after_capset}
 use Rattle.kern_creds.specs.Prctl.{after_clear_ambient, after_set_keepcaps, after_set_no_new_privs}
 use Rattle.kern_creds.specs.Exec.{is_refused, exec_done}
-use Rattle.kern_creds.specs.Calls.{Call, Setuid, Setgid, Setresuid, Setresgid, Setgroups, Capset, DropBounding, Raise, Lower, ClearAmbient, SetKeepcaps, SetNoNewPrivs, Exec, after}
+use Rattle.kern_creds.specs.Calls.{Call, Setuid, Setgid, Setresuid, Setresgid, Setgroups, Capset, DropBounding, Raise, Lower, ClearAmbient}
+use Rattle.kern_creds.specs.Calls.{SetKeepcaps, SetNoNewPrivs, Exec, after}
 use Rattle.kern_creds.specs.Steps.{may_gain}
 use Rattle.kern_creds.proofs.Answers.{Leaves, left_err, left_ok, left_if}
 use Rattle.kern_creds.proofs.SoundCalls.{may_capset-true}
@@ -34,11 +35,14 @@ step-leaving false creds now s = s
 
 step-switch : (was is : Bool) (creds now : Creds) → Step false creds now → Step false creds (after_switch was is now)
 step-switch true true creds now s = s
-step-switch true false creds now s = record { bounding = s.bounding; inheritable = s.inheritable; no_new_privs = s.no_new_privs; permitted = s.permitted }
-step-switch false true creds now s = record { bounding = s.bounding; inheritable = s.inheritable; no_new_privs = s.no_new_privs; permitted = s.permitted }
+step-switch true false creds now s =
+    record { bounding = s.bounding; inheritable = s.inheritable; no_new_privs = s.no_new_privs; permitted = s.permitted }
+step-switch false true creds now s =
+    record { bounding = s.bounding; inheritable = s.inheritable; no_new_privs = s.no_new_privs; permitted = s.permitted }
 step-switch false false creds now s = s
 
-step-none : (creds now : Creds) → now.bounding ≡ creds.bounding → now.inheritable ≡ creds.inheritable → now.permitted ≡ creds.permitted → now.no_new_privs ≡ creds.no_new_privs → Step false creds now
+step-none : (creds now : Creds) → now.bounding ≡ creds.bounding → now.inheritable ≡ creds.inheritable → now.permitted ≡ creds.permitted
+    → now.no_new_privs ≡ creds.no_new_privs → Step false creds now
 step-none creds now b i p n = record {
   bounding = rw b (within_self creds.bounding);
   inheritable = rw i (within_union_left _ _ _ (within_self creds.inheritable));
@@ -48,8 +52,10 @@ step-none creds now b i p n = record {
 
 step-uids : (creds : Creds) (uids : Ids) → Step false creds (with_uids creds uids)
 step-uids creds uids =
-    step-switch (eqb creds.uids.effective 0) (eqb uids.effective 0) creds (after_leaving_root (has_root creds.uids && not (has_root uids)) (record creds { uids = uids }))
-    (step-leaving (has_root creds.uids && not (has_root uids)) creds (record creds { uids = uids }) (step-none creds (record creds { uids = uids }) refl refl refl refl))
+    step-switch (eqb creds.uids.effective 0) (eqb uids.effective 0) creds
+    (after_leaving_root (has_root creds.uids && not (has_root uids)) (record creds { uids = uids }))
+    (step-leaving (has_root creds.uids && not (has_root uids)) creds (record creds { uids = uids })
+    (step-none creds (record creds { uids = uids }) refl refl refl refl))
 
 step-done : (creds : Creds) (file : FileCreds) (nosuid : Bool) → Step (not creds.no_new_privs) creds (exec_done creds file nosuid)
 step-done creds file nosuid = record {
@@ -62,7 +68,9 @@ step-done creds file nosuid = record {
 step-capset : (creds : Creds) (p e i : ℕ) → Leaves (Step false creds) (after_capset creds p e i)
 step-capset creds p e i = left_if (Step false creds) (may_capset creds p e i) (Ok (with_sets creds p e i)) (Err 1) (λ h.
     let asked = may_capset-true creds p e i h in
-    left_ok (Step false creds) (with_sets creds p e i) record { bounding = within_self _; inheritable = asked.inheritable; no_new_privs = λ n. n; permitted = λ g. asked.permitted }) (λ h. left_err _ 1)
+    left_ok (Step false creds) (with_sets creds p e i) record
+    { bounding = within_self _; inheritable = asked.inheritable; no_new_privs = λ n. n; permitted = λ g. asked.permitted })
+    (λ h. left_err _ 1)
 
 step-setgroups : (creds : Creds) (ids : List ℕ) → Leaves (Step false creds) (after_setgroups creds ids)
 step-setgroups creds ids =
@@ -99,4 +107,5 @@ step creds ClearAmbient = left_ok _ (after_clear_ambient creds) (step-ambient cr
 step creds (SetKeepcaps on) = left_ok _ (after_set_keepcaps creds on) (step-keepcaps creds on)
 step creds SetNoNewPrivs = left_ok _ (after_set_no_new_privs creds) (step-marked creds)
 step creds (Exec file nosuid) =
-    left_if (Step (not creds.no_new_privs) creds) (is_refused creds file nosuid) (Err 1) (Ok (exec_done creds file nosuid)) (λ e. left_err _ 1) (λ e. left_ok _ _ (step-done creds file nosuid))
+    left_if (Step (not creds.no_new_privs) creds) (is_refused creds file nosuid) (Err 1) (Ok (exec_done creds file nosuid))
+    (λ e. left_err _ 1) (λ e. left_ok _ _ (step-done creds file nosuid))

@@ -7,7 +7,8 @@ use Rattle.cap_sets.specs.Sets.{none, union, cut}
 use Rattle.kern_creds.specs.declared.ids.Ids.{Ids}
 use Rattle.kern_creds.specs.declared.file.FileCreds.{FileCreds}
 use Rattle.kern_creds.specs.declared.creds.Creds.{Creds}
-use Rattle.kern_creds.specs.Exec.{owner_or, exec_ids, honours, is_privileged, runs_as_root, exec_uids, exec_ambient, exec_gains, exec_permitted, exec_effective, is_effective, exec_done, is_refused, after_exec}
+use Rattle.kern_creds.specs.Exec.{owner_or, exec_ids, honours, is_privileged, runs_as_root, exec_uids, exec_ambient, exec_gains}
+use Rattle.kern_creds.specs.Exec.{exec_permitted, exec_effective, is_effective, exec_done, is_refused, after_exec}
 use Rattle.kern_creds.proofs.Answers.{left_err, left_ok, left_if}
 
 at_true : {X : Type 0} (b : Bool) (x y : X) → b ≡ true → cond b x y ≡ x
@@ -49,7 +50,8 @@ module _ (creds now : Creds) (file : FileCreds) (nosuid : Bool) where
   -- what holds of the new credentials holds of those that are left
   done : (P : Creds → Type 0) → P (exec_done creds file nosuid) → after_exec creds file nosuid ≡ Ok now → P now
   done P p e =
-      (left_if P (is_refused creds file nosuid) (Err 1) (Ok (exec_done creds file nosuid)) (λ r. left_err P 1) (λ r. left_ok P (exec_done creds file nosuid) p)).held now e
+      (left_if P (is_refused creds file nosuid) (Err 1) (Ok (exec_done creds file nosuid)) (λ r. left_err P 1)
+      (λ r. left_ok P (exec_done creds file nosuid) p)).held now e
 
   pub keepcaps_cleared : after_exec creds file nosuid ≡ Ok now → now.keepcaps ≡ false
   keepcaps_cleared = done (λ new. new.keepcaps ≡ false) refl
@@ -63,14 +65,20 @@ module _ (creds now : Creds) (file : FileCreds) (nosuid : Bool) where
   owned : (ids : Ids) (marked : Option ℕ) (owner : ℕ) → h ≡ true → marked ≡ Some owner → (exec_ids h ids marked).effective ≡ owner
   owned ids marked owner on m = at_true h (owner_or marked ids.effective) ids.effective on ∙ ap (λ o. owner_or o ids.effective) m
 
-  pub owner_effective : (owner : ℕ) → h ≡ true → file.setuid ≡ Some owner → after_exec creds file nosuid ≡ Ok now → now.uids.effective ≡ owner
+  pub owner_effective : (owner : ℕ) → h ≡ true → file.setuid ≡ Some owner → after_exec creds file nosuid ≡ Ok now
+      → now.uids.effective ≡ owner
   owner_effective owner on m = done (λ new. new.uids.effective ≡ owner) (owned creds.uids file.setuid owner on m)
 
-  pub group_effective : (group : ℕ) → h ≡ true → file.setgid ≡ Some group → after_exec creds file nosuid ≡ Ok now → now.gids.effective ≡ group
+  pub group_effective : (group : ℕ) → h ≡ true → file.setgid ≡ Some group → after_exec creds file nosuid ≡ Ok now
+      → now.gids.effective ≡ group
   group_effective group on m = done (λ new. new.gids.effective ≡ group) (owned creds.gids file.setgid group on m)
 
-  pub rest_stays : after_exec creds file nosuid ≡ Ok now → (now.uids.real ≡ creds.uids.real) × (now.gids.real ≡ creds.gids.real) × (now.groups ≡ creds.groups) × (now.inheritable ≡ creds.inheritable) × (now.bounding ≡ creds.bounding) × (now.no_new_privs ≡ creds.no_new_privs)
-  rest_stays = done (λ new. (new.uids.real ≡ creds.uids.real) × (new.gids.real ≡ creds.gids.real) × (new.groups ≡ creds.groups) × (new.inheritable ≡ creds.inheritable) × (new.bounding ≡ creds.bounding) × (new.no_new_privs ≡ creds.no_new_privs)) (refl, refl, refl, refl, refl, refl)
+  pub rest_stays : after_exec creds file nosuid ≡ Ok now → (now.uids.real ≡ creds.uids.real) × (now.gids.real ≡ creds.gids.real) ×
+      (now.groups ≡ creds.groups) × (now.inheritable ≡ creds.inheritable) × (now.bounding ≡ creds.bounding) ×
+      (now.no_new_privs ≡ creds.no_new_privs)
+  rest_stays = done (λ new. (new.uids.real ≡ creds.uids.real) × (new.gids.real ≡ creds.gids.real) × (new.groups ≡ creds.groups) ×
+      (new.inheritable ≡ creds.inheritable) × (new.bounding ≡ creds.bounding) × (new.no_new_privs ≡ creds.no_new_privs))
+      (refl, refl, refl, refl, refl, refl)
 
   -- ---- root
 
@@ -78,9 +86,11 @@ module _ (creds now : Creds) (file : FileCreds) (nosuid : Bool) where
   root_gains r = at_true root both (cond h given amb) r
 
   pub root_all : creds.no_new_privs ≡ false → after_exec creds file nosuid ≡ Ok now → runs_as_root now.uids ≡ true → now.permitted ≡ both
-  root_all off = done (λ new. runs_as_root new.uids ≡ true → new.permitted ≡ both) (λ r. at_false creds.no_new_privs (cut gains creds.permitted) gains off ∙ root_gains r)
+  root_all off = done (λ new. runs_as_root new.uids ≡ true → new.permitted ≡ both)
+      (λ r. at_false creds.no_new_privs (cut gains creds.permitted) gains off ∙ root_gains r)
 
-  pub root_permitted : creds.no_new_privs ≡ true → after_exec creds file nosuid ≡ Ok now → runs_as_root now.uids ≡ true → now.permitted ≡ cut both creds.permitted
+  pub root_permitted : creds.no_new_privs ≡ true → after_exec creds file nosuid ≡ Ok now → runs_as_root now.uids ≡ true
+      → now.permitted ≡ cut both creds.permitted
   root_permitted on =
       done (λ new. runs_as_root new.uids ≡ true → new.permitted ≡ cut both creds.permitted)
       (λ r. at_true creds.no_new_privs (cut gains creds.permitted) gains on ∙ ap (λ g. cut g creds.permitted) (root_gains r))
@@ -89,7 +99,8 @@ module _ (creds now : Creds) (file : FileCreds) (nosuid : Bool) where
   all_effective e = at_true (is_effective creds file nosuid) (exec_permitted creds file nosuid) amb e
 
   pub root_effective : after_exec creds file nosuid ≡ Ok now → now.uids.effective ≡ 0 → now.effective ≡ now.permitted
-  root_effective = done (λ new. new.uids.effective ≡ 0 → new.effective ≡ new.permitted) (λ z. all_effective (zero_or (exec_uids creds file nosuid).effective (h && file.effective) z))
+  root_effective = done (λ new. new.uids.effective ≡ 0 → new.effective ≡ new.permitted)
+      (λ z. all_effective (zero_or (exec_uids creds file nosuid).effective (h && file.effective) z))
 
   -- ---- others
 
@@ -99,7 +110,8 @@ module _ (creds now : Creds) (file : FileCreds) (nosuid : Bool) where
   unmarked : h ≡ true → creds.no_new_privs ≡ false
   unmarked on = not-true creds.no_new_privs (and_parts (not creds.no_new_privs) (not nosuid) on).0
 
-  pub by_file : h ≡ true → after_exec creds file nosuid ≡ Ok now → runs_as_root now.uids ≡ false → now.permitted ≡ union (cut file.caps creds.bounding) now.ambient
+  pub by_file : h ≡ true → after_exec creds file nosuid ≡ Ok now → runs_as_root now.uids ≡ false
+      → now.permitted ≡ union (cut file.caps creds.bounding) now.ambient
   by_file on =
       done (λ new. runs_as_root new.uids ≡ false → new.permitted ≡ union (cut file.caps creds.bounding) new.ambient)
       (λ r. at_false creds.no_new_privs (cut gains creds.permitted) gains (unmarked on) ∙ other_gains r ∙ at_true h given amb on)
@@ -111,27 +123,34 @@ module _ (creds now : Creds) (file : FileCreds) (nosuid : Bool) where
       ends true = refl
       ends false = refl
 
-  pub by_ambient : nosuid ≡ true → creds.no_new_privs ≡ false → after_exec creds file nosuid ≡ Ok now → runs_as_root now.uids ≡ false → now.permitted ≡ now.ambient
+  pub by_ambient : nosuid ≡ true → creds.no_new_privs ≡ false → after_exec creds file nosuid ≡ Ok now → runs_as_root now.uids ≡ false
+      → now.permitted ≡ now.ambient
   by_ambient e off =
       done (λ new. runs_as_root new.uids ≡ false → new.permitted ≡ new.ambient)
       (λ r. at_false creds.no_new_privs (cut gains creds.permitted) gains off ∙ other_gains r ∙ at_false h given amb (not_honoured e))
 
-  pub by_permitted : creds.no_new_privs ≡ true → after_exec creds file nosuid ≡ Ok now → runs_as_root now.uids ≡ false → now.permitted ≡ cut now.ambient creds.permitted
+  pub by_permitted : creds.no_new_privs ≡ true → after_exec creds file nosuid ≡ Ok now → runs_as_root now.uids ≡ false
+      → now.permitted ≡ cut now.ambient creds.permitted
   by_permitted on =
       done (λ new. runs_as_root new.uids ≡ false → new.permitted ≡ cut new.ambient creds.permitted)
       (λ r. at_true creds.no_new_privs (cut gains creds.permitted) gains on
       ∙ ap (λ g. cut g creds.permitted) (other_gains r ∙ at_false h given amb (ap (λ b. not b && not nosuid) on)))
 
   pub bit_effective : h ≡ true → file.effective ≡ true → after_exec creds file nosuid ≡ Ok now → now.effective ≡ now.permitted
-  bit_effective on bit = done (λ new. new.effective ≡ new.permitted) (all_effective (or_both (eqb (exec_uids creds file nosuid).effective 0) h file.effective on bit))
+  bit_effective on bit = done (λ new. new.effective ≡ new.permitted)
+      (all_effective (or_both (eqb (exec_uids creds file nosuid).effective 0) h file.effective on bit))
 
-  pub without_bit : (h && file.effective) ≡ false → after_exec creds file nosuid ≡ Ok now → now.uids.effective ≢ 0 → now.effective ≡ now.ambient
+  pub without_bit : (h && file.effective) ≡ false → after_exec creds file nosuid ≡ Ok now → now.uids.effective ≢ 0
+      → now.effective ≡ now.ambient
   without_bit off =
       done (λ new. new.uids.effective ≢ 0 → new.effective ≡ new.ambient)
-      (λ ne. at_false (is_effective creds file nosuid) (exec_permitted creds file nosuid) amb (neither (exec_uids creds file nosuid).effective (h && file.effective) ne off))
+      (λ ne. at_false (is_effective creds file nosuid) (exec_permitted creds file nosuid) amb
+      (neither (exec_uids creds file nosuid).effective (h && file.effective) ne off))
 
   pub ambient_emptied : h ≡ true → is_privileged file ≡ true → after_exec creds file nosuid ≡ Ok now → now.ambient ≡ none
-  ambient_emptied on p = done (λ new. new.ambient ≡ none) (at_true (h && is_privileged file) none creds.ambient (and_from h (is_privileged file) on p))
+  ambient_emptied on p = done (λ new. new.ambient ≡ none)
+      (at_true (h && is_privileged file) none creds.ambient (and_from h (is_privileged file) on p))
 
   pub ambient_kept : h ≡ false → after_exec creds file nosuid ≡ Ok now → now.ambient ≡ creds.ambient
-  ambient_kept off = done (λ new. new.ambient ≡ creds.ambient) (at_false (h && is_privileged file) none creds.ambient (ap (λ b. b && is_privileged file) off))
+  ambient_kept off = done (λ new. new.ambient ≡ creds.ambient)
+      (at_false (h && is_privileged file) none creds.ambient (ap (λ b. b && is_privileged file) off))

@@ -58,7 +58,8 @@ switch_uids false false creds = refl
 
 new_uids : (creds : Creds) (uids : Ids) → (with_uids creds uids).uids ≡ uids
 new_uids creds uids =
-    switch_uids (eqb creds.uids.effective 0) (eqb uids.effective 0) (after_leaving_root (has_root creds.uids && not (has_root uids)) (record creds { uids = uids }))
+    switch_uids (eqb creds.uids.effective 0) (eqb uids.effective 0)
+    (after_leaving_root (has_root creds.uids && not (has_root uids)) (record creds { uids = uids }))
     ∙ leaving_uids (has_root creds.uids && not (has_root uids)) (record creds { uids = uids })
 
 uids_among : (creds : Creds) (uids : Ids) → AreAmong uids creds.uids → AreAmong (with_uids creds uids).uids creds.uids
@@ -75,7 +76,8 @@ module _ (creds : Creds) where
   own-setuid id no_cap =
       left_if (OwnUids creds) (eqb id 0xffff_ffff) (Err 22) _ (λ e. left_err _ 22) λ e.
       left_if (OwnUids creds) (has creds.effective 7) (Ok (with_uids creds (all_of id))) _ (λ h. absurd (differ _ no_cap h)) λ h.
-      left_if (OwnUids creds) (eqb id creds.uids.real || eqb id creds.uids.saved) (Ok (with_uids creds (record creds.uids { effective = id }))) (Err 1)
+      left_if (OwnUids creds) (eqb id creds.uids.real || eqb id creds.uids.saved)
+      (Ok (with_uids creds (record creds.uids { effective = id }))) (Err 1)
       (λ o. left_ok _ _ (uids_among creds _ (one_effective creds.uids id (real_or_saved creds.uids id o)))) (λ o. left_err _ 1)
     where
       differ : (b : Bool) → b ≡ false → b ≡ true → ⊥
@@ -85,7 +87,8 @@ module _ (creds : Creds) where
   own-setgid id no_cap =
       left_if (OwnGids creds) (eqb id 0xffff_ffff) (Err 22) _ (λ e. left_err _ 22) λ e.
       left_if (OwnGids creds) (has creds.effective 6) (Ok (record creds { gids = all_of id })) _ (λ h. absurd (differ _ no_cap h)) λ h.
-      left_if (OwnGids creds) (eqb id creds.gids.real || eqb id creds.gids.saved) (Ok (record creds { gids = record creds.gids { effective = id } })) (Err 1)
+      left_if (OwnGids creds) (eqb id creds.gids.real || eqb id creds.gids.saved)
+      (Ok (record creds { gids = record creds.gids { effective = id } })) (Err 1)
       (λ o. left_ok _ _ (one_effective creds.gids id (real_or_saved creds.gids id o))) (λ o. left_err _ 1)
     where
       differ : (b : Bool) → b ≡ false → b ≡ true → ⊥
@@ -96,15 +99,18 @@ module _ (creds : Creds) where
 
   pub own-setresuid : (r e s : ℕ) → has creds.effective 7 ≡ false → Leaves (OwnUids creds) (after_setresuid creds r e s)
   own-setresuid r e s no_cap =
-      left_if (OwnUids creds) (has creds.effective 7 || may_take_all creds.uids r e s) (Ok (with_uids creds (kept_ids creds.uids r e s))) (Err 1)
+      left_if (OwnUids creds) (has creds.effective 7 || may_take_all creds.uids r e s) (Ok (with_uids creds (kept_ids creds.uids r e s)))
+      (Err 1)
       (λ h. left_ok _ _ (uids_among creds _ (taken_ids creds.uids r e s (without _ _ no_cap h)))) (λ h. left_err _ 1)
 
   pub own-setresgid : (r e s : ℕ) → has creds.effective 6 ≡ false → Leaves (OwnGids creds) (after_setresgid creds r e s)
   own-setresgid r e s no_cap =
-      left_if (OwnGids creds) (has creds.effective 6 || may_take_all creds.gids r e s) (Ok (record creds { gids = kept_ids creds.gids r e s })) (Err 1)
+      left_if (OwnGids creds) (has creds.effective 6 || may_take_all creds.gids r e s)
+      (Ok (record creds { gids = kept_ids creds.gids r e s })) (Err 1)
       (λ h. left_ok _ _ (taken_ids creds.gids r e s (without _ _ no_cap h))) (λ h. left_err _ 1)
 
-pub own-exec : (honoured : Bool) (ids : Ids) (owner : Option ℕ) → (honoured && is_set_id owner) ≡ false → AreAmong (exec_ids honoured ids owner) ids
+pub own-exec : (honoured : Bool) (ids : Ids) (owner : Option ℕ) → (honoured && is_set_id owner) ≡ false
+    → AreAmong (exec_ids honoured ids owner) ids
 own-exec true ids None h = record { real = first_of ids; effective = second_of ids; saved = second_of ids }
 own-exec true ids (Some id) h = cc
 own-exec false ids owner h = record { real = first_of ids; effective = second_of ids; saved = second_of ids }

@@ -9,7 +9,8 @@ mapped : {X : Type 0} → (Ids → X) → Result Ids ℕ → Result X ℕ
 mapped made (Ok ids) = Ok (made ids)
 mapped made (Err errno) = Err errno
 
-by_ids : {X : Type 0} (made : Ids → X) (privileged : Bool) (old : Ids) (r e s : ℕ) → mapped made (set_all_ids (λ ids. ids) privileged old r e s) ≡ set_all_ids made privileged old r e s
+by_ids : {X : Type 0} (made : Ids → X) (privileged : Bool) (old : Ids) (r e s : ℕ)
+    → mapped made (set_all_ids (λ ids. ids) privileged old r e s) ≡ set_all_ids made privileged old r e s
 unfolding mapped
 by_ids made privileged old r e s = by (privileged || may_take_all old r e s)
   where
@@ -17,6 +18,7 @@ by_ids made privileged old r e s = by (privileged || may_take_all old r e s)
     by true = refl
     by false = refl
 
-pub ids_made : {X : Type 0} (made : Ids → X) (privileged : Bool) (old : Ids) (r e s : ℕ) (ids : Ids) → Ok ids ≡ set_all_ids (λ i. i) privileged old r e s → set_all_ids made privileged old r e s ≡ Ok (made ids)
+pub ids_made : {X : Type 0} (made : Ids → X) (privileged : Bool) (old : Ids) (r e s : ℕ) (ids : Ids)
+    → Ok ids ≡ set_all_ids (λ i. i) privileged old r e s → set_all_ids made privileged old r e s ≡ Ok (made ids)
 unfolding mapped
 ids_made made privileged old r e s ids h = sym (by_ids made privileged old r e s) ∙ ap (mapped made) (sym h)

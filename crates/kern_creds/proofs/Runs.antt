@@ -6,11 +6,14 @@ use Rattle.cap_sets.proofs.Members.{within_self, within_through, union_within, w
 use Rattle.kern_creds.specs.declared.file.FileCreds.{FileCreds}
 use Rattle.kern_creds.specs.declared.creds.Creds.{Creds}
 use Rattle.kern_creds.specs.Exec.{after_exec}
-use Rattle.kern_creds.specs.Calls.{Call, Setuid, Setgid, Setresuid, Setresgid, Setgroups, Capset, DropBounding, Raise, Lower, ClearAmbient, SetKeepcaps, SetNoNewPrivs, Exec, after}
+use Rattle.kern_creds.specs.Calls.{Call, Setuid, Setgid, Setresuid, Setresgid, Setgroups, Capset, DropBounding, Raise, Lower, ClearAmbient}
+use Rattle.kern_creds.specs.Calls.{SetKeepcaps, SetNoNewPrivs, Exec, after}
 use Rattle.kern_creds.specs.Sound.{IsSound}
 use Rattle.kern_creds.specs.Steps.{Leads, Reaches, Here, Then, may_gain}
 use Rattle.kern_creds.proofs.Answers.{Leaves, left_ok}
-use Rattle.kern_creds.proofs.SoundCalls.{sound-setuid, sound-setgid, sound-setresuid, sound-setresgid, sound-setgroups, sound-capset, sound-drop_bounding, sound-raise, sound-lower, sound-clear_ambient, sound-set_keepcaps, sound-set_no_new_privs}
+use Rattle.kern_creds.proofs.SoundCalls.{sound-setuid, sound-setgid, sound-setresuid, sound-setresgid, sound-setgroups, sound-capset}
+use Rattle.kern_creds.proofs.SoundCalls.{sound-drop_bounding, sound-raise, sound-lower, sound-clear_ambient, sound-set_keepcaps}
+use Rattle.kern_creds.proofs.SoundCalls.{sound-set_no_new_privs}
 use Rattle.kern_creds.proofs.SoundExec.{sound-exec, bounded-exec}
 use Rattle.kern_creds.proofs.Bounded.{Step, step}
 
@@ -57,7 +60,8 @@ none_gains creds SetNoNewPrivs e = refl
 
 pub bounding_by_run : (first now : Creds) → Reaches first now → IsWithin now.bounding first.bounding
 bounding_by_run first _ Here = within_self _
-bounding_by_run first _ (Then creds now call before e) = within_through _ _ _ (step_of creds now call e).bounding (bounding_by_run first creds before)
+bounding_by_run first _ (Then creds now call before e) = within_through _ _ _ (step_of creds now call e).bounding
+    (bounding_by_run first creds before)
 
 pub inheritable_by_run : (first now : Creds) → Reaches first now → IsWithin now.inheritable (union first.inheritable first.bounding)
 inheritable_by_run first _ Here = within_union_left _ _ _ (within_self _)
@@ -72,10 +76,13 @@ mark_by_run first _ (Then creds now call before e) on = (step_of creds now call 
 pub permitted_by_run : (first now : Creds) → Reaches first now → first.no_new_privs ≡ true → IsWithin now.permitted first.permitted
 permitted_by_run first _ Here on = within_self _
 permitted_by_run first _ (Then creds now call before e) on =
-    within_through _ _ _ ((step_of creds now call e).permitted (none_gains creds call (mark_by_run first creds before on))) (permitted_by_run first creds before on)
+    within_through _ _ _ ((step_of creds now call e).permitted (none_gains creds call (mark_by_run first creds before on)))
+    (permitted_by_run first creds before on)
 
-pub exec_gives_nothing : (creds now : Creds) (file : FileCreds) (nosuid : Bool) → creds.no_new_privs ≡ true → after_exec creds file nosuid ≡ Ok now → IsWithin now.permitted creds.permitted
+pub exec_gives_nothing : (creds now : Creds) (file : FileCreds) (nosuid : Bool) → creds.no_new_privs ≡ true
+    → after_exec creds file nosuid ≡ Ok now → IsWithin now.permitted creds.permitted
 exec_gives_nothing creds now file nosuid on e = (step_of creds now (Exec file nosuid) e).permitted (ap not on)
 
-pub exec_is_bounded : (creds now : Creds) (file : FileCreds) (nosuid : Bool) → IsSound creds → after_exec creds file nosuid ≡ Ok now → IsWithin now.permitted (union creds.inheritable creds.bounding)
+pub exec_is_bounded : (creds now : Creds) (file : FileCreds) (nosuid : Bool) → IsSound creds → after_exec creds file nosuid ≡ Ok now
+    → IsWithin now.permitted (union creds.inheritable creds.bounding)
 exec_is_bounded creds now file nosuid k e = (bounded-exec false creds file nosuid k).held now e

@@ -3,7 +3,8 @@ use Rattle.std.proofs.Common.{◌≡◌, ℕ, Bool, true, false, arith, rules, c
 use Rattle.std.specs.Prelude.{◌&&◌, not}
 use Rattle.std.proofs.lemmas.Bool.{and_parts, not-false}
 use Rattle.cap_sets.specs.Sets.{has, none, all, union, single, IsWithin}
-use Rattle.cap_sets.proofs.Members.{within_self, none_within, cut_within_left, cut_within_right, union_within, minus_within, single_within, IsWithin-from_within}
+use Rattle.cap_sets.proofs.Members.{within_self, none_within, cut_within_left, cut_within_right, union_within, minus_within, single_within}
+use Rattle.cap_sets.proofs.Members.{IsWithin-from_within}
 use Rattle.kern_creds.specs.declared.ids.Ids.{Ids}
 use Rattle.kern_creds.specs.declared.creds.Creds.{Creds}
 use Rattle.kern_creds.specs.Start.{start}
@@ -12,7 +13,8 @@ use Rattle.kern_creds.specs.Setuid.{after_setuid, after_setgid}
 use Rattle.kern_creds.specs.Setresuid.{after_setresuid, after_setresgid}
 use Rattle.kern_creds.specs.Setgroups.{after_setgroups}
 use Rattle.kern_creds.specs.Capset.{may_capset, with_sets, after_capset}
-use Rattle.kern_creds.specs.Prctl.{after_drop_bounding, after_raise, after_lower, after_clear_ambient, after_set_keepcaps, after_set_no_new_privs}
+use Rattle.kern_creds.specs.Prctl.{after_drop_bounding, after_raise, after_lower, after_clear_ambient, after_set_keepcaps}
+use Rattle.kern_creds.specs.Prctl.{after_set_no_new_privs}
 use Rattle.kern_creds.specs.Sound.{IsSound}
 use Rattle.kern_creds.proofs.Answers.{Leaves, left_err, left_ok, left_if}
 
@@ -43,7 +45,8 @@ sound-ids creds uids k = record { effective_is_permitted = k.effective_is_permit
 
 sound-uids : (creds : Creds) (uids : Ids) → IsSound creds → IsSound (with_uids creds uids)
 sound-uids creds uids k =
-    sound-switch (eqb creds.uids.effective 0) (eqb uids.effective 0) (after_leaving_root (has_root creds.uids && not (has_root uids)) (record creds { uids = uids }))
+    sound-switch (eqb creds.uids.effective 0) (eqb uids.effective 0)
+    (after_leaving_root (has_root creds.uids && not (has_root uids)) (record creds { uids = uids }))
     (sound-leaving (has_root creds.uids && not (has_root uids)) (record creds { uids = uids }) (sound-ids creds uids k))
 
 -- ---- sets

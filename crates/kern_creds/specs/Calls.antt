@@ -4,7 +4,8 @@ use Rattle.kern_creds.specs.Setuid.{after_setuid, after_setgid}
 use Rattle.kern_creds.specs.Setresuid.{after_setresuid, after_setresgid}
 use Rattle.kern_creds.specs.Setgroups.{after_setgroups}
 use Rattle.kern_creds.specs.Capset.{after_capset}
-use Rattle.kern_creds.specs.Prctl.{after_drop_bounding, after_raise, after_lower, after_clear_ambient, after_set_keepcaps, after_set_no_new_privs}
+use Rattle.kern_creds.specs.Prctl.{after_drop_bounding, after_raise, after_lower, after_clear_ambient, after_set_keepcaps}
+use Rattle.kern_creds.specs.Prctl.{after_set_no_new_privs}
 use Rattle.kern_creds.specs.Exec.{after_exec}
 use Rattle.kern_creds.specs.declared.file.FileCreds.{FileCreds}
 use Rattle.kern_creds.specs.declared.creds.Creds.{Creds}

@@ -82,7 +82,8 @@ exec_permitted creds file nosuid = exec_permitted_in false creds file nosuid
 
 -- the effective bit is on: it counts, or the effective uid is 0 in the first user namespace
 abbrev pub is_effective_in : Bool → Creds → FileCreds → Bool → Bool
-is_effective_in newer creds file nosuid = (not newer && (exec_uids_in newer creds file nosuid).effective == 0) || (honours creds nosuid && file.effective)
+is_effective_in newer creds file nosuid = (not newer && (exec_uids_in newer creds file nosuid).effective == 0) ||
+    (honours creds nosuid && file.effective)
 
 abbrev pub is_effective : Creds → FileCreds → Bool → Bool
 is_effective creds file nosuid = is_effective_in false creds file nosuid

@@ -12,7 +12,8 @@ use Rattle.kern_mounts.specs.Finds.{nothing, row_or_nothing, found_by, found_at,
 use Rattle.kern_mounts.specs.Split.{Table}
 use Rattle.kern_mounts.specs.Bind.{is_long, can_show, can_show_at, can_bind}
 
-shows : {Row : Type 0} (rows : Path → Option Row) → ((path : Path) (found : Row) → rows path ≡ Some found → is_long path ≡ false) → (what : What) (place path : Path)
+shows : {Row : Type 0} (rows : Path → Option Row) → ((path : Path) (found : Row) → rows path ≡ Some found → is_long path ≡ false)
+    → (what : What) (place path : Path)
     → ((errno : ℕ) → found_by rows what place path ≡ nothing errno → ⊥) → can_show what place path ≡ true
 shows {Row = Row} rows short (Host source) place path found = by (rows (source ++ rest_of place path)) refl
   where
@@ -23,7 +24,8 @@ shows rows short Empty place path found = refl
 shows rows short (Hidden directory) place path found = absurd (found eacces refl)
 
 -- where the rows of a site are no longer than paths are
-pub found_can_be_bound : {Row : Type 0} (rows : Path → Option Row) (table : Table) (source : Path) → ((path : Path) (found : Row) → rows path ≡ Some found → is_long path ≡ false)
+pub found_can_be_bound : {Row : Type 0} (rows : Path → Option Row) (table : Table) (source : Path)
+    → ((path : Path) (found : Row) → rows path ≡ Some found → is_long path ≡ false)
     → ((errno : ℕ) → finds rows table source ≡ nothing errno → ⊥) → can_bind table source ≡ true
 found_can_be_bound {Row = Row} rows table source short found = by (entry_of table source) (λ errno e. found errno e)
   where

@@ -1,5 +1,6 @@
 -- Each call of mount(2) and umount2(2) that is done leaves mounts backed.
-use Rattle.std.proofs.Common.{◌≡◌, ℕ, Bool, true, false, cond, [], ◌∷◌, ◌++◌, refl, filter, Option, Some, None, Result, Ok, Err, length, subst, ◌+◌}
+use Rattle.std.proofs.Common.{◌≡◌, ℕ, Bool, true, false, cond, [], ◌∷◌, ◌++◌, refl, filter, Option, Some, None, Result, Ok, Err, length}
+use Rattle.std.proofs.Common.{subst, ◌+◌}
 use Rattle.std.specs.Prelude.{◌&&◌, not, nat_lt}
 use Rattle.std.specs.List.{list_any}
 use Rattle.abs_path.specs.Paths.{Path, is_root}
@@ -20,10 +21,12 @@ use Rattle.kern_mounts.specs.MountsBind.{copied_mounts, bound_mount, is_locked_b
 use Rattle.kern_mounts.specs.Backing.{Shows, Widens, AreBacked}
 use Rattle.kern_mounts.specs.Changes.{Changes, still, then_bind, then_empty, then_remount, then_umount, then_locked}
 use Rattle.kern_mounts.proofs.Splits.{IsSplit, split_some}
-use Rattle.kern_mounts.proofs.Backing.{backed_append, backed_behind, backed_front, backed_left, backed_flags, backed_copies, backed_bound, copied_behind, nothing_behind, backed_locked, backed_path}
+use Rattle.kern_mounts.proofs.Backing.{backed_append, backed_behind, backed_front, backed_left, backed_flags, backed_copies, backed_bound}
+use Rattle.kern_mounts.proofs.Backing.{copied_behind, nothing_behind, backed_locked, backed_path}
 
 -- the mounts about a split
-whole_backed : (shows : Shows) (path : Path) (mounts : Mounts) (split : SplitOf Mount) → mount_at path mounts ≡ Some split → AreBacked shows mounts → AreBacked shows (split.earlier ++ split.entry ∷ split.later)
+whole_backed : (shows : Shows) (path : Path) (mounts : Mounts) (split : SplitOf Mount) → mount_at path mounts ≡ Some split
+    → AreBacked shows mounts → AreBacked shows (split.earlier ++ split.entry ∷ split.later)
 whole_backed shows path mounts split s h = let P : Mounts → Type 0 = AreBacked shows in subst P (split_some (leads path) mounts split s).whole h
 
 -- ---- umount2
@@ -35,31 +38,38 @@ pub record Removes (path : Path) (mounts next : Mounts) : Type 0 where
   pub free : split.entry.locked ≡ false
   pub made : split.earlier ++ filter (λ mount. not (stands_below path mount)) split.later ≡ next
 
-pub removes : (mounts next : Mounts) (path : Path) (detach : Bool) → mounts_after_umount mounts path detach ≡ Ok next → Removes path mounts next
+pub removes : (mounts next : Mounts) (path : Path) (detach : Bool) → mounts_after_umount mounts path detach ≡ Ok next
+    → Removes path mounts next
 removes mounts next path detach e = below_root (is_root path) e
   where
     by : (o : Option (SplitOf Mount)) → mount_at path mounts ≡ o → mounts_unmounted path detach o ≡ Ok next → Removes path mounts next
     by None s f = cc
-    by (Some split) s f = by_at (stands_at path split.entry) split.entry.locked (not detach && list_any (stands_below path) split.later) refl refl f
+    by (Some split) s f = by_at (stands_at path split.entry) split.entry.locked
+        (not detach && list_any (stands_below path) split.later) refl refl f
       where
         left : Mounts
         left = split.earlier ++ filter (λ mount. not (stands_below path mount)) split.later
 
         by_at : (a l b : Bool) → stands_at path split.entry ≡ a → split.entry.locked ≡ l
-            → cond {A = Result Mounts ℕ} (not a) (Err einval) (cond {A = Result Mounts ℕ} l (Err einval) (cond {A = Result Mounts ℕ} b (Err ebusy) (Ok left))) ≡ Ok next → Removes path mounts next
+            → cond {A = Result Mounts ℕ} (not a) (Err einval)
+            (cond {A = Result Mounts ℕ} l (Err einval) (cond {A = Result Mounts ℕ} b (Err ebusy) (Ok left))) ≡ Ok next
+            → Removes path mounts next
         by_at false l b p q f = cc
         by_at true true b p q f = cc
         by_at true false true p q f = cc
         by_at true false false p q f = record { split = split; found = s; at_place = p; free = q; made = cc }
 
-    below_root : (b : Bool) → cond {A = Result Mounts ℕ} b (Err einval) (mounts_unmounted path detach (mount_at path mounts)) ≡ Ok next → Removes path mounts next
+    below_root : (b : Bool) → cond {A = Result Mounts ℕ} b (Err einval) (mounts_unmounted path detach (mount_at path mounts)) ≡ Ok next
+        → Removes path mounts next
     below_root true f = cc
     below_root false f = by (mount_at path mounts) refl f
 
-pub umount_backed : (shows : Shows) (mounts next : Mounts) (path : Path) (detach : Bool) → AreBacked shows mounts → mounts_after_umount mounts path detach ≡ Ok next → AreBacked shows next
+pub umount_backed : (shows : Shows) (mounts next : Mounts) (path : Path) (detach : Bool) → AreBacked shows mounts
+    → mounts_after_umount mounts path detach ≡ Ok next → AreBacked shows next
 umount_backed shows mounts next path detach h e =
     let P : Mounts → Type 0 = AreBacked shows in
-    subst P r.made (backed_front shows r.split.earlier r.split.entry r.split.later _ r.free all (backed_left shows path r.split.later is.last (backed_behind shows r.split.earlier (r.split.entry ∷ r.split.later) all).1))
+    subst P r.made (backed_front shows r.split.earlier r.split.entry r.split.later _ r.free all
+    (backed_left shows path r.split.later is.last (backed_behind shows r.split.earlier (r.split.entry ∷ r.split.later) all).1))
   where
     r : Removes path mounts next
     r = removes mounts next path detach e
@@ -78,10 +88,12 @@ pub record Remounts (place : Path) (flags : Flags) (mounts next : Mounts) : Type
   pub kept : lacks split.entry.kept flags ≡ false
   pub made : split.earlier ++ with_flags split.entry flags ∷ split.later ≡ next
 
-pub remounts : (mounts next : Mounts) (place : Path) (flags : Flags) → mounts_after_remount mounts place flags ≡ Ok next → Remounts place flags mounts next
+pub remounts : (mounts next : Mounts) (place : Path) (flags : Flags) → mounts_after_remount mounts place flags ≡ Ok next
+    → Remounts place flags mounts next
 remounts mounts next place flags e = by (mount_at place mounts) refl e
   where
-    by : (o : Option (SplitOf Mount)) → mount_at place mounts ≡ o → mounts_remounted place flags o ≡ Ok next → Remounts place flags mounts next
+    by : (o : Option (SplitOf Mount)) → mount_at place mounts ≡ o → mounts_remounted place flags o ≡ Ok next
+        → Remounts place flags mounts next
     by None s f = cc
     by (Some split) s f = by_at (stands_at place split.entry) (lacks split.entry.kept flags) refl refl f
       where
@@ -89,16 +101,19 @@ remounts mounts next place flags e = by (mount_at place mounts) refl e
         now = split.earlier ++ with_flags split.entry flags ∷ split.later
 
         by_at : (a b : Bool) → stands_at place split.entry ≡ a → lacks split.entry.kept flags ≡ b
-            → cond {A = Result Mounts ℕ} a (cond {A = Result Mounts ℕ} b (Err eperm) (Ok now)) (Err einval) ≡ Ok next → Remounts place flags mounts next
+            → cond {A = Result Mounts ℕ} a (cond {A = Result Mounts ℕ} b (Err eperm) (Ok now)) (Err einval) ≡ Ok next
+            → Remounts place flags mounts next
         by_at false b p q f = cc
         by_at true true p q f = cc
         by_at true false p q f = record { split = split; found = s; at_place = p; kept = q; made = cc }
 
-pub remount_backed : (shows : Shows) (mounts next : Mounts) (place : Path) (flags : Flags) → AreBacked shows mounts → mounts_after_remount mounts place flags ≡ Ok next → AreBacked shows next
+pub remount_backed : (shows : Shows) (mounts next : Mounts) (place : Path) (flags : Flags) → AreBacked shows mounts
+    → mounts_after_remount mounts place flags ≡ Ok next → AreBacked shows next
 remount_backed shows mounts next place flags h e =
     let P : Mounts → Type 0 = AreBacked shows in
     let r = remounts mounts next place flags e in
-    subst P r.made (backed_flags shows r.split.earlier r.split.entry r.split.later flags r.kept (whole_backed shows place mounts r.split r.found h))
+    subst P r.made (backed_flags shows r.split.earlier r.split.entry r.split.later flags r.kept
+    (whole_backed shows place mounts r.split r.found h))
 
 -- ---- mounts that are added
 pub grown_is : (mounts more next : Mounts) → mounts_grown mounts more ≡ Ok next → mounts ++ more ≡ next
@@ -108,15 +123,19 @@ grown_is mounts more next e = by (nat_lt mount_max (length mounts + length more)
     by true f = cc
     by false f = cc
 
-pub grown_backed : (shows : Shows) (mounts more next : Mounts) → AreBacked shows mounts → AreBacked shows more → mounts_grown mounts more ≡ Ok next → AreBacked shows next
+pub grown_backed : (shows : Shows) (mounts more next : Mounts) → AreBacked shows mounts → AreBacked shows more
+    → mounts_grown mounts more ≡ Ok next → AreBacked shows next
 grown_backed shows mounts more next h g e = let P : Mounts → Type 0 = AreBacked shows in subst P (grown_is mounts more next e) (backed_append shows mounts more h g)
 
 -- an empty file system shows nothing of the host
-empty_alone : (shows : Shows) (target : Path) (flags : Flags) → AreBacked shows (plain (record { place = target; what = Empty; flags = flags }) ∷ [])
+empty_alone : (shows : Shows) (target : Path) (flags : Flags)
+    → AreBacked shows (plain (record { place = target; what = Empty; flags = flags }) ∷ [])
 empty_alone shows target flags = (record { keeps = refl; shown = λ source rest host clear. let never : ⊥ = cc in absurd never }, tt)
 
-pub empty_backed : (shows : Shows) (mounts next : Mounts) (target : Path) (flags : Flags) → AreBacked shows mounts → mounts_after_push mounts (record { place = target; what = Empty; flags = flags }) ≡ Ok next → AreBacked shows next
-empty_backed shows mounts next target flags h e = grown_backed shows mounts (plain (record { place = target; what = Empty; flags = flags }) ∷ []) next h (empty_alone shows target flags) e
+pub empty_backed : (shows : Shows) (mounts next : Mounts) (target : Path) (flags : Flags) → AreBacked shows mounts
+    → mounts_after_push mounts (record { place = target; what = Empty; flags = flags }) ≡ Ok next → AreBacked shows next
+empty_backed shows mounts next target flags h e = grown_backed shows mounts
+    (plain (record { place = target; what = Empty; flags = flags }) ∷ []) next h (empty_alone shows target flags) e
 
 -- ---- binds
 pub record Binds (source target : Path) (recursive : Bool) (mounts next : Mounts) : Type 0 where
@@ -125,23 +144,28 @@ pub record Binds (source target : Path) (recursive : Bool) (mounts next : Mounts
   pub allowed : (not recursive && list_any (is_locked_below source) split.later) ≡ false
   pub made : mounts_grown mounts (bound_mount source target split.entry ∷ copied_mounts recursive source target split.later) ≡ Ok next
 
-pub binds : (mounts next : Mounts) (source target : Path) (recursive : Bool) → mounts_after_bind mounts source target recursive ≡ Ok next → Binds source target recursive mounts next
+pub binds : (mounts next : Mounts) (source target : Path) (recursive : Bool) → mounts_after_bind mounts source target recursive ≡ Ok next
+    → Binds source target recursive mounts next
 binds mounts next source target recursive e = by (mount_at source mounts) refl e
   where
-    by : (o : Option (SplitOf Mount)) → mount_at source mounts ≡ o → mounts_bound mounts source target recursive o ≡ Ok next → Binds source target recursive mounts next
+    by : (o : Option (SplitOf Mount)) → mount_at source mounts ≡ o → mounts_bound mounts source target recursive o ≡ Ok next
+        → Binds source target recursive mounts next
     by None s f = cc
-    by (Some split) s f = by_at (not recursive && list_any (is_locked_below source) split.later) (list_any is_placed_too_long (copied_mounts recursive source target split.later)) refl f
+    by (Some split) s f = by_at (not recursive && list_any (is_locked_below source) split.later)
+        (list_any is_placed_too_long (copied_mounts recursive source target split.later)) refl f
       where
         now : Result Mounts ℕ
         now = mounts_grown mounts (bound_mount source target split.entry ∷ copied_mounts recursive source target split.later)
 
         by_at : (a b : Bool) → (not recursive && list_any (is_locked_below source) split.later) ≡ a
-            → cond {A = Result Mounts ℕ} a (Err einval) (cond {A = Result Mounts ℕ} b (Err enametoolong) now) ≡ Ok next → Binds source target recursive mounts next
+            → cond {A = Result Mounts ℕ} a (Err einval) (cond {A = Result Mounts ℕ} b (Err enametoolong) now) ≡ Ok next
+            → Binds source target recursive mounts next
         by_at true b p f = cc
         by_at false true p f = cc
         by_at false false p f = record { split = split; found = s; allowed = p; made = f }
 
-pub bind_backed : (shows : Shows) (mounts next : Mounts) (source target : Path) (recursive : Bool) → AreBacked shows mounts → mounts_after_bind mounts source target recursive ≡ Ok next → AreBacked shows next
+pub bind_backed : (shows : Shows) (mounts next : Mounts) (source target : Path) (recursive : Bool) → AreBacked shows mounts
+    → mounts_after_bind mounts source target recursive ≡ Ok next → AreBacked shows next
 bind_backed shows mounts next source target recursive h e = by recursive (binds mounts next source target recursive e)
   where
     by : (recursive : Bool) → Binds source target recursive mounts next → AreBacked shows next
@@ -159,17 +183,24 @@ bind_backed shows mounts next source target recursive h e = by recursive (binds 
         b.made
 
 -- ---- any calls
-pub changes_backed : (shows : Shows) {mounts last : Mounts} → Widens shows → AreBacked shows mounts → Changes mounts last → AreBacked shows last
+pub changes_backed : (shows : Shows) {mounts last : Mounts} → Widens shows → AreBacked shows mounts → Changes mounts last
+    → AreBacked shows last
 changes_backed shows widens h still = h
-changes_backed shows widens h (then_bind {mounts} {next} source target recursive e more) = changes_backed shows widens (bind_backed shows mounts next source target recursive h e) more
-changes_backed shows widens h (then_empty {mounts} {next} target flags e more) = changes_backed shows widens (empty_backed shows mounts next target flags h e) more
-changes_backed shows widens h (then_remount {mounts} {next} place flags e more) = changes_backed shows widens (remount_backed shows mounts next place flags h e) more
-changes_backed shows widens h (then_umount {mounts} {next} path detach e more) = changes_backed shows widens (umount_backed shows mounts next path detach h e) more
+changes_backed shows widens h (then_bind {mounts} {next} source target recursive e more) =
+    changes_backed shows widens (bind_backed shows mounts next source target recursive h e) more
+changes_backed shows widens h (then_empty {mounts} {next} target flags e more) =
+    changes_backed shows widens (empty_backed shows mounts next target flags h e) more
+changes_backed shows widens h (then_remount {mounts} {next} place flags e more) =
+    changes_backed shows widens (remount_backed shows mounts next place flags h e) more
+changes_backed shows widens h (then_umount {mounts} {next} path detach e more) =
+    changes_backed shows widens (umount_backed shows mounts next path detach h e) more
 changes_backed shows widens h (then_locked {mounts} more) = changes_backed shows widens (backed_locked shows mounts widens h) more
 
 -- ---- what a path shows
-pub path_backed : (shows : Shows) (mounts : Mounts) (path source : Path) (split : SplitOf Mount) → Widens shows → AreBacked shows mounts → mount_at path mounts ≡ Some split → split.entry.step.what ≡ Host source
+pub path_backed : (shows : Shows) (mounts : Mounts) (path source : Path) (split : SplitOf Mount) → Widens shows → AreBacked shows mounts
+    → mount_at path mounts ≡ Some split → split.entry.step.what ≡ Host source
     → shows (source ++ rest_of split.entry.step.place path) split.entry.step.flags ≡ true
 path_backed shows mounts path source split widens h s host =
     let is = split_some (leads path) mounts split s in
-    backed_path shows path source split.entry split.later widens is.has is.last (backed_behind shows split.earlier (split.entry ∷ split.later) (whole_backed shows path mounts split s h)).0 host
+    backed_path shows path source split.entry split.later widens is.has is.last
+    (backed_behind shows split.earlier (split.entry ∷ split.later) (whole_backed shows path mounts split s h)).0 host

@@ -14,12 +14,14 @@ use Rattle.kern_mounts.proofs.Covering.{more_covered, later_covers}
 
 -- a common front changes nothing
 front_below : (front one other : Path) → is_path_below (front ++ one) (front ++ other) ≡ is_path_below one other
-front_below front one other = ap (λ b. b && not (is_same (front ++ other) (front ++ one))) (front_leads front other one) ∙ ap (λ b. is_prefix other one && not b) (front_same front other one)
+front_below front one other = ap (λ b. b && not (is_same (front ++ other) (front ++ one))) (front_leads front other one)
+    ∙ ap (λ b. is_prefix other one && not b) (front_same front other one)
 
 -- what stands strictly below a path below the source stands strictly below the source
 below_source : (place source tail : Path) → is_path_below place (source ++ tail) ≡ true → is_path_below place source ≡ true
 below_source place source tail h =
-    and_from _ _ (prefix_trans source (source ++ tail) place (prefix-append source tail) parts.0) (by (is_same source place) (same_path source place))
+    and_from _ _ (prefix_trans source (source ++ tail) place (prefix-append source tail) parts.0)
+    (by (is_same source place) (same_path source place))
   where
     parts : (is_prefix (source ++ tail) place ≡ true) × (not (is_same (source ++ tail) place) ≡ true)
     parts = and_parts (is_prefix (source ++ tail) place) (not (is_same (source ++ tail) place)) h
@@ -38,8 +40,10 @@ pub record IsMoved (source target path moved : Path) : Type 0 where
   pub new : moved ≡ target ++ rest
 
 -- what stands below and leads does so when moved
-moved_below : (source target place path to_place to_path : Path) (mount : Mount) → IsMoved source target place to_place → IsMoved source target path to_path → stands_below source mount ≡ true
-    → (stands_below place mount && leads path mount) ≡ true → (stands_below to_place (moved_mount source target mount) && leads to_path (moved_mount source target mount)) ≡ true
+moved_below : (source target place path to_place to_path : Path) (mount : Mount) → IsMoved source target place to_place
+    → IsMoved source target path to_path → stands_below source mount ≡ true
+    → (stands_below place mount && leads path mount) ≡ true →
+    (stands_below to_place (moved_mount source target mount) && leads to_path (moved_mount source target mount)) ≡ true
 moved_below source target place path to_place to_path mount p q below h =
     ap (λ b. b && is_prefix (target ++ rest) to_path) same_below ∙ ap (λ b. stands_below place mount && b) same_leads ∙ h
   where
@@ -50,29 +54,40 @@ moved_below source target place path to_place to_path mount p q below h =
     own = behind source mount.step.place (below_leads source mount.step below)
 
     same_below : is_path_below (target ++ rest) to_place ≡ stands_below place mount
-    same_below = ap (is_path_below (target ++ rest)) p.new ∙ front_below target rest p.rest ∙ sym (front_below source rest p.rest) ∙ ap (is_path_below (source ++ rest)) (sym p.old) ∙ ap (λ (t : Path). is_path_below t place) (sym own)
+    same_below = ap (is_path_below (target ++ rest)) p.new ∙ front_below target rest p.rest ∙ sym (front_below source rest p.rest)
+        ∙ ap (is_path_below (source ++ rest)) (sym p.old) ∙ ap (λ (t : Path). is_path_below t place) (sym own)
 
     same_leads : is_prefix (target ++ rest) to_path ≡ leads path mount
-    same_leads = ap (is_prefix (target ++ rest)) q.new ∙ front_leads target rest q.rest ∙ sym (front_leads source rest q.rest) ∙ ap (is_prefix (source ++ rest)) (sym q.old) ∙ ap (λ (t : Path). is_prefix t path) (sym own)
+    same_leads = ap (is_prefix (target ++ rest)) q.new ∙ front_leads target rest q.rest ∙ sym (front_leads source rest q.rest)
+        ∙ ap (is_prefix (source ++ rest)) (sym q.old) ∙ ap (λ (t : Path). is_prefix t path) (sym own)
 
 -- what covers a path below the source covers the same path below the target, when it is copied
-pub covered_copies : (source target place path to_place to_path : Path) (later : Mounts) → IsMoved source target place to_place → IsMoved source target path to_path
+pub covered_copies : (source target place path to_place to_path : Path) (later : Mounts) → IsMoved source target place to_place
+    → IsMoved source target path to_path
     → is_covered place path later ≡ true → is_covered to_place to_path (copied_mounts true source target later) ≡ true
 covered_copies source target place path to_place to_path [] p q h = h
-covered_copies source target place path to_place to_path (mount ∷ later) p q h = by (stands_below source mount) refl h (covered_copies source target place path to_place to_path later p q)
+covered_copies source target place path to_place to_path (mount ∷ later) p q h =
+    by (stands_below source mount) refl h (covered_copies source target place path to_place to_path later p q)
   where
     now : Mounts
     now = copied_mounts true source target later
 
     elsewhere : stands_below source mount ≡ false → (stands_below place mount && leads path mount) ≡ false
     elsewhere not_below = false_from_ne_true _ (λ both. false≢true (sym not_below ∙
-        below_source mount.step.place source p.rest (ap (is_path_below mount.step.place) (sym p.old) ∙ (and_parts (stands_below place mount) (leads path mount) both).0)))
+        below_source mount.step.place source p.rest (ap (is_path_below mount.step.place) (sym p.old)
+        ∙ (and_parts (stands_below place mount) (leads path mount) both).0)))
 
-    by : (b : Bool) → stands_below source mount ≡ b → (mount.locked && ((stands_below place mount && leads path mount) || is_covered place path later)) ≡ true
+    by : (b : Bool) → stands_below source mount ≡ b
+        → (mount.locked && ((stands_below place mount && leads path mount) || is_covered place path later)) ≡ true
         → (is_covered place path later ≡ true → is_covered to_place to_path now ≡ true)
-        → is_covered to_place to_path (map (moved_mount source target) (cond b (mount ∷ filter (stands_below source) later) (filter (stands_below source) later))) ≡ true
+        → is_covered to_place to_path
+        (map (moved_mount source target) (cond b (mount ∷ filter (stands_below source) later) (filter (stands_below source) later)))
+        ≡ true
     by true below h more =
-        more_covered mount.locked (stands_below place mount && leads path mount) (stands_below to_place (moved_mount source target mount) && leads to_path (moved_mount source target mount))
+        more_covered mount.locked (stands_below place mount && leads path mount)
+        (stands_below to_place (moved_mount source target mount) && leads to_path (moved_mount source target mount))
         (is_covered place path later) (is_covered to_place to_path now)
         (moved_below source target place path to_place to_path mount p q below) more h
-    by false not_below h more = more (later_covers mount.locked (stands_below place mount && leads path mount) (is_covered place path later) (elsewhere not_below) h)
+    by false not_below h more =
+        more (later_covers mount.locked (stands_below place mount && leads path mount) (is_covered place path later)
+        (elsewhere not_below) h)

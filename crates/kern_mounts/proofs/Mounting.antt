@@ -25,7 +25,8 @@ made (first ∷ steps) begins =
 pub mounting_makes_it : (rows : Path → Option Bool) (table : List MountStep) → CanBeMounted rows table → mounted table ≡ table
 mounting_makes_it rows table can = made table can.begins_at_root
 
-apart : (path : Path) (paths : List Path) → AllByRecursion (λ later. is_before path later ≡ true) paths → AllByRecursion (λ later. path ≢ later) paths
+apart : (path : Path) (paths : List Path) → AllByRecursion (λ later. is_before path later ≡ true) paths
+    → AllByRecursion (λ later. path ≢ later) paths
 apart path [] before = tt
 apart path (later ∷ paths) before = (
   λ same. false≢true (sym (not_before_itself path) ∙ subst (λ (other : Path). is_before path other ≡ true) (sym same) before.0),
@@ -36,5 +37,6 @@ none_twice : (paths : List Path) → AreAscending paths → NoneTwice paths
 none_twice [] ascend = tt
 none_twice (path ∷ paths) ascend = (apart path paths ascend.0, none_twice paths ascend.1)
 
-pub no_place_twice : (rows : Path → Option Bool) (table : List MountStep) → CanBeMounted rows table → NoneTwice (map (λ step. step.place) table)
+pub no_place_twice : (rows : Path → Option Bool) (table : List MountStep) → CanBeMounted rows table
+    → NoneTwice (map (λ step. step.place) table)
 no_place_twice rows table can = none_twice (map (λ step. step.place) table) can.places_ascend

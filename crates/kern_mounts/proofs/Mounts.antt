@@ -1,5 +1,6 @@
 -- Mounts and their entries, by number and about a path.
-use Rattle.std.proofs.Common.{◌≡◌, ◌<◌, ℕ, zero, suc, Bool, true, false, [], ◌∷◌, ◌++◌, Option, Some, None, length, get_or, take, drop, filter, refl, ap, ◌∙◌, sym, arith, add-one, cond}
+use Rattle.std.proofs.Common.{◌≡◌, ◌<◌, ℕ, zero, suc, Bool, true, false, [], ◌∷◌, ◌++◌, Option, Some, None, length, get_or, take, drop}
+use Rattle.std.proofs.Common.{filter, refl, ap, ◌∙◌, sym, arith, add-one, cond}
 use Rattle.std.proofs.lemmas.List.{map-append, length-map, get_or-map, take-map}
 use Rattle.std.proofs.lemmas.List.Elements.{recursion_from_All}
 use Rattle.abs_path.specs.Paths.{Path}
@@ -29,7 +30,8 @@ steps_filter p [] = refl
 steps_filter p (mount ∷ mounts) = by (p mount.step) (steps_filter p mounts)
   where
     by : (b : Bool) → steps_of (filter (λ mount. p mount.step) mounts) ≡ filter p (steps_of mounts)
-        → steps_of (cond b (mount ∷ filter (λ mount. p mount.step) mounts) (filter (λ mount. p mount.step) mounts)) ≡ cond b (mount.step ∷ filter p (steps_of mounts)) (filter p (steps_of mounts))
+        → steps_of (cond b (mount ∷ filter (λ mount. p mount.step) mounts) (filter (λ mount. p mount.step) mounts))
+        ≡ cond b (mount.step ∷ filter p (steps_of mounts)) (filter p (steps_of mounts))
     by true more = ap (λ (t : table.Table). mount.step ∷ t) more
     by false more = more
 
@@ -44,11 +46,13 @@ none_after path (mount ∷ mounts) zero h =
 none_after path (mount ∷ mounts) (suc at) h = none_after path mounts at (behind_first mount.step (steps_of mounts) path at h)
 
 -- the path's mount with what stands about it
-pub mount_by_number : (mounts : Mounts) (path : Path) (at : ℕ) (mount : Mount) → Belongs (steps_of mounts) path at → mount ≡ get_or mounts at mount → mount_at path mounts ≡ Some (about mounts at mount)
+pub mount_by_number : (mounts : Mounts) (path : Path) (at : ℕ) (mount : Mount) → Belongs (steps_of mounts) path at
+    → mount ≡ get_or mounts at mount → mount_at path mounts ≡ Some (about mounts at mount)
 mount_by_number mounts path at mount h e =
     let lt = in_range mounts path at h in
     let own : leads path mount ≡ true = ap (leads path) e ∙ ap (leads_to path) (sym (get_or-map (λ (m : Mount). m.step) mounts at mount mount.step lt)) ∙ h.leads mount.step in
-    ap (split_last (leads path)) (cut mounts at mount e lt) ∙ split_is (leads path) (take at mounts) mount (drop (suc at) mounts) own (none_after path mounts at h)
+    ap (split_last (leads path)) (cut mounts at mount e lt) ∙ split_is (leads path) (take at mounts) mount (drop (suc at) mounts) own
+    (none_after path mounts at h)
     ∙ ap (λ (n : ℕ). Some (record { earlier = take at mounts; entry = mount; later = drop n mounts })) (sym (add-one at))
 
 -- ---- the entry about which entries stand, and the mount about which mounts do
@@ -56,17 +60,20 @@ abbrev pub steps_split : Option (SplitOf Mount) → Option table.Split
 steps_split None = None
 steps_split (Some split) = Some (record { earlier = steps_of split.earlier; entry = split.entry.step; later = steps_of split.later })
 
-steps_or : (o : Option (SplitOf Mount)) (b : Bool) (mount : Mount) (mounts : Mounts) → split_or (steps_split o) b mount.step (steps_of mounts) ≡ steps_split (split_or o b mount mounts)
+steps_or : (o : Option (SplitOf Mount)) (b : Bool) (mount : Mount) (mounts : Mounts)
+    → split_or (steps_split o) b mount.step (steps_of mounts) ≡ steps_split (split_or o b mount mounts)
 steps_or (Some split) b mount mounts = refl
 steps_or None true mount mounts = refl
 steps_or None false mount mounts = refl
 
 pub split_steps : (path : Path) (mounts : Mounts) → table.split_at path (steps_of mounts) ≡ steps_split (mount_at path mounts)
 split_steps path [] = refl
-split_steps path (mount ∷ mounts) = ap (λ o. split_or o (leads path mount) mount.step (steps_of mounts)) (split_steps path mounts) ∙ steps_or (mount_at path mounts) (leads path mount) mount mounts
+split_steps path (mount ∷ mounts) = ap (λ o. split_or o (leads path mount) mount.step (steps_of mounts)) (split_steps path mounts)
+    ∙ steps_or (mount_at path mounts) (leads path mount) mount mounts
 
 -- the entry of a path is that of its mount
-pub mount_entry : (path : Path) (mounts : Mounts) (split : SplitOf Mount) → mount_at path mounts ≡ Some split → entry_of (steps_of mounts) path ≡ Some split.entry.step
+pub mount_entry : (path : Path) (mounts : Mounts) (split : SplitOf Mount) → mount_at path mounts ≡ Some split
+    → entry_of (steps_of mounts) path ≡ Some split.entry.step
 mount_entry path mounts split e = of_split path (steps_of mounts) _ (split_steps path mounts ∙ ap steps_split e)
 
 -- ---- locked copies

@@ -1,5 +1,6 @@
 -- Mounts that are not locked and keep nothing: each call answers as of the entries alone, and leaves such.
-use Rattle.std.proofs.Common.{◌≡◌, ℕ, ◌+◌, Bool, true, false, cond, [], ◌∷◌, ◌++◌, refl, sym, ap, ◌∙◌, filter, map, Option, Some, None, Result, Ok, Err, length, subst}
+use Rattle.std.proofs.Common.{◌≡◌, ℕ, ◌+◌, Bool, true, false, cond, [], ◌∷◌, ◌++◌, refl, sym, ap, ◌∙◌, filter, map, Option, Some, None}
+use Rattle.std.proofs.Common.{Result, Ok, Err, length, subst}
 use Rattle.std.specs.Prelude.{◌&&◌, ◌||◌, not, nat_lt}
 use Rattle.std.specs.List.{list_any}
 use Rattle.abs_path.specs.Paths.{Path, is_root}
@@ -20,7 +21,8 @@ use Rattle.kern_mounts.specs.Mounts.{Mounts, steps_of, leads, stands_at, stands_
 use Rattle.kern_mounts.specs.MountsUmount.{mounts_unmounted, mounts_after_umount}
 use Rattle.kern_mounts.specs.MountsRemount.{with_flags, mounts_remounted, mounts_after_remount}
 use Rattle.kern_mounts.specs.MountsPush.{mounts_grown, mounts_after_push}
-use Rattle.kern_mounts.specs.MountsBind.{moved_mount, copied_mounts, bound_mount, is_locked_below, is_placed_too_long, mounts_bound, mounts_after_bind}
+use Rattle.kern_mounts.specs.MountsBind.{moved_mount, copied_mounts, bound_mount, is_locked_below, is_placed_too_long, mounts_bound}
+use Rattle.kern_mounts.specs.MountsBind.{mounts_after_bind}
 use Rattle.kern_mounts.proofs.Mounts.{steps_append, steps_long, steps_split, split_steps}
 use Rattle.kern_mounts.proofs.Splits.{split_some}
 use Rattle.kern_mounts.specs.Answer.{steps_answer, plain_answer}
@@ -66,20 +68,27 @@ parts path mounts split s h =
     record { earlier = all_front split.earlier (split.entry ∷ split.later) all; entry = own.0; later = own.1 }
 
 -- ---- umount2
-pub umount_alike : (mounts : Mounts) (path : Path) (detach : Bool) → ArePlain mounts → steps_answer (mounts_after_umount mounts path detach) ≡ after_umount (steps_of mounts) path detach
+pub umount_alike : (mounts : Mounts) (path : Path) (detach : Bool) → ArePlain mounts
+    → steps_answer (mounts_after_umount mounts path detach) ≡ after_umount (steps_of mounts) path detach
 umount_alike mounts path detach h = by_root (is_root path)
   where
-    by : (o : Option (SplitOf Mount)) → mount_at path mounts ≡ o → steps_answer (mounts_unmounted path detach o) ≡ unmounted path detach (steps_split o)
+    by : (o : Option (SplitOf Mount)) → mount_at path mounts ≡ o
+        → steps_answer (mounts_unmounted path detach o) ≡ unmounted path detach (steps_split o)
     by None s = refl
     by (Some split) s =
-        by_at (stands_at path split.entry) split.entry.locked (not detach && list_any (stands_below path) split.later) (not detach && list_any (is_below path) (steps_of split.later))
+        by_at (stands_at path split.entry) split.entry.locked (not detach && list_any (stands_below path) split.later)
+        (not detach && list_any (is_below path) (steps_of split.later))
         (parts path mounts split s h).entry.0 (ap (λ b. not detach && b) (any_steps (is_below path) split.later))
       where
         left : Mounts
         left = split.earlier ++ filter (λ mount. not (stands_below path mount)) split.later
 
-        by_at : (a l b c : Bool) → l ≡ false → b ≡ c → steps_answer (cond {A = Result Mounts ℕ} (not a) (Err einval) (cond {A = Result Mounts ℕ} l (Err einval) (cond {A = Result Mounts ℕ} b (Err ebusy) (Ok left))))
-            ≡ cond {A = Result Table ℕ} (not a) (Err einval) (cond {A = Result Table ℕ} c (Err ebusy) (Ok (steps_of split.earlier ++ filter (λ step. not (is_below path step)) (steps_of split.later))))
+        by_at : (a l b c : Bool) → l ≡ false → b ≡ c → steps_answer
+            (cond {A = Result Mounts ℕ} (not a) (Err einval)
+            (cond {A = Result Mounts ℕ} l (Err einval) (cond {A = Result Mounts ℕ} b (Err ebusy) (Ok left))))
+            ≡ cond {A = Result Table ℕ} (not a) (Err einval)
+            (cond {A = Result Table ℕ} c (Err ebusy)
+            (Ok (steps_of split.earlier ++ filter (λ step. not (is_below path step)) (steps_of split.later))))
         by_at false l b c f g = refl
         by_at true true b c f g = cc
         by_at true false true true f g = refl
@@ -87,11 +96,13 @@ umount_alike mounts path detach h = by_root (is_root path)
         by_at true false true false f g = cc
         by_at true false false true f g = cc
 
-    by_root : (b : Bool) → steps_answer (cond {A = Result Mounts ℕ} b (Err einval) (mounts_unmounted path detach (mount_at path mounts))) ≡ cond {A = Result Table ℕ} b (Err einval) (unmounted path detach (table.split_at path (steps_of mounts)))
+    by_root : (b : Bool) → steps_answer (cond {A = Result Mounts ℕ} b (Err einval) (mounts_unmounted path detach (mount_at path mounts)))
+        ≡ cond {A = Result Table ℕ} b (Err einval) (unmounted path detach (table.split_at path (steps_of mounts)))
     by_root true = refl
     by_root false = by (mount_at path mounts) refl ∙ ap (unmounted path detach) (sym (split_steps path mounts))
 
-pub umount_plain : (mounts next : Mounts) (path : Path) (detach : Bool) → ArePlain mounts → mounts_after_umount mounts path detach ≡ Ok next → ArePlain next
+pub umount_plain : (mounts next : Mounts) (path : Path) (detach : Bool) → ArePlain mounts
+    → mounts_after_umount mounts path detach ≡ Ok next → ArePlain next
 umount_plain mounts next path detach h e =
     let r = removes mounts next path detach e in
     let p = parts path mounts r.split r.found h in
@@ -101,23 +112,29 @@ umount_plain mounts next path detach h e =
 nothing_lacks : (flags : Flags) (mount : Mount) → IsPlain mount → lacks mount.kept flags ≡ false
 nothing_lacks flags mount h = ap (λ (kept : Flags). lacks kept flags) h.1
 
-pub remount_alike : (mounts : Mounts) (place : Path) (flags : Flags) → ArePlain mounts → steps_answer (mounts_after_remount mounts place flags) ≡ after_remount (steps_of mounts) place flags
+pub remount_alike : (mounts : Mounts) (place : Path) (flags : Flags) → ArePlain mounts
+    → steps_answer (mounts_after_remount mounts place flags) ≡ after_remount (steps_of mounts) place flags
 remount_alike mounts place flags h = by (mount_at place mounts) refl ∙ ap (remounted place flags) (sym (split_steps place mounts))
   where
-    by : (o : Option (SplitOf Mount)) → mount_at place mounts ≡ o → steps_answer (mounts_remounted place flags o) ≡ remounted place flags (steps_split o)
+    by : (o : Option (SplitOf Mount)) → mount_at place mounts ≡ o
+        → steps_answer (mounts_remounted place flags o) ≡ remounted place flags (steps_split o)
     by None s = refl
-    by (Some split) s = by_at (stands_at place split.entry) (lacks split.entry.kept flags) (nothing_lacks flags split.entry (parts place mounts split s h).entry)
+    by (Some split) s = by_at (stands_at place split.entry) (lacks split.entry.kept flags)
+        (nothing_lacks flags split.entry (parts place mounts split s h).entry)
       where
         now : Mounts
         now = split.earlier ++ with_flags split.entry flags ∷ split.later
 
-        by_at : (a b : Bool) → b ≡ false → steps_answer (cond {A = Result Mounts ℕ} a (cond {A = Result Mounts ℕ} b (Err eperm) (Ok now)) (Err einval))
-            ≡ cond {A = Result Table ℕ} a (Ok (steps_of split.earlier ++ record split.entry.step { flags = flags } ∷ steps_of split.later)) (Err einval)
+        by_at : (a b : Bool) → b ≡ false
+            → steps_answer (cond {A = Result Mounts ℕ} a (cond {A = Result Mounts ℕ} b (Err eperm) (Ok now)) (Err einval))
+            ≡ cond {A = Result Table ℕ} a
+            (Ok (steps_of split.earlier ++ record split.entry.step { flags = flags } ∷ steps_of split.later)) (Err einval)
         by_at false b f = refl
         by_at true true f = cc
         by_at true false f = ap Ok (steps_append split.earlier (with_flags split.entry flags ∷ split.later))
 
-pub remount_plain : (mounts next : Mounts) (place : Path) (flags : Flags) → ArePlain mounts → mounts_after_remount mounts place flags ≡ Ok next → ArePlain next
+pub remount_plain : (mounts next : Mounts) (place : Path) (flags : Flags) → ArePlain mounts
+    → mounts_after_remount mounts place flags ≡ Ok next → ArePlain next
 remount_plain mounts next place flags h e =
     let r = remounts mounts next place flags e in
     let p = parts place mounts r.split r.found h in
@@ -127,9 +144,11 @@ remount_plain mounts next place flags h e =
 grown_alike : (mounts more : Mounts) → steps_answer (mounts_grown mounts more) ≡ grown (steps_of mounts) (steps_of more)
 grown_alike mounts more =
     by (nat_lt mount_max (length mounts + length more))
-    ∙ ap (λ n. cond {A = Result Table ℕ} (nat_lt mount_max n) (Err enospc) (Ok (steps_of mounts ++ steps_of more))) (sym (ap (λ n. n + length (steps_of more)) (steps_long mounts) ∙ ap (λ n. length mounts + n) (steps_long more)))
+    ∙ ap (λ n. cond {A = Result Table ℕ} (nat_lt mount_max n) (Err enospc) (Ok (steps_of mounts ++ steps_of more)))
+    (sym (ap (λ n. n + length (steps_of more)) (steps_long mounts) ∙ ap (λ n. length mounts + n) (steps_long more)))
   where
-    by : (b : Bool) → steps_answer (cond {A = Result Mounts ℕ} b (Err enospc) (Ok (mounts ++ more))) ≡ cond {A = Result Table ℕ} b (Err enospc) (Ok (steps_of mounts ++ steps_of more))
+    by : (b : Bool) → steps_answer (cond {A = Result Mounts ℕ} b (Err enospc) (Ok (mounts ++ more)))
+        ≡ cond {A = Result Table ℕ} b (Err enospc) (Ok (steps_of mounts ++ steps_of more))
     by true = refl
     by false = ap Ok (steps_append mounts more)
 
@@ -137,26 +156,34 @@ pub push_alike : (mounts : Mounts) (step : MountStep) → steps_answer (mounts_a
 push_alike mounts step = grown_alike mounts (plain step ∷ [])
 
 pub push_plain : (mounts next : Mounts) (step : MountStep) → ArePlain mounts → mounts_after_push mounts step ≡ Ok next → ArePlain next
-push_plain mounts next step h e = subst ArePlain (grown_is mounts (plain step ∷ []) next e) (all_both mounts (plain step ∷ []) h ((refl, refl), tt))
+push_plain mounts next step h e = subst ArePlain (grown_is mounts (plain step ∷ []) next e)
+    (all_both mounts (plain step ∷ []) h ((refl, refl), tt))
 
 -- ---- binds
 none_locked : (source : Path) (mounts : Mounts) → ArePlain mounts → list_any (is_locked_below source) mounts ≡ false
 none_locked source [] h = refl
 none_locked source (mount ∷ mounts) h = by mount.locked (stands_below source mount) h.0.0 (none_locked source mounts h.1)
   where
-    by : (l b : Bool) → l ≡ false → list_any (is_locked_below source) mounts ≡ false → ((l && b) || list_any (is_locked_below source) mounts) ≡ false
+    by : (l b : Bool) → l ≡ false → list_any (is_locked_below source) mounts ≡ false
+        → ((l && b) || list_any (is_locked_below source) mounts) ≡ false
     by false b e more = more
     by true b e more = cc
 
-pub bind_alike : (mounts : Mounts) (source target : Path) (recursive : Bool) → ArePlain mounts → steps_answer (mounts_after_bind mounts source target recursive) ≡ after_bind (steps_of mounts) source target recursive
-bind_alike mounts source target recursive h = by (mount_at source mounts) refl ∙ ap (bound (steps_of mounts) source target recursive) (sym (split_steps source mounts))
+pub bind_alike : (mounts : Mounts) (source target : Path) (recursive : Bool) → ArePlain mounts
+    → steps_answer (mounts_after_bind mounts source target recursive) ≡ after_bind (steps_of mounts) source target recursive
+bind_alike mounts source target recursive h = by (mount_at source mounts) refl
+    ∙ ap (bound (steps_of mounts) source target recursive) (sym (split_steps source mounts))
   where
-    by : (o : Option (SplitOf Mount)) → mount_at source mounts ≡ o → steps_answer (mounts_bound mounts source target recursive o) ≡ bound (steps_of mounts) source target recursive (steps_split o)
+    by : (o : Option (SplitOf Mount)) → mount_at source mounts ≡ o
+        → steps_answer (mounts_bound mounts source target recursive o) ≡ bound (steps_of mounts) source target recursive (steps_split o)
     by None s = refl
     by (Some split) s =
-        by_at (not recursive && list_any (is_locked_below source) split.later) (list_any is_placed_too_long more) (list_any is_too_long (steps_of more))
-        (none (not recursive) (list_any (is_locked_below source) split.later) (none_locked source split.later (parts source mounts split s h).later)) (any_steps is_too_long more)
-        ∙ ap (λ (t : Table). cond {A = Result Table ℕ} (list_any is_too_long t) (Err enametoolong) (grown (steps_of mounts) (bound_entry source target split.entry.step ∷ t))) (copied_steps recursive source target split.later)
+        by_at (not recursive && list_any (is_locked_below source) split.later) (list_any is_placed_too_long more)
+        (list_any is_too_long (steps_of more))
+        (none (not recursive) (list_any (is_locked_below source) split.later)
+        (none_locked source split.later (parts source mounts split s h).later)) (any_steps is_too_long more)
+        ∙ ap (λ (t : Table). cond {A = Result Table ℕ} (list_any is_too_long t) (Err enametoolong)
+        (grown (steps_of mounts) (bound_entry source target split.entry.step ∷ t))) (copied_steps recursive source target split.later)
       where
         more : Mounts
         more = copied_mounts recursive source target split.later
@@ -165,20 +192,26 @@ bind_alike mounts source target recursive h = by (mount_at source mounts) refl �
         none true b e = e
         none false b e = refl
 
-        by_at : (a b c : Bool) → a ≡ false → b ≡ c → steps_answer (cond {A = Result Mounts ℕ} a (Err einval) (cond {A = Result Mounts ℕ} b (Err enametoolong) (mounts_grown mounts (bound_mount source target split.entry ∷ more))))
-            ≡ cond {A = Result Table ℕ} c (Err enametoolong) (grown (steps_of mounts) (bound_entry source target split.entry.step ∷ steps_of more))
+        by_at : (a b c : Bool) → a ≡ false → b ≡ c → steps_answer
+            (cond {A = Result Mounts ℕ} a (Err einval)
+            (cond {A = Result Mounts ℕ} b (Err enametoolong) (mounts_grown mounts (bound_mount source target split.entry ∷ more))))
+            ≡ cond {A = Result Table ℕ} c (Err enametoolong)
+            (grown (steps_of mounts) (bound_entry source target split.entry.step ∷ steps_of more))
         by_at true b c f g = cc
         by_at false true true f g = refl
         by_at false false false f g = grown_alike mounts (bound_mount source target split.entry ∷ more)
         by_at false true false f g = cc
         by_at false false true f g = cc
 
-pub bind_plain : (mounts next : Mounts) (source target : Path) (recursive : Bool) → ArePlain mounts → mounts_after_bind mounts source target recursive ≡ Ok next → ArePlain next
+pub bind_plain : (mounts next : Mounts) (source target : Path) (recursive : Bool) → ArePlain mounts
+    → mounts_after_bind mounts source target recursive ≡ Ok next → ArePlain next
 bind_plain mounts next source target recursive h e =
     let b = binds mounts next source target recursive e in
     let p = parts source mounts b.split b.found h in
-    subst ArePlain (grown_is mounts (bound_mount source target b.split.entry ∷ copied_mounts recursive source target b.split.later) next b.made)
-    (all_both mounts (bound_mount source target b.split.entry ∷ copied_mounts recursive source target b.split.later) h ((refl, p.entry.1), copied recursive b.split.later p.later))
+    subst ArePlain (grown_is mounts (bound_mount source target b.split.entry ∷ copied_mounts recursive source target b.split.later) next
+    b.made)
+    (all_both mounts (bound_mount source target b.split.entry ∷ copied_mounts recursive source target b.split.later) h
+    ((refl, p.entry.1), copied recursive b.split.later p.later))
   where
     copied : (recursive : Bool) (later : Mounts) → ArePlain later → ArePlain (copied_mounts recursive source target later)
     copied true later g = all_moved source target (filter (stands_below source) later) (all_filter (stands_below source) later g)
@@ -201,29 +234,40 @@ made_again mount h =
 
 pub plain_again : (mounts : Mounts) → ArePlain mounts → map plain (steps_of mounts) ≡ mounts
 plain_again [] h = refl
-plain_again (mount ∷ mounts) h = ap (λ (m : Mount). m ∷ map plain (steps_of mounts)) (made_again mount h.0) ∙ ap (λ (t : Mounts). mount ∷ t) (plain_again mounts h.1)
+plain_again (mount ∷ mounts) h = ap (λ (m : Mount). m ∷ map plain (steps_of mounts)) (made_again mount h.0)
+    ∙ ap (λ (t : Mounts). mount ∷ t) (plain_again mounts h.1)
 
 -- a rule that answers alike and leaves plain mounts is the rule on entries
-pub by_entries : (answer : Result Mounts ℕ) (other : Result Table ℕ) → steps_answer answer ≡ other → ((next : Mounts) → answer ≡ Ok next → ArePlain next) → answer ≡ plain_answer other
+pub by_entries : (answer : Result Mounts ℕ) (other : Result Table ℕ) → steps_answer answer ≡ other
+    → ((next : Mounts) → answer ≡ Ok next → ArePlain next) → answer ≡ plain_answer other
 by_entries (Ok next) other e left = ap Ok (sym (plain_again next (left next refl))) ∙ ap plain_answer e
 by_entries (Err errno) other e left = ap plain_answer e
 
-pub umount_entries : (table : Table) (path : Path) (detach : Bool) → mounts_after_umount (map plain table) path detach ≡ plain_answer (after_umount table path detach)
+pub umount_entries : (table : Table) (path : Path) (detach : Bool)
+    → mounts_after_umount (map plain table) path detach ≡ plain_answer (after_umount table path detach)
 umount_entries table path detach =
-    by_entries (mounts_after_umount (map plain table) path detach) (after_umount table path detach) (umount_alike (map plain table) path detach (are_plain table) ∙ ap (λ (t : Table). after_umount t path detach) (steps_plain table))
+    by_entries (mounts_after_umount (map plain table) path detach) (after_umount table path detach)
+    (umount_alike (map plain table) path detach (are_plain table) ∙ ap (λ (t : Table). after_umount t path detach) (steps_plain table))
     (λ next e. umount_plain (map plain table) next path detach (are_plain table) e)
 
-pub remount_entries : (table : Table) (place : Path) (flags : Flags) → mounts_after_remount (map plain table) place flags ≡ plain_answer (after_remount table place flags)
+pub remount_entries : (table : Table) (place : Path) (flags : Flags)
+    → mounts_after_remount (map plain table) place flags ≡ plain_answer (after_remount table place flags)
 remount_entries table place flags =
-    by_entries (mounts_after_remount (map plain table) place flags) (after_remount table place flags) (remount_alike (map plain table) place flags (are_plain table) ∙ ap (λ (t : Table). after_remount t place flags) (steps_plain table))
+    by_entries (mounts_after_remount (map plain table) place flags) (after_remount table place flags)
+    (remount_alike (map plain table) place flags (are_plain table)
+    ∙ ap (λ (t : Table). after_remount t place flags) (steps_plain table))
     (λ next e. remount_plain (map plain table) next place flags (are_plain table) e)
 
 pub push_entries : (table : Table) (step : MountStep) → mounts_after_push (map plain table) step ≡ plain_answer (after_push table step)
 push_entries table step =
-    by_entries (mounts_after_push (map plain table) step) (after_push table step) (push_alike (map plain table) step ∙ ap (λ (t : Table). after_push t step) (steps_plain table))
+    by_entries (mounts_after_push (map plain table) step) (after_push table step)
+    (push_alike (map plain table) step ∙ ap (λ (t : Table). after_push t step) (steps_plain table))
     (λ next e. push_plain (map plain table) next step (are_plain table) e)
 
-pub bind_entries : (table : Table) (source target : Path) (recursive : Bool) → mounts_after_bind (map plain table) source target recursive ≡ plain_answer (after_bind table source target recursive)
+pub bind_entries : (table : Table) (source target : Path) (recursive : Bool)
+    → mounts_after_bind (map plain table) source target recursive ≡ plain_answer (after_bind table source target recursive)
 bind_entries table source target recursive =
-    by_entries (mounts_after_bind (map plain table) source target recursive) (after_bind table source target recursive) (bind_alike (map plain table) source target recursive (are_plain table) ∙ ap (λ (t : Table). after_bind t source target recursive) (steps_plain table))
+    by_entries (mounts_after_bind (map plain table) source target recursive) (after_bind table source target recursive)
+    (bind_alike (map plain table) source target recursive (are_plain table)
+    ∙ ap (λ (t : Table). after_bind t source target recursive) (steps_plain table))
     (λ next e. bind_plain (map plain table) next source target recursive (are_plain table) e)

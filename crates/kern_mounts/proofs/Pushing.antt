@@ -1,5 +1,6 @@
 -- Mounts pushed behind others, one first and then copies.
-use Rattle.std.proofs.Common.{◌≡◌, ◌∙◌, ◌≤◌, ◌+◌, ℕ, Bool, true, ◌∷◌, [], ◌++◌, append_assoc, take, drop, get_or, length, length-append, Result, Ok, Err, IfOk, sym, ap, arith}
+use Rattle.std.proofs.Common.{◌≡◌, ◌∙◌, ◌≤◌, ◌+◌, ℕ, Bool, true, ◌∷◌, [], ◌++◌, append_assoc, take, drop, get_or, length, length-append}
+use Rattle.std.proofs.Common.{Result, Ok, Err, IfOk, sym, ap, arith}
 use Rattle.std.specs.List.{list_any}
 use Rattle.std.specs.Prelude.{List}
 use Rattle.std.proofs.Math.Seq.{take-append_seam}
@@ -15,14 +16,17 @@ use Rattle.kern_mounts.proofs.Known.{take_twice}
 use Rattle.kern_mounts.proofs.Mounts.{in_range}
 
 -- what stays before the one pushed first stays before all
-pub front_of_all : {X : Type 0} (old pushed new : List X) (first : X) → pushed ≡ old ++ first ∷ [] → take (length pushed) new ≡ pushed → take (length old) new ≡ old
+pub front_of_all : {X : Type 0} (old pushed new : List X) (first : X) → pushed ≡ old ++ first ∷ [] → take (length pushed) new ≡ pushed
+    → take (length old) new ≡ old
 front_of_all old pushed new first is stays =
     let long = length-append old (first ∷ []) in
     let size = ap length is in
-    sym (take_twice new (length old) (length pushed) (omega (arith, long, size))) ∙ ap (take (length old)) (stays ∙ is) ∙ take-append_seam old (first ∷ [])
+    sym (take_twice new (length old) (length pushed) (omega (arith, long, size))) ∙ ap (take (length old)) (stays ∙ is)
+    ∙ take-append_seam old (first ∷ [])
 
 -- copies behind the mount at the target
-pub bound_and_copies : (old pushed new : Mounts) (at end : ℕ) (source target : Path) (mount first : Mount) → Belongs (steps_of old) source at → end ≤ length old →
+pub bound_and_copies : (old pushed new : Mounts) (at end : ℕ) (source target : Path) (mount first : Mount)
+    → Belongs (steps_of old) source at → end ≤ length old →
     mount ≡ get_or old at mount → first ≡ bound_mount source target mount → pushed ≡ old ++ first ∷ [] →
     HasCopies pushed new (drop (at + 1) (take end pushed)) source target → HasBound old new at (drop (at + 1) (take end old)) source target
 bound_and_copies old pushed new at end source target mount first belongs le stands bound is h =
@@ -32,11 +36,13 @@ bound_and_copies old pushed new at end source target mount first belongs le stan
           let one : mount ≡ own = stands ∙ get_or_default old at mount own (in_range old source at belongs) ∙ sym is_own in
           h.behind ∙ ap (λ (items : Mounts). items ++ copied_mounts true source target (drop (at + 1) (take end pushed))) is
           ∙ append_assoc old (first ∷ []) (copied_mounts true source target (drop (at + 1) (take end pushed)))
-          ∙ ap (λ (m : Mount). old ++ m ∷ copied_mounts true source target (drop (at + 1) (take end pushed))) (bound ∙ ap (bound_mount source target) one)
+          ∙ ap (λ (m : Mount). old ++ m ∷ copied_mounts true source target (drop (at + 1) (take end pushed)))
+          (bound ∙ ap (bound_mount source target) one)
           ∙ ap (λ (later : Mounts). old ++ bound_mount source target own ∷ copied_mounts true source target later) same;
     }
 
 -- and where all were pushed
-pub all_pushed : {E : Type 0} (P Q : Type 0) (result : Result Bool E) → (P → Q) → IfOk result (λ all. all ≡ true → P) → IfOk result (λ all. all ≡ true → Q)
+pub all_pushed : {E : Type 0} (P Q : Type 0) (result : Result Bool E) → (P → Q) → IfOk result (λ all. all ≡ true → P)
+    → IfOk result (λ all. all ≡ true → Q)
 all_pushed P Q (Ok all) on h = λ e. on (h e)
 all_pushed P Q (Err error) on h = h

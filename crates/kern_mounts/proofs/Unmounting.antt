@@ -1,5 +1,6 @@
 -- What umount2 makes of mount tables, and which entries it uncovers.
-use Rattle.std.proofs.Common.{◌≡◌, ℕ, Bool, true, false, [], ◌∷◌, ◌++◌, Option, Some, None, Result, Ok, Err, arith, refl, cond, ap, ◌∙◌, sym, subst, ◌≤◌, ◌<◌, length, zero, suc, append_assoc, length-append}
+use Rattle.std.proofs.Common.{◌≡◌, ℕ, Bool, true, false, [], ◌∷◌, ◌++◌, Option, Some, None, Result, Ok, Err, arith, refl, cond, ap, ◌∙◌}
+use Rattle.std.proofs.Common.{sym, subst, ◌≤◌, ◌<◌, length, zero, suc, append_assoc, length-append}
 use Rattle.std.specs.Prelude.{not, ◌&&◌, filter}
 use Rattle.std.specs.List.{list_any, AllByRecursion}
 use Rattle.abs_path.specs.Paths.{Path, is_root}
@@ -11,14 +12,16 @@ use Rattle.kern_mounts.specs.Table.{StartsAtRoot, IsTable}
 use Rattle.kern_mounts.specs.declared.step.MountStep.{MountStep}
 use Rattle.kern_mounts.specs.Split.{Table, Split, split_last, split_at, is_at, is_below}
 use Rattle.kern_mounts.specs.Umount.{unmounted, after_umount}
-use Rattle.kern_mounts.specs.Unmounts.{Unmounts, still, then_one, IsPart, nothing, keeps, leaves, IsTrimmed, trimmed, Removes, IsOrdered, Has, Uncovers}
+use Rattle.kern_mounts.specs.Unmounts.{Unmounts, still, then_one, IsPart, nothing, keeps, leaves, IsTrimmed, trimmed, Removes, IsOrdered}
+use Rattle.kern_mounts.specs.Unmounts.{Has, Uncovers}
 use Rattle.kern_mounts.proofs.Paths.{leads_not, behind}
 use Rattle.kern_mounts.proofs.Splits.{None_have, IsSplit, split_some, split_none, split_is}
 
 pub is_at-place : (path : Path) (entry : MountStep) → is_at path entry ≡ true → path ≡ entry.place
 is_at-place path entry h = sym (same_path entry.place path h)
 
-unmounted_ok : (path : Path) (detach : Bool) (table next : Table) → is_root path ≡ false → (o : Option Split) → split_at path table ≡ o → unmounted path detach o ≡ Ok next → Removes path table next
+unmounted_ok : (path : Path) (detach : Bool) (table next : Table) → is_root path ≡ false → (o : Option Split) → split_at path table ≡ o
+    → unmounted path detach o ≡ Ok next → Removes path table next
 unmounted_ok path detach table next r None s e = cc
 unmounted_ok path detach table next r (Some split) s e =
     by_at (is_at path split.entry) (not detach && list_any (is_below path) split.later) refl e
@@ -26,7 +29,9 @@ unmounted_ok path detach table next r (Some split) s e =
     is : IsSplit (leads_to path) table split
     is = split_some (leads_to path) table split s
 
-    by_at : (a b : Bool) → is_at path split.entry ≡ a → cond {A = Result Table ℕ} (not a) (Err einval) (cond {A = Result Table ℕ} b (Err ebusy) (Ok (split.earlier ++ filter (λ entry. not (is_below path entry)) split.later))) ≡ Ok next → Removes path table next
+    by_at : (a b : Bool) → is_at path split.entry ≡ a → cond {A = Result Table ℕ} (not a) (Err einval)
+        (cond {A = Result Table ℕ} b (Err ebusy) (Ok (split.earlier ++ filter (λ entry. not (is_below path entry)) split.later)))
+        ≡ Ok next → Removes path table next
     by_at true true f e = cc
     by_at false b f e = cc
     by_at true false f e = record {
@@ -72,7 +77,9 @@ pub trimmed_part : {a b : Table} → IsTrimmed a b → IsPart a b
 trimmed_part (trimmed first p) = keeps first p
 
 -- one umount2 of a table whose first entry is at /
-trims_at : (path : Path) (first : MountStep) (earlier later : Table) (entry : MountStep) (next : Table) (rest : Table) → first.place ≡ [] → is_root path ≡ false → path ≡ entry.place → first ∷ rest ≡ earlier ++ entry ∷ later → next ≡ earlier ++ filter (λ other. not (is_below path other)) later → IsTrimmed next (first ∷ rest)
+trims_at : (path : Path) (first : MountStep) (earlier later : Table) (entry : MountStep) (next : Table) (rest : Table) → first.place ≡ []
+    → is_root path ≡ false → path ≡ entry.place → first ∷ rest ≡ earlier ++ entry ∷ later
+    → next ≡ earlier ++ filter (λ other. not (is_below path other)) later → IsTrimmed next (first ∷ rest)
 trims_at path first [] later entry next rest top r at whole is =
     let same : entry ≡ first = cc in
     let root : path ≡ [] = at ∙ ap (λ (e : MountStep). e.place) same ∙ top in
@@ -87,7 +94,8 @@ trims_at path first (head ∷ earlier) later entry next rest top r at whole is =
     let shown : next ≡ first ∷ (earlier ++ filter (λ other. not (is_below path other)) later) = cc in
     subst P (sym shown) (subst Q tail (trimmed first part))
 
-pub trims : (path : Path) (detach : Bool) (table next : Table) → StartsAtRoot table → after_umount table path detach ≡ Ok next → IsTrimmed next table
+pub trims : (path : Path) (detach : Bool) (table next : Table) → StartsAtRoot table → after_umount table path detach ≡ Ok next
+    → IsTrimmed next table
 trims path detach [] next top e = absurd top
 trims path detach (first ∷ rest) next top e =
     let r = removes path detach (first ∷ rest) next e in
@@ -108,7 +116,8 @@ unmounts_trim (then_one path detach e more) top =
     trimmed_through (unmounts_trim more (trimmed_top one top)) one
 
 -- ---- what unmounting uncovers: all that stands in the table
-pub part_has : {part table : Table} → IsPart part table → (entry : MountStep) (earlier later : Table) → part ≡ earlier ++ entry ∷ later → Has table entry
+pub part_has : {part table : Table} → IsPart part table → (entry : MountStep) (earlier later : Table) → part ≡ earlier ++ entry ∷ later
+    → Has table entry
 part_has nothing entry [] later e = cc
 part_has nothing entry (head ∷ earlier) later e = cc
 part_has (keeps {table = table} own p) entry [] later e = ([], table, let same : own ≡ entry = cc in ap (λ (x : MountStep). x ∷ table) same)
@@ -164,7 +173,9 @@ record Turn (earlier : Table) (entry : MountStep) (later : Table) : Type 0 where
   part : IsPart left later
   shorter : length left < length later
 
-turn : (earlier : Table) (entry : MountStep) (rest : Path) (later : Table) (split : Split) → AllByRecursion (λ other. is_prefix other.place entry.place ≡ false) later → IsSplit (leads_to (entry.place ++ rest)) later split → Turn earlier entry later
+turn : (earlier : Table) (entry : MountStep) (rest : Path) (later : Table) (split : Split)
+    → AllByRecursion (λ other. is_prefix other.place entry.place ≡ false) later → IsSplit (leads_to (entry.place ++ rest)) later split
+    → Turn earlier entry later
 turn earlier entry rest later split ordered is =
     let c = split.entry in
     let kept : Table = filter (λ other. not (is_below c.place other)) split.later in
@@ -176,7 +187,9 @@ turn earlier entry rest later split ordered is =
     record {
       left = split.earlier ++ kept;
       detached = c.place;
-      run = ap (λ (t : Table). after_umount t c.place true) (ap (λ (t : Table). earlier ++ entry ∷ t) is.whole ∙ sym (append_assoc earlier (entry ∷ split.earlier) (c ∷ split.later))) ∙ run ∙ ap answer (append_assoc earlier (entry ∷ split.earlier) kept);
+      run = ap (λ (t : Table). after_umount t c.place true) (ap (λ (t : Table). earlier ++ entry ∷ t) is.whole
+          ∙ sym (append_assoc earlier (entry ∷ split.earlier) (c ∷ split.later))) ∙ run
+          ∙ ap answer (append_assoc earlier (entry ∷ split.earlier) kept);
       part = let P : Table → Type 0 = λ t. IsPart (split.earlier ++ kept) t in subst P (sym is.whole) (part_append split.earlier kept (c ∷ split.later) (leaves c part));
       shorter = let w : length later ≡ length (split.earlier ++ c ∷ split.later) = ap length is.whole in omega (arith, length-append split.earlier kept, length-append split.earlier (c ∷ split.later), part_length part);
     }
@@ -185,24 +198,30 @@ abbrev pub Apart : Path → Table → Type 0
 Apart place later = AllByRecursion (λ other. is_prefix other.place place ≡ false) later
 
 clears_step : (earlier : Table) (entry : MountStep) (rest : Path) (later : Table) → Apart entry.place later →
-    ((left : Table) → length left < length later → Apart entry.place left → Clears earlier entry (entry.place ++ rest) (earlier ++ entry ∷ left)) →
-    (o : Option Split) → split_last (leads_to (entry.place ++ rest)) later ≡ o → Clears earlier entry (entry.place ++ rest) (earlier ++ entry ∷ later)
+    ((left : Table) → length left < length later → Apart entry.place left
+    → Clears earlier entry (entry.place ++ rest) (earlier ++ entry ∷ left)) →
+    (o : Option Split) → split_last (leads_to (entry.place ++ rest)) later ≡ o
+    → Clears earlier entry (entry.place ++ rest) (earlier ++ entry ∷ later)
 clears_step earlier entry rest later ordered more None e = record { later = later; run = still; last = split_none _ later e }
 clears_step earlier entry rest later ordered more (Some split) e =
     let one = turn earlier entry rest later split ordered (split_some _ later split e) in
     let then = more one.left one.shorter (part_all (λ other. is_prefix other.place entry.place ≡ false) one.part ordered) in
     record { later = then.later; run = then_one one.detached true one.run then.run; last = then.last }
 
-clears : (fuel : ℕ) (earlier : Table) (entry : MountStep) (rest : Path) (later : Table) → length later ≤ fuel → Apart entry.place later → Clears earlier entry (entry.place ++ rest) (earlier ++ entry ∷ later)
-clears zero earlier entry rest later few ordered = clears_step earlier entry rest later ordered (λ left lt apart. absurd (omega arith)) _ refl
-clears (suc fuel) earlier entry rest later few ordered = clears_step earlier entry rest later ordered (λ left lt apart. clears fuel earlier entry rest left (omega arith) apart) _ refl
+clears : (fuel : ℕ) (earlier : Table) (entry : MountStep) (rest : Path) (later : Table) → length later ≤ fuel → Apart entry.place later
+    → Clears earlier entry (entry.place ++ rest) (earlier ++ entry ∷ later)
+clears zero earlier entry rest later few ordered = clears_step earlier entry rest later ordered
+    (λ left lt apart. absurd (omega arith)) _ refl
+clears (suc fuel) earlier entry rest later few ordered = clears_step earlier entry rest later ordered
+    (λ left lt apart. clears fuel earlier entry rest left (omega arith) apart) _ refl
 
 -- ---- what a path can find once umount2 is at hand
 -- sound: such an entry stands in the table
 pub uncovered_stands : (table : Table) (entry : MountStep) (rest : Path) → StartsAtRoot table → Uncovers table entry rest → Has table entry
 uncovered_stands table entry rest top u =
     let is = split_some (leads_to u.1) u.0 u.2 u.4 in
-    part_has (trimmed_part (unmounts_trim u.3 top)) entry u.2.earlier u.2.later (is.whole ∙ ap (λ (e : MountStep). u.2.earlier ++ e ∷ u.2.later) u.5)
+    part_has (trimmed_part (unmounts_trim u.3 top)) entry u.2.earlier u.2.later
+    (is.whole ∙ ap (λ (e : MountStep). u.2.earlier ++ e ∷ u.2.later) u.5)
 
 ordered_after : (earlier : Table) (entry : MountStep) (later : Table) → IsOrdered (earlier ++ entry ∷ later) → Apart entry.place later
 ordered_after [] entry later h = h.0
@@ -218,7 +237,8 @@ stands_uncovered table entry rest ordered has =
     (has.0 ++ entry ∷ c.later, entry.place ++ rest, record { earlier = has.0; entry = entry; later = c.later }, subst P (sym has.2) c.run, split_is _ has.0 entry c.later own c.last, refl, refl)
 
 -- what umount2 leaves of a table is a table
-pub unmounted_table : (path : Path) (detach : Bool) (table next : Table) → IsTable table → after_umount table path detach ≡ Ok next → IsTable next
+pub unmounted_table : (path : Path) (detach : Bool) (table next : Table) → IsTable table → after_umount table path detach ≡ Ok next
+    → IsTable next
 unmounted_table path detach table next is e =
     let trim = trims path detach table next is.root e in
     record { root = trimmed_top trim is.root; few = omega (arith, is.few, part_length (trimmed_part trim)) }

@@ -41,5 +41,6 @@ AreBacked shows (mount ∷ later) = IsBacked shows mount later × AreBacked show
 abbrev pub AreShown : Shows → Table → Type 0
 AreShown shows [] = Unit {0}
 AreShown shows (step ∷ later) =
-    ((source rest : Path) → step.what ≡ Host source → list_any (leads_to (step.place ++ rest)) later ≡ false → shows (source ++ rest) step.flags ≡ true)
+    ((source rest : Path) → step.what ≡ Host source → list_any (leads_to (step.place ++ rest)) later ≡ false
+    → shows (source ++ rest) step.flags ≡ true)
     × AreShown shows later

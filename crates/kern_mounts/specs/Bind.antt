@@ -1,6 +1,7 @@
 -- mount(2), MS_BIND and MS_REC, once the source and the target have been found: what a table becomes, or why the call is
 -- refused.
-use Rattle.std.specs.Prelude.{ℕ, [], ◌∷◌, ◌++◌, ◌&&◌, Bool, true, false, not, filter, map, length, nat_lt, Option, Some, None, Result, Err, if◌then◌else◌}
+use Rattle.std.specs.Prelude.{ℕ, [], ◌∷◌, ◌++◌, ◌&&◌, Bool, true, false, not, filter, map, length, nat_lt, Option, Some, None, Result, Err}
+use Rattle.std.specs.Prelude.{if◌then◌else◌}
 use Rattle.std.specs.List.{list_any}
 use Rattle.abs_path.specs.Paths.{Path, text_of}
 use Rattle.abs_path.specs.Prefix.{rest_of}

@@ -13,8 +13,13 @@ use Rattle.kern_mounts.specs.Copying.{locked_copy}
 -- any calls, each of them done
 pub data Changes : Mounts → Mounts → Type 0 where
   still : {mounts : Mounts} → Changes mounts mounts
-  then_bind : {mounts next last : Mounts} (source target : Path) (recursive : Bool) → mounts_after_bind mounts source target recursive ≡ Ok next → Changes next last → Changes mounts last
-  then_empty : {mounts next last : Mounts} (target : Path) (flags : Flags) → mounts_after_push mounts (record { place = target; what = Empty; flags = flags }) ≡ Ok next → Changes next last → Changes mounts last
-  then_remount : {mounts next last : Mounts} (place : Path) (flags : Flags) → mounts_after_remount mounts place flags ≡ Ok next → Changes next last → Changes mounts last
-  then_umount : {mounts next last : Mounts} (path : Path) (detach : Bool) → mounts_after_umount mounts path detach ≡ Ok next → Changes next last → Changes mounts last
+  then_bind : {mounts next last : Mounts} (source target : Path) (recursive : Bool)
+      → mounts_after_bind mounts source target recursive ≡ Ok next → Changes next last → Changes mounts last
+  then_empty : {mounts next last : Mounts} (target : Path) (flags : Flags)
+      → mounts_after_push mounts (record { place = target; what = Empty; flags = flags }) ≡ Ok next → Changes next last
+      → Changes mounts last
+  then_remount : {mounts next last : Mounts} (place : Path) (flags : Flags) → mounts_after_remount mounts place flags ≡ Ok next
+      → Changes next last → Changes mounts last
+  then_umount : {mounts next last : Mounts} (path : Path) (detach : Bool) → mounts_after_umount mounts path detach ≡ Ok next
+      → Changes next last → Changes mounts last
   then_locked : {mounts last : Mounts} → Changes (locked_copy mounts) last → Changes mounts last

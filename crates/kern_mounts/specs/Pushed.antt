@@ -15,4 +15,5 @@ pub record HasCopies (old new later : Mounts) (source target : Path) : Type 0 wh
 -- and the mount at the target before them, of the source's mount
 pub record HasBound (old new : Mounts) (at : ℕ) (later : Mounts) (source target : Path) : Type 0 where
   pub none_long : list_any (λ mount. goes_too_far source target mount.step) later ≡ false
-  pub behind : (mount : Mount) → mount ≡ get_or old at mount → new ≡ old ++ bound_mount source target mount ∷ copied_mounts true source target later
+  pub behind : (mount : Mount) → mount ≡ get_or old at mount
+      → new ≡ old ++ bound_mount source target mount ∷ copied_mounts true source target later

@@ -10,7 +10,8 @@ use Rattle.kern_mounts.specs.Umount.{after_umount}
 -- what any calls of umount2 make of a table, each of them done
 pub data Unmounts : Table → Table → Type 0 where
   still : {table : Table} → Unmounts table table
-  then_one : {table next last : Table} (path : Path) (detach : Bool) → after_umount table path detach ≡ Ok next → Unmounts next last → Unmounts table last
+  then_one : {table next last : Table} (path : Path) (detach : Bool) → after_umount table path detach ≡ Ok next → Unmounts next last
+      → Unmounts table last
 
 -- a part of a table, in its order
 pub data IsPart : Table → Table → Type 0 where
@@ -43,4 +44,5 @@ Has table entry = (earlier later : Table) × (table ≡ earlier ++ entry ∷ lat
 
 -- calls of umount2 make a table in which a path belongs to the entry, with this rest behind the entry's place
 abbrev pub Uncovers : Table → MountStep → Path → Type 0
-Uncovers table entry rest = (now : Table) × (path : Path) × (split : Split) × Unmounts table now × (split_at path now ≡ Some split) × (split.entry ≡ entry) × (path ≡ entry.place ++ rest)
+Uncovers table entry rest = (now : Table) × (path : Path) × (split : Split) × Unmounts table now × (split_at path now ≡ Some split) ×
+    (split.entry ≡ entry) × (path ≡ entry.place ++ rest)

@@ -1,5 +1,6 @@
 -- Each question of the list is asked of what it is about.
-use Rattle.std.proofs.Common.{◌≡◌, ℕ, Bool, true, false, List, [], ◌∷◌, ◌++◌, Some, refl, ap, ◌∙◌, sym, subst, append_assoc, length, length-append}
+use Rattle.std.proofs.Common.{◌≡◌, ℕ, Bool, true, false, List, [], ◌∷◌, ◌++◌, Some, refl, ap, ◌∙◌, sym, subst, append_assoc, length}
+use Rattle.std.proofs.Common.{length-append}
 use Rattle.std.specs.Prelude.{map, not, slice_get, ◌+◌, ◌&&◌}
 use Rattle.std.proofs.lemmas.Bool.{and_parts}
 use Rattle.filter_settings.specs.call_table.Members.{is_first}
@@ -13,7 +14,8 @@ use Rattle.kernel_model.specs.site_table.Kinds.{is_dir, is_exe}
 use Rattle.kernel_laws.specs.declared.question_types.question.Question.{Question}
 use Rattle.kernel_laws.specs.declared.question_types.question.Question.TheVariants.{Path as ByPath, Call, Cap, Uid, Gid}
 use Rattle.kernel_laws.specs.declared.question_types.wish.Wish.TheVariants.{Write as ToWrite, Exec as ToExec}
-use Rattle.kernel_laws.specs.Questions.{IsAsked, is_plain, if_so, of_row, of_rows, of_calls, of_families, count_from, uids_of, gids_of, other_questions, questions}
+use Rattle.kernel_laws.specs.Questions.{IsAsked, is_plain, if_so, of_row, of_rows, of_calls, of_families, count_from, uids_of, gids_of}
+use Rattle.kernel_laws.specs.Questions.{other_questions, questions}
 
 module _ (table : calls.Table) where
   abbrev AllAsked : List Question → Type 0
@@ -38,17 +40,21 @@ module _ (table : calls.Table) where
   get_at [] line lines = refl
   get_at (first ∷ front) line lines = get_at front line lines
 
-  calls_asked : (front lines : List CallLine) → calls.every_call table ≡ front ++ lines → AllAsked (of_calls (calls.every_call table) (length front) lines)
+  calls_asked : (front lines : List CallLine) → calls.every_call table ≡ front ++ lines
+      → AllAsked (of_calls (calls.every_call table) (length front) lines)
   calls_asked front [] whole = tt
   calls_asked front (line ∷ lines) whole =
       let next : calls.every_call table ≡ (front ++ line ∷ []) ++ lines = whole ∙ sym (append_assoc front (line ∷ []) lines) in
       let count : length (front ++ line ∷ []) ≡ length front + 1 = length-append front (line ∷ []) in
       let P : ℕ → Type 0 = λ n. AllAsked (of_calls (calls.every_call table) n lines) in
-      both (if_so (is_plain (rule_of line) && is_first (calls.every_call table) line.name (length front)) (Call (length front))) (of_calls (calls.every_call table) (length front + 1) lines)
-      (asked_if (is_plain (rule_of line) && is_first (calls.every_call table) line.name (length front)) (Call (length front)) (λ e own listed.
+      both (if_so (is_plain (rule_of line) && is_first (calls.every_call table) line.name (length front)) (Call (length front)))
+      (of_calls (calls.every_call table) (length front + 1) lines)
+      (asked_if (is_plain (rule_of line) && is_first (calls.every_call table) line.name (length front)) (Call (length front))
+      (λ e own listed.
       let here : slice_get (calls.every_call table) (length front) ≡ Some line = ap (λ (l : List CallLine). slice_get l (length front)) whole ∙ get_at front line lines in
       let same : line ≡ own = cc in
-      ap (λ (l : CallLine). is_plain (rule_of l)) (sym same) ∙ (and_parts (is_plain (rule_of line)) (is_first (calls.every_call table) line.name (length front)) e).0))
+      ap (λ (l : CallLine). is_plain (rule_of l)) (sym same)
+      ∙ (and_parts (is_plain (rule_of line)) (is_first (calls.every_call table) line.name (length front)) e).0))
       (subst P count (calls_asked (front ++ line ∷ []) lines next))
 
   families_asked : (at : ℕ) (lines : List CallLine) → AllAsked (of_families at lines)

@@ -1,5 +1,6 @@
 -- Blind by the table, blind in every world; and back.
-use Rattle.std.proofs.Common.{◌≡◌, Bool, true, false, [], ◌∷◌, ◌++◌, Option, Some, None, inl, inr, refl, ap, ◌∙◌, sym, subst, append_assoc, eqb}
+use Rattle.std.proofs.Common.{◌≡◌, Bool, true, false, [], ◌∷◌, ◌++◌, Option, Some, None, inl, inr, refl, ap, ◌∙◌, sym, subst, append_assoc}
+use Rattle.std.proofs.Common.{eqb}
 use Rattle.std.specs.Prelude.{not, option_and_then, ◌-◌}
 use Rattle.std.proofs.lemmas.Bool.{and_parts, and_from, or_left, or_right, not-true}
 use Rattle.kernel_model.specs.abs_path.Paths.{Path}
@@ -36,23 +37,28 @@ pub none_not : (path more : Path) (table : Table) → None_have (leads_to (path 
 none_not path more [] h = tt
 none_not path more (entry ∷ table) h = (leads_not entry.place path more h.0, none_not path more table h.1)
 
-clear_if : (uncover : Bool) (path : Path) (later : Table) → (uncover ≡ false → None_have (leads_to path) later) → is_clear uncover path later ≡ true
+clear_if : (uncover : Bool) (path : Path) (later : Table) → (uncover ≡ false → None_have (leads_to path) later)
+    → is_clear uncover path later ≡ true
 clear_if true path later h = refl
 clear_if false path later h = ap not (none_any (leads_to path) later (h refl))
 
 -- an entry whose path lies strictly below the folder shows it
-entry_shows : (uncover : Bool) (folder : Path) (entry : MountStep) (later : Table) (source rest : Path) → is_below (source ++ rest) folder ≡ true
+entry_shows : (uncover : Bool) (folder : Path) (entry : MountStep) (later : Table) (source rest : Path)
+    → is_below (source ++ rest) folder ≡ true
     → (uncover ≡ false → None_have (leads_to (entry.place ++ rest)) later) → shows_below uncover folder entry later (Host source) ≡ true
 entry_shows uncover folder entry later source rest below clear =
     elim (either (is_prefix source folder)) [
-      | inl at ↦ or_right _ _ (and_from _ _ at (clear_if uncover (entry.place ++ rest_of source folder) later (λ e. at_folder at (clear e))))
-      | inr off ↦ or_left _ _ (and_from _ _ (at_source off) (clear_if uncover entry.place later (λ e. none_not entry.place rest later (clear e))))
+      | inl at ↦ or_right _ _ (and_from _ _ at
+          (clear_if uncover (entry.place ++ rest_of source folder) later (λ e. at_folder at (clear e))))
+      | inr off ↦ or_left _ _ (and_from _ _ (at_source off)
+          (clear_if uncover entry.place later (λ e. none_not entry.place rest later (clear e))))
     ]
   where
     prefix : is_prefix folder (source ++ rest) ≡ true
     prefix = (and_parts _ _ below).0
 
-    at_folder : is_prefix source folder ≡ true → None_have (leads_to (entry.place ++ rest)) later → None_have (leads_to (entry.place ++ rest_of source folder)) later
+    at_folder : is_prefix source folder ≡ true → None_have (leads_to (entry.place ++ rest)) later
+        → None_have (leads_to (entry.place ++ rest_of source folder)) later
     at_folder at h =
         let r = rest_of source folder in
         let more = rest_of folder (source ++ rest) in
@@ -78,7 +84,8 @@ entry_shows uncover folder entry later source rest below clear =
             cc
         differs false e = refl
 
-pub exposes_at : (uncover : Bool) (folder : Path) (earlier : Table) (entry : MountStep) (later : Table) → shows_below uncover folder entry later entry.what ≡ true → exposes uncover folder (earlier ++ entry ∷ later) ≡ true
+pub exposes_at : (uncover : Bool) (folder : Path) (earlier : Table) (entry : MountStep) (later : Table)
+    → shows_below uncover folder entry later entry.what ≡ true → exposes uncover folder (earlier ++ entry ∷ later) ≡ true
 exposes_at uncover folder [] entry later s = or_left _ _ s
 exposes_at uncover folder (head ∷ earlier) entry later s = or_right _ _ (exposes_at uncover folder earlier entry later s)
 
@@ -94,7 +101,8 @@ pub record Placed (table : Table) (path place : Path) : Type 0 where
 pub placed : (table : Table) (path place : Path) → host_place table path ≡ Some place → Placed table path place
 placed table path place e = by (entry_of table path) refl e
   where
-    by_what : (entry : MountStep) → entry_of table path ≡ Some entry → (what : What) → entry.what ≡ what → host_place_by what entry.place path ≡ Some place → Placed table path place
+    by_what : (entry : MountStep) → entry_of table path ≡ Some entry → (what : What) → entry.what ≡ what
+        → host_place_by what entry.place path ≡ Some place → Placed table path place
     by_what entry is (Host source) w e =
         let s = split_of path table entry is in
         let there : source ++ rest_of entry.place path ≡ place = cc in
@@ -109,7 +117,8 @@ placed table path place e = by (entry_of table path) refl e
     by_what entry is Empty w e = cc
     by_what entry is (Hidden directory) w e = cc
 
-    by : (o : Option MountStep) → entry_of table path ≡ o → option_and_then (λ step. host_place_by step.what step.place path) o ≡ Some place → Placed table path place
+    by : (o : Option MountStep) → entry_of table path ≡ o → option_and_then (λ step. host_place_by step.what step.place path) o
+        ≡ Some place → Placed table path place
     by None is e = cc
     by (Some entry) is e = by_what entry is entry.what refl e
 
@@ -140,7 +149,8 @@ seen_exposes_part folder table now part s =
     never : false ≡ true → ⊥
     never e = cc
 
-shut : (power : Power) (launched table : Table) (folder : Path) → CanHave power launched table → blind_at power launched folder ≡ true → SeesBelow folder table → ⊥
+shut : (power : Power) (launched table : Table) (folder : Path) → CanHave power launched table → blind_at power launched folder ≡ true
+    → SeesBelow folder table → ⊥
 shut Nowise launched table folder same b s =
     let P : Table → Type 0 = λ t. SeesBelow folder t in
     let on = seen_exposes folder launched (subst P same s) in
@@ -164,8 +174,10 @@ blind_is_sound world folder s b list fit e =
     seen : SeesBelow folder (table_of (run world list) e.process.namespace)
     seen = record { path = e.path; place = e.place; shown = e.shown; below = e.below }
 
-    by : (ours : Bool) → TableIn ours (launch_of world) (power_of (launch_of world)) (CanHaveNewer (power_of (launch_of world)) (launch_of world).table) (mounts_of (run world list) e.process.namespace) → ⊥
-    by true allowed = shut (power_of (launch_of world)) (launch_of world).table (table_of (run world list) e.process.namespace) folder allowed.entries b seen
+    by : (ours : Bool) → TableIn ours (launch_of world) (power_of (launch_of world))
+        (CanHaveNewer (power_of (launch_of world)) (launch_of world).table) (mounts_of (run world list) e.process.namespace) → ⊥
+    by true allowed = shut (power_of (launch_of world)) (launch_of world).table
+        (table_of (run world list) e.process.namespace) folder allowed.entries b seen
     by false allowed =
         let open' = folders_are_seen (power_of (launch_of world)) (launch_of world).table (mounts_of (run world list) e.process.namespace) folder allowed seen in
         cc

@@ -24,22 +24,29 @@ pub record WasDone (world : World) (call : Call) : Type 0 where
   pub done : IsDone (applied world call.pid process (effect_of (host_of world) (caller_of world process) doing)).0
 
 -- what the stack decides of a call that passes, by an ABI that the table has
-pub passed_on : (world : World) (call : Call) (process : Process) → decision_of world call process ≡ decision.Pass → decision_on process.stack (data_of world call) ≡ decision.Pass
+pub passed_on : (world : World) (call : Call) (process : Process) → decision_of world call process ≡ decision.Pass
+    → decision_on process.stack (data_of world call) ≡ decision.Pass
 passed_on world call process p = by (abi_at world.calls call.abi) refl p
   where
-    by : (o : Option Abi) → abi_at world.calls call.abi ≡ o → decision_by call process o ≡ decision.Pass → decision_on process.stack (record { nr = call.nr; arch = option_map_or (λ abi. abi.arch) (abi_at world.calls call.abi) 0; ip = 0; args = call.args }) ≡ decision.Pass
+    by : (o : Option Abi) → abi_at world.calls call.abi ≡ o → decision_by call process o ≡ decision.Pass
+        → decision_on process.stack
+        (record { nr = call.nr; arch = option_map_or (λ abi. abi.arch) (abi_at world.calls call.abi) 0; ip = 0; args = call.args })
+        ≡ decision.Pass
     by None e p = cc
-    by (Some abi) e p = ap (λ (o : Option Abi). decision_on process.stack (record { nr = call.nr; arch = option_map_or (λ abi. abi.arch) o 0; ip = 0; args = call.args })) e ∙ p
+    by (Some abi) e p = ap (λ (o : Option Abi). decision_on process.stack
+        (record { nr = call.nr; arch = option_map_or (λ abi. abi.arch) o 0; ip = 0; args = call.args })) e ∙ p
 
 pub was_done : (world : World) (call : Call) → IsDone (step world call).0 → WasDone world call
 was_done world call e = by (living_of world call.pid) refl e
   where
-    by_asked : (process : Process) → Lives world call.pid process → decision_of world call process ≡ decision.Pass → (a : Asked) → asked_of world.calls call ≡ a → IsDone (answered world call.pid process a).0 → WasDone world call
+    by_asked : (process : Process) → Lives world call.pid process → decision_of world call process ≡ decision.Pass → (a : Asked)
+        → asked_of world.calls call ≡ a → IsDone (answered world call.pid process a).0 → WasDone world call
     by_asked process l p Lacking is e = absurd e
     by_asked process l p Misformed is e = absurd e
     by_asked process l p (Does doing) is e = record { process = process; living = l; let_through = p; passed = passed_on world call process p; doing = doing; asks = is; done = e }
 
-    by_decision : (process : Process) → Lives world call.pid process → (c : Decision) → decision_of world call process ≡ c → IsDone (decided world call process c).0 → WasDone world call
+    by_decision : (process : Process) → Lives world call.pid process → (c : Decision) → decision_of world call process ≡ c
+        → IsDone (decided world call process c).0 → WasDone world call
     by_decision process l decision.Pass p e = by_asked process l p (asked_of world.calls call) refl e
     by_decision process l (decision.Errno errno) p e = absurd e
     by_decision process l decision.Kill p e = absurd e

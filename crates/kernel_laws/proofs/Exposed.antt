@@ -1,5 +1,6 @@
 -- What is not blind by the table: a path that shows a place strictly below, in the launched world or behind calls.
-use Rattle.std.proofs.Common.{◌≡◌, ℕ, suc, Bool, true, false, List, [], ◌∷◌, ◌++◌, Option, Some, inl, inr, refl, cond, ap, ◌∙◌, sym, subst, append_assoc, append-nil, length, length-append, arith, ◌<◌, ◌≤◌, eqb}
+use Rattle.std.proofs.Common.{◌≡◌, ℕ, suc, Bool, true, false, List, [], ◌∷◌, ◌++◌, Option, Some, inl, inr, refl, cond, ap, ◌∙◌, sym, subst}
+use Rattle.std.proofs.Common.{append_assoc, append-nil, length, length-append, arith, ◌<◌, ◌≤◌, eqb}
 use Rattle.std.specs.Prelude.{not, ◌&&◌, option_and_then, filter, codes, ◌+◌}
 use Rattle.std.specs.Str.{bytes_eq}
 use Rattle.std.specs.List.{list_any, list_all, AllByRecursion}
@@ -46,27 +47,35 @@ rest_by p parts = filter (λ part. not (p part)) parts
 
 apart_rest : (p : Part → Bool) (part : Part) (parts : List Part) → are_apart part parts ≡ true → are_apart part (rest_by p parts) ≡ true
 apart_rest p part [] h = refl
-apart_rest p part (other ∷ parts) h = by (not (p other)) (apart_rest p part parts (and_parts (not (bytes_eq part other)) (are_apart part parts) h).1) (and_parts (not (bytes_eq part other)) (are_apart part parts) h).0
+apart_rest p part (other ∷ parts) h =
+    by (not (p other)) (apart_rest p part parts (and_parts (not (bytes_eq part other)) (are_apart part parts) h).1)
+    (and_parts (not (bytes_eq part other)) (are_apart part parts) h).0
   where
-    by : (b : Bool) → are_apart part (rest_by p parts) ≡ true → not (bytes_eq part other) ≡ true → are_apart part (cond b (other ∷ rest_by p parts) (rest_by p parts)) ≡ true
+    by : (b : Bool) → are_apart part (rest_by p parts) ≡ true → not (bytes_eq part other) ≡ true
+        → are_apart part (cond b (other ∷ rest_by p parts) (rest_by p parts)) ≡ true
     by true more own = and_from _ _ own more
     by false more own = more
 
 distinct_rest : (p : Part → Bool) (parts : List Part) → are_distinct parts ≡ true → are_distinct (rest_by p parts) ≡ true
 distinct_rest p [] h = refl
-distinct_rest p (part ∷ parts) h = by (not (p part)) (distinct_rest p parts (and_parts (are_apart part parts) (are_distinct parts) h).1) (apart_rest p part parts (and_parts (are_apart part parts) (are_distinct parts) h).0)
+distinct_rest p (part ∷ parts) h = by (not (p part)) (distinct_rest p parts (and_parts (are_apart part parts) (are_distinct parts) h).1)
+    (apart_rest p part parts (and_parts (are_apart part parts) (are_distinct parts) h).0)
   where
-    by : (b : Bool) → are_distinct (rest_by p parts) ≡ true → are_apart part (rest_by p parts) ≡ true → are_distinct (cond b (part ∷ rest_by p parts) (rest_by p parts)) ≡ true
+    by : (b : Bool) → are_distinct (rest_by p parts) ≡ true → are_apart part (rest_by p parts) ≡ true
+        → are_distinct (cond b (part ∷ rest_by p parts) (rest_by p parts)) ≡ true
     by true more own = and_from _ _ own more
     by false more own = more
 
 -- behind one that passes all stay
-stay : (p : Part → Bool) (part : Part) (parts : List Part) → Single p → p part ≡ true → are_apart part parts ≡ true → length (rest_by p parts) ≡ length parts
+stay : (p : Part → Bool) (part : Part) (parts : List Part) → Single p → p part ≡ true → are_apart part parts ≡ true
+    → length (rest_by p parts) ≡ length parts
 stay p part [] single h a = refl
 stay p part (other ∷ parts) single h a =
-    by (p other) refl (stay p part parts single h (and_parts (not (bytes_eq part other)) (are_apart part parts) a).1) (and_parts (not (bytes_eq part other)) (are_apart part parts) a).0
+    by (p other) refl (stay p part parts single h (and_parts (not (bytes_eq part other)) (are_apart part parts) a).1)
+    (and_parts (not (bytes_eq part other)) (are_apart part parts) a).0
   where
-    by : (b : Bool) → p other ≡ b → length (rest_by p parts) ≡ length parts → not (bytes_eq part other) ≡ true → length (cond (not b) (other ∷ rest_by p parts) (rest_by p parts)) ≡ suc (length parts)
+    by : (b : Bool) → p other ≡ b → length (rest_by p parts) ≡ length parts → not (bytes_eq part other) ≡ true
+        → length (cond (not b) (other ∷ rest_by p parts) (rest_by p parts)) ≡ suc (length parts)
     by true e more own =
         let same = single part other h e in
         let on : bytes_eq part other ≡ true = (bytes_eq-Decides part other).1 same in
@@ -79,12 +88,14 @@ one_goes : (p : Part → Bool) (parts : List Part) → Single p → are_distinct
 one_goes p [] single h = omega arith
 one_goes p (part ∷ parts) single h = by (p part) refl (one_goes p parts single (and_parts (are_apart part parts) (are_distinct parts) h).1)
   where
-    by : (b : Bool) → p part ≡ b → length parts ≤ suc (length (rest_by p parts)) → suc (length parts) ≤ suc (length (cond (not b) (part ∷ rest_by p parts) (rest_by p parts)))
+    by : (b : Bool) → p part ≡ b → length parts ≤ suc (length (rest_by p parts))
+        → suc (length parts) ≤ suc (length (cond (not b) (part ∷ rest_by p parts) (rest_by p parts)))
     by true e more = let n = stay p part parts single e (and_parts (are_apart part parts) (are_distinct parts) h).0 in omega (arith, n)
     by false e more = omega (arith, more)
 
 -- an entry that leads to a path with one part more, and not to the path, stands there
-stands_there : (place path : Path) (part : Part) → is_prefix place path ≡ false → is_prefix place (path ++ part ∷ []) ≡ true → place ≡ path ++ part ∷ []
+stands_there : (place path : Path) (part : Part) → is_prefix place path ≡ false → is_prefix place (path ++ part ∷ []) ≡ true
+    → place ≡ path ++ part ∷ []
 stands_there [] path part off on = cc
 stands_there (x ∷ place) [] part off on =
     let both = and_parts (bytes_eq x part) (is_prefix place []) on in
@@ -114,19 +125,22 @@ pub record Free (path : Path) (later : Table) (parts : List Part) : Type 0 where
   pub among : list_any (bytes_eq part) parts ≡ true
   pub clear : None_have (leads_to (path ++ part ∷ [])) later
 
-among_rest : (p : Part → Bool) (part : Part) (parts : List Part) → list_any (bytes_eq part) (rest_by p parts) ≡ true → (list_any (bytes_eq part) parts ≡ true) × (p part ≡ false)
+among_rest : (p : Part → Bool) (part : Part) (parts : List Part) → list_any (bytes_eq part) (rest_by p parts) ≡ true
+    → (list_any (bytes_eq part) parts ≡ true) × (p part ≡ false)
 among_rest p part [] h = cc
 among_rest p part (other ∷ parts) h = by (p other) refl h (among_rest p part parts)
   where
     by : (b : Bool) → p other ≡ b → list_any (bytes_eq part) (cond (not b) (other ∷ rest_by p parts) (rest_by p parts)) ≡ true
-        → (list_any (bytes_eq part) (rest_by p parts) ≡ true → (list_any (bytes_eq part) parts ≡ true) × (p part ≡ false)) → (list_any (bytes_eq part) (other ∷ parts) ≡ true) × (p part ≡ false)
+        → (list_any (bytes_eq part) (rest_by p parts) ≡ true → (list_any (bytes_eq part) parts ≡ true) × (p part ≡ false))
+        → (list_any (bytes_eq part) (other ∷ parts) ≡ true) × (p part ≡ false)
     by true e h more = let m = more h in (or_right _ _ m.0, m.1)
     by false e h more = elim (or_cases (bytes_eq part other) (list_any (bytes_eq part) (rest_by p parts)) h) [
       | inl is ↦ let same = (bytes_eq-Decides part other).0 is in (or_left _ _ is, ap p same ∙ e)
       | inr later ↦ let m = more later in (or_right _ _ m.0, m.1)
     ]
 
-free : (path : Path) (later : Table) (parts : List Part) → None_have (leads_to path) later → are_distinct parts ≡ true → length later < length parts → Free path later parts
+free : (path : Path) (later : Table) (parts : List Part) → None_have (leads_to path) later → are_distinct parts ≡ true
+    → length later < length parts → Free path later parts
 free path [] [] none' h few = absurd (omega (arith, few))
 free path [] (part ∷ parts) none' h few = record { part = part; among = or_left _ _ ((bytes_eq-Decides part part).1 refl); clear = tt }
 free path (entry ∷ later) parts none' h few =
@@ -210,7 +224,8 @@ below_by_part folder part = and_from _ _ (prefix-append folder (part ∷ [])) (a
     by false e = refl
 
 -- an entry shows what its source has behind, at a path that no later entry leads to
-seen_by : (folder : Path) (table earlier : Table) (entry : MountStep) (later : Table) (source rest : Path) → table ≡ earlier ++ entry ∷ later → entry.what ≡ Host source
+seen_by : (folder : Path) (table earlier : Table) (entry : MountStep) (later : Table) (source rest : Path)
+    → table ≡ earlier ++ entry ∷ later → entry.what ≡ Host source
     → None_have (leads_to (entry.place ++ rest)) later → host_place table (entry.place ++ rest) ≡ Some (source ++ rest)
 seen_by folder table earlier entry later source rest whole host clear =
     let path = entry.place ++ rest in
@@ -229,25 +244,32 @@ record Exposing (uncover : Bool) (folder : Path) (table : Table) : Type 0 where
 
 exposing : (uncover : Bool) (folder : Path) (table : Table) → exposes uncover folder table ≡ true → Exposing uncover folder table
 exposing uncover folder [] e = cc
-exposing uncover folder (entry ∷ later) e = elim (or_cases (shows_below uncover folder entry later entry.what) (exposes uncover folder later) e) [
-  | inl here ↦ record { earlier = []; entry = entry; later = later; whole = refl; shown = here }
-  | inr there ↦ (let m = exposing uncover folder later there in record { earlier = entry ∷ m.earlier; entry = m.entry; later = m.later; whole = ap (λ (t : Table). entry ∷ t) m.whole; shown = m.shown })
-]
+exposing uncover folder (entry ∷ later) e =
+    elim (or_cases (shows_below uncover folder entry later entry.what) (exposes uncover folder later) e) [
+      | inl here ↦ record { earlier = []; entry = entry; later = later; whole = refl; shown = here }
+      | inr there ↦ (let m = exposing uncover folder later there in record { earlier = entry ∷ m.earlier; entry = m.entry; later = m.later; whole = ap (λ (t : Table). entry ∷ t) m.whole; shown = m.shown })
+    ]
 
 -- its own source strictly below, or the folder at or below its source
 data Way (uncover : Bool) (folder : Path) (entry : MountStep) (later : Table) : Type 0 where
-  own : (source : Path) → entry.what ≡ Host source → is_below source folder ≡ true → is_clear uncover entry.place later ≡ true → Way uncover folder entry later
-  at : (source : Path) → entry.what ≡ Host source → is_prefix source folder ≡ true → is_clear uncover (entry.place ++ rest_of source folder) later ≡ true → Way uncover folder entry later
+  own : (source : Path) → entry.what ≡ Host source → is_below source folder ≡ true → is_clear uncover entry.place later ≡ true
+      → Way uncover folder entry later
+  at : (source : Path) → entry.what ≡ Host source → is_prefix source folder ≡ true
+      → is_clear uncover (entry.place ++ rest_of source folder) later ≡ true → Way uncover folder entry later
 
-way : (uncover : Bool) (folder : Path) (entry : MountStep) (later : Table) → (what : What) → entry.what ≡ what → shows_below uncover folder entry later what ≡ true → Way uncover folder entry later
-way uncover folder entry later (Host source) is e = elim (or_cases (is_below source folder && is_clear uncover entry.place later) (is_prefix source folder && is_clear uncover (entry.place ++ rest_of source folder) later) e) [
-  | inl h ↦ (let both = and_parts (is_below source folder) (is_clear uncover entry.place later) h in own source is both.0 both.1)
-  | inr h ↦ (let both = and_parts (is_prefix source folder) (is_clear uncover (entry.place ++ rest_of source folder) later) h in at source is both.0 both.1)
-]
+way : (uncover : Bool) (folder : Path) (entry : MountStep) (later : Table) → (what : What) → entry.what ≡ what
+    → shows_below uncover folder entry later what ≡ true → Way uncover folder entry later
+way uncover folder entry later (Host source) is e =
+    elim (or_cases (is_below source folder && is_clear uncover entry.place later)
+    (is_prefix source folder && is_clear uncover (entry.place ++ rest_of source folder) later) e) [
+      | inl h ↦ (let both = and_parts (is_below source folder) (is_clear uncover entry.place later) h in own source is both.0 both.1)
+      | inr h ↦ (let both = and_parts (is_prefix source folder) (is_clear uncover (entry.place ++ rest_of source folder) later) h in at source is both.0 both.1)
+    ]
 way uncover folder entry later Empty is e = cc
 way uncover folder entry later (Hidden directory) is e = cc
 
-at_end : (P : MountStep → Type 0) (earlier : Table) (entry : MountStep) (later : Table) → AllByRecursion P (earlier ++ entry ∷ later) → P entry
+at_end : (P : MountStep → Type 0) (earlier : Table) (entry : MountStep) (later : Table) → AllByRecursion P (earlier ++ entry ∷ later)
+    → P entry
 at_end P [] entry later h = h.0
 at_end P (head ∷ earlier) entry later h = at_end P earlier entry later h.1
 
@@ -256,7 +278,8 @@ pub record SeesFit (folder : Path) (table : Table) : Type 0 where
   pub seen : SeesBelow folder table
   pub fits : IsPath seen.path
 
-pub exposes_seen : (folder : Path) (table : Table) → IsSmall table → IsFolder folder → exposes false folder table ≡ true → SeesFit folder table
+pub exposes_seen : (folder : Path) (table : Table) → IsSmall table → IsFolder folder → exposes false folder table ≡ true
+    → SeesFit folder table
 exposes_seen folder table small fit e =
     let x = exposing false folder table e in
     by x (way false folder x.entry x.later x.entry.what refl x.shown)
@@ -314,7 +337,8 @@ exposes_by_unmounts folder table ordered e =
     let x = exposing true folder table e in
     by x (way true folder x.entry x.later x.entry.what refl x.shown)
   where
-    seen_in : (x : Exposing true folder table) (source rest : Path) → x.entry.what ≡ Host source → is_below (source ++ rest) folder ≡ true → (now : Table) × Unmounts table now × SeesBelow folder now
+    seen_in : (x : Exposing true folder table) (source rest : Path) → x.entry.what ≡ Host source → is_below (source ++ rest) folder ≡ true
+        → (now : Table) × Unmounts table now × SeesBelow folder now
     seen_in x source rest host below =
         let u = stands_uncovered table x.entry rest ordered (x.earlier, x.later, x.whole) in
         let path = u.1 in

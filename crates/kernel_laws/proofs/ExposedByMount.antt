@@ -1,5 +1,6 @@
 -- With mount a new entry shows the whole host.
-use Rattle.std.proofs.Common.{◌≡◌, ℕ, true, false, [], ◌∷◌, ◌++◌, Option, Some, Result, Ok, Err, refl, cond, ap, ◌∙◌, sym, subst, length, arith, ◌<◌}
+use Rattle.std.proofs.Common.{◌≡◌, ℕ, true, false, [], ◌∷◌, ◌++◌, Option, Some, Result, Ok, Err, refl, cond, ap, ◌∙◌, sym, subst, length}
+use Rattle.std.proofs.Common.{arith, ◌<◌}
 use Rattle.std.specs.Prelude.{option_and_then, codes, nat_lt, ◌+◌}
 use Rattle.std.specs.List.{AllByRecursion}
 use Rattle.std.proofs.lemmas.Bool.Decides.{nat_tests}
@@ -31,7 +32,8 @@ none_leads (entry ∷ rest) h = (by entry.place h.0, none_leads rest h.1)
     by [] e = cc
     by (part ∷ place) e = refl
 
-module _ (rows : Path → Option Row) (first : MountStep) (rest : Table) (folder : Path) (root : Row) (at : first.place ≡ []) (host : first.what ≡ Host []) (low : AllByRecursion (λ (entry : MountStep). is_root entry.place ≡ false) rest)
+module _ (rows : Path → Option Row) (first : MountStep) (rest : Table) (folder : Path) (root : Row) (at : first.place ≡ [])
+    (host : first.what ≡ Host []) (low : AllByRecursion (λ (entry : MountStep). is_root entry.place ≡ false) rest)
     (there : rows [] ≡ Some root) (dir : is_dir root.kind ≡ true) (target : target_kind rows (first ∷ rest) proc ≡ Ok true) (few : length (first ∷ rest) < 4096) where
   abbrev table : Table
   table = first ∷ rest
@@ -46,7 +48,8 @@ module _ (rows : Path → Option Row) (first : MountStep) (rest : Table) (folder
   own = of_split [] table (record { earlier = []; entry = first; later = rest }) split
 
   found : kind_found (finds rows table []) ≡ Ok true
-  found = ap (λ o. kind_found (found_at rows [] o)) own ∙ ap (λ w. kind_found (found_by rows w first.place [])) host ∙ ap (λ p. kind_found (row_or_nothing (rows (rest_of p [])))) at
+  found = ap (λ o. kind_found (found_at rows [] o)) own ∙ ap (λ w. kind_found (found_by rows w first.place [])) host
+      ∙ ap (λ p. kind_found (row_or_nothing (rows (rest_of p [])))) at
       ∙ ap (λ o. kind_found (row_or_nothing o)) there ∙ ap (λ b. Ok b) dir
 
   room : nat_lt 4096 (length table + 1) ≡ false

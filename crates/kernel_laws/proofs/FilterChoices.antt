@@ -1,5 +1,6 @@
 -- Each filter, by the names that it looks at.
-use Rattle.std.proofs.Common.{◌≡◌, ℕ, Bool, true, false, cond, List, [], ◌∷◌, Option, Some, None, ◌⊎◌, inl, inr, refl, ap, ◌∙◌, sym, subst, arith, eqb}
+use Rattle.std.proofs.Common.{◌≡◌, ℕ, Bool, true, false, cond, List, [], ◌∷◌, Option, Some, None, ◌⊎◌, inl, inr, refl, ap, ◌∙◌, sym, subst}
+use Rattle.std.proofs.Common.{arith, eqb}
 use Rattle.std.specs.Prelude.{◌&&◌, ◌||◌, not, ◌==◌, ◌%◌, ◌^◌, codes, slice_index}
 use Rattle.std.specs.Str.{bytes_eq}
 use Rattle.std.specs.List.{list_any, AllByRecursion}
@@ -12,7 +13,8 @@ use Rattle.filter_settings.specs.bpf_code.declared.machine.CallData.{CallData}
 use Rattle.filter_settings.specs.bpf_code.declared.decision.Decision.TheVariants as decision
 use Rattle.filter_settings.specs.bpf_code.Stack.{decision_of}
 use Rattle.kernel_model.specs.cap_sets.Sets.{has, none, cut, union, single, within}
-use Rattle.kernel_model.proofs.Caps.Members.{has_cut, has_none, has_union, has_single, same_sets, within_through, IsWithin-from_within, within-from_IsWithin}
+use Rattle.kernel_model.proofs.Caps.Members.{has_cut, has_none, has_union, has_single, same_sets, within_through, IsWithin-from_within}
+use Rattle.kernel_model.proofs.Caps.Members.{within-from_IsWithin}
 use Rattle.filter_settings.specs.call_table.declared.listed.CallLine.{CallLine}
 use Rattle.filter_settings.specs.call_table.call_names.Known.{known_call}
 use Rattle.filter_settings.specs.declared.filter_rules.mentions.FamilyList.{FamilyList}
@@ -57,7 +59,8 @@ some_same : (own rule' : Rule) → Some own ≡ Some rule' → own ≡ rule'
 some_same own rule' e = cc
 
 -- a line of this name has the rule of the name
-pub rule_named : (line : CallLine) (rule' : Rule) → rule_of line ≡ Some rule' → (name : List ℕ) (own : Rule) → rule_of (with_name line name) ≡ Some own → bytes_eq line.name name ≡ true → own ≡ rule'
+pub rule_named : (line : CallLine) (rule' : Rule) → rule_of line ≡ Some rule' → (name : List ℕ) (own : Rule)
+    → rule_of (with_name line name) ≡ Some own → bytes_eq line.name name ≡ true → own ≡ rule'
 rule_named line rule' e name own named h =
     let P : List ℕ → Type 0 = λ n. rule_of (with_name line n) ≡ Some rule' in
     some_same own rule' (sym named ∙ subst P ((bytes_eq-Decides line.name name).0 h) e)
@@ -69,22 +72,27 @@ first_is one first e = cc
 below : (n word : ℕ) → eqb (word % 2 ^ 32) n ≡ true → n % 2 ^ 32 ≡ word % 2 ^ 32
 below n word h = let e = eqb-true (word % 2 ^ 32) n h in omega (arith, e)
 
-kind-Socket : (kind : CallKind) (args first : List ℕ) → asks kind (d.Socket (low_word args 0)) ≡ true → words kind (rule.Known known.Socket) ≡ Some first → low_word first 0 ≡ low_word args 0
+kind-Socket : (kind : CallKind) (args first : List ℕ) → asks kind (d.Socket (low_word args 0)) ≡ true
+    → words kind (rule.Known known.Socket) ≡ Some first → low_word first 0 ≡ low_word args 0
 kind-Socket (k.ForPath wish) args first h e = no_wish (d.Socket (low_word args 0)) refl wish h
-kind-Socket (k.ForFamily family) args first h e = ap (λ (w : List ℕ). low_word w 0) (sym (first_is (one_word 0 family) first e)) ∙ below family (slice_index args 0) h
+kind-Socket (k.ForFamily family) args first h e = ap (λ (w : List ℕ). low_word w 0) (sym (first_is (one_word 0 family) first e))
+    ∙ below family (slice_index args 0) h
 kind-Socket kind args first h e = cc
 
-kind-Map : (kind : CallKind) (args first : List ℕ) → asks kind (d.Map (low_word args 2)) ≡ true → words kind (rule.Known known.Map) ≡ Some first → has_bits (low_word args 2) 6 ≡ true
+kind-Map : (kind : CallKind) (args first : List ℕ) → asks kind (d.Map (low_word args 2)) ≡ true
+    → words kind (rule.Known known.Map) ≡ Some first → has_bits (low_word args 2) 6 ≡ true
 kind-Map (k.ForPath wish) args first h e = no_wish (d.Map (low_word args 2)) refl wish h
 kind-Map k.MapsWx args first h e = h
 kind-Map kind args first h e = cc
 
-kind-Protect : (kind : CallKind) (args first : List ℕ) → asks kind (d.Protect (low_word args 2)) ≡ true → words kind (rule.Known known.Protect) ≡ Some first → has_bits (low_word args 2) 4 ≡ true
+kind-Protect : (kind : CallKind) (args first : List ℕ) → asks kind (d.Protect (low_word args 2)) ≡ true
+    → words kind (rule.Known known.Protect) ≡ Some first → has_bits (low_word args 2) 4 ≡ true
 kind-Protect (k.ForPath wish) args first h e = no_wish (d.Protect (low_word args 2)) refl wish h
 kind-Protect k.ProtectsX args first h e = h
 kind-Protect kind args first h e = cc
 
-kind-Attach : (kind : CallKind) (args first : List ℕ) → asks kind (d.Attach (low_word args 2)) ≡ true → words kind (rule.Known known.Attach) ≡ Some first → has_bits (low_word args 2) 0x8000 ≡ true
+kind-Attach : (kind : CallKind) (args first : List ℕ) → asks kind (d.Attach (low_word args 2)) ≡ true
+    → words kind (rule.Known known.Attach) ≡ Some first → has_bits (low_word args 2) 0x8000 ≡ true
 kind-Attach (k.ForPath wish) args first h e = no_wish (d.Attach (low_word args 2)) refl wish h
 kind-Attach k.AttachesX args first h e = h
 kind-Attach kind args first h e = cc
@@ -92,12 +100,14 @@ kind-Attach kind args first h e = cc
 realtime_is : (policy : ℕ) → (policy == 1 || policy == 2) ≡ true → not (is_ordinary policy) ≡ true
 realtime_is policy h = grind (arith, nat_tests)
 
-kind-Schedule : (kind : CallKind) (args first : List ℕ) → asks kind (d.Schedule (low_word args 1)) ≡ true → words kind (rule.Known known.Schedule) ≡ Some first → not (is_ordinary (low_word args 1)) ≡ true
+kind-Schedule : (kind : CallKind) (args first : List ℕ) → asks kind (d.Schedule (low_word args 1)) ≡ true
+    → words kind (rule.Known known.Schedule) ≡ Some first → not (is_ordinary (low_word args 1)) ≡ true
 kind-Schedule (k.ForPath wish) args first h e = no_wish (d.Schedule (low_word args 1)) refl wish h
 kind-Schedule k.SchedulesRealtime args first h e = realtime_is (low_word args 1) h
 kind-Schedule kind args first h e = cc
 
-kind-Personality : (kind : CallKind) (args first : List ℕ) → asks kind (d.Personality (low_word args 0)) ≡ true → words kind (rule.Known known.Personality) ≡ Some first → not (keeps_domain (low_word args 0)) ≡ true
+kind-Personality : (kind : CallKind) (args first : List ℕ) → asks kind (d.Personality (low_word args 0)) ≡ true
+    → words kind (rule.Known known.Personality) ≡ Some first → not (keeps_domain (low_word args 0)) ≡ true
 kind-Personality (k.ForPath wish) args first h e = no_wish (d.Personality (low_word args 0)) refl wish h
 kind-Personality k.TakesPersonality args first h e = h
 kind-Personality kind args first h e = cc
@@ -105,7 +115,8 @@ kind-Personality kind args first h e = cc
 -- a set-user-id or a set-group-id bit
 bit_is : (mode number : ℕ) → has mode number ≡ true → has_bits mode (2 ^ number) ≡ true
 unfolding cut single
-bit_is mode number h = eq-eqb (bit_and mode (2 ^ number)) (2 ^ number) (same_sets (cut mode (single number)) (single number) (λ n. by n (n == number) refl))
+bit_is mode number h = eq-eqb (bit_and mode (2 ^ number)) (2 ^ number)
+    (same_sets (cut mode (single number)) (single number) (λ n. by n (n == number) refl))
   where
     by : (n : ℕ) (b : Bool) → (n == number) ≡ b → has (cut mode (single number)) n ≡ has (single number) n
     by n true e =
@@ -157,7 +168,8 @@ id_bit mode h = by (has mode 11) (has mode 10) refl refl
         let off = not-true (eqb (bit_and mode id_mask) 0) h in
         cc
 
-kind-SetMode : (kind : CallKind) (args first : List ℕ) (at : Argument) → asks kind (d.SetMode (low_word args (place_of at))) ≡ true → words kind (rule.Known (known.SetMode at)) ≡ Some first → sets_id_bit (low_word args (place_of at)) ≡ true
+kind-SetMode : (kind : CallKind) (args first : List ℕ) (at : Argument) → asks kind (d.SetMode (low_word args (place_of at))) ≡ true
+    → words kind (rule.Known (known.SetMode at)) ≡ Some first → sets_id_bit (low_word args (place_of at)) ≡ true
 kind-SetMode (k.ForPath wish) args first at h e = no_wish (d.SetMode (low_word args (place_of at))) refl wish h
 kind-SetMode k.SetsMode args first at h e = id_bit (low_word args (place_of at)) h
 kind-SetMode kind args first at h e = cc
@@ -174,22 +186,26 @@ flag_low namespace.Uts = refl
 -- a mask that the flag has, flags with the flag have
 more_bits : (flag flags mask : ℕ) → has_all flag flags ≡ true → has_bits flag mask ≡ true → has_bits flags mask ≡ true
 unfolding within
-more_bits flag flags mask h g = within-from_IsWithin mask flags (within_through mask flag flags (IsWithin-from_within mask flag g) (IsWithin-from_within flag flags h))
+more_bits flag flags mask h g = within-from_IsWithin mask flags
+    (within_through mask flag flags (IsWithin-from_within mask flag g) (IsWithin-from_within flag flags h))
 
 abbrev MoreBits : List ℕ → List ℕ → Type 0
 MoreBits args first = (mask : ℕ) → has_bits (low_word first 0) mask ≡ true → has_bits (low_word args 0) mask ≡ true
 
-space_bits : (space : NamespaceType) (args first : List ℕ) → has_all (q.flag_of space) (low_word args 0) ≡ true → Some (one_word 0 (q.flag_of space)) ≡ Some first → MoreBits args first
+space_bits : (space : NamespaceType) (args first : List ℕ) → has_all (q.flag_of space) (low_word args 0) ≡ true
+    → Some (one_word 0 (q.flag_of space)) ≡ Some first → MoreBits args first
 space_bits space args first h e mask g =
     let low' : low_word first 0 ≡ q.flag_of space = ap (λ (w : List ℕ). low_word w 0) (sym (first_is (one_word 0 (q.flag_of space)) first e)) ∙ flag_low space in
     more_bits (q.flag_of space) (low_word args 0) mask h (ap (λ n. has_bits n mask) (sym low') ∙ g)
 
-kind-Unshare : (kind : CallKind) (args first : List ℕ) → asks kind (d.Unshare (low_word args 0)) ≡ true → words kind (rule.Known known.Unshare) ≡ Some first → MoreBits args first
+kind-Unshare : (kind : CallKind) (args first : List ℕ) → asks kind (d.Unshare (low_word args 0)) ≡ true
+    → words kind (rule.Known known.Unshare) ≡ Some first → MoreBits args first
 kind-Unshare (k.ForPath wish) args first h e = no_wish (d.Unshare (low_word args 0)) refl wish h
 kind-Unshare (k.ForNamespace space) args first h e = space_bits space args first h e
 kind-Unshare kind args first h e = cc
 
-kind-Clone : (kind : CallKind) (args first : List ℕ) → asks kind (d.Clone (low_word args 0)) ≡ true → words kind (rule.Known known.Clone) ≡ Some first → MoreBits args first
+kind-Clone : (kind : CallKind) (args first : List ℕ) → asks kind (d.Clone (low_word args 0)) ≡ true
+    → words kind (rule.Known known.Clone) ≡ Some first → MoreBits args first
 kind-Clone (k.ForPath wish) args first h e = no_wish (d.Clone (low_word args 0)) refl wish h
 kind-Clone (k.ForNamespace space) args first h e = space_bits space args first h e
 kind-Clone kind args first h e = cc
@@ -208,14 +224,16 @@ kind-Create (k.ForPath wish_to.Write) first e = ap (λ (w : List ℕ). low_word 
 kind-Create (k.ForPath wish_to.Exec) first e = cc
 kind-Create kind first e = cc
 
-kind-Open-1 : (kind : CallKind) (first : List ℕ) → words kind (rule.Known (known.Open argument.Second)) ≡ Some first → has_bits (low_word first 1) 0x40 ≡ false
+kind-Open-1 : (kind : CallKind) (first : List ℕ) → words kind (rule.Known (known.Open argument.Second)) ≡ Some first
+    → has_bits (low_word first 1) 0x40 ≡ false
 kind-Open-1 (k.ForPath wish_to.See) first e = cc
 kind-Open-1 (k.ForPath wish_to.Read) first e = ap (λ (w : List ℕ). has_bits (low_word w 1) 0x40) (sym (first_is no_words first e))
 kind-Open-1 (k.ForPath wish_to.Write) first e = ap (λ (w : List ℕ). has_bits (low_word w 1) 0x40) (sym (first_is (one_word 1 1) first e))
 kind-Open-1 (k.ForPath wish_to.Exec) first e = cc
 kind-Open-1 kind first e = cc
 
-kind-Open-2 : (kind : CallKind) (first : List ℕ) → words kind (rule.Known (known.Open argument.Third)) ≡ Some first → has_bits (low_word first 2) 0x40 ≡ false
+kind-Open-2 : (kind : CallKind) (first : List ℕ) → words kind (rule.Known (known.Open argument.Third)) ≡ Some first
+    → has_bits (low_word first 2) 0x40 ≡ false
 kind-Open-2 (k.ForPath wish_to.See) first e = cc
 kind-Open-2 (k.ForPath wish_to.Read) first e = ap (λ (w : List ℕ). has_bits (low_word w 2) 0x40) (sym (first_is no_words first e))
 kind-Open-2 (k.ForPath wish_to.Write) first e = ap (λ (w : List ℕ). has_bits (low_word w 2) 0x40) (sym (first_is (one_word 2 1) first e))
@@ -230,7 +248,8 @@ abbrev thirds : List (List ℕ)
 thirds = codes "fchmodat" ∷ codes "mkdirat" ∷ codes "mknodat" ∷ codes "open" ∷ []
 
 -- ---- the filters
-module _ (line : CallLine) (rule' : Rule) (kind : CallKind) (payload : Payload) (doing : Doing) (input first : CallData) (is : rule_of line ≡ Some rule') (does : doing_by rule' input.args payload ≡ Some doing)
+module _ (line : CallLine) (rule' : Rule) (kind : CallKind) (payload : Payload) (doing : Doing) (input first : CallData)
+    (is : rule_of line ≡ Some rule') (does : doing_by rule' input.args payload ≡ Some doing)
     (asked : asks kind doing ≡ true) (are : words kind rule' ≡ Some first.args) where
   words_at : (own : Rule) → own ≡ rule' → words kind own ≡ Some first.args
   words_at own e = ap (λ (r : Rule). words kind r) e ∙ are
@@ -244,16 +263,20 @@ module _ (line : CallLine) (rule' : Rule) (kind : CallKind) (payload : Payload) 
       ap (asks kind) (bare_is doing what payload (sym (h payload) ∙ does')) ∙ asked
 
   -- a line of this name has this rule: the call asks by it, and the words that ask first are by it
-  by_rule : {C : Type 0} (name : List ℕ) (own : Rule) (what : Doing) → rule_of (with_name line name) ≡ Some own → ((p : Payload) → doing_by own input.args p ≡ bare what p)
+  by_rule : {C : Type 0} (name : List ℕ) (own : Rule) (what : Doing) → rule_of (with_name line name) ≡ Some own
+      → ((p : Payload) → doing_by own input.args p ≡ bare what p)
       → (asks kind what ≡ true → words kind own ≡ Some first.args → C) → bytes_eq line.name name ≡ true → C
   by_rule name own what named bare' then' h = let e = rule_is name own named h in then' (bare_at own what e bare') (words_at own e)
 
   -- one of these names, each of which shows it
-  one_of : {C : Type 0} (names : List (List ℕ)) → is_one_of line.name names ≡ true → AllByRecursion (λ name. bytes_eq line.name name ≡ true → C) names → C
+  one_of : {C : Type 0} (names : List (List ℕ)) → is_one_of line.name names ≡ true
+      → AllByRecursion (λ name. bytes_eq line.name name ≡ true → C) names → C
   one_of [] h each = cc
-  one_of (name ∷ names) h each = elim (or_cases (bytes_eq line.name name) (is_one_of line.name names) h) [ inl n ↦ each.0 n | inr m ↦ one_of names m each.1 ]
+  one_of (name ∷ names) h each = elim (or_cases (bytes_eq line.name name) (is_one_of line.name names) h)
+      [ inl n ↦ each.0 n | inr m ↦ one_of names m each.1 ]
 
-  family_first : (families : Option FamilyList) → refuses_family families line.name first ≡ true → refuses_family families line.name input ≡ true
+  family_first : (families : Option FamilyList) → refuses_family families line.name first ≡ true
+      → refuses_family families line.name input ≡ true
   unfolding rule_of known_call
   family_first families h =
       let parts = and_parts (bytes_eq line.name (codes "socket")) (option_map_or (λ list. is_refused_family list (low first 0)) families false) h in
@@ -262,74 +285,101 @@ module _ (line : CallLine) (rule' : Rule) (kind : CallKind) (payload : Payload) 
 
   mapping_first : refuses_mapping line.name first ≡ true → refuses_mapping line.name input ≡ true
   unfolding rule_of known_call
-  mapping_first h = by (bytes_eq line.name (codes "mmap")) (is_one_of line.name (codes "mprotect" ∷ codes "pkey_mprotect" ∷ [])) (bytes_eq line.name (codes "shmat")) refl refl refl h
+  mapping_first h = by (bytes_eq line.name (codes "mmap")) (is_one_of line.name (codes "mprotect" ∷ codes "pkey_mprotect" ∷ []))
+      (bytes_eq line.name (codes "shmat")) refl refl refl h
     where
-      protect : (name : List ℕ) → rule_of (with_name line name) ≡ Some (rule.Known known.Protect) → bytes_eq line.name name ≡ true → has_bits (low input 2) 4 ≡ true
-      protect name named = by_rule name (rule.Known known.Protect) (d.Protect (low_word input.args 2)) named (λ p. refl) (kind-Protect kind input.args first.args)
+      protect : (name : List ℕ) → rule_of (with_name line name) ≡ Some (rule.Known known.Protect) → bytes_eq line.name name ≡ true
+          → has_bits (low input 2) 4 ≡ true
+      protect name named = by_rule name (rule.Known known.Protect) (d.Protect (low_word input.args 2)) named (λ p. refl)
+          (kind-Protect kind input.args first.args)
 
-      by : (a b c : Bool) → bytes_eq line.name (codes "mmap") ≡ a → is_one_of line.name (codes "mprotect" ∷ codes "pkey_mprotect" ∷ []) ≡ b → bytes_eq line.name (codes "shmat") ≡ c
+      by : (a b c : Bool) → bytes_eq line.name (codes "mmap") ≡ a
+          → is_one_of line.name (codes "mprotect" ∷ codes "pkey_mprotect" ∷ []) ≡ b → bytes_eq line.name (codes "shmat") ≡ c
           → cond a (has_bits (low first 2) 6) (cond b (has_bits (low first 2) 4) (cond c (has_bits (low first 2) 0x8000) false)) ≡ true
           → cond a (has_bits (low input 2) 6) (cond b (has_bits (low input 2) 4) (cond c (has_bits (low input 2) 0x8000) false)) ≡ true
-      by true b c x y z h = by_rule (codes "mmap") (rule.Known known.Map) (d.Map (low_word input.args 2)) refl (λ p. refl) (kind-Map kind input.args first.args) x
-      by false true c x y z h = one_of (codes "mprotect" ∷ codes "pkey_mprotect" ∷ []) y (protect (codes "mprotect") refl, (protect (codes "pkey_mprotect") refl, tt))
-      by false false true x y z h = by_rule (codes "shmat") (rule.Known known.Attach) (d.Attach (low_word input.args 2)) refl (λ p. refl) (kind-Attach kind input.args first.args) z
+      by true b c x y z h = by_rule (codes "mmap") (rule.Known known.Map) (d.Map (low_word input.args 2)) refl (λ p. refl)
+          (kind-Map kind input.args first.args) x
+      by false true c x y z h = one_of (codes "mprotect" ∷ codes "pkey_mprotect" ∷ []) y
+          (protect (codes "mprotect") refl, (protect (codes "pkey_mprotect") refl, tt))
+      by false false true x y z h = by_rule (codes "shmat") (rule.Known known.Attach) (d.Attach (low_word input.args 2)) refl (λ p. refl)
+          (kind-Attach kind input.args first.args) z
       by false false false x y z h = cc
 
   realtime_first : refuses_policy line.name first ≡ true → refuses_policy line.name input ≡ true
   unfolding rule_of known_call
   realtime_first h =
       let parts = and_parts (bytes_eq line.name (codes "sched_setscheduler")) (not (is_ordinary (low first 1))) h in
-      and_from _ _ parts.0 (by_rule (codes "sched_setscheduler") (rule.Known known.Schedule) (d.Schedule (low_word input.args 1)) refl (λ p. refl) (kind-Schedule kind input.args first.args) parts.0)
+      and_from _ _ parts.0 (by_rule (codes "sched_setscheduler") (rule.Known known.Schedule) (d.Schedule (low_word input.args 1)) refl
+      (λ p. refl) (kind-Schedule kind input.args first.args) parts.0)
 
   personality_first : refuses_personality line.name first ≡ true → refuses_personality line.name input ≡ true
   unfolding rule_of known_call
   personality_first h =
       let parts = and_parts (bytes_eq line.name (codes "personality")) (not (keeps_domain (low first 0))) h in
-      and_from _ _ parts.0 (by_rule (codes "personality") (rule.Known known.Personality) (d.Personality (low_word input.args 0)) refl (λ p. refl) (kind-Personality kind input.args first.args) parts.0)
+      and_from _ _ parts.0 (by_rule (codes "personality") (rule.Known known.Personality) (d.Personality (low_word input.args 0)) refl
+      (λ p. refl) (kind-Personality kind input.args first.args) parts.0)
 
   -- at the name that the line has
-  by_name : (refuses : List ℕ → CallData → Bool) (name : List ℕ) → bytes_eq line.name name ≡ true → (refuses name first ≡ true → refuses name input ≡ true) → refuses line.name first ≡ true → refuses line.name input ≡ true
+  by_name : (refuses : List ℕ → CallData → Bool) (name : List ℕ) → bytes_eq line.name name ≡ true
+      → (refuses name first ≡ true → refuses name input ≡ true) → refuses line.name first ≡ true → refuses line.name input ≡ true
   by_name refuses name h g r =
       let same : line.name ≡ name = (bytes_eq-Decides line.name name).0 h in
       ap (λ n. refuses n input) same ∙ g (ap (λ n. refuses n first) (sym same) ∙ r)
 
-  forbidden_first : (types : NamespaceTypes) → MoreBits input.args first.args → has_forbidden types (low first 0) ≡ true → has_forbidden types (low input 0) ≡ true
+  forbidden_first : (types : NamespaceTypes) → MoreBits input.args first.args → has_forbidden types (low first 0) ≡ true
+      → has_forbidden types (low input 0) ≡ true
   forbidden_first types more h = by (forbidden_types types) h
     where
-      step : (own : NamespaceType) (list : List NamespaceType) → (has_bits (low first 0) (spaces.flag_of own) ≡ true) ⊎ (list_any (λ kind. has_bits (low first 0) (spaces.flag_of kind)) list ≡ true)
-          → (list_any (λ kind. has_bits (low first 0) (spaces.flag_of kind)) list ≡ true → list_any (λ kind. has_bits (low input 0) (spaces.flag_of kind)) list ≡ true)
+      step : (own : NamespaceType) (list : List NamespaceType)
+          → (has_bits (low first 0) (spaces.flag_of own) ≡ true) ⊎
+          (list_any (λ kind. has_bits (low first 0) (spaces.flag_of kind)) list ≡ true)
+          → (list_any (λ kind. has_bits (low first 0) (spaces.flag_of kind)) list ≡ true
+          → list_any (λ kind. has_bits (low input 0) (spaces.flag_of kind)) list ≡ true)
           → list_any (λ kind. has_bits (low input 0) (spaces.flag_of kind)) (own ∷ list) ≡ true
       step own list (inl a) rest = or_left _ _ (more (spaces.flag_of own) a)
       step own list (inr b) rest = or_right _ _ (rest b)
 
-      by : (list : List NamespaceType) → list_any (λ kind. has_bits (low first 0) (spaces.flag_of kind)) list ≡ true → list_any (λ kind. has_bits (low input 0) (spaces.flag_of kind)) list ≡ true
+      by : (list : List NamespaceType) → list_any (λ kind. has_bits (low first 0) (spaces.flag_of kind)) list ≡ true
+          → list_any (λ kind. has_bits (low input 0) (spaces.flag_of kind)) list ≡ true
       by [] h = cc
-      by (own ∷ list) h = step own list (or_cases (has_bits (low first 0) (spaces.flag_of own)) (list_any (λ kind. has_bits (low first 0) (spaces.flag_of kind)) list) h) (by list)
+      by (own ∷ list) h = step own list
+          (or_cases (has_bits (low first 0) (spaces.flag_of own))
+          (list_any (λ kind. has_bits (low first 0) (spaces.flag_of kind)) list) h) (by list)
 
   space_first : (types : NamespaceTypes) → refuses_namespace types line.name first ≡ true → refuses_namespace types line.name input ≡ true
   unfolding rule_of known_call
   space_first types h = by (is_one_of line.name (codes "unshare" ∷ codes "clone" ∷ [])) (bytes_eq line.name (codes "setns")) refl refl h
     where
       unshares : bytes_eq line.name (codes "unshare") ≡ true → refuses_namespace types line.name input ≡ true
-      unshares n = by_name (refuses_namespace types) (codes "unshare") n (forbidden_first types (by_rule (codes "unshare") (rule.Known known.Unshare) (d.Unshare (low_word input.args 0)) refl (λ p. refl) (kind-Unshare kind input.args first.args) n)) h
+      unshares n = by_name (refuses_namespace types) (codes "unshare") n
+          (forbidden_first types
+          (by_rule (codes "unshare") (rule.Known known.Unshare) (d.Unshare (low_word input.args 0)) refl (λ p. refl)
+          (kind-Unshare kind input.args first.args) n)) h
 
       clones : bytes_eq line.name (codes "clone") ≡ true → refuses_namespace types line.name input ≡ true
-      clones n = by_name (refuses_namespace types) (codes "clone") n (forbidden_first types (by_rule (codes "clone") (rule.Known known.Clone) (d.Clone (low_word input.args 0)) refl (λ p. refl) (kind-Clone kind input.args first.args) n)) h
+      clones n = by_name (refuses_namespace types) (codes "clone") n
+          (forbidden_first types
+          (by_rule (codes "clone") (rule.Known known.Clone) (d.Clone (low_word input.args 0)) refl (λ p. refl)
+          (kind-Clone kind input.args first.args) n)) h
 
       by : (a b : Bool) → is_one_of line.name (codes "unshare" ∷ codes "clone" ∷ []) ≡ a → bytes_eq line.name (codes "setns") ≡ b
-          → ((b && low first 1 == 0) || option_map_or (λ at. has_forbidden types (low first at)) (cond a (Some 0) (cond b (Some 1) None)) false) ≡ true → refuses_namespace types line.name input ≡ true
+          → ((b && low first 1 == 0) || option_map_or (λ at. has_forbidden types (low first at))
+          (cond a (Some 0) (cond b (Some 1) None)) false) ≡ true → refuses_namespace types line.name input ≡ true
       by true b x y g = one_of (codes "unshare" ∷ codes "clone" ∷ []) x (unshares, (clones, tt))
-      by false true x y g = absurd (kind-Enter kind first.args (words_at (rule.Known known.Enter) (rule_is (codes "setns") (rule.Known known.Enter) refl y)))
+      by false true x y g = absurd
+          (kind-Enter kind first.args (words_at (rule.Known known.Enter) (rule_is (codes "setns") (rule.Known known.Enter) refl y)))
       by false false x y g = cc
 
   abbrev Suid : List ℕ → Type 0
   Suid name = bytes_eq line.name name ≡ true → refuses_mode line.name input ≡ true
 
   -- a call that sets a mode, by the argument that is the mode
-  sets_mode : (at : Argument) (name : List ℕ) → rule_of (with_name line name) ≡ Some (rule.Known (known.SetMode at)) → refuses_mode name input ≡ sets_id_bit (low_word input.args (place_of at)) → Suid name
+  sets_mode : (at : Argument) (name : List ℕ) → rule_of (with_name line name) ≡ Some (rule.Known (known.SetMode at))
+      → refuses_mode name input ≡ sets_id_bit (low_word input.args (place_of at)) → Suid name
   sets_mode at name named looks n =
       ap (λ name. refuses_mode name input) ((bytes_eq-Decides line.name name).0 n) ∙ looks
-      ∙ by_rule name (rule.Known (known.SetMode at)) (d.SetMode (low_word input.args (place_of at))) named (λ p. refl) (kind-SetMode kind input.args first.args at) n
+      ∙ by_rule name (rule.Known (known.SetMode at)) (d.SetMode (low_word input.args (place_of at))) named (λ p. refl)
+      (kind-SetMode kind input.args first.args at) n
 
   off_left : (a b : Bool) → a ≡ false → (a && b) ≡ true → ⊥
   off_left true b e h = cc
@@ -345,13 +395,22 @@ module _ (line : CallLine) (rule' : Rule) (kind : CallKind) (payload : Payload) 
           let off : sets_id_bit (low first 1) ≡ false = ap sets_id_bit zero' in let on : sets_id_bit (low first 1) ≡ true = r in cc) h
 
       opens : Suid (codes "open")
-      opens n = by_name refuses_mode (codes "open") n (λ r. absurd (off_left (has_bits (low first 1) 0x40) (sets_id_bit (low first 2)) (kind-Open-1 kind first.args (words_at (rule.Known (known.Open argument.Second)) (rule_is (codes "open") (rule.Known (known.Open argument.Second)) refl n))) r)) h
+      opens n = by_name refuses_mode (codes "open") n
+          (λ r. absurd (off_left (has_bits (low first 1) 0x40) (sets_id_bit (low first 2))
+          (kind-Open-1 kind first.args
+          (words_at (rule.Known (known.Open argument.Second)) (rule_is (codes "open") (rule.Known (known.Open argument.Second)) refl n)))
+          r)) h
 
       opens_at : Suid (codes "openat")
-      opens_at n = by_name refuses_mode (codes "openat") n (λ r. absurd (off_left (has_bits (low first 2) 0x40) (sets_id_bit (low first 3)) (kind-Open-2 kind first.args (words_at (rule.Known (known.Open argument.Third)) (rule_is (codes "openat") (rule.Known (known.Open argument.Third)) refl n))) r)) h
+      opens_at n = by_name refuses_mode (codes "openat") n
+          (λ r. absurd (off_left (has_bits (low first 2) 0x40) (sets_id_bit (low first 3))
+          (kind-Open-2 kind first.args
+          (words_at (rule.Known (known.Open argument.Third)) (rule_is (codes "openat") (rule.Known (known.Open argument.Third)) refl n)))
+          r)) h
 
       by : (a b c : Bool) → is_one_of line.name seconds ≡ a → is_one_of line.name thirds ≡ b → bytes_eq line.name (codes "openat") ≡ c
-          → option_map_or (λ at. has_mode line.name first && sets_id_bit (low first at)) (cond a (Some 1) (cond b (Some 2) (cond c (Some 3) None))) false ≡ true → refuses_mode line.name input ≡ true
+          → option_map_or (λ at. has_mode line.name first && sets_id_bit (low first at))
+          (cond a (Some 1) (cond b (Some 2) (cond c (Some 3) None))) false ≡ true → refuses_mode line.name input ≡ true
       by true b c x y z g = one_of seconds x (sets_mode argument.Second (codes "chmod") refl refl, (sets_mode argument.Second (codes "fchmod") refl refl, (sets_mode argument.Second (codes "mkdir") refl refl, (sets_mode argument.Second (codes "mknod") refl refl, (creates, tt)))))
       by false true c x y z g = one_of thirds y (sets_mode argument.Third (codes "fchmodat") refl refl, (sets_mode argument.Third (codes "mkdirat") refl refl, (sets_mode argument.Third (codes "mknodat") refl refl, (opens, tt))))
       by false false true x y z g = opens_at z
@@ -366,18 +425,31 @@ off-97 : (b : Bool) → decision_of (word_of (unless_refused 97 b)) ≡ decision
 off-97 true e = cc
 off-97 false e = refl
 
-carry : (number : ℕ) (x y : Bool) → ((b : Bool) → decision_of (word_of (unless_refused number b)) ≡ decision.Pass → b ≡ false) → (y ≡ true → x ≡ true)
+carry : (number : ℕ) (x y : Bool) → ((b : Bool) → decision_of (word_of (unless_refused number b)) ≡ decision.Pass → b ≡ false)
+    → (y ≡ true → x ≡ true)
     → decision_of (word_of (unless_refused number x)) ≡ decision.Pass → decision_of (word_of (unless_refused number y)) ≡ decision.Pass
 carry number x true off up e = let on = up refl in let no' = off x e in cc
 carry number x false off up e = refl
 
 pub first_passes : FirstPasses
-first_passes filter.Families settings table line r kind p doing input first is does asked are = carry 97 (refuses_family settings.families line.name input) (refuses_family settings.families line.name first) off-97 (family_first line r kind p doing input first is does asked are settings.families)
-first_passes filter.MemoryDenyWriteExecute settings table line r kind p doing input first is does asked are = carry 1 (refuses_mapping line.name input) (refuses_mapping line.name first) off-1 (mapping_first line r kind p doing input first is does asked are)
-first_passes filter.Realtime settings table line r kind p doing input first is does asked are = carry 1 (refuses_policy line.name input) (refuses_policy line.name first) off-1 (realtime_first line r kind p doing input first is does asked are)
-first_passes filter.Suid settings table line r kind p doing input first is does asked are = carry 1 (refuses_mode line.name input) (refuses_mode line.name first) off-1 (suid_first line r kind p doing input first is does asked are)
-first_passes filter.Namespaces settings table line r kind p doing input first is does asked are = carry 1 (refuses_namespace settings.namespaces line.name input) (refuses_namespace settings.namespaces line.name first) off-1 (space_first line r kind p doing input first is does asked are settings.namespaces)
-first_passes filter.Personality settings table line r kind p doing input first is does asked are = carry 1 (refuses_personality line.name input) (refuses_personality line.name first) off-1 (personality_first line r kind p doing input first is does asked are)
+first_passes filter.Families settings table line r kind p doing input first is does asked are =
+    carry 97 (refuses_family settings.families line.name input) (refuses_family settings.families line.name first) off-97
+    (family_first line r kind p doing input first is does asked are settings.families)
+first_passes filter.MemoryDenyWriteExecute settings table line r kind p doing input first is does asked are =
+    carry 1 (refuses_mapping line.name input) (refuses_mapping line.name first) off-1
+    (mapping_first line r kind p doing input first is does asked are)
+first_passes filter.Realtime settings table line r kind p doing input first is does asked are =
+    carry 1 (refuses_policy line.name input) (refuses_policy line.name first) off-1
+    (realtime_first line r kind p doing input first is does asked are)
+first_passes filter.Suid settings table line r kind p doing input first is does asked are =
+    carry 1 (refuses_mode line.name input) (refuses_mode line.name first) off-1
+    (suid_first line r kind p doing input first is does asked are)
+first_passes filter.Namespaces settings table line r kind p doing input first is does asked are =
+    carry 1 (refuses_namespace settings.namespaces line.name input) (refuses_namespace settings.namespaces line.name first) off-1
+    (space_first line r kind p doing input first is does asked are settings.namespaces)
+first_passes filter.Personality settings table line r kind p doing input first is does asked are =
+    carry 1 (refuses_personality line.name input) (refuses_personality line.name first) off-1
+    (personality_first line r kind p doing input first is does asked are)
 first_passes filter.Hostname settings table line r kind p doing input first is does asked are = λ e. e
 first_passes filter.Modules settings table line r kind p doing input first is does asked are = λ e. e
 first_passes filter.Logs settings table line r kind p doing input first is does asked are = λ e. e

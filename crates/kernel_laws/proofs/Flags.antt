@@ -17,7 +17,8 @@ unfolding cut none
 user_flag flags h = by (has flags 28) refl
   where
     common : (b : Bool) → has flags 28 ≡ b → (number : ℕ) → has (cut flags (single 28)) number ≡ (b && (number == 28))
-    common b e number = has_cut flags (single 28) number ∙ ap (λ x. has flags number && x) (has_single 28 number) ∙ by_number (number == 28) refl
+    common b e number = has_cut flags (single 28) number ∙ ap (λ x. has flags number && x) (has_single 28 number)
+        ∙ by_number (number == 28) refl
       where
         by_number : (c : Bool) → (number == 28) ≡ c → (has flags number && c) ≡ (b && c)
         by_number true is = ap (λ n. has flags n && true) (eqb-true number 28 is) ∙ ap (λ x. x && true) e

@@ -1,5 +1,6 @@
 -- The launched world is held, and what a world has that is held is within the bounds.
-use Rattle.std.proofs.Common.{◌≡◌, ℕ, Bool, true, false, List, [], ◌∷◌, Some, ◌⊎◌, inl, inr, refl, ap, ◌∙◌, sym, subst, zero, suc, append-nil, eqb}
+use Rattle.std.proofs.Common.{◌≡◌, ℕ, Bool, true, false, List, [], ◌∷◌, Some, ◌⊎◌, inl, inr, refl, ap, ◌∙◌, sym, subst, zero, suc}
+use Rattle.std.proofs.Common.{append-nil, eqb}
 use Rattle.std.specs.Prelude.{slice_get, not, ◌-◌}
 use Rattle.std.specs.List.{list_any, AllByRecursion}
 use Rattle.std.proofs.lemmas.Bool.{or_cases, eqb-true}
@@ -76,18 +77,21 @@ module _ (launch : Launch) (power : Power) (top : Bounds) (below : Mounts → Ty
   some_ids : (P : Process → Type 0) → (s : SomeLiving P now) → KeepsIds top s.process.creds
   some_ids P s = ids_of (is_newer s.process) top s.process.creds (some_held P s).creds
 
-  among : (id : ℕ) (groups : List ℕ) → AllByRecursion (λ id. top.gid id ≡ true) groups → list_any (λ group. eqb group id) groups ≡ true → top.gid id ≡ true
+  among : (id : ℕ) (groups : List ℕ) → AllByRecursion (λ id. top.gid id ≡ true) groups → list_any (λ group. eqb group id) groups ≡ true
+      → top.gid id ≡ true
   among id [] all e = cc
   among id (group ∷ groups) all e = either (or_cases (eqb group id) (list_any (λ group. eqb group id) groups) e) (among id groups all.1)
     where
-      either : (eqb group id ≡ true) ⊎ (list_any (λ group. eqb group id) groups ≡ true) → (list_any (λ group. eqb group id) groups ≡ true → top.gid id ≡ true) → top.gid id ≡ true
+      either : (eqb group id ≡ true) ⊎ (list_any (λ group. eqb group id) groups ≡ true)
+          → (list_any (λ group. eqb group id) groups ≡ true → top.gid id ≡ true) → top.gid id ≡ true
       either (inl e) more = ap top.gid (sym (eqb-true group id e)) ∙ all.0
       either (inr e) more = more e
 
   pub gid_within : (id : ℕ) → Holds (asking.Gid id) now → top.gid id ≡ true
   gid_within id s = let h = some_ids (λ process. HasGid id process.creds) s in by h.gids.effective h.groups s.has
     where
-      by : top.gid s.process.creds.gids.effective ≡ true → AllByRecursion (λ id. top.gid id ≡ true) s.process.creds.groups → HasGid id s.process.creds → top.gid id ≡ true
+      by : top.gid s.process.creds.gids.effective ≡ true → AllByRecursion (λ id. top.gid id ≡ true) s.process.creds.groups
+          → HasGid id s.process.creds → top.gid id ≡ true
       by own all (inl e) = ap top.gid (sym e) ∙ own
       by own all (inr e) = among id s.process.creds.groups all e
 
@@ -107,7 +111,8 @@ abbrev pub AllHeld : Launch → (Mounts → Type 0) → World → Type 0
 AllHeld launch below world = AreHeld launch (power_of launch) (ceiling launch) below world
 
 pub launched_held : (world : World) (below : Mounts → Type 0) → IsLaunchedWorld world → AllHeld (launch_of world) below world
-launched_held world below s = start_held world s (lets (launch_of world) TakesUid) (lets (launch_of world) TakesGid) (power_of (launch_of world)) below
+launched_held world below s = start_held world s (lets (launch_of world) TakesUid) (lets (launch_of world) TakesGid)
+    (power_of (launch_of world)) below
 
 module _ (launch : Launch) (l : IsLaunched launch) (below : Mounts → Type 0) (stable : IsStable launch (power_of launch) below) where
   closed : IsClosed launch (lets launch TakesUid) (lets launch TakesGid) (power_of launch) (ceiling launch)

@@ -5,10 +5,13 @@ use Rattle.std.proofs.lemmas.Bool.{and_parts, not-false}
 use Rattle.kernel_model.specs.cap_sets.Sets.{has, union, single, IsWithin}
 use Rattle.kernel_model.specs.kern_creds.declared.creds.Creds.{Creds}
 use Rattle.kernel_model.specs.kern_creds.Capset.{may_capset, with_sets, after_capset}
-use Rattle.kernel_model.specs.kern_creds.Prctl.{after_drop_bounding, after_raise, after_lower, after_clear_ambient, after_set_keepcaps, after_set_no_new_privs}
+use Rattle.kernel_model.specs.kern_creds.Prctl.{after_drop_bounding, after_raise, after_lower, after_clear_ambient, after_set_keepcaps}
+use Rattle.kernel_model.specs.kern_creds.Prctl.{after_set_no_new_privs}
 use Rattle.kernel_model.proofs.KernCreds.Answers.{Leaves, left_err, left_ok, left_if}
 use Rattle.kernel_laws.specs.Bounds.{Bounds, Keeps}
-use Rattle.kernel_model.proofs.Caps.Members.{within_self, within_through, none_within, cut_within_left, cut_within_right, within_cut, union_within, within_union_left, within_union_right, minus_within, single_within, IsWithin-from_within}
+use Rattle.kernel_model.proofs.Caps.Members.{within_self, within_through, none_within, cut_within_left, cut_within_right, within_cut}
+use Rattle.kernel_model.proofs.Caps.Members.{union_within, within_union_left, within_union_right, minus_within, single_within}
+use Rattle.kernel_model.proofs.Caps.Members.{IsWithin-from_within}
 
 pub cond_within : (b : Bool) (x y a : ℕ) → IsWithin x a → IsWithin y a → IsWithin (cond b x y) a
 cond_within true x y a p q = p
@@ -53,7 +56,8 @@ module _ (top : Bounds) (creds : Creds) (k : Keeps top creds) where
   pub kept-raise : (cap' : ℕ) → Leaves (Keeps top) (after_raise creds cap')
   kept-raise cap' = search (rules, left_if, left_err, left_ok, union_within, raised_left, raised_right)
 
-  pub kept-capset : (p e i : ℕ) → IsWithin top.permitted top.effective → IsWithin top.bounding top.inheritable → Leaves (Keeps top) (after_capset creds p e i)
+  pub kept-capset : (p e i : ℕ) → IsWithin top.permitted top.effective → IsWithin top.bounding top.inheritable
+      → Leaves (Keeps top) (after_capset creds p e i)
   kept-capset p e i pe bi =
       left_if (Keeps top) (may_capset creds p e i) (Ok (with_sets creds p e i)) (Err 1) (λ ok.
       let facts = may_capset-true creds p e i ok in

@@ -6,9 +6,11 @@ use Rattle.kernel_model.specs.cap_sets.Sets.{none, union, cut, IsWithin}
 use Rattle.kernel_model.specs.kern_creds.declared.ids.Ids.{Ids}
 use Rattle.kernel_model.specs.kern_creds.declared.creds.Creds.{Creds}
 use Rattle.kernel_model.specs.kern_creds.declared.file.FileCreds.{FileCreds}
-use Rattle.kernel_model.specs.kern_creds.Exec.{honours, is_privileged, exec_ids, exec_ambient, exec_gains, exec_permitted, exec_done, is_refused, after_exec}
+use Rattle.kernel_model.specs.kern_creds.Exec.{honours, is_privileged, exec_ids, exec_ambient, exec_gains, exec_permitted, exec_done}
+use Rattle.kernel_model.specs.kern_creds.Exec.{is_refused, after_exec}
 use Rattle.kernel_laws.specs.Bounds.{Bounds, Keeps, IsIdsWithin, IsSettled, Admits}
-use Rattle.kernel_model.proofs.Caps.Members.{none_within, within_self, within_through, cut_within_left, cut_within_right, within_cut, union_within, within_union_left, within_union_right}
+use Rattle.kernel_model.proofs.Caps.Members.{none_within, within_self, within_through, cut_within_left, cut_within_right, within_cut}
+use Rattle.kernel_model.proofs.Caps.Members.{union_within, within_union_left, within_union_right}
 use Rattle.kernel_model.proofs.KernCreds.Answers.{Leaves, left_if, left_ok, left_err}
 use Rattle.kernel_laws.proofs.Kept.{cond_within}
 use Rattle.kernel_laws.proofs.KeptIds.{at_zero}
@@ -27,7 +29,8 @@ root_of ok ids w e = let p = w.real in let q = w.effective in grind (arith, nat_
 pub off : (x y : Bool) → (x ≡ true → y ≡ true) → y ≡ false → x ≡ false
 off x y h e = grind arith
 
-owned : (ok : ℕ → Bool) (b : Bool) (ids : Ids) (owner : Option ℕ) → IsIdsWithin ids ok → (b ≡ true → (id : ℕ) → owner ≡ Some id → ok id ≡ true) → IsIdsWithin (exec_ids b ids owner) ok
+owned : (ok : ℕ → Bool) (b : Bool) (ids : Ids) (owner : Option ℕ) → IsIdsWithin ids ok
+    → (b ≡ true → (id : ℕ) → owner ≡ Some id → ok id ≡ true) → IsIdsWithin (exec_ids b ids owner) ok
 owned ok true ids None w h = search rules
 owned ok true ids (Some id) w h = let own = h refl id refl in search rules
 owned ok false ids owner w h = search rules
@@ -50,7 +53,10 @@ module _ (top : Bounds) (creds : Creds) (file : FileCreds) (nosuid : Bool) (k : 
   amb_before c w = within_if (honours creds nosuid && is_privileged file) none creds.ambient c (λ e. none_within c) (λ e. w)
 
   amb_top : IsWithin amb top.effective
-  amb_top = amb_before top.effective (within_through _ _ _ (within_cut _ _ _ (within_through _ _ _ k.ambient_permitted k.permitted) (within_through _ _ _ k.ambient_inheritable k.inheritable)) s.ambient)
+  amb_top = amb_before top.effective
+      (within_through _ _ _
+      (within_cut _ _ _ (within_through _ _ _ k.ambient_permitted k.permitted) (within_through _ _ _ k.ambient_inheritable k.inheritable))
+      s.ambient)
 
   uids_in : IsIdsWithin uids top.uid
   uids_in = owned top.uid (honours creds nosuid) creds.uids file.setuid k.uids (λ h. (a h).owner)
@@ -59,27 +65,32 @@ module _ (top : Bounds) (creds : Creds) (file : FileCreds) (nosuid : Bool) (k : 
   inh_top = within_through _ _ _ k.inheritable s.inheritable
 
   root_gains : creds.no_new_privs ≡ false → top.uid 0 ≡ true → IsWithin (union creds.inheritable creds.bounding) top.permitted
-  root_gains n z = within_through _ _ _ (union_within _ _ _ inh_top k.bounding) (s.root_permitted z (off top.no_new_privs creds.no_new_privs k.no_new_privs n))
+  root_gains n z = within_through _ _ _ (union_within _ _ _ inh_top k.bounding)
+      (s.root_permitted z (off top.no_new_privs creds.no_new_privs k.no_new_privs n))
 
   gains_top : creds.no_new_privs ≡ false → IsWithin gains top.permitted
   gains_top n = within_if (eqb uids.real 0 || eqb uids.effective 0) _ _ top.permitted
       (λ z. root_gains n (root_of top.uid uids uids_in z))
       λ z. within_if (honours creds nosuid) (union (cut file.caps creds.bounding) amb) amb top.permitted
-      (λ h. union_within _ _ _ (within_through _ _ _ (within_cut _ _ _ (cut_within_left _ _ _ (within_self _)) (cut_within_right _ _ _ k.bounding)) (a h).permitted) amb_perm)
+      (λ h. union_within _ _ _ (within_through _ _ _
+      (within_cut _ _ _ (cut_within_left _ _ _ (within_self _)) (cut_within_right _ _ _ k.bounding)) (a h).permitted) amb_perm)
       (λ h. amb_perm)
     where
       amb_perm : IsWithin amb top.permitted
       amb_perm = amb_before top.permitted (within_through _ _ _ k.ambient_permitted k.permitted)
 
   permitted_top : IsWithin permitted top.permitted
-  permitted_top = within_if creds.no_new_privs (cut gains creds.permitted) gains top.permitted (λ n. cut_within_right _ _ _ k.permitted) gains_top
+  permitted_top = within_if creds.no_new_privs (cut gains creds.permitted) gains top.permitted
+      (λ n. cut_within_right _ _ _ k.permitted) gains_top
 
   amb_gains : IsWithin amb gains
   amb_gains = above_if (eqb uids.real 0 || eqb uids.effective 0) _ _ amb (λ z. within_union_left _ _ _ (amb_before _ k.ambient_inheritable))
-      λ z. above_if (honours creds nosuid) (union (cut file.caps creds.bounding) amb) amb amb (λ h. within_union_right _ _ _ (within_self amb)) (λ h. within_self amb)
+      λ z. above_if (honours creds nosuid) (union (cut file.caps creds.bounding) amb) amb amb
+      (λ h. within_union_right _ _ _ (within_self amb)) (λ h. within_self amb)
 
   amb_permitted : IsWithin amb permitted
-  amb_permitted = above_if creds.no_new_privs (cut gains creds.permitted) gains amb (λ n. within_cut _ _ _ amb_gains (amb_before _ k.ambient_permitted)) (λ n. amb_gains)
+  amb_permitted = above_if creds.no_new_privs (cut gains creds.permitted) gains amb
+      (λ n. within_cut _ _ _ amb_gains (amb_before _ k.ambient_permitted)) (λ n. amb_gains)
 
   privs_off : honours creds nosuid ≡ true → creds.no_new_privs ≡ false
   privs_off h = grind arith
@@ -91,14 +102,17 @@ module _ (top : Bounds) (creds : Creds) (file : FileCreds) (nosuid : Bool) (k : 
   gains_bit h e = within_if (eqb uids.real 0 || eqb uids.effective 0) _ _ top.effective
       (λ z. let zero = root_of top.uid uids uids_in z in within_through _ _ _ (root_gains (privs_off h) zero) (s.root_effective zero))
       λ z. within_if (honours creds nosuid) (union (cut file.caps creds.bounding) amb) amb top.effective
-      (λ h. union_within _ _ _ (within_through _ _ _ (within_cut _ _ _ (cut_within_left _ _ _ (within_self _)) (cut_within_right _ _ _ k.bounding)) ((a h).effective e)) amb_top)
+      (λ h. union_within _ _ _ (within_through _ _ _
+      (within_cut _ _ _ (cut_within_left _ _ _ (within_self _)) (cut_within_right _ _ _ k.bounding)) ((a h).effective e)) amb_top)
       (λ h. amb_top)
 
   -- the effective bit is honoured
   bit_top : honours creds nosuid ≡ true → file.effective ≡ true → IsWithin permitted top.effective
-  bit_top h e = within_if creds.no_new_privs (cut gains creds.permitted) gains top.effective (λ n. cut_within_left _ _ _ (gains_bit h e)) (λ n. gains_bit h e)
+  bit_top h e = within_if creds.no_new_privs (cut gains creds.permitted) gains top.effective (λ n. cut_within_left _ _ _ (gains_bit h e))
+      (λ n. gains_bit h e)
 
-  raised_top : (b c d : Bool) → (b ≡ true → top.uid 0 ≡ true) → (c ≡ true → honours creds nosuid ≡ true) → (d ≡ true → file.effective ≡ true) → (b || (c && d)) ≡ true → IsWithin permitted top.effective
+  raised_top : (b c d : Bool) → (b ≡ true → top.uid 0 ≡ true) → (c ≡ true → honours creds nosuid ≡ true)
+      → (d ≡ true → file.effective ≡ true) → (b || (c && d)) ≡ true → IsWithin permitted top.effective
   raised_top true c d p q r e = root_top (p refl)
   raised_top false true true p q r e = bit_top (q refl) (r refl)
   raised_top false true false p q r e = cc
@@ -111,7 +125,8 @@ module _ (top : Bounds) (creds : Creds) (file : FileCreds) (nosuid : Bool) (k : 
     inheritable = k.inheritable;
     permitted = permitted_top;
     effective = within_if (eqb uids.effective 0 || (honours creds nosuid && file.effective)) permitted amb top.effective
-        (raised_top (eqb uids.effective 0) (honours creds nosuid) file.effective (at_zero top.uid uids.effective uids_in.effective) (λ e. e) (λ e. e)) (λ e. amb_top);
+        (raised_top (eqb uids.effective 0) (honours creds nosuid) file.effective (at_zero top.uid uids.effective uids_in.effective)
+        (λ e. e) (λ e. e)) (λ e. amb_top);
     effective_permitted = cond_within _ _ _ _ (within_self permitted) amb_permitted;
     ambient_permitted = amb_permitted;
     ambient_inheritable = amb_before _ k.ambient_inheritable;

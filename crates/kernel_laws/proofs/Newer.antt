@@ -7,7 +7,8 @@ use Rattle.kernel_model.specs.kern_creds.declared.file.FileCreds.{FileCreds}
 use Rattle.kernel_model.specs.kern_creds.Capset.{may_capset, with_sets, after_capset}
 use Rattle.kernel_model.specs.kern_creds.Enter.{entered}
 use Rattle.kernel_model.specs.kern_creds.Exec.{is_refused, exec_done_in, exec_in}
-use Rattle.kernel_model.specs.kern_creds.Prctl.{after_drop_bounding, after_raise, after_lower, after_clear_ambient, after_set_keepcaps, after_set_no_new_privs}
+use Rattle.kernel_model.specs.kern_creds.Prctl.{after_drop_bounding, after_raise, after_lower, after_clear_ambient, after_set_keepcaps}
+use Rattle.kernel_model.specs.kern_creds.Prctl.{after_set_no_new_privs}
 use Rattle.kernel_model.proofs.KernCreds.Answers.{Leaves, left_err, left_ok, left_if}
 use Rattle.kernel_laws.specs.Bounds.{Bounds, Keeps, KeepsIds, KeepsIn}
 
@@ -40,11 +41,13 @@ module _ (top : Bounds) (creds : Creds) (k : KeepsIds top creds) where
 
   pub ids-capset : (p e i : ℕ) → Leaves (KeepsIds top) (after_capset creds p e i)
   ids-capset p e i = left_if (KeepsIds top) (may_capset creds p e i) (Ok (with_sets creds p e i)) (Err 1)
-      (λ h. left_ok (KeepsIds top) (with_sets creds p e i) (record { no_new_privs = k.no_new_privs; uids = k.uids; gids = k.gids; groups = k.groups })) (λ h. left_err (KeepsIds top) 1)
+      (λ h. left_ok (KeepsIds top) (with_sets creds p e i)
+      (record { no_new_privs = k.no_new_privs; uids = k.uids; gids = k.gids; groups = k.groups })) (λ h. left_err (KeepsIds top) 1)
 
   -- the effective ids stay, and the saved ones become these
   pub ids-exec : (file : FileCreds) (nosuid : Bool) → Leaves (KeepsIds top) (exec_in true creds file nosuid)
-  ids-exec file nosuid = left_if (KeepsIds top) (is_refused creds file nosuid) (Err 1) (Ok (exec_done_in true creds file nosuid)) (λ h. left_err (KeepsIds top) 1)
+  ids-exec file nosuid = left_if (KeepsIds top) (is_refused creds file nosuid) (Err 1) (Ok (exec_done_in true creds file nosuid))
+      (λ h. left_err (KeepsIds top) 1)
       (λ h. left_ok (KeepsIds top) (exec_done_in true creds file nosuid) (record {
         no_new_privs = k.no_new_privs;
         uids = record { real = k.uids.real; effective = k.uids.effective; saved = k.uids.effective };

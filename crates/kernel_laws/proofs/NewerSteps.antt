@@ -11,7 +11,8 @@ use Rattle.kernel_model.specs.site_table.declared.row.Row.{Row}
 use Rattle.kernel_model.specs.site_table.Table.{row_at}
 use Rattle.filter_settings.specs.linux_numbers.Limits.{no_id}
 use Rattle.kernel_model.specs.kern_creds.declared.creds.Creds.{Creds}
-use Rattle.kernel_model.specs.kern_creds.Prctl.{after_drop_bounding, after_raise, after_lower, after_clear_ambient, after_set_keepcaps, after_set_no_new_privs}
+use Rattle.kernel_model.specs.kern_creds.Prctl.{after_drop_bounding, after_raise, after_lower, after_clear_ambient, after_set_keepcaps}
+use Rattle.kernel_model.specs.kern_creds.Prctl.{after_set_no_new_privs}
 use Rattle.kernel_model.proofs.KernCreds.Answers.{Leaves}
 use Rattle.kernel_model.specs.kern_mounts.Finds.{Found, finds}
 use Rattle.kernel_model.specs.kern_mounts.Mounts.{Mounts as Table, steps_of}
@@ -22,7 +23,10 @@ use Rattle.kernel_model.specs.kern_files.MountsCall.{mounts_after_mount, mounts_
 use Rattle.kernel_model.specs.declared.kern_files.program.Program.{Program}
 use Rattle.kernel_model.specs.kernel_calls.Doing as d
 use Rattle.kernel_model.specs.kernel_calls.Doing.{Doing}
-use Rattle.kernel_model.specs.Effects.{Effect, Refuse, Answer, SetCreds, Push, Child, OwnTable, UserChild, OwnUser, Caller, effect_of, looks, creds_effect, table_effect, first_alone, with_cap_of, with_admin, with_own, socket_effect, socketcall_effect, clone_effect, unshare_effect, ambient_effect, prctl_effect, push_effect, seccomp_effect, newuser, other_spaces, newns}
+use Rattle.kernel_model.specs.Effects.{Effect, Refuse, Answer, SetCreds, Push, Child, OwnTable, UserChild, OwnUser, Caller, effect_of}
+use Rattle.kernel_model.specs.Effects.{looks, creds_effect, table_effect, first_alone, with_cap_of, with_admin, with_own, socket_effect}
+use Rattle.kernel_model.specs.Effects.{socketcall_effect, clone_effect, unshare_effect, ambient_effect, prctl_effect, push_effect}
+use Rattle.kernel_model.specs.Effects.{seccomp_effect, newuser, other_spaces, newns}
 use Rattle.kernel_laws.specs.Bounds.{Bounds, KeepsIds}
 use Rattle.kernel_laws.specs.Ceiling.{TableIn, IsStable, IsSafe}
 use Rattle.kernel_laws.specs.Kinds.{asks}
@@ -32,7 +36,8 @@ use Rattle.filter_settings.specs.declared.filter_rules.namespace_types.Namespace
 use Rattle.kernel_laws.specs.declared.question_types.power.Power.{Power}
 use Rattle.kernel_laws.specs.declared.question_types.kind.CallKind.TheVariants as k
 use Rattle.kernel_laws.proofs.Flags.{user_flag}
-use Rattle.kernel_laws.proofs.Newer.{ids-clear_ambient, ids-no_new_privs, ids-keepcaps, ids-lower, ids-drop_bounding, ids-raise, ids-capset, ids-exec}
+use Rattle.kernel_laws.proofs.Newer.{ids-clear_ambient, ids-no_new_privs, ids-keepcaps, ids-lower, ids-drop_bounding, ids-raise, ids-capset}
+use Rattle.kernel_laws.proofs.Newer.{ids-exec}
 
 module _ (launch : Launch) (power : Power) (top : Bounds) (below : Table → Type 0) (stable : IsStable launch power below) (ours : Bool) where
   abbrev Safe : Effect → Type 0
@@ -63,7 +68,8 @@ module _ (launch : Launch) (power : Power) (top : Bounds) (below : Table → Typ
 
   safe_socketcall : (creds : Creds) (operation : ℕ) (line : Option CallLine) → Safe (socketcall_effect true creds operation line)
   safe_socketcall creds operation line =
-      safe_if (eqb operation 1) (socket_effect true creds line) _ (λ e. safe_socket creds line) λ e. safe_if (nat_le 2 operation && nat_le operation 20) (Answer 0) (Refuse 22) (λ e. tt) (λ e. tt)
+      safe_if (eqb operation 1) (socket_effect true creds line) _ (λ e. safe_socket creds line) λ e. safe_if
+      (nat_le 2 operation && nat_le operation 20) (Answer 0) (Refuse 22) (λ e. tt) (λ e. tt)
 
   safe_exec : (creds : Creds) (answer : Result Program ℕ) → KeepsIds top creds → Safe (creds_effect (executed_in true creds answer))
   safe_exec creds (Err errno) held = tt
@@ -72,18 +78,23 @@ module _ (launch : Launch) (power : Power) (top : Bounds) (below : Table → Typ
   module _ (creds : Creds) (flags : ℕ) (user : has_all newuser flags ≡ true → lets launch (k.ForNamespace User) ≡ true) where
     safe_clone : Safe (clone_effect creds flags)
     safe_clone =
-        safe_if (has_some 0x1_0000 flags) (Refuse 22) _ (λ e. tt) λ e. safe_if (has_some newuser flags) (UserChild (has_some newns flags)) _ (λ e. user (user_flag flags e)) λ e.
-        safe_if (has_some other_spaces flags) (with_admin creds (Child (has_some newns flags))) (Child false) (λ e. safe_admin creds (Child (has_some newns flags)) tt) (λ e. tt)
+        safe_if (has_some 0x1_0000 flags) (Refuse 22) _ (λ e. tt) λ e. safe_if (has_some newuser flags)
+        (UserChild (has_some newns flags)) _ (λ e. user (user_flag flags e)) λ e.
+        safe_if (has_some other_spaces flags) (with_admin creds (Child (has_some newns flags))) (Child false)
+        (λ e. safe_admin creds (Child (has_some newns flags)) tt) (λ e. tt)
 
     safe_unshare : Safe (unshare_effect creds flags)
     safe_unshare =
-        safe_if (has_some 0x81fd_ffff flags) (Refuse 22) _ (λ e. tt) λ e. safe_if (has_some newuser flags) (OwnUser (has_some newns flags)) _ (λ e. user (user_flag flags e)) λ e.
+        safe_if (has_some 0x81fd_ffff flags) (Refuse 22) _ (λ e. tt) λ e. safe_if (has_some newuser flags)
+        (OwnUser (has_some newns flags)) _ (λ e. user (user_flag flags e)) λ e.
         safe_if (has_some other_spaces flags) (with_admin creds (cond (has_some newns flags) OwnTable (Answer 0))) (Answer 0)
-        (λ e. safe_admin creds (cond (has_some newns flags) OwnTable (Answer 0)) (safe_if (has_some newns flags) OwnTable (Answer 0) (λ e. tt) (λ e. tt))) (λ e. tt)
+        (λ e. safe_admin creds (cond (has_some newns flags) OwnTable (Answer 0))
+        (safe_if (has_some newns flags) OwnTable (Answer 0) (λ e. tt) (λ e. tt))) (λ e. tt)
 
   safe_ambient : (creds : Creds) (operation cap' : ℕ) → KeepsIds top creds → Safe (ambient_effect creds operation cap')
   safe_ambient creds operation cap' held =
-      safe_if (eqb operation 1) (cond (nat_lt 40 cap') (Refuse 22) (Answer (cond (has creds.ambient cap') 1 0))) _ (λ e. safe_if (nat_lt 40 cap') (Refuse 22) (Answer (cond (has creds.ambient cap') 1 0)) (λ e. tt) (λ e. tt)) λ e.
+      safe_if (eqb operation 1) (cond (nat_lt 40 cap') (Refuse 22) (Answer (cond (has creds.ambient cap') 1 0))) _
+      (λ e. safe_if (nat_lt 40 cap') (Refuse 22) (Answer (cond (has creds.ambient cap') 1 0)) (λ e. tt) (λ e. tt)) λ e.
       safe_if (eqb operation 2) (creds_effect (after_raise creds cap')) _ (λ e. safe_creds _ (ids-raise top creds held cap')) λ e.
       safe_if (eqb operation 3) (creds_effect (after_lower creds cap')) _ (λ e. safe_creds _ (ids-lower top creds held cap')) λ e.
       safe_if (eqb operation 4) (SetCreds (after_clear_ambient creds)) (Refuse 22) (λ e. ids-clear_ambient top creds held) (λ e. tt)
@@ -91,25 +102,33 @@ module _ (launch : Launch) (power : Power) (top : Bounds) (below : Table → Typ
   safe_prctl : (creds : Creds) (option value third : ℕ) → KeepsIds top creds → Safe (prctl_effect creds option value third)
   safe_prctl creds option value third held =
       safe_if (eqb option 38) (cond (eqb value 1) (SetCreds (after_set_no_new_privs creds)) (Refuse 22)) _
-      (λ e. safe_if (eqb value 1) (SetCreds (after_set_no_new_privs creds)) (Refuse 22) (λ e. ids-no_new_privs top creds held) (λ e. tt)) λ e.
+      (λ e. safe_if (eqb value 1) (SetCreds (after_set_no_new_privs creds)) (Refuse 22) (λ e. ids-no_new_privs top creds held) (λ e. tt))
+      λ e.
       safe_if (eqb option 39) (Answer (cond creds.no_new_privs 1 0)) _ (λ e. tt) λ e.
       safe_if (eqb option 8) (cond (nat_lt value 2) (SetCreds (after_set_keepcaps creds (eqb value 1))) (Refuse 22)) _
-      (λ e. safe_if (nat_lt value 2) (SetCreds (after_set_keepcaps creds (eqb value 1))) (Refuse 22) (λ e. ids-keepcaps top creds held (eqb value 1)) (λ e. tt)) λ e.
-      safe_if (eqb option 24) (creds_effect (after_drop_bounding creds value)) _ (λ e. safe_creds _ (ids-drop_bounding top creds held value)) λ e.
+      (λ e. safe_if (nat_lt value 2) (SetCreds (after_set_keepcaps creds (eqb value 1))) (Refuse 22)
+      (λ e. ids-keepcaps top creds held (eqb value 1)) (λ e. tt)) λ e.
+      safe_if (eqb option 24) (creds_effect (after_drop_bounding creds value)) _
+      (λ e. safe_creds _ (ids-drop_bounding top creds held value)) λ e.
       safe_if (eqb option 47) (ambient_effect creds value third) (Refuse 22) (λ e. safe_ambient creds value third held) (λ e. tt)
 
   safe_push : (stack : List (List Insn)) (program : Option (List Insn)) → Safe (push_effect stack program)
   safe_push stack None = tt
   safe_push stack (Some program) = safe_if (nat_le (room_of stack + length program) 32768) (Push program) (Refuse 12) (λ e. tt) (λ e. tt)
 
-  safe_seccomp : (creds : Creds) (stack : List (List Insn)) (operation flags : ℕ) (bytes : List ℕ) → Safe (seccomp_effect creds stack operation flags bytes)
+  safe_seccomp : (creds : Creds) (stack : List (List Insn)) (operation flags : ℕ) (bytes : List ℕ)
+      → Safe (seccomp_effect creds stack operation flags bytes)
   safe_seccomp creds stack operation flags bytes =
-      safe_if (not (eqb operation 1 && eqb flags 0)) (Refuse 22) _ (λ e. tt) λ e. safe_if (not (creds.no_new_privs || has creds.effective 21)) (Refuse 13) (push_effect stack (program_of bytes)) (λ e. tt) (λ e. safe_push stack _)
+      safe_if (not (eqb operation 1 && eqb flags 0)) (Refuse 22) _ (λ e. tt) λ e. safe_if
+      (not (creds.no_new_privs || has creds.effective 21)) (Refuse 13) (push_effect stack (program_of bytes)) (λ e. tt)
+      (λ e. safe_push stack _)
 
   safe_ids : (real effective saved : ℕ) → Safe (cond ((eqb real no_id && eqb effective no_id) && eqb saved no_id) (Answer 0) (Refuse 22))
-  safe_ids real effective saved = safe_if ((eqb real no_id && eqb effective no_id) && eqb saved no_id) (Answer 0) (Refuse 22) (λ e. tt) (λ e. tt)
+  safe_ids real effective saved = safe_if ((eqb real no_id && eqb effective no_id) && eqb saved no_id) (Answer 0) (Refuse 22) (λ e. tt)
+      (λ e. tt)
 
-  safe_table : (answer : Result Table ℕ) → ((table : Table) → answer ≡ Ok table → TableIn ours launch power below table) → Safe (table_effect answer)
+  safe_table : (answer : Result Table ℕ) → ((table : Table) → answer ≡ Ok table → TableIn ours launch power below table)
+      → Safe (table_effect answer)
   safe_table (Ok table) h = h table refl
   safe_table (Err errno) h = tt
 
@@ -121,15 +140,19 @@ module _ (launch : Launch) (power : Power) (top : Bounds) (below : Table → Typ
     is_in : owns ≡ true → (now : Table) → below now → TableIn ours launch power below now
     is_in e now h = let P : Bool → Type 0 = λ b. TableIn b launch power below now in subst P (sym (apart e)) h
 
-    safe_mount : (creds : Creds) (source target : Path) (flags : ℕ) → Safe (with_own owns (with_admin creds (table_effect (mounts_after_mount (row_at launch.site.rows) table source target flags))))
+    safe_mount : (creds : Creds) (source target : Path) (flags : ℕ)
+        → Safe (with_own owns (with_admin creds (table_effect (mounts_after_mount (row_at launch.site.rows) table source target flags))))
     safe_mount creds source target flags =
         safe_if owns (with_admin creds (table_effect (mounts_after_mount (row_at launch.site.rows) table source target flags))) (Refuse 1)
-        (λ e. safe_admin creds (table_effect (mounts_after_mount (row_at launch.site.rows) table source target flags)) (safe_table _ (λ now g. is_in e now (stable.mounts table now source target flags (is_below e) g)))) (λ e. tt)
+        (λ e. safe_admin creds (table_effect (mounts_after_mount (row_at launch.site.rows) table source target flags))
+        (safe_table _ (λ now g. is_in e now (stable.mounts table now source target flags (is_below e) g)))) (λ e. tt)
 
-    safe_umount : (creds : Creds) (path : Path) (flags : ℕ) → Safe (with_own owns (with_admin creds (table_effect (mounts_umount_answer table path flags))))
+    safe_umount : (creds : Creds) (path : Path) (flags : ℕ) → Safe
+        (with_own owns (with_admin creds (table_effect (mounts_umount_answer table path flags))))
     safe_umount creds path flags =
         safe_if owns (with_admin creds (table_effect (mounts_umount_answer table path flags))) (Refuse 1)
-        (λ e. safe_admin creds (table_effect (mounts_umount_answer table path flags)) (safe_table _ (λ now g. is_in e now (stable.unmounts table now path flags (is_below e) g)))) (λ e. tt)
+        (λ e. safe_admin creds (table_effect (mounts_umount_answer table path flags))
+        (safe_table _ (λ now g. is_in e now (stable.unmounts table now path flags (is_below e) g)))) (λ e. tt)
 
     -- the kinds that a call asks for are let through
     abbrev Through : Doing → Type 0
@@ -138,13 +161,15 @@ module _ (launch : Launch) (power : Power) (top : Bounds) (below : Table → Typ
     abbrev pub newer_caller : Creds → List (List Insn) → Caller
     newer_caller creds stack = record { creds = creds; stack = stack; table = table; newer = true; owns = owns }
 
-    pub safe_newer : (families : List CallLine) (creds : Creds) (stack : List (List Insn)) (doing : Doing) → KeepsIds top creds → Through doing
+    pub safe_newer : (families : List CallLine) (creds : Creds) (stack : List (List Insn)) (doing : Doing) → KeepsIds top creds
+        → Through doing
         → Safe (effect_of (record { rows = row_at launch.site.rows; families = families }) (newer_caller creds stack) doing)
     safe_newer families creds stack (d.See path) held p = safe_looks _
     safe_newer families creds stack (d.Open flags path) held p = safe_looks _
     safe_newer families creds stack (d.Create path) held p = safe_looks _
     safe_newer families creds stack (d.Truncate path) held p = safe_looks _
-    safe_newer families creds stack (d.Execve path) held p = safe_exec creds (program_answer (flags_at (steps_of table) path) (finds (row_at launch.site.rows) (steps_of table) path)) held
+    safe_newer families creds stack (d.Execve path) held p =
+        safe_exec creds (program_answer (flags_at (steps_of table) path) (finds (row_at launch.site.rows) (steps_of table) path)) held
     safe_newer families creds stack (d.SetMode mode) held p = tt
     safe_newer families creds stack (d.Map protection) held p = tt
     safe_newer families creds stack (d.Protect protection) held p = tt
@@ -165,7 +190,8 @@ module _ (launch : Launch) (power : Power) (top : Bounds) (below : Table → Typ
     safe_newer families creds stack (d.Setresuid real effective saved) held p = safe_ids real effective saved
     safe_newer families creds stack (d.Setresgid real effective saved) held p = safe_ids real effective saved
     safe_newer families creds stack (d.Setgroups ids) held p = tt
-    safe_newer families creds stack (d.Capset permitted effective inheritable) held p = safe_creds _ (ids-capset top creds held permitted effective inheritable)
+    safe_newer families creds stack (d.Capset permitted effective inheritable) held p =
+        safe_creds _ (ids-capset top creds held permitted effective inheritable)
     safe_newer families creds stack (d.Prctl option value third) held p = safe_prctl creds option value third held
     safe_newer families creds stack (d.Seccomp operation flags bytes) held p = safe_seccomp creds stack operation flags bytes
     safe_newer families creds stack (d.Plain cap') held p = safe_alone cap' creds 0

@@ -42,7 +42,8 @@ first_copies Nowise launched table ordered same =
     subst P (sym same) (backed_first (shown_by Nowise launched) launched ordered (table_shows false launched))
 first_copies Unmounting launched table ordered part =
     let p = trimmed_part part in
-    backed_first (shown_by Unmounting launched) table (part_ordered p ordered) (shown_more (shows_from true table) (shows_from true launched) (part_shows p) table (table_shows true table))
+    backed_first (shown_by Unmounting launched) table (part_ordered p ordered)
+    (shown_more (shows_from true table) (shows_from true launched) (part_shows p) table (table_shows true table))
 first_copies Mounting launched table ordered any = tt
 
 pub calls_keep : CallsKeep
@@ -51,21 +52,27 @@ calls_keep Unmounting launched mounts last h calls = changes_backed (shown_by Un
 calls_keep Mounting launched mounts last h calls = tt
 
 -- what an entry shows at a path that belongs to it
-leads_shown : (power : Power) (launched : Table) (mounts : Mounts) (path : Path) (split : table.Split) (source : Path) → AreBacked (shown_by power launched) mounts → table.split_at path (steps_of mounts) ≡ Some split → split.entry.what ≡ Host source
+leads_shown : (power : Power) (launched : Table) (mounts : Mounts) (path : Path) (split : table.Split) (source : Path)
+    → AreBacked (shown_by power launched) mounts → table.split_at path (steps_of mounts) ≡ Some split → split.entry.what ≡ Host source
     → shown_by power launched (source ++ rest_of split.entry.place path) split.entry.flags ≡ true
 leads_shown power launched mounts path split source h e host =
     let m = mount_of path mounts split e in
     let own = path_backed (shown_by power launched) mounts path source m.own (widens_by power launched) h m.found (ap (λ (s : MountStep). s.what) m.same ∙ host) in
     ap (λ (s : MountStep). shown_by power launched (source ++ rest_of s.place path) s.flags) (sym m.same) ∙ own
 
-row_shown : (power : Power) (launched : Table) (mounts : Mounts) (row : Path) (wish : Wish) → AreBacked (shown_by power launched) mounts → (l : Leads (steps_of mounts) row wish) → shown_by power launched row l.split.entry.flags ≡ true
+row_shown : (power : Power) (launched : Table) (mounts : Mounts) (row : Path) (wish : Wish) → AreBacked (shown_by power launched) mounts
+    → (l : Leads (steps_of mounts) row wish) → shown_by power launched row l.split.entry.flags ≡ true
 row_shown power launched mounts row wish h l =
     let own = leads_shown power launched mounts l.path l.split l.source h l.belongs l.host in
-    ap (λ (p : Path). shown_by power launched p l.split.entry.flags) (l.row_is ∙ ap (λ (r : Path). l.source ++ r) (sym (ap (rest_of l.split.entry.place) l.path_is ∙ rest-append l.split.entry.place l.rest))) ∙ own
+    ap (λ (p : Path). shown_by power launched p l.split.entry.flags)
+    (l.row_is ∙ ap (λ (r : Path). l.source ++ r)
+    (sym (ap (rest_of l.split.entry.place) l.path_is ∙ rest-append l.split.entry.place l.rest))) ∙ own
 
 pub rows_are_reached : RowsAreReached
-rows_are_reached Nowise launched mounts row wish h l = reach_shown false launched row l.split.entry.flags wish 0 l.flags (row_shown Nowise launched mounts row wish h l)
-rows_are_reached Unmounting launched mounts row wish h l = reach_shown true launched row l.split.entry.flags wish 0 l.flags (row_shown Unmounting launched mounts row wish h l)
+rows_are_reached Nowise launched mounts row wish h l = reach_shown false launched row l.split.entry.flags wish 0 l.flags
+    (row_shown Nowise launched mounts row wish h l)
+rows_are_reached Unmounting launched mounts row wish h l = reach_shown true launched row l.split.entry.flags wish 0 l.flags
+    (row_shown Unmounting launched mounts row wish h l)
 rows_are_reached Mounting launched mounts row wish h l = refl
 
 -- the entry that shows a place of the host
@@ -79,18 +86,21 @@ record PlaceShown (mounts : Mounts) (path place : Path) : Type 0 where
 place_shown : (mounts : Mounts) (path place : Path) → host_place (steps_of mounts) path ≡ Some place → PlaceShown mounts path place
 place_shown mounts path place e = by (entry_of (steps_of mounts) path) refl e
   where
-    by : (o : Option MountStep) → entry_of (steps_of mounts) path ≡ o → option_and_then (λ step. host_place_by step.what step.place path) o ≡ Some place → PlaceShown mounts path place
+    by : (o : Option MountStep) → entry_of (steps_of mounts) path ≡ o
+        → option_and_then (λ step. host_place_by step.what step.place path) o ≡ Some place → PlaceShown mounts path place
     by None is f = cc
     by (Some step) is f =
         let s = split_of path (steps_of mounts) step is in
         by_what s.0 s.1 s.0.entry.what refl (ap (λ (m : MountStep). host_place_by m.what m.place path) s.2 ∙ f)
       where
-        by_what : (split : table.Split) → table.split_at path (steps_of mounts) ≡ Some split → (what : What) → split.entry.what ≡ what → host_place_by what split.entry.place path ≡ Some place → PlaceShown mounts path place
+        by_what : (split : table.Split) → table.split_at path (steps_of mounts) ≡ Some split → (what : What) → split.entry.what ≡ what
+            → host_place_by what split.entry.place path ≡ Some place → PlaceShown mounts path place
         by_what split b (Host source) w f = record { split = split; belongs = b; source = source; host = w; is = cc }
         by_what split b Empty w f = cc
         by_what split b (Hidden directory) w f = cc
 
-below_shown : (power : Power) (launched : Table) (mounts : Mounts) (folder : Path) → AreBacked (shown_by power launched) mounts → (s : SeesBelow folder (steps_of mounts)) → (flags : Flags) × (shown_by power launched s.place flags ≡ true)
+below_shown : (power : Power) (launched : Table) (mounts : Mounts) (folder : Path) → AreBacked (shown_by power launched) mounts
+    → (s : SeesBelow folder (steps_of mounts)) → (flags : Flags) × (shown_by power launched s.place flags ≡ true)
 below_shown power launched mounts folder h s =
     let p = place_shown mounts s.path s.place s.shown in
     (p.split.entry.flags, ap (λ (q : Path). shown_by power launched q p.split.entry.flags) (sym p.is) ∙ leads_shown power launched mounts s.path p.split p.source h p.belongs p.host)
@@ -105,6 +115,7 @@ pub tables_stable : (launch : Launch) (power : Power) → IsOrdered launch.table
 tables_stable launch power ordered = record {
   begins = λ mounts h. let P : Mounts → Type 0 = λ t. CanHaveNewer power launch.table (locked_copy t) in subst P (plain_again mounts h.plain) (first_copies power launch.table (steps_of mounts) ordered h.entries);
   copies = λ mounts h. calls_keep power launch.table mounts (locked_copy mounts) h (then_locked still);
-  mounts = λ mounts now source target flags h e. calls_keep power launch.table mounts now h (mount_changes (row_at launch.site.rows) mounts now source target flags e);
+  mounts = λ mounts now source target flags h e. calls_keep power launch.table mounts now h
+      (mount_changes (row_at launch.site.rows) mounts now source target flags e);
   unmounts = λ mounts now path flags h e. calls_keep power launch.table mounts now h (umount_changes mounts now path flags e);
 }

@@ -26,11 +26,14 @@ use Rattle.kernel_model.proofs.KernMounts.Paths.{behind}
 use Rattle.kernel_model.proofs.KernMounts.Splits.{None_have, split_some, split_of}
 use Rattle.kernel_model.proofs.KernMounts.Unmounting.{part_has, trimmed_part}
 
-pub reach_complete : (uncover : Bool) (target : Path) (wish : Wish) (earlier : Table) (entry : MountStep) (later : Table) (at : ℕ) → serves uncover target wish entry later ≡ true → is_some (reach_from uncover target wish (earlier ++ entry ∷ later) at) ≡ true
+pub reach_complete : (uncover : Bool) (target : Path) (wish : Wish) (earlier : Table) (entry : MountStep) (later : Table) (at : ℕ)
+    → serves uncover target wish entry later ≡ true → is_some (reach_from uncover target wish (earlier ++ entry ∷ later) at) ≡ true
 reach_complete uncover target wish [] entry later at s = rw s refl
-reach_complete uncover target wish (head ∷ earlier) entry later at s = by (serves uncover target wish head (earlier ++ entry ∷ later)) (reach_complete uncover target wish earlier entry later (at + 1) s)
+reach_complete uncover target wish (head ∷ earlier) entry later at s =
+    by (serves uncover target wish head (earlier ++ entry ∷ later)) (reach_complete uncover target wish earlier entry later (at + 1) s)
   where
-    by : (b : Bool) → is_some (reach_from uncover target wish (earlier ++ entry ∷ later) (at + 1)) ≡ true → is_some (cond b (Some at) (reach_from uncover target wish (earlier ++ entry ∷ later) (at + 1))) ≡ true
+    by : (b : Bool) → is_some (reach_from uncover target wish (earlier ++ entry ∷ later) (at + 1)) ≡ true
+        → is_some (cond b (Some at) (reach_from uncover target wish (earlier ++ entry ∷ later) (at + 1))) ≡ true
     by true more = refl
     by false more = more
 
@@ -38,7 +41,8 @@ pub none_any : (p : MountStep → Bool) (table : Table) → None_have p table �
 none_any p [] h = refl
 none_any p (entry ∷ table) h = or_from (p entry) (list_any p table) h.0 (none_any p table h.1)
 
-serves_if : (uncover : Bool) (target : Path) (wish : Wish) (entry : MountStep) (later : Table) (source rest : Path) → entry.what ≡ Host source → target ≡ source ++ rest → fits wish entry.flags ≡ true →
+serves_if : (uncover : Bool) (target : Path) (wish : Wish) (entry : MountStep) (later : Table) (source rest : Path)
+    → entry.what ≡ Host source → target ≡ source ++ rest → fits wish entry.flags ≡ true →
     (uncover || not (list_any (leads_to (entry.place ++ rest)) later)) ≡ true → serves uncover target wish entry later ≡ true
 serves_if uncover target wish entry later source rest host target_is f o =
     let prefix : is_prefix source target ≡ true = ap (is_prefix source) target_is ∙ prefix-append source rest in
@@ -46,14 +50,16 @@ serves_if uncover target wish entry later source rest host target_is f o =
     let open' : (uncover || not (list_any (leads_to (entry.place ++ rest_of source target)) later)) ≡ true = ap (λ (r : Path). uncover || not (list_any (leads_to (entry.place ++ r)) later)) own ∙ o in
     and_from _ _ f (ap (shows_row uncover entry later target) host ∙ and_from _ _ prefix open')
 
-pub reach_nowise-complete : (target : Path) (wish : Wish) (table : Table) → Leads table target wish → is_some (reach_from false target wish table 0) ≡ true
+pub reach_nowise-complete : (target : Path) (wish : Wish) (table : Table) → Leads table target wish
+    → is_some (reach_from false target wish table 0) ≡ true
 reach_nowise-complete target wish table l =
     let is = split_some (leads_to l.path) table l.split l.belongs in
     let clear : list_any (leads_to (l.split.entry.place ++ l.rest)) l.split.later ≡ false = rw l.path_is at (none_any (leads_to l.path) l.split.later is.last) in
     let s = serves_if false target wish l.split.entry l.split.later l.source l.rest l.host l.row_is l.flags (ap not clear) in
     rw is.whole (reach_complete false target wish l.split.earlier l.split.entry l.split.later 0 s)
 
-pub reach_unmounting-complete : (target : Path) (wish : Wish) (table now : Table) → IsTrimmed now table → Leads now target wish → is_some (reach_from true target wish table 0) ≡ true
+pub reach_unmounting-complete : (target : Path) (wish : Wish) (table now : Table) → IsTrimmed now table → Leads now target wish
+    → is_some (reach_from true target wish table 0) ≡ true
 reach_unmounting-complete target wish table now part l =
     let is = split_some (leads_to l.path) now l.split l.belongs in
     let has = part_has (trimmed_part part) l.split.entry l.split.earlier l.split.later is.whole in
@@ -61,7 +67,8 @@ reach_unmounting-complete target wish table now part l =
     rw has.2 (reach_complete true target wish has.0 l.split.entry has.1 0 s)
 
 -- at each power, a path that leads to the row on a table that a process can have shows in the closed form
-pub reaches_if : (power : Power) (launched table : Table) (target : Path) (wish : Wish) → CanHave power launched table → Leads table target wish → reaches power launched target wish ≡ true
+pub reaches_if : (power : Power) (launched table : Table) (target : Path) (wish : Wish) → CanHave power launched table
+    → Leads table target wish → reaches power launched target wish ≡ true
 reaches_if Nowise launched table target wish same l = reach_nowise-complete target wish launched (let P : Table → Type 0 = λ t. Leads t target wish in subst P same l)
 reaches_if Unmounting launched table target wish part l = reach_unmounting-complete target wish launched table part l
 reaches_if Mounting launched table target wish any l = refl
@@ -71,7 +78,8 @@ find_is : (rows : List Row) (path : Path) (found : Row) → row_at rows path ≡
 find_is [] path found e = cc
 find_is (first ∷ rows) path found e = by (is_same first.path path) refl e (find_is rows path found)
   where
-    by : (b : Bool) → is_same first.path path ≡ b → cond b (Some first) (row_at rows path) ≡ Some found → (row_at rows path ≡ Some found → found.path ≡ path) → found.path ≡ path
+    by : (b : Bool) → is_same first.path path ≡ b → cond b (Some first) (row_at rows path) ≡ Some found
+        → (row_at rows path ≡ Some found → found.path ≡ path) → found.path ≡ path
     by true is e more = let same : first ≡ found = cc in ap (λ (r : Row). r.path) (sym same) ∙ same_path first.path path is
     by false is e more = more e
 
@@ -80,7 +88,9 @@ pub find_at : (rows : List Row) (path : Path) (found : Row) → row_at rows path
 find_at [] path found e = cc
 find_at (first ∷ rows) path found e = by (is_same first.path path) e (find_at rows path found)
   where
-    by : (b : Bool) → cond b (Some first) (row_at rows path) ≡ Some found → (row_at rows path ≡ Some found → (at : ℕ) × (slice_get rows at ≡ Some found)) → (at : ℕ) × (slice_get (first ∷ rows) at ≡ Some found)
+    by : (b : Bool) → cond b (Some first) (row_at rows path) ≡ Some found
+        → (row_at rows path ≡ Some found → (at : ℕ) × (slice_get rows at ≡ Some found))
+        → (at : ℕ) × (slice_get (first ∷ rows) at ≡ Some found)
     by true e more = (0, e)
     by false e more = let m = more e in (suc m.0, m.1)
 
@@ -96,7 +106,8 @@ row_of : (o : Option Row) (target : Row) → row_or_nothing o ≡ row target →
 row_of None target e = cc
 row_of (Some found) target e = let same : found ≡ target = cc in ap (λ (r : Row). Some r) same
 
-shows_by : (rows : List Row) (table : Table) (path : Path) (target : Row) (entry : MountStep) → entry_of table path ≡ Some entry → (what : What) → entry.what ≡ what → found_by (row_at rows) what entry.place path ≡ row target → ShowsRow rows table path target
+shows_by : (rows : List Row) (table : Table) (path : Path) (target : Row) (entry : MountStep) → entry_of table path ≡ Some entry
+    → (what : What) → entry.what ≡ what → found_by (row_at rows) what entry.place path ≡ row target → ShowsRow rows table path target
 shows_by rows table path target entry b (Host source) is e = record { entry = entry; belongs = b; source = source; host = is; at_place = row_of (row_at rows (source ++ rest_of entry.place path)) target e }
 shows_by rows table path target entry b Empty is e = by (is_same entry.place path) e
   where
@@ -105,14 +116,16 @@ shows_by rows table path target entry b Empty is e = by (is_same entry.place pat
     by false e = cc
 shows_by rows table path target entry b (Hidden directory) is e = cc
 
-pub shows : (rows : List Row) (table : Table) (path : Path) (target : Row) → finds (row_at rows) table path ≡ row target → ShowsRow rows table path target
+pub shows : (rows : List Row) (table : Table) (path : Path) (target : Row) → finds (row_at rows) table path ≡ row target
+    → ShowsRow rows table path target
 shows rows table path target e = by (entry_of table path) refl e
   where
     by : (o : Option MountStep) → entry_of table path ≡ o → found_at (row_at rows) path o ≡ row target → ShowsRow rows table path target
     by None is e = cc
     by (Some entry) is e = shows_by rows table path target entry is entry.what refl e
 
-pub leads : (rows : List Row) (table : Table) (path : Path) (target : Row) (wish : Wish) → finds (row_at rows) table path ≡ row target → fits wish (flags_at table path) ≡ true → Leads table target.path wish
+pub leads : (rows : List Row) (table : Table) (path : Path) (target : Row) (wish : Wish) → finds (row_at rows) table path ≡ row target
+    → fits wish (flags_at table path) ≡ true → Leads table target.path wish
 leads rows table path target wish e f =
     let s = shows rows table path target e in
     let split = split_of path table s.entry s.belongs in
@@ -126,9 +139,11 @@ leads rows table path target wish e f =
       host = ap (λ (m : MountStep). m.what) split.2 ∙ s.host;
       rest = rest_of split.0.entry.place path;
       path_is = behind split.0.entry.place path prefix;
-      row_is = find_is rows (s.source ++ rest_of s.entry.place path) target s.at_place ∙ ap (λ (m : MountStep). s.source ++ rest_of m.place path) (sym split.2);
+      row_is = find_is rows (s.source ++ rest_of s.entry.place path) target s.at_place
+          ∙ ap (λ (m : MountStep). s.source ++ rest_of m.place path) (sym split.2);
       flags = ap (λ (o : Option MountStep). fits wish (flags_by o)) (sym own) ∙ f;
     }
 
-pub listed : (rows : List Row) (table : Table) (path : Path) (target : Row) → finds (row_at rows) table path ≡ row target → (at : ℕ) × (slice_get rows at ≡ Some target)
+pub listed : (rows : List Row) (table : Table) (path : Path) (target : Row) → finds (row_at rows) table path ≡ row target
+    → (at : ℕ) × (slice_get rows at ≡ Some target)
 listed rows table path target e = let s = shows rows table path target e in find_at rows (s.source ++ rest_of s.entry.place path) target s.at_place

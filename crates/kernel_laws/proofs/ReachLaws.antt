@@ -31,12 +31,15 @@ record Serving (uncover : Bool) (row : Path) (wish : Wish) (table : Table) : Typ
   whole : table ≡ earlier ++ entry ∷ later
   served : serves uncover row wish entry later ≡ true
 
-serving : (uncover : Bool) (row : Path) (wish : Wish) (table : Table) (at : ℕ) → is_some (reach_from uncover row wish table at) ≡ true → Serving uncover row wish table
+serving : (uncover : Bool) (row : Path) (wish : Wish) (table : Table) (at : ℕ) → is_some (reach_from uncover row wish table at) ≡ true
+    → Serving uncover row wish table
 serving uncover row wish [] at e = cc
 serving uncover row wish (entry ∷ later) at e = by (serves uncover row wish entry later) refl e (serving uncover row wish later (at + 1))
   where
-    by : (b : Bool) → serves uncover row wish entry later ≡ b → is_some (cond b (Some at) (reach_from uncover row wish later (at + 1))) ≡ true →
-        (is_some (reach_from uncover row wish later (at + 1)) ≡ true → Serving uncover row wish later) → Serving uncover row wish (entry ∷ later)
+    by : (b : Bool) → serves uncover row wish entry later ≡ b
+        → is_some (cond b (Some at) (reach_from uncover row wish later (at + 1))) ≡ true →
+        (is_some (reach_from uncover row wish later (at + 1)) ≡ true → Serving uncover row wish later)
+        → Serving uncover row wish (entry ∷ later)
     by true s e more = record { earlier = []; entry = entry; later = later; whole = refl; served = s }
     by false s e more = let m = more e in record { earlier = entry ∷ m.earlier; entry = m.entry; later = m.later; whole = ap (λ (t : Table). entry ∷ t) m.whole; served = m.served }
 
@@ -49,11 +52,13 @@ pub record Served (uncover : Bool) (row : Path) (wish : Wish) (entry : MountStep
   pub flags : fits wish entry.flags ≡ true
   pub clear : (uncover || not (list_any (leads_to (entry.place ++ rest)) later)) ≡ true
 
-pub served_of : (uncover : Bool) (row : Path) (wish : Wish) (entry : MountStep) (later : Table) → serves uncover row wish entry later ≡ true → Served uncover row wish entry later
+pub served_of : (uncover : Bool) (row : Path) (wish : Wish) (entry : MountStep) (later : Table)
+    → serves uncover row wish entry later ≡ true → Served uncover row wish entry later
 served_of uncover row wish entry later s =
     let parts = and_parts (fits wish entry.flags) (shows_row uncover entry later row entry.what) s in by parts.0 entry.what refl parts.1
   where
-    by : fits wish entry.flags ≡ true → (what : What) → entry.what ≡ what → shows_row uncover entry later row what ≡ true → Served uncover row wish entry later
+    by : fits wish entry.flags ≡ true → (what : What) → entry.what ≡ what → shows_row uncover entry later row what ≡ true
+        → Served uncover row wish entry later
     by f (Host source) e s =
         let parts = and_parts (is_prefix source row) (uncover || not (list_any (leads_to (entry.place ++ rest_of source row)) later)) s in
         record { source = source; host = e; rest = rest_of source row; row_is = behind source row parts.0; flags = f; clear = parts.1 }
@@ -61,13 +66,15 @@ served_of uncover row wish entry later s =
     by f (Hidden directory) e s = cc
 
 -- an entry that serves, and that no later one covers, leads to the row
-abbrev pub served_leads : (table : Table) (row : Path) (wish : Wish) (earlier : Table) (entry : MountStep) (later : Table) → table ≡ earlier ++ entry ∷ later → Served false row wish entry later → Leads table row wish
+abbrev pub served_leads : (table : Table) (row : Path) (wish : Wish) (earlier : Table) (entry : MountStep) (later : Table)
+    → table ≡ earlier ++ entry ∷ later → Served false row wish entry later → Leads table row wish
 served_leads table row wish earlier entry later whole v =
     let path = entry.place ++ v.rest in
     record {
       path = path;
       split = record { earlier = earlier; entry = entry; later = later };
-      belongs = ap (split_at path) whole ∙ split_is (leads_to path) earlier entry later (prefix-append entry.place v.rest) (any_none (leads_to path) later (not-true (list_any (leads_to path) later) v.clear));
+      belongs = ap (split_at path) whole ∙ split_is (leads_to path) earlier entry later (prefix-append entry.place v.rest)
+          (any_none (leads_to path) later (not-true (list_any (leads_to path) later) v.clear));
       source = v.source;
       host = v.host;
       rest = v.rest;

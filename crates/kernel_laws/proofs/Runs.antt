@@ -2,7 +2,8 @@
 use Rattle.std.proofs.lemmas.Bool.{eqb-true, eq-eqb, not-false, not-true, and_from}
 use Rattle.std.proofs.lemmas.Bool.Decides.{nat_tests}
 use Rattle.kernel_model.proofs.Lists.{length-push, length-set}
-use Rattle.std.proofs.Common.{arith, ◌≡◌, ℕ, Bool, true, false, List, [], ◌∷◌, ◌++◌, Option, Some, None, ◌⊎◌, inl, inr, refl, cond, ap, ◌∙◌, sym, subst, length, append_assoc, eqb}
+use Rattle.std.proofs.Common.{arith, ◌≡◌, ℕ, Bool, true, false, List, [], ◌∷◌, ◌++◌, Option, Some, None, ◌⊎◌, inl, inr, refl, cond, ap, ◌∙◌}
+use Rattle.std.proofs.Common.{sym, subst, length, append_assoc, eqb}
 use Rattle.std.specs.Prelude.{slice_get, slice_set, nat_lt, not, ◌-◌, ◌+◌}
 use Rattle.filter_settings.specs.bpf_code.declared.machine.Insn.{Insn}
 use Rattle.filter_settings.specs.bpf_code.declared.decision.Decision.{Decision}
@@ -20,11 +21,13 @@ use Rattle.kernel_model.specs.kernel_calls.Doing.{Doing, Asked, Lacking, Misform
 use Rattle.kernel_model.specs.Effects as f
 use Rattle.kernel_model.specs.Effects.{Effect, effect_of}
 use Rattle.kernel_model.specs.declared.reply.Reply.TheVariants as reply
-use Rattle.kernel_model.specs.World.{World, table_or, mounts_of, table_of, with_process, with_child, with_copy, moved_to, ended, living_of, host_of, caller_of, owner_or, owner_of, is_newer, with_user, entered_by}
+use Rattle.kernel_model.specs.World.{World, table_or, mounts_of, table_of, with_process, with_child, with_copy, moved_to, ended, living_of}
+use Rattle.kernel_model.specs.World.{host_of, caller_of, owner_or, owner_of, is_newer, with_user, entered_by}
 use Rattle.kernel_model.specs.declared.process.Process.{Process}
 use Rattle.kernel_model.specs.declared.reply.Reply.{Reply}
 use Rattle.filter_settings.specs.linux_numbers.Errnos.{eagain, enospc}
-use Rattle.kernel_model.specs.Step.{most_processes, most_namespaces, child_in, child_of, moved_in, has_user_left, applied, answered, decided, data_of, step_by, step, decision_of}
+use Rattle.kernel_model.specs.Step.{most_processes, most_namespaces, child_in, child_of, moved_in, has_user_left, applied, answered}
+use Rattle.kernel_model.specs.Step.{decided, data_of, step_by, step, decision_of}
 use Rattle.kernel_model.specs.Runs.{run}
 use Rattle.kernel_laws.specs.declared.question_types.power.Power.{Power}
 use Rattle.kernel_laws.specs.declared.question_types.kind.CallKind.{CallKind}
@@ -48,7 +51,9 @@ module _ (launch : Launch) (power : Power) (top : Bounds) (below : Table → Typ
   abbrev All : World → Type 0
   All = AreHeld launch power top below
 
-  with_creds : (tables : List Table) (owners : List ℕ) (process now : Process) → Held tables owners process → KeepsIn (is_newer now) top now.creds → now.stack ≡ process.stack → now.namespace ≡ process.namespace → now.user ≡ process.user → Held tables owners now
+  with_creds : (tables : List Table) (owners : List ℕ) (process now : Process) → Held tables owners process
+      → KeepsIn (is_newer now) top now.creds → now.stack ≡ process.stack → now.namespace ≡ process.namespace → now.user ≡ process.user
+      → Held tables owners now
   with_creds tables owners process now h kept stack namespace user = record {
     creds = kept;
     newer = h.newer;
@@ -64,7 +69,8 @@ module _ (launch : Launch) (power : Power) (top : Bounds) (below : Table → Typ
   }
 
   -- one process changed
-  held_put : (world : World) (pid : ℕ) (process : Process) → All world → Held world.tables world.owners process → All (with_process world pid process)
+  held_put : (world : World) (pid : ℕ) (process : Process) → All world → Held world.tables world.owners process
+      → All (with_process world pid process)
   held_put world pid process held one = record {
     calls = held.calls;
     site = held.site;
@@ -90,7 +96,9 @@ module _ (launch : Launch) (power : Power) (top : Bounds) (below : Table → Typ
       by j q (inr e) = held.each j q e
 
   -- a shared table changed: all processes that have it see the new one
-  under_put : (tables : List Table) (owners : List ℕ) (at : ℕ) (table : Table) (owner : ℕ) (process : Process) → slice_get owners at ≡ Some owner → TableIn (eqb owner 1) launch power below table → Held tables owners process → Held (slice_set tables at table) owners process
+  under_put : (tables : List Table) (owners : List ℕ) (at : ℕ) (table : Table) (owner : ℕ) (process : Process)
+      → slice_get owners at ≡ Some owner → TableIn (eqb owner 1) launch power below table → Held tables owners process
+      → Held (slice_set tables at table) owners process
   under_put tables owners at table owner process there allowed h =
       let changed = put_some_at tables at (process.namespace - 1) table h.table h.own in
       record {
@@ -118,28 +126,33 @@ module _ (launch : Launch) (power : Power) (top : Bounds) (below : Table → Typ
   own_table : (world : World) (process : Process) (h : Held world.tables world.owners process) → mounts_of world process.namespace ≡ h.table
   own_table world process h = ap table_or (get_number world.tables process.namespace h.table h.numbered h.own)
 
-  pub own_owner : (world : World) (process : Process) (h : Held world.tables world.owners process) → owner_of world process.namespace ≡ h.owner
+  pub own_owner : (world : World) (process : Process) (h : Held world.tables world.owners process)
+      → owner_of world process.namespace ≡ h.owner
   own_owner world process h = ap owner_or (get_number world.owners process.namespace h.owner h.numbered h.owned)
 
-  pub own_allowed : (world : World) (process : Process) (h : Held world.tables world.owners process) → TableIn (eqb h.owner 1) launch power below (mounts_of world process.namespace)
+  pub own_allowed : (world : World) (process : Process) (h : Held world.tables world.owners process)
+      → TableIn (eqb h.owner 1) launch power below (mounts_of world process.namespace)
   own_allowed world process h = subst (TableIn (eqb h.owner 1) launch power below) (sym (own_table world process h)) h.allowed
 
   -- in the first user namespace it is a table of that
-  pub first_allowed : (world : World) (process : Process) (h : Held world.tables world.owners process) → is_newer process ≡ false → CanHold power launch.table (mounts_of world process.namespace)
+  pub first_allowed : (world : World) (process : Process) (h : Held world.tables world.owners process) → is_newer process ≡ false
+      → CanHold power launch.table (mounts_of world process.namespace)
   first_allowed world process h first =
       let P : ℕ → Type 0 = λ o. TableIn (eqb o 1) launch power below (mounts_of world process.namespace) in
       subst P (h.home first) (own_allowed world process h)
 
   module _ (stable : IsStable launch power below) where
     -- a copy for a user namespace
-    copy_allowed : (owner user : ℕ) (table : Table) → (eqb user 1 ≡ true → owner ≡ 1) → TableIn (eqb owner 1) launch power below table → TableIn (eqb user 1) launch power below (copied (not (eqb owner user)) table)
+    copy_allowed : (owner user : ℕ) (table : Table) → (eqb user 1 ≡ true → owner ≡ 1) → TableIn (eqb owner 1) launch power below table
+        → TableIn (eqb user 1) launch power below (copied (not (eqb owner user)) table)
     copy_allowed owner user table home allowed = by (eqb user 1) refl (eqb owner user) refl
       where
         by_owner : (b : Bool) → eqb owner 1 ≡ b → TableIn b launch power below table → below (locked_copy table)
         by_owner true e h = stable.begins table h
         by_owner false e h = stable.copies table h
 
-        by : (first : Bool) → eqb user 1 ≡ first → (same : Bool) → eqb owner user ≡ same → TableIn first launch power below (copied (not same) table)
+        by : (first : Bool) → eqb user 1 ≡ first → (same : Bool) → eqb owner user ≡ same
+            → TableIn first launch power below (copied (not same) table)
         by true e true g = let P : ℕ → Type 0 = λ o. TableIn (eqb o 1) launch power below table in subst P (home e) allowed
         by true e false g =
             let one : owner ≡ user = home e ∙ sym (eqb-true user 1 e) in
@@ -153,7 +166,8 @@ module _ (launch : Launch) (power : Power) (top : Bounds) (below : Table → Typ
         by false e false g = by_owner (eqb owner 1) refl allowed
 
     -- a mount namespace more
-    under_push : (tables : List Table) (owners : List ℕ) (table : Table) (owner : ℕ) (process : Process) → Held tables owners process → Held (tables ++ table ∷ []) (owners ++ owner ∷ []) process
+    under_push : (tables : List Table) (owners : List ℕ) (table : Table) (owner : ℕ) (process : Process) → Held tables owners process
+        → Held (tables ++ table ∷ []) (owners ++ owner ∷ []) process
     under_push tables owners table owner process h = record {
       creds = h.creds;
       newer = h.newer;
@@ -176,7 +190,8 @@ module _ (launch : Launch) (power : Power) (top : Bounds) (below : Table → Typ
     held_copy world process held = record {
       calls = held.calls;
       site = held.site;
-      numbers = length-push world.owners process.user ∙ ap (λ n. n + 1) held.numbers ∙ sym (length-push world.tables (copy_of world process));
+      numbers = length-push world.owners process.user ∙ ap (λ n. n + 1) held.numbers
+          ∙ sym (length-push world.tables (copy_of world process));
       each = λ j q e. under_push world.tables world.owners (copy_of world process) process.user q (held.each j q e);
     }
 
@@ -184,7 +199,9 @@ module _ (launch : Launch) (power : Power) (top : Bounds) (below : Table → Typ
     first_home process owner home e = home (ap not e)
 
     -- and the process there
-    held_moved : (world : World) (process : Process) → length world.owners ≡ length world.tables → Held world.tables world.owners process → Held (with_copy world process.namespace process.user).tables (with_copy world process.namespace process.user).owners (moved_to process (length world.tables))
+    held_moved : (world : World) (process : Process) → length world.owners ≡ length world.tables → Held world.tables world.owners process
+        → Held (with_copy world process.namespace process.user).tables (with_copy world process.namespace process.user).owners
+        (moved_to process (length world.tables))
     held_moved world process numbers h = record {
       creds = h.creds;
       newer = h.newer;
@@ -196,33 +213,42 @@ module _ (launch : Launch) (power : Power) (top : Bounds) (below : Table → Typ
       owned = ap (λ n. slice_get (world.owners ++ process.user ∷ []) (n + 1 - 1)) (sym numbers) ∙ push_last world.owners process.user;
       allowed =
           let P : ℕ → Type 0 = λ o. TableIn (eqb process.user 1) launch power below (copied (not (eqb o process.user)) (mounts_of world process.namespace)) in
-          subst P (sym (own_owner world process h)) (copy_allowed h.owner process.user (mounts_of world process.namespace) (first_home process h.owner h.home) (own_allowed world process h));
+          subst P (sym (own_owner world process h))
+          (copy_allowed h.owner process.user (mounts_of world process.namespace) (first_home process h.owner h.home)
+          (own_allowed world process h));
       home = λ e. eqb-true process.user 1 (not-false (eqb process.user 1) e);
       made = h.made;
     }
 
     -- a child in a world that differs from the old one in no mount namespace
-    held_child : (old world : World) (child : Process) (own : Bool) → All old → All world → Held world.tables world.owners child → All (child_in old world child own).1
+    held_child : (old world : World) (child : Process) (own : Bool) → All old → All world → Held world.tables world.owners child
+        → All (child_in old world child own).1
     held_child old world child false before held h = held_push world child held h
     held_child old world child true before held h = by (nat_lt (length world.tables) most_namespaces)
       where
         by : (b : Bool) → All (cond {A = Reply × World} b (reply.Done (length world.processes + 1), with_child (with_copy world child.namespace child.user) (moved_to child (length world.tables))) (reply.Refused enospc, old)).1
-        by true = held_push (with_copy world child.namespace child.user) (moved_to child (length world.tables)) (held_copy world child held) (held_moved world child held.numbers h)
+        by true = held_push (with_copy world child.namespace child.user) (moved_to child (length world.tables))
+            (held_copy world child held) (held_moved world child held.numbers h)
         by false = before
 
-    held_in : (old world : World) (pid : ℕ) (process : Process) (own : Bool) → All old → All world → Held world.tables world.owners process → All (moved_in old world pid process own).1
+    held_in : (old world : World) (pid : ℕ) (process : Process) (own : Bool) → All old → All world
+        → Held world.tables world.owners process → All (moved_in old world pid process own).1
     held_in old world pid process false before held h = held_put world pid process held h
     held_in old world pid process true before held h = by (nat_lt (length world.tables) most_namespaces)
       where
-        by : (b : Bool) → All (cond {A = Reply × World} b (reply.Done 0, with_process (with_copy world process.namespace process.user) pid (moved_to process (length world.tables))) (reply.Refused enospc, old)).1
-        by true = held_put (with_copy world process.namespace process.user) pid (moved_to process (length world.tables)) (held_copy world process held) (held_moved world process held.numbers h)
+        by : (b : Bool) → All (cond {A = Reply × World} b
+            (reply.Done 0, with_process (with_copy world process.namespace process.user) pid (moved_to process (length world.tables)))
+            (reply.Refused enospc, old)).1
+        by true = held_put (with_copy world process.namespace process.user) pid (moved_to process (length world.tables))
+            (held_copy world process held) (held_moved world process held.numbers h)
         by false = before
 
     -- a user namespace more changes no process
     held_user : (world : World) → All world → All (with_user world)
     held_user world held = record { calls = held.calls; site = held.site; numbers = held.numbers; each = held.each }
 
-    pub can_make_one : (world : World) → All world → lets launch (ForNamespace User) ≡ true → has_user_left world ≡ true → can_make_user launch ≡ true
+    pub can_make_one : (world : World) → All world → lets launch (ForNamespace User) ≡ true → has_user_left world ≡ true
+        → can_make_user launch ≡ true
     can_make_one world held user left =
         let some : nat_lt 0 world.site.user_namespaces ≡ true = above_some world.users world.site.user_namespaces left in
         and_from _ _ (ap (λ (s : Site). nat_lt 0 s.user_namespaces) (sym held.site) ∙ some) user
@@ -231,7 +257,9 @@ module _ (launch : Launch) (power : Power) (top : Bounds) (below : Table → Typ
         above_some a b e = grind (arith, nat_tests)
 
     -- and the process in it
-    held_entered : (world : World) (process : Process) → All world → Held world.tables world.owners process → lets launch (ForNamespace User) ≡ true → has_user_left world ≡ true → Held world.tables world.owners (entered_by process world.users)
+    held_entered : (world : World) (process : Process) → All world → Held world.tables world.owners process
+        → lets launch (ForNamespace User) ≡ true → has_user_left world ≡ true
+        → Held world.tables world.owners (entered_by process world.users)
     held_entered world process held h user left = record {
       creds = let P : Bool → Type 0 = λ b. KeepsIn b top (entered process.creds) in subst P (sym is_new) (ids-entered top process.creds (ids_of (is_newer process) top process.creds h.creds));
       newer = h.newer;
@@ -249,59 +277,76 @@ module _ (launch : Launch) (power : Power) (top : Bounds) (below : Table → Typ
         is_new : not (eqb (world.users + 2) 1) ≡ true
         is_new = ap not (not_one world.users)
 
-    held_ended : (world : World) (pid : ℕ) (process : Process) → All world → Held world.tables world.owners process → All (with_process world pid (ended process))
-    held_ended world pid process held h = held_put world pid (ended process) held (with_creds world.tables world.owners process (ended process) h h.creds refl refl refl)
+    held_ended : (world : World) (pid : ℕ) (process : Process) → All world → Held world.tables world.owners process
+        → All (with_process world pid (ended process))
+    held_ended world pid process held h = held_put world pid (ended process) held
+        (with_creds world.tables world.owners process (ended process) h h.creds refl refl refl)
 
     -- an effect that is safe leaves all held
-    held_applied : (world : World) (pid : ℕ) (process : Process) (effect : Effect) → All world → (h : Held world.tables world.owners process) → IsSafe launch power top below (is_newer process) (eqb h.owner 1) effect → All (applied world pid process effect).1
+    held_applied : (world : World) (pid : ℕ) (process : Process) (effect : Effect) → All world
+        → (h : Held world.tables world.owners process) → IsSafe launch power top below (is_newer process) (eqb h.owner 1) effect
+        → All (applied world pid process effect).1
     held_applied world pid process (f.Refuse errno) held h safe = held
     held_applied world pid process (f.Answer value) held h safe = held
-    held_applied world pid process (f.SetCreds creds) held h safe = held_put world pid (record process { creds = creds }) held (with_creds world.tables world.owners process (record process { creds = creds }) h safe refl refl refl)
+    held_applied world pid process (f.SetCreds creds) held h safe =
+        held_put world pid (record process { creds = creds }) held
+        (with_creds world.tables world.owners process (record process { creds = creds }) h safe refl refl refl)
     held_applied world pid process (f.SetTable table) held h safe = record {
       calls = held.calls;
       site = held.site;
       numbers = held.numbers ∙ sym (length-set world.tables (process.namespace - 1) table);
       each = λ j q e. under_put world.tables world.owners (process.namespace - 1) table h.owner q h.owned safe (held.each j q e);
     }
-    held_applied world pid process (f.Push program) held h safe = held_put world pid (record process { stack = process.stack ++ program ∷ [] }) held (record {
-      creds = h.creds;
-      newer = h.newer ++ program ∷ [];
-      stack = ap (λ (s : List (List Insn)). s ++ program ∷ []) h.stack ∙ append_assoc launch.stack h.newer (program ∷ []);
-      table = h.table;
-      numbered = h.numbered;
-      own = h.own;
-      owner = h.owner;
-      owned = h.owned;
-      allowed = h.allowed;
-      home = h.home;
-      made = h.made;
-    })
+    held_applied world pid process (f.Push program) held h safe =
+        held_put world pid (record process { stack = process.stack ++ program ∷ [] }) held (record {
+          creds = h.creds;
+          newer = h.newer ++ program ∷ [];
+          stack = ap (λ (s : List (List Insn)). s ++ program ∷ []) h.stack ∙ append_assoc launch.stack h.newer (program ∷ []);
+          table = h.table;
+          numbered = h.numbered;
+          own = h.own;
+          owner = h.owner;
+          owned = h.owned;
+          allowed = h.allowed;
+          home = h.home;
+          made = h.made;
+        })
     held_applied world pid process (f.Child own) held h safe = by (nat_lt (length world.processes) most_processes)
       where
         by : (b : Bool) → All (cond {A = Reply × World} b (child_of world process own) (reply.Refused eagain, world)).1
         by true = held_child world world process own held held h
         by false = held
     held_applied world pid process f.OwnTable held h safe = held_in world world pid process true held held h
-    held_applied world pid process (f.UserChild own) held h safe = by (has_user_left world) refl (nat_lt (length world.processes) most_processes)
+    held_applied world pid process (f.UserChild own) held h safe =
+        by (has_user_left world) refl (nat_lt (length world.processes) most_processes)
       where
-        by : (b : Bool) → has_user_left world ≡ b → (c : Bool) → All (cond {A = Reply × World} b (cond {A = Reply × World} c (child_in world (with_user world) (entered_by process world.users) own) (reply.Refused eagain, world)) (reply.Refused enospc, world)).1
-        by true e true = held_child world (with_user world) (entered_by process world.users) own held (held_user world held) (held_entered world process held h safe e)
+        by : (b : Bool) → has_user_left world ≡ b → (c : Bool)
+            → All (cond {A = Reply × World} b
+            (cond {A = Reply × World} c (child_in world (with_user world) (entered_by process world.users) own)
+            (reply.Refused eagain, world)) (reply.Refused enospc, world)).1
+        by true e true = held_child world (with_user world) (entered_by process world.users) own held (held_user world held)
+            (held_entered world process held h safe e)
         by true e false = held
         by false e c = held
     held_applied world pid process (f.OwnUser own) held h safe = by (has_user_left world) refl
       where
-        by : (b : Bool) → has_user_left world ≡ b → All (cond {A = Reply × World} b (moved_in world (with_user world) pid (entered_by process world.users) own) (reply.Refused enospc, world)).1
-        by true e = held_in world (with_user world) pid (entered_by process world.users) own held (held_user world held) (held_entered world process held h safe e)
+        by : (b : Bool) → has_user_left world ≡ b
+            → All (cond {A = Reply × World} b (moved_in world (with_user world) pid (entered_by process world.users) own)
+            (reply.Refused enospc, world)).1
+        by true e = held_in world (with_user world) pid (entered_by process world.users) own held (held_user world held)
+            (held_entered world process held h safe e)
         by false e = held
     held_applied world pid process f.End held h safe = held_ended world pid process held h
 
   module _ (filters : LetsThrough launch) where
     -- what a living process asks for, once its stack lets it through
-    pub through_of : (world : World) (call : Call) (process : Process) → IsCall call → All world → Held world.tables world.owners process → decision_of world call process ≡ decision.Pass
+    pub through_of : (world : World) (call : Call) (process : Process) → IsCall call → All world → Held world.tables world.owners process
+        → decision_of world call process ≡ decision.Pass
         → (doing : Doing) → asked_of world.calls call ≡ Does doing → (kind : CallKind) → asks kind doing ≡ true → lets launch kind ≡ true
     through_of world call process fit held h passed doing is kind asked =
         let own : decision_on (launch.stack ++ h.newer) (data_at launch call.abi call.nr call.args) ≡ decision.Pass =
-        ap (λ (c : calls.Table). decision_on (launch.stack ++ h.newer) (record { nr = call.nr; arch = calls.arch_of c call.abi; ip = 0; args = call.args })) (sym held.calls)
+        ap (λ (c : calls.Table). decision_on (launch.stack ++ h.newer)
+        (record { nr = call.nr; arch = calls.arch_of c call.abi; ip = 0; args = call.args })) (sym held.calls)
         ∙ ap (λ (s : List (List Insn)). decision_on s (data_of world call)) (sym h.stack) ∙ passed_on world call process passed in
         let same : asked_of launch.calls call ≡ Does doing = ap (λ (c : calls.Table). asked_of c call) (sym held.calls) ∙ is in
         filters.kinds h.newer call doing fit own same kind asked
@@ -309,11 +354,14 @@ module _ (launch : Launch) (power : Power) (top : Bounds) (below : Table → Typ
     module _ (stable : IsStable launch power below) (uids gids : Bool) (closed : IsClosed launch uids gids power top) where
       -- what the process asks for, once its stack lets it through, uses only what may be used
       abbrev UsesIfLet : World → Call → Process → Type 0
-      UsesIfLet world call process = is_newer process ≡ false → decision_of world call process ≡ decision.Pass → (doing : Doing) → asked_of world.calls call ≡ Does doing → Uses uids gids process.creds doing
+      UsesIfLet world call process = is_newer process ≡ false → decision_of world call process ≡ decision.Pass → (doing : Doing)
+          → asked_of world.calls call ≡ Does doing → Uses uids gids process.creds doing
 
       -- what a process asks for is safe, by its user namespace and by that which its mount namespace belongs to
-      safe_of : (world : World) (call : Call) (process : Process) (held : All world) (h : Held world.tables world.owners process) → {doing : Doing} → ((kind : CallKind) → asks kind doing ≡ true → lets launch kind ≡ true)
-          → (is_newer process ≡ false → Uses uids gids process.creds doing) → IsSafe launch power top below (is_newer process) (eqb h.owner 1) (effect_of (host_of world) (caller_of world process) doing)
+      safe_of : (world : World) (call : Call) (process : Process) (held : All world) (h : Held world.tables world.owners process)
+          → {doing : Doing} → ((kind : CallKind) → asks kind doing ≡ true → lets launch kind ≡ true)
+          → (is_newer process ≡ false → Uses uids gids process.creds doing)
+          → IsSafe launch power top below (is_newer process) (eqb h.owner 1) (effect_of (host_of world) (caller_of world process) doing)
       safe_of world call process held h {doing = doing} through uses =
           let P : Site → Type 0 = λ s. IsSafe launch power top below (is_newer process) (eqb h.owner 1) (effect_of (record { rows = row_at s.rows; families = world.calls.families }) (caller_of world process) doing) in
           subst P (sym held.site) (by (is_newer process) refl h.creds (own_allowed world process h))
@@ -324,32 +372,43 @@ module _ (launch : Launch) (power : Power) (top : Bounds) (below : Table → Typ
               let user : eqb process.user 1 ≡ false = not-true (eqb process.user 1) new in
               ap (λ o. eqb o 1) (sym (own_owner world process h) ∙ same) ∙ user
 
-          by : (b : Bool) → is_newer process ≡ b → KeepsIn b top process.creds → TableIn (eqb h.owner 1) launch power below (mounts_of world process.namespace)
+          by : (b : Bool) → is_newer process ≡ b → KeepsIn b top process.creds
+              → TableIn (eqb h.owner 1) launch power below (mounts_of world process.namespace)
               → IsSafe launch power top below b (eqb h.owner 1) (effect_of (record { rows = row_at launch.site.rows; families = world.calls.families }) (record { creds = process.creds; stack = process.stack; table = mounts_of world process.namespace; newer = b; owns = eqb (owner_of world process.namespace) process.user }) doing)
           by true new kept allowed =
-              safe_newer launch power top below stable (eqb h.owner 1) (eqb (owner_of world process.namespace) process.user) (apart new) (mounts_of world process.namespace) allowed world.calls.families process.creds process.stack doing kept through
+              safe_newer launch power top below stable (eqb h.owner 1) (eqb (owner_of world process.namespace) process.user) (apart new)
+              (mounts_of world process.namespace) allowed world.calls.families process.creds process.stack doing kept through
           by false first kept allowed =
               let home : h.owner ≡ 1 = h.home first in
               let user : process.user ≡ 1 = eqb-true process.user 1 (not-false (eqb process.user 1) first) in
               let owns : eqb (owner_of world process.namespace) process.user ≡ true = eq-eqb (owner_of world process.namespace) process.user (own_owner world process h ∙ home ∙ sym user) in
               let P : Bool → Type 0 = λ o. IsSafe launch power top below false (eqb h.owner 1) (effect_of (record { rows = row_at launch.site.rows; families = world.calls.families }) (record { creds = process.creds; stack = process.stack; table = mounts_of world process.namespace; newer = false; owns = o }) doing) in
               let Q : ℕ → Type 0 = λ o. IsSafe launch power top below false (eqb o 1) (effect_of (record { rows = row_at launch.site.rows; families = world.calls.families }) (record { creds = process.creds; stack = process.stack; table = mounts_of world process.namespace; newer = false; owns = true }) doing) in
-              subst P (sym owns) (subst Q (sym home) (safe_effect launch uids gids power top below closed world.calls.families process.creds process.stack (mounts_of world process.namespace) doing kept (first_allowed world process h first) through (uses first)))
+              subst P (sym owns) (subst Q (sym home)
+              (safe_effect launch uids gids power top below closed world.calls.families process.creds process.stack
+              (mounts_of world process.namespace) doing kept (first_allowed world process h first) through (uses first)))
 
-      held_answered : (world : World) (call : Call) (process : Process) → IsCall call → All world → Held world.tables world.owners process → UsesIfLet world call process → decision_of world call process ≡ decision.Pass
+      held_answered : (world : World) (call : Call) (process : Process) → IsCall call → All world → Held world.tables world.owners process
+          → UsesIfLet world call process → decision_of world call process ≡ decision.Pass
           → (asked : Asked) → asked_of world.calls call ≡ asked → All (answered world call.pid process asked).1
       held_answered world call process fit held h uses passed Lacking is = held
       held_answered world call process fit held h uses passed Misformed is = held
       held_answered world call process fit held h uses passed (Does doing) is =
-          held_applied stable world call.pid process (effect_of (host_of world) (caller_of world process) doing) held h (safe_of world call process held h (through_of world call process fit held h passed doing is) (λ first. uses first passed doing is))
+          held_applied stable world call.pid process (effect_of (host_of world) (caller_of world process) doing) held h
+          (safe_of world call process held h (through_of world call process fit held h passed doing is)
+          (λ first. uses first passed doing is))
 
-      held_decided : (world : World) (call : Call) (process : Process) → IsCall call → All world → Held world.tables world.owners process → UsesIfLet world call process
+      held_decided : (world : World) (call : Call) (process : Process) → IsCall call → All world → Held world.tables world.owners process
+          → UsesIfLet world call process
           → (d : Decision) → decision_of world call process ≡ d → All (decided world call process d).1
-      held_decided world call process fit held h uses decision.Pass e = held_answered world call process fit held h uses e (asked_of world.calls call) refl
+      held_decided world call process fit held h uses decision.Pass e =
+          held_answered world call process fit held h uses e (asked_of world.calls call) refl
       held_decided world call process fit held h uses (decision.Errno errno) e = held
       held_decided world call process fit held h uses decision.Kill e = held_ended stable world call.pid process held h
 
-      held_by : (world : World) (call : Call) → IsCall call → All world → ((process : Process) → living_of world call.pid ≡ Some process → Held world.tables world.owners process → UsesIfLet world call process)
+      held_by : (world : World) (call : Call) → IsCall call → All world
+          → ((process : Process) → living_of world call.pid ≡ Some process → Held world.tables world.owners process
+          → UsesIfLet world call process)
           → (o : Option Process) → living_of world call.pid ≡ o → All (step_by world call o).1
       held_by world call fit held uses None e = held
       held_by world call fit held uses (Some process) e =
@@ -357,11 +416,13 @@ module _ (launch : Launch) (power : Power) (top : Bounds) (below : Table → Typ
           held_decided world call process fit held h (uses process e h) (decision_of world call process) refl
 
       spared_step : (world : World) (call : Call) → IsCall call → Spares uids gids world call → All world → All (step world call).1
-      spared_step world call fit spares held = held_by world call fit held (λ process e h first passed doing is. spares process doing e first is) (living_of world call.pid) refl
+      spared_step world call fit spares held = held_by world call fit held
+          (λ process e h first passed doing is. spares process doing e first is) (living_of world call.pid) refl
 
       pub spared_run : (list : List Call) (world : World) → AreCalls list → AllSpare uids gids world list → All world → All (run world list)
       spared_run [] world fit spares held = held
-      spared_run (call ∷ list) world fit spares held = spared_run list (step world call).1 fit.1 spares.1 (spared_step world call fit.0 spares.0 held)
+      spared_run (call ∷ list) world fit spares held = spared_run list (step world call).1 fit.1 spares.1
+          (spared_step world call fit.0 spares.0 held)
 
     -- where each capability may be used by what passes, each call does
     module _ (stable : IsStable launch power below) (closed : IsClosed launch (lets launch TakesUid) (lets launch TakesGid) power top) where

@@ -1,5 +1,6 @@
 -- Programs that answer as the settings say meet what the judge asks of first choices.
-use Rattle.std.proofs.Common.{◌≡◌, ℕ, zero, suc, Bool, true, false, eqb, cond, List, [], ◌∷◌, Option, Some, None, refl, ap, ◌∙◌, sym, subst, arith, length, ◌<◌}
+use Rattle.std.proofs.Common.{◌≡◌, ℕ, zero, suc, Bool, true, false, eqb, cond, List, [], ◌∷◌, Option, Some, None, refl, ap, ◌∙◌, sym, subst}
+use Rattle.std.proofs.Common.{arith, length, ◌<◌}
 use Rattle.std.specs.Prelude.{◌^◌, ◌==◌, IfSome, slice_get, set, ◌%◌, slice_index}
 use Rattle.std.specs.List.{AllByRecursion}
 use Rattle.std.specs.Option.{option_map_or}
@@ -91,18 +92,22 @@ path_fit wish_to.Write known.Truncate first e = by_same no_words first bare_word
 path_fit wish_to.Exec known.Execve first e = by_same no_words first bare_words e
 path_fit wish call first e = cc
 
-known_fit : (kind : CallKind) (call : CallRule) (first : List ℕ) → family_or kind (rule.Known call) < 2 ^ 64 → words kind (rule.Known call) ≡ Some first → AreWords first
+known_fit : (kind : CallKind) (call : CallRule) (first : List ℕ) → family_or kind (rule.Known call) < 2 ^ 64
+    → words kind (rule.Known call) ≡ Some first → AreWords first
 known_fit (k.ForPath wish) call first h e = path_fit wish call first e
 known_fit (k.ForFamily family) known.Socket first h e = by_same (one_word 0 family) first (word_words 0 family h) e
 known_fit (k.ForFamily family) known.Socketcall first h e = by_same (one_word 0 1) first (word_words 0 1 (omega arith)) e
-known_fit (k.ForNamespace space) known.Clone first h e = by_same (one_word 0 (q.flag_of space)) first (word_words 0 (q.flag_of space) (flag_small space)) e
-known_fit (k.ForNamespace space) known.Unshare first h e = by_same (one_word 0 (q.flag_of space)) first (word_words 0 (q.flag_of space) (flag_small space)) e
+known_fit (k.ForNamespace space) known.Clone first h e = by_same (one_word 0 (q.flag_of space)) first
+    (word_words 0 (q.flag_of space) (flag_small space)) e
+known_fit (k.ForNamespace space) known.Unshare first h e = by_same (one_word 0 (q.flag_of space)) first
+    (word_words 0 (q.flag_of space) (flag_small space)) e
 known_fit k.MapsWx known.Map first h e = by_same (one_word 2 6) first (word_words 2 6 (omega arith)) e
 known_fit k.ProtectsX known.Protect first h e = by_same (one_word 2 4) first (word_words 2 4 (omega arith)) e
 known_fit k.AttachesX known.Attach first h e = by_same (one_word 2 0x8000) first (word_words 2 0x8000 (omega arith)) e
 known_fit k.SchedulesRealtime known.Schedule first h e = by_same (one_word 1 1) first (word_words 1 1 (omega arith)) e
 known_fit k.TakesPersonality known.Personality first h e = by_same (one_word 0 8) first (word_words 0 8 (omega arith)) e
-known_fit k.SetsMode (known.SetMode at) first h e = by_same (one_word (place_of at) 0x800) first (word_words (place_of at) 0x800 (omega arith)) e
+known_fit k.SetsMode (known.SetMode at) first h e = by_same (one_word (place_of at) 0x800) first
+    (word_words (place_of at) 0x800 (omega arith)) e
 known_fit k.ChangesMounts known.Mount first h e = by_same no_words first bare_words e
 known_fit k.RemovesMounts known.Umount first h e = by_same no_words first bare_words e
 known_fit k.SetsCaps known.Capset first h e = by_same no_words first bare_words e
@@ -121,7 +126,8 @@ plain_fit (k.ForPath wish_to.Write) cap' first e = cc
 plain_fit (k.ForPath wish_to.Exec) cap' first e = cc
 plain_fit kind cap' first e = cc
 
-words_fit : (kind : CallKind) (rule' : Rule) (first : List ℕ) → family_or kind rule' < 2 ^ 64 → words kind rule' ≡ Some first → AreWords first
+words_fit : (kind : CallKind) (rule' : Rule) (first : List ℕ) → family_or kind rule' < 2 ^ 64 → words kind rule' ≡ Some first
+    → AreWords first
 words_fit kind (rule.Known call) first h e = known_fit kind call first h e
 words_fit kind (rule.Plain cap') first h e = plain_fit kind cap' first e
 
@@ -132,7 +138,8 @@ low_small args at = below (slice_index args at)
     below word = omega arith
 
 -- a family that a call asks for is a low word
-family_small : (kind : CallKind) (args first : List ℕ) (rule' : Rule) (payload : Payload) (doing : Doing) → words kind rule' ≡ Some first → doing_by rule' args payload ≡ Some doing → asks kind doing ≡ true → family_or kind rule' < 2 ^ 64
+family_small : (kind : CallKind) (args first : List ℕ) (rule' : Rule) (payload : Payload) (doing : Doing) → words kind rule' ≡ Some first
+    → doing_by rule' args payload ≡ Some doing → asks kind doing ≡ true → family_or kind rule' < 2 ^ 64
 family_small (k.ForFamily family) args first (rule.Known known.Socket) payload doing e is asked =
     let own = bare_is doing (d.Socket (low_word args 0)) payload is in
     let same : low_word args 0 ≡ family = eqb-true (low_word args 0) family (ap (asks (k.ForFamily family)) own ∙ asked) in
@@ -143,7 +150,8 @@ family_small (k.ForFamily family) args first rule' payload doing e is asked = cc
 family_small kind args first rule' payload doing e is asked = omega arith
 
 -- ABIs of one architecture are one
-pub same_abi : (native : Abi) (second : Option Abi) → IfSome second (λ other. other.arch == native.arch ≡ false) → (a b : ℕ) (x y : Abi) → slice_get (native ∷ option_to_list second) a ≡ Some x → slice_get (native ∷ option_to_list second) b ≡ Some y
+pub same_abi : (native : Abi) (second : Option Abi) → IfSome second (λ other. other.arch == native.arch ≡ false) → (a b : ℕ) (x y : Abi)
+    → slice_get (native ∷ option_to_list second) a ≡ Some x → slice_get (native ∷ option_to_list second) b ≡ Some y
     → x.arch ≡ y.arch → a ≡ b
 same_abi native second differ zero zero x y f g e = refl
 same_abi native None differ zero (suc b) x y f g e = cc
@@ -156,20 +164,28 @@ same_abi native (Some other) differ (suc zero) (suc (suc b)) x y f g e = cc
 same_abi native (Some other) differ (suc (suc a)) b x y f g e = cc
 
 -- what a program of an ABI answers to a call of a line of it
-pub at_line : (settings : FilterSettings) (launch : Launch) (filter : FilterName) (abi nr : ℕ) (args : List ℕ) (line : CallLine) → numbered nr (calls_in launch.calls abi) ≡ Some line
-    → wanted_action filter settings launch.calls abi (data_at launch abi nr args) ≡ named_action filter settings launch.calls line.name (data_at launch abi nr args)
+pub at_line : (settings : FilterSettings) (launch : Launch) (filter : FilterName) (abi nr : ℕ) (args : List ℕ) (line : CallLine)
+    → numbered nr (calls_in launch.calls abi) ≡ Some line
+    → wanted_action filter settings launch.calls abi (data_at launch abi nr args)
+    ≡ named_action filter settings launch.calls line.name (data_at launch abi nr args)
 at_line settings launch filter abi nr args line found =
-    ap (λ b. cond b (option_map_or (λ call. named_action filter settings launch.calls call.name (data_at launch abi nr args)) (numbered nr (calls_in launch.calls abi)) (unnamed_action filter settings)) (other_action launch.calls.second)) (eq-eqb (arch_of launch.calls abi) (arch_of launch.calls abi) refl)
-    ∙ ap (λ o. option_map_or (λ call. named_action filter settings launch.calls call.name (data_at launch abi nr args)) o (unnamed_action filter settings)) found
+    ap (λ b. cond b (option_map_or (λ call. named_action filter settings launch.calls call.name (data_at launch abi nr args))
+    (numbered nr (calls_in launch.calls abi)) (unnamed_action filter settings)) (other_action launch.calls.second))
+    (eq-eqb (arch_of launch.calls abi) (arch_of launch.calls abi) refl)
+    ∙ ap (λ o. option_map_or (λ call. named_action filter settings launch.calls call.name (data_at launch abi nr args)) o
+    (unnamed_action filter settings)) found
 
 -- and to a call of another
-pub at_other : (settings : FilterSettings) (launch : Launch) (filter : FilterName) (own abi nr : ℕ) (args : List ℕ) → eqb (arch_of launch.calls abi) (arch_of launch.calls own) ≡ false
+pub at_other : (settings : FilterSettings) (launch : Launch) (filter : FilterName) (own abi nr : ℕ) (args : List ℕ)
+    → eqb (arch_of launch.calls abi) (arch_of launch.calls own) ≡ false
     → wanted_action filter settings launch.calls own (data_at launch abi nr args) ≡ other_action launch.calls.second
 at_other settings launch filter own abi nr args differ =
-    ap (λ b. cond b (option_map_or (λ call. named_action filter settings launch.calls call.name (data_at launch abi nr args)) (numbered nr (calls_in launch.calls own)) (unnamed_action filter settings)) (other_action launch.calls.second)) differ
+    ap (λ b. cond b (option_map_or (λ call. named_action filter settings launch.calls call.name (data_at launch abi nr args))
+    (numbered nr (calls_in launch.calls own)) (unnamed_action filter settings)) (other_action launch.calls.second)) differ
 
 -- an ABI that has a call is there
-pub is_there : (table : Table) (abi nr : ℕ) (line : CallLine) → numbered nr (calls_in table abi) ≡ Some line → (o : Option Abi) → abi_at table abi ≡ o → (found : Abi) × (abi_at table abi ≡ Some found)
+pub is_there : (table : Table) (abi nr : ℕ) (line : CallLine) → numbered nr (calls_in table abi) ≡ Some line → (o : Option Abi)
+    → abi_at table abi ≡ o → (found : Abi) × (abi_at table abi ≡ Some found)
 is_there table abi nr line e None at = let none = sym (ap (λ (o : Option Abi). numbered nr (option_map_or (λ found. found.calls) o [])) at) ∙ e in cc
 is_there table abi nr line e (Some found) at = (found, at)
 
@@ -182,26 +198,38 @@ settings_choose launch settings arch differ each plain kind abi nr args rule' pa
     let h = has_rule (calls_in launch.calls abi) nr rule' at in
     record { args = w.args; are = w.are; passes = stack_passes launch.stack (data_at launch abi nr args) (data_at launch abi nr w.args) (plain (data_at launch abi nr args) one) (plain (data_at launch abi nr w.args) other) (all_of w.args w.are one other h launch.stack each) p }
   where
-    own_line : (first : List ℕ) → words kind rule' ≡ Some first → IsCallData (data_at launch abi nr args) → IsCallData (data_at launch abi nr first) → HasRule (calls_in launch.calls abi) nr rule' → (code : List Insn) (m : Means settings launch.calls code) → abi ≡ m.abi
-        → decision_of (answer_of code (data_at launch abi nr args)) ≡ decision.Pass → decision_of (answer_of code (data_at launch abi nr first)) ≡ decision.Pass
+    own_line : (first : List ℕ) → words kind rule' ≡ Some first → IsCallData (data_at launch abi nr args)
+        → IsCallData (data_at launch abi nr first) → HasRule (calls_in launch.calls abi) nr rule'
+        → (code : List Insn) (m : Means settings launch.calls code) → abi ≡ m.abi
+        → decision_of (answer_of code (data_at launch abi nr args)) ≡ decision.Pass
+        → decision_of (answer_of code (data_at launch abi nr first)) ≡ decision.Pass
     own_line first are one other h code m same e =
         let before = m.answers (data_at launch abi nr args) one ∙ ap word_of (ap (λ own. wanted_action m.filter settings launch.calls own (data_at launch abi nr args)) (sym same) ∙ at_line settings launch m.filter abi nr args h.line h.found) in
         let after = m.answers (data_at launch abi nr first) other ∙ ap word_of (ap (λ own. wanted_action m.filter settings launch.calls own (data_at launch abi nr first)) (sym same) ∙ at_line settings launch m.filter abi nr first h.line h.found) in
-        ap decision_of after ∙ first_passes m.filter settings launch.calls h.line rule' kind payload doing (data_at launch abi nr args) (data_at launch abi nr first) h.is is asked are (ap decision_of (sym before) ∙ e)
+        ap decision_of after ∙ first_passes m.filter settings launch.calls h.line rule' kind payload doing (data_at launch abi nr args)
+        (data_at launch abi nr first) h.is is asked are (ap decision_of (sym before) ∙ e)
 
-    either : (first : List ℕ) → words kind rule' ≡ Some first → IsCallData (data_at launch abi nr args) → IsCallData (data_at launch abi nr first) → HasRule (calls_in launch.calls abi) nr rule' → (code : List Insn) (m : Means settings launch.calls code)
-        → (b : Bool) → eqb (arch_of launch.calls abi) (arch_of launch.calls m.abi) ≡ b → decision_of (answer_of code (data_at launch abi nr args)) ≡ decision.Pass → decision_of (answer_of code (data_at launch abi nr first)) ≡ decision.Pass
+    either : (first : List ℕ) → words kind rule' ≡ Some first → IsCallData (data_at launch abi nr args)
+        → IsCallData (data_at launch abi nr first) → HasRule (calls_in launch.calls abi) nr rule'
+        → (code : List Insn) (m : Means settings launch.calls code)
+        → (b : Bool) → eqb (arch_of launch.calls abi) (arch_of launch.calls m.abi) ≡ b
+        → decision_of (answer_of code (data_at launch abi nr args)) ≡ decision.Pass
+        → decision_of (answer_of code (data_at launch abi nr first)) ≡ decision.Pass
     either first are one other h code m true same e =
         let own = is_there launch.calls abi nr h.line h.found (abi_at launch.calls abi) refl in
         let archs : own.0.arch ≡ m.found.arch = ap (λ (o : Option Abi). option_map_or (λ found. found.arch) o 0) (sym own.1) ∙ eqb-true (arch_of launch.calls abi) (arch_of launch.calls m.abi) same ∙ ap (λ (o : Option Abi). option_map_or (λ found. found.arch) o 0) m.there in
-        own_line first are one other h code m (same_abi (native launch.calls) launch.calls.second differ abi m.abi own.0 m.found own.1 m.there archs) e
+        own_line first are one other h code m
+        (same_abi (native launch.calls) launch.calls.second differ abi m.abi own.0 m.found own.1 m.there archs) e
     either first are one other h code m false differs e =
         let before = m.answers (data_at launch abi nr args) one ∙ ap word_of (at_other settings launch m.filter m.abi abi nr args differs) in
         let after = m.answers (data_at launch abi nr first) other ∙ ap word_of (at_other settings launch m.filter m.abi abi nr first differs) in
         ap decision_of (after ∙ sym before) ∙ e
 
-    all_of : (first : List ℕ) → words kind rule' ≡ Some first → IsCallData (data_at launch abi nr args) → IsCallData (data_at launch abi nr first) → HasRule (calls_in launch.calls abi) nr rule' → (programs : List (List Insn)) → AllByRecursion (Means settings launch.calls) programs
-        → AllByRecursion (λ (code : List Insn). decision_of (answer_of code (data_at launch abi nr args)) ≡ decision.Pass → decision_of (answer_of code (data_at launch abi nr first)) ≡ decision.Pass) programs
+    all_of : (first : List ℕ) → words kind rule' ≡ Some first → IsCallData (data_at launch abi nr args)
+        → IsCallData (data_at launch abi nr first) → HasRule (calls_in launch.calls abi) nr rule' → (programs : List (List Insn))
+        → AllByRecursion (Means settings launch.calls) programs
+        → AllByRecursion (λ (code : List Insn). decision_of (answer_of code (data_at launch abi nr args)) ≡ decision.Pass
+        → decision_of (answer_of code (data_at launch abi nr first)) ≡ decision.Pass) programs
     all_of first are one other h [] each = tt
     all_of first are one other h (code ∷ programs) each = (
       λ e. either first are one other h code each.0 (eqb (arch_of launch.calls abi) (arch_of launch.calls each.0.abi)) refl e,

@@ -1,5 +1,6 @@
 -- What closed bounds rule out is reached by no list of calls.
-use Rattle.std.proofs.Common.{◌≡◌, ℕ, Bool, true, false, Option, Some, None, Result, Ok, Err, ◌⊎◌, inl, inr, refl, cond, ap, ◌∙◌, sym, subst, eqb}
+use Rattle.std.proofs.Common.{◌≡◌, ℕ, Bool, true, false, Option, Some, None, Result, Ok, Err, ◌⊎◌, inl, inr, refl, cond, ap, ◌∙◌, sym}
+use Rattle.std.proofs.Common.{subst, eqb}
 use Rattle.std.specs.Prelude.{not, nat_lt, length}
 use Rattle.std.specs.List.{AllByRecursion}
 use Rattle.std.proofs.lemmas.Bool.{eqb-true, and_parts, and_from}
@@ -75,10 +76,13 @@ module _ (world : World) (pid : ℕ) (process : Process) where
       by false true h = absurd h
       by false false h = refl
 
-  open_done : (flags : ℕ) (entry : Flags) (target : Row) → is_writing flags ≡ true → D (looks (open_answer flags entry (row target))) → entry.read_only ≡ false
+  open_done : (flags : ℕ) (entry : Flags) (target : Row) → is_writing flags ≡ true → D (looks (open_answer flags entry (row target)))
+      → entry.read_only ≡ false
   open_done flags entry target writing h = write_done 3 entry target (by (eqb (access_mode flags) 3) (is_writing flags) writing h)
     where
-      by : (a b : Bool) → b ≡ true → D (looks (cond {A = Result ℕ ℕ} a (Err einval) (cond b (write_answer 3 entry (row target)) (see_answer 3 (row target))))) → D (looks (write_answer 3 entry (row target)))
+      by : (a b : Bool) → b ≡ true
+          → D (looks (cond {A = Result ℕ ℕ} a (Err einval) (cond b (write_answer 3 entry (row target)) (see_answer 3 (row target)))))
+          → D (looks (write_answer 3 entry (row target)))
       by true b e h = absurd h
       by false true e h = h
       by false false e h = cc
@@ -88,14 +92,17 @@ module _ (world : World) (pid : ℕ) (process : Process) where
     pub runs : flags.no_exec ≡ false
     pub taken : is_refused creds (marks_of target) flags.no_suid ≡ false
 
-  exec_done' : (newer : Bool) (creds : Creds) (flags : Flags) (target : Row) → D (creds_effect (exec_answer_in newer creds flags (row target))) → RunDone creds flags target
+  exec_done' : (newer : Bool) (creds : Creds) (flags : Flags) (target : Row)
+      → D (creds_effect (exec_answer_in newer creds flags (row target))) → RunDone creds flags target
   exec_done' newer creds flags target h = by (program_answer flags (row target)) refl h
     where
-      by_refused : (b : Bool) → D (creds_effect (cond b (Err eperm) (Ok (exec_done_in newer creds (marks_of target) flags.no_suid)))) → b ≡ false
+      by_refused : (b : Bool) → D (creds_effect (cond b (Err eperm) (Ok (exec_done_in newer creds (marks_of target) flags.no_suid))))
+          → b ≡ false
       by_refused true h = absurd h
       by_refused false h = refl
 
-      by : (answer : Result Program ℕ) → program_answer flags (row target) ≡ answer → D (creds_effect (executed_in newer creds answer)) → RunDone creds flags target
+      by : (answer : Result Program ℕ) → program_answer flags (row target) ≡ answer → D (creds_effect (executed_in newer creds answer))
+          → RunDone creds flags target
       by (Err errno) is h = absurd h
       by (Ok program) is h =
           let ran = ran_program flags target program is in
@@ -103,13 +110,17 @@ module _ (world : World) (pid : ℕ) (process : Process) where
           record { exe = ran.exe; runs = ran.runs; taken = by_refused (is_refused creds (marks_of target) flags.no_suid) (subst P ran.is h) }
 
 -- a call that is done and whose path finds the row has the flags that it needs
-pub wish_fits : (world : World) (pid : ℕ) (process : Process) (wish : Wish) (doing : Doing) (path : Path) (target : Row) → path_for wish doing ≡ Some path
-    → finds (row_at world.site.rows) (table_of world process.namespace) path ≡ row target → DoneBy world pid process (effect_of (host_of world) (caller_of world process) doing) → fits wish (flags_at (table_of world process.namespace) path) ≡ true
+pub wish_fits : (world : World) (pid : ℕ) (process : Process) (wish : Wish) (doing : Doing) (path : Path) (target : Row)
+    → path_for wish doing ≡ Some path
+    → finds (row_at world.site.rows) (table_of world process.namespace) path ≡ row target
+    → DoneBy world pid process (effect_of (host_of world) (caller_of world process) doing)
+    → fits wish (flags_at (table_of world process.namespace) path) ≡ true
 wish_fits world pid process ToSee doing path target e g h = refl
 wish_fits world pid process ToRead doing path target e g h = refl
 wish_fits world pid process ToWrite (d.Open flags own) path target e g h = by (is_writing flags) refl e
   where
-    by : (b : Bool) → is_writing flags ≡ b → cond b (Some own) None ≡ Some path → not (flags_at (table_of world process.namespace) path).read_only ≡ true
+    by : (b : Bool) → is_writing flags ≡ b → cond b (Some own) None ≡ Some path
+        → not (flags_at (table_of world process.namespace) path).read_only ≡ true
     by true is e =
         let here : own ≡ path = cc in
         let P : Found Row → Type 0 = λ found. DoneBy world pid process (looks (open_answer flags (flags_at (table_of world process.namespace) own) found)) in
@@ -138,15 +149,18 @@ wish_fits world pid process ToExec (d.Execve own) path target e g h =
 wish_fits world pid process wish doing path target e g h = cc
 
 -- and an execve is not refused
-pub run_taken : (world : World) (pid : ℕ) (process : Process) (doing : Doing) (path : Path) (target : Row) → path_for ToExec doing ≡ Some path
-    → finds (row_at world.site.rows) (table_of world process.namespace) path ≡ row target → DoneBy world pid process (effect_of (host_of world) (caller_of world process) doing)
+pub run_taken : (world : World) (pid : ℕ) (process : Process) (doing : Doing) (path : Path) (target : Row)
+    → path_for ToExec doing ≡ Some path
+    → finds (row_at world.site.rows) (table_of world process.namespace) path ≡ row target
+    → DoneBy world pid process (effect_of (host_of world) (caller_of world process) doing)
     → is_refused process.creds (marks_of target) (flags_at (table_of world process.namespace) path).no_suid ≡ false
 run_taken world pid process (d.Execve own) path target e g h =
     let here : own ≡ path = cc in
     let P : Found Row → Type 0 = λ found. DoneBy world pid process (creds_effect (exec_answer_in (is_newer process) process.creds (flags_at (table_of world process.namespace) own) found)) in
     let found : finds (row_at world.site.rows) (table_of world process.namespace) own ≡ row target = ap (finds (row_at world.site.rows) (table_of world process.namespace)) here ∙ g in
     let r = exec_done' world pid process (is_newer process) process.creds (flags_at (table_of world process.namespace) own) target (subst P found h) in
-    ap (λ (p : Path). is_refused process.creds (marks_of target) (flags_at (table_of world process.namespace) p).no_suid) (sym here) ∙ r.taken
+    ap (λ (p : Path). is_refused process.creds (marks_of target) (flags_at (table_of world process.namespace) p).no_suid) (sym here)
+    ∙ r.taken
 run_taken world pid process doing path target e g h = cc
 
 -- ---- tables without no-suid entries
@@ -165,7 +179,8 @@ honours_at table path h = by (entry_of table path) refl
     by None is = refl
     by (Some step) is = entry_is Honours table path step h is
 
-pub honours_below : (power : Power) (launched table : Table) → (power ≡ Mounting → ⊥) → CanHave power launched table → AllByRecursion Honours launched → AllByRecursion Honours table
+pub honours_below : (power : Power) (launched table : Table) → (power ≡ Mounting → ⊥) → CanHave power launched table
+    → AllByRecursion Honours launched → AllByRecursion Honours table
 honours_below Nowise launched table low same h = subst (AllByRecursion Honours) (sym same) h
 honours_below Unmounting launched table low part h = part_all Honours (trimmed_part part) h
 honours_below Mounting launched table low any h = absurd (low refl)
@@ -210,7 +225,8 @@ own_bit namespace.User = refl
 own_bit namespace.Uts = refl
 
 -- a user namespace, or one of the others
-user_or_other : (space : NamespaceType) → (has newuser (bit_of space) ≡ true) ⊎ ((has other_spaces (bit_of space) ≡ true) × (is_user space ≡ false))
+user_or_other : (space : NamespaceType) → (has newuser (bit_of space) ≡ true) ⊎
+    ((has other_spaces (bit_of space) ≡ true) × (is_user space ≡ false))
 unfolding has bit_of
 user_or_other namespace.Cgroup = inr (refl, refl)
 user_or_other namespace.Ipc = inr (refl, refl)
@@ -222,17 +238,21 @@ user_or_other namespace.Uts = inr (refl, refl)
 
 -- a user namespace is asked for, and one was left; or another, by CAP_SYS_ADMIN
 abbrev pub MadeSpace : World → NamespaceType → Process → Doing → Type 0
-MadeSpace world space process doing = ((asks_space namespace.User doing ≡ true) × (has_user_left world ≡ true)) ⊎ ((is_user space ≡ false) × (has process.creds.effective 21 ≡ true))
+MadeSpace world space process doing = ((asks_space namespace.User doing ≡ true) × (has_user_left world ≡ true)) ⊎
+    ((is_user space ≡ false) × (has process.creds.effective 21 ≡ true))
 
-module _ (world : World) (pid : ℕ) (process : Process) (space : NamespaceType) (flags : ℕ) (doing : Doing) (own none' user : Effect) (asked : has_all (flag_of space) flags ≡ true) (is : has_all newuser flags ≡ true → asks_space namespace.User doing ≡ true)
+module _ (world : World) (pid : ℕ) (process : Process) (space : NamespaceType) (flags : ℕ) (doing : Doing) (own none' user : Effect)
+    (asked : has_all (flag_of space) flags ≡ true) (is : has_all newuser flags ≡ true → asks_space namespace.User doing ≡ true)
     (left : DoneBy world pid process user → has_user_left world ≡ true) where
   bit : has flags (bit_of space) ≡ true
   bit = on_flag (bit_of space) (flag_of space) flags (own_bit space) asked
 
-  rest_by : has_some newuser flags ≡ false → DoneBy world pid process (cond (has_some other_spaces flags) (with_admin process.creds own) none') → MadeSpace world space process doing
+  rest_by : has_some newuser flags ≡ false → DoneBy world pid process
+      (cond (has_some other_spaces flags) (with_admin process.creds own) none') → MadeSpace world space process doing
   rest_by off h = by (user_or_other space)
     where
-      by : (has newuser (bit_of space) ≡ true) ⊎ ((has other_spaces (bit_of space) ≡ true) × (is_user space ≡ false)) → MadeSpace world space process doing
+      by : (has newuser (bit_of space) ≡ true) ⊎ ((has other_spaces (bit_of space) ≡ true) × (is_user space ≡ false))
+          → MadeSpace world space process doing
       by (inl user) = let on = in_mask (bit_of space) newuser flags user bit in cc
       by (inr other) =
           let on = in_mask (bit_of space) other_spaces flags other.0 bit in
@@ -240,25 +260,34 @@ module _ (world : World) (pid : ℕ) (process : Process) (space : NamespaceType)
           inr (other.1, (when' world pid process (has process.creds.effective 21) 1 own (subst P on h)).0)
 
   -- what is behind the other tests
-  space_by : DoneBy world pid process (cond (has_some newuser flags) user (cond (has_some other_spaces flags) (with_admin process.creds own) none')) → MadeSpace world space process doing
+  space_by : DoneBy world pid process
+      (cond (has_some newuser flags) user (cond (has_some other_spaces flags) (with_admin process.creds own) none'))
+      → MadeSpace world space process doing
   space_by h = by (has_some newuser flags) refl h
     where
-      by : (b : Bool) → has_some newuser flags ≡ b → DoneBy world pid process (cond b user (cond (has_some other_spaces flags) (with_admin process.creds own) none')) → MadeSpace world space process doing
+      by : (b : Bool) → has_some newuser flags ≡ b → DoneBy world pid process
+          (cond b user (cond (has_some other_spaces flags) (with_admin process.creds own) none')) → MadeSpace world space process doing
       by true e h = inl (is (user_flag flags e), left h)
       by false e h = rest_by e h
 
 -- where a user namespace was made one was left
-child_left : (world : World) (pid : ℕ) (process : Process) (own : Bool) → DoneBy world pid process (f.UserChild own) → has_user_left world ≡ true
+child_left : (world : World) (pid : ℕ) (process : Process) (own : Bool) → DoneBy world pid process (f.UserChild own)
+    → has_user_left world ≡ true
 child_left world pid process own h = by (has_user_left world) h
   where
-    by : (b : Bool) → IsDone (cond {A = Reply × World} b (cond {A = Reply × World} (nat_lt (length world.processes) most_processes) (child_in world (with_user world) (entered_by process world.users) own) (reply.Refused eagain, world)) (reply.Refused enospc, world)).0 → b ≡ true
+    by : (b : Bool) → IsDone (cond {A = Reply × World} b
+        (cond {A = Reply × World} (nat_lt (length world.processes) most_processes)
+        (child_in world (with_user world) (entered_by process world.users) own) (reply.Refused eagain, world))
+        (reply.Refused enospc, world)).0 → b ≡ true
     by true h = refl
     by false h = absurd h
 
-own_left : (world : World) (pid : ℕ) (process : Process) (own : Bool) → DoneBy world pid process (f.OwnUser own) → has_user_left world ≡ true
+own_left : (world : World) (pid : ℕ) (process : Process) (own : Bool) → DoneBy world pid process (f.OwnUser own)
+    → has_user_left world ≡ true
 own_left world pid process own h = by (has_user_left world) h
   where
-    by : (b : Bool) → IsDone (cond {A = Reply × World} b (moved_in world (with_user world) pid (entered_by process world.users) own) (reply.Refused enospc, world)).0 → b ≡ true
+    by : (b : Bool) → IsDone (cond {A = Reply × World} b (moved_in world (with_user world) pid (entered_by process world.users) own)
+        (reply.Refused enospc, world)).0 → b ≡ true
     by true h = refl
     by false h = absurd h
 
@@ -266,14 +295,17 @@ pub space_done : (world : World) (pid : ℕ) (process : Process) (space : Namesp
     → DoneBy world pid process (effect_of (host_of world) (caller_of world process) doing) → MadeSpace world space process doing
 space_done world pid process space (d.Unshare flags) asked h =
     let one = unless world pid process (has_some 0x81fd_ffff flags) 22 (cond (has_some newuser flags) (f.OwnUser (has_some newns flags)) (cond (has_some other_spaces flags) (with_admin process.creds (cond (has_some newns flags) f.OwnTable (f.Answer 0))) (f.Answer 0))) h in
-    space_by world pid process space flags (d.Unshare flags) (cond (has_some newns flags) f.OwnTable (f.Answer 0)) (f.Answer 0) (f.OwnUser (has_some newns flags)) asked (λ e. e) (own_left world pid process (has_some newns flags)) one.1
+    space_by world pid process space flags (d.Unshare flags) (cond (has_some newns flags) f.OwnTable (f.Answer 0)) (f.Answer 0)
+    (f.OwnUser (has_some newns flags)) asked (λ e. e) (own_left world pid process (has_some newns flags)) one.1
 space_done world pid process space (d.Clone flags) asked h =
     let one = unless world pid process (has_some 0x1_0000 flags) 22 (cond (has_some newuser flags) (f.UserChild (has_some newns flags)) (cond (has_some other_spaces flags) (with_admin process.creds (f.Child (has_some newns flags))) (f.Child false))) h in
-    space_by world pid process space flags (d.Clone flags) (f.Child (has_some newns flags)) (f.Child false) (f.UserChild (has_some newns flags)) asked (λ e. e) (child_left world pid process (has_some newns flags)) one.1
+    space_by world pid process space flags (d.Clone flags) (f.Child (has_some newns flags)) (f.Child false)
+    (f.UserChild (has_some newns flags)) asked (λ e. e) (child_left world pid process (has_some newns flags)) one.1
 space_done world pid process space doing asked h = cc
 
 -- a capability that a call asks for, in the first user namespace
-pub cap_done : (world : World) (pid : ℕ) (process : Process) (newer : Bool) (cap' : Option ℕ) (value number : ℕ) → cap' ≡ Some number → DoneBy world pid process (f.first_alone newer cap' (f.with_cap_of cap' process.creds (f.Answer value)))
+pub cap_done : (world : World) (pid : ℕ) (process : Process) (newer : Bool) (cap' : Option ℕ) (value number : ℕ) → cap' ≡ Some number
+    → DoneBy world pid process (f.first_alone newer cap' (f.with_cap_of cap' process.creds (f.Answer value)))
     → (newer ≡ false) × (has process.creds.effective number ≡ true)
 cap_done world pid process newer None value number e h = cc
 cap_done world pid process true (Some own) value number e h = absurd h

@@ -13,7 +13,8 @@ use Rattle.kernel_model.specs.site_table.Table.{row_at}
 use Rattle.kernel_model.specs.kern_creds.declared.creds.Creds.{Creds}
 use Rattle.kernel_model.specs.kern_creds.declared.file.FileCreds.{FileCreds}
 use Rattle.kernel_model.specs.kern_creds.Exec.{honours, is_refused, after_exec}
-use Rattle.kernel_model.specs.kern_creds.Prctl.{after_drop_bounding, after_raise, after_lower, after_clear_ambient, after_set_keepcaps, after_set_no_new_privs}
+use Rattle.kernel_model.specs.kern_creds.Prctl.{after_drop_bounding, after_raise, after_lower, after_clear_ambient, after_set_keepcaps}
+use Rattle.kernel_model.specs.kern_creds.Prctl.{after_set_no_new_privs}
 use Rattle.kernel_model.proofs.KernCreds.Answers.{Leaves}
 use Rattle.kernel_model.specs.kern_mounts.Finds.{Found, row, empty_directory, nothing, finds}
 use Rattle.kernel_model.specs.kern_files.Bits.{has_some, has_all}
@@ -25,7 +26,10 @@ use Rattle.kernel_model.proofs.MountsCall.{umount_answer_steps, mount_stays_plai
 use Rattle.kernel_model.specs.kern_mounts.Mounts.{Mounts, steps_of}
 use Rattle.kernel_model.specs.kernel_calls.Doing as d
 use Rattle.kernel_model.specs.kernel_calls.Doing.{Doing}
-use Rattle.kernel_model.specs.Effects.{Effect, Refuse, Answer, SetCreds, Push, Child, OwnTable, UserChild, OwnUser, Caller, effect_of, looks, creds_effect, table_effect, with_cap_of, with_admin, socket_effect, clone_effect, unshare_effect, ambient_effect, prctl_effect, push_effect, seccomp_effect, newuser, other_spaces, newns, socketcall_effect}
+use Rattle.kernel_model.specs.Effects.{Effect, Refuse, Answer, SetCreds, Push, Child, OwnTable, UserChild, OwnUser, Caller, effect_of}
+use Rattle.kernel_model.specs.Effects.{looks, creds_effect, table_effect, with_cap_of, with_admin, socket_effect, clone_effect}
+use Rattle.kernel_model.specs.Effects.{unshare_effect, ambient_effect, prctl_effect, push_effect, seccomp_effect, newuser, other_spaces}
+use Rattle.kernel_model.specs.Effects.{newns, socketcall_effect}
 use Rattle.kernel_model.specs.kern_files.Looking.{flags_at}
 use Rattle.filter_settings.specs.linux_numbers.Errnos.{einval}
 use Rattle.kernel_model.specs.declared.kern_files.program.Program.{Program}
@@ -41,7 +45,8 @@ use Rattle.kernel_laws.specs.Launched.{Launch, lets}
 use Rattle.kernel_laws.specs.Ceiling.{CanHave, CanHold, IsClosed, IsSafe}
 use Rattle.kernel_laws.specs.Spared.{Uses}
 use Rattle.kernel_laws.proofs.Flags.{user_flag}
-use Rattle.kernel_laws.proofs.Kept.{kept-clear_ambient, kept-no_new_privs, kept-keepcaps, kept-lower, kept-drop_bounding, kept-raise, kept-capset}
+use Rattle.kernel_laws.proofs.Kept.{kept-clear_ambient, kept-no_new_privs, kept-keepcaps, kept-lower, kept-drop_bounding, kept-raise}
+use Rattle.kernel_laws.proofs.Kept.{kept-capset}
 use Rattle.kernel_laws.proofs.KeptIds.{kept-setuid, kept-setresuid, kept-setgid, kept-setresgid, kept-setgroups}
 use Rattle.kernel_laws.proofs.KeptExec.{kept-exec, off}
 use Rattle.kernel_laws.proofs.Ran.{ran_program}
@@ -59,7 +64,8 @@ module _ (launch : Launch) (may_uids may_gids : Bool) (power : Power) (top : Bou
   safe_if true x y p q = p refl
   safe_if false x y p q = q refl
 
-  safe_admin : (creds : Creds) (effect : Effect) → Keeps top creds → (has top.effective 21 ≡ true → Safe effect) → Safe (with_admin creds effect)
+  safe_admin : (creds : Creds) (effect : Effect) → Keeps top creds → (has top.effective 21 ≡ true → Safe effect)
+      → Safe (with_admin creds effect)
   safe_admin creds effect held h = safe_if (has creds.effective 21) effect (Refuse 1) (λ e. h (held.effective.each 21 e)) (λ e. tt)
 
   safe_looks : (answer : Result ℕ ℕ) → Safe (looks answer)
@@ -76,19 +82,23 @@ module _ (launch : Launch) (may_uids may_gids : Bool) (power : Power) (top : Bou
 
   safe_socketcall : (creds : Creds) (operation : ℕ) (line : Option CallLine) → Safe (socketcall_effect false creds operation line)
   safe_socketcall creds operation line =
-      safe_if (eqb operation 1) (socket_effect false creds line) _ (λ e. safe_socket creds line) λ e. safe_if (nat_le 2 operation && nat_le operation 20) (Answer 0) (Refuse 22) (λ e. tt) (λ e. tt)
+      safe_if (eqb operation 1) (socket_effect false creds line) _ (λ e. safe_socket creds line) λ e. safe_if
+      (nat_le 2 operation && nat_le operation 20) (Answer 0) (Refuse 22) (λ e. tt) (λ e. tt)
 
-  not_refused : (creds : Creds) (file : FileCreds) (nosuid : Bool) → Keeps top creds → honours creds nosuid ≡ true → is_refused creds file nosuid ≡ false → file.effective ≡ true → IsWithin file.caps top.bounding
+  not_refused : (creds : Creds) (file : FileCreds) (nosuid : Bool) → Keeps top creds → honours creds nosuid ≡ true
+      → is_refused creds file nosuid ≡ false → file.effective ≡ true → IsWithin file.caps top.bounding
   not_refused creds file nosuid held h r e =
       let is : within file.caps creds.bounding ≡ true = grind arith in
       within_through _ _ _ (IsWithin-from_within file.caps creds.bounding is) held.bounding
 
-  safe_exec : (creds : Creds) (table : Table) (path : Path) → Keeps top creds → CanHave power launch.table table → (found : Found Row) → finds (row_at launch.site.rows) table path ≡ found → Safe (creds_effect (exec_answer creds (flags_at table path) found))
+  safe_exec : (creds : Creds) (table : Table) (path : Path) → Keeps top creds → CanHave power launch.table table → (found : Found Row)
+      → finds (row_at launch.site.rows) table path ≡ found → Safe (creds_effect (exec_answer creds (flags_at table path) found))
   safe_exec creds table path held allowed (nothing errno) e = tt
   safe_exec creds table path held allowed empty_directory e = tt
   safe_exec creds table path held allowed (row target) e = by (program_answer (flags_at table path) (row target)) refl
     where
-      by : (answer : Result Program ℕ) → program_answer (flags_at table path) (row target) ≡ answer → Safe (creds_effect (executed creds answer))
+      by : (answer : Result Program ℕ) → program_answer (flags_at table path) (row target) ≡ answer
+          → Safe (creds_effect (executed creds answer))
       by (Err errno) is = tt
       by (Ok program) is =
           let ran = ran_program (flags_at table path) target program is in
@@ -99,20 +109,27 @@ module _ (launch : Launch) (may_uids may_gids : Bool) (power : Power) (top : Bou
           (record { table = table; path = path; allowed = allowed; found = e; exe = ran.exe; runs = ran.runs; suid = grind arith })
           (not_refused creds (marks_of target) (flags_at table path).no_suid held h r)))
 
-  safe_clone : (creds : Creds) (flags : ℕ) → Keeps top creds → (has_all newuser flags ≡ true → lets launch (k.ForNamespace User) ≡ true) → Safe (clone_effect creds flags)
+  safe_clone : (creds : Creds) (flags : ℕ) → Keeps top creds → (has_all newuser flags ≡ true → lets launch (k.ForNamespace User) ≡ true)
+      → Safe (clone_effect creds flags)
   safe_clone creds flags held user =
-      safe_if (has_some 0x1_0000 flags) (Refuse 22) _ (λ e. tt) λ e. safe_if (has_some newuser flags) (UserChild (has_some newns flags)) _ (λ e. user (user_flag flags e)) λ e.
-      safe_if (has_some other_spaces flags) (with_admin creds (Child (has_some newns flags))) (Child false) (λ e. safe_admin creds (Child (has_some newns flags)) held (λ h. tt)) (λ e. tt)
+      safe_if (has_some 0x1_0000 flags) (Refuse 22) _ (λ e. tt) λ e. safe_if (has_some newuser flags) (UserChild (has_some newns flags)) _
+      (λ e. user (user_flag flags e)) λ e.
+      safe_if (has_some other_spaces flags) (with_admin creds (Child (has_some newns flags))) (Child false)
+      (λ e. safe_admin creds (Child (has_some newns flags)) held (λ h. tt)) (λ e. tt)
 
-  safe_unshare : (creds : Creds) (flags : ℕ) → Keeps top creds → (has_all newuser flags ≡ true → lets launch (k.ForNamespace User) ≡ true) → Safe (unshare_effect creds flags)
+  safe_unshare : (creds : Creds) (flags : ℕ) → Keeps top creds → (has_all newuser flags ≡ true → lets launch (k.ForNamespace User) ≡ true)
+      → Safe (unshare_effect creds flags)
   safe_unshare creds flags held user =
-      safe_if (has_some 0x81fd_ffff flags) (Refuse 22) _ (λ e. tt) λ e. safe_if (has_some newuser flags) (OwnUser (has_some newns flags)) _ (λ e. user (user_flag flags e)) λ e.
+      safe_if (has_some 0x81fd_ffff flags) (Refuse 22) _ (λ e. tt) λ e. safe_if (has_some newuser flags)
+      (OwnUser (has_some newns flags)) _ (λ e. user (user_flag flags e)) λ e.
       safe_if (has_some other_spaces flags) (with_admin creds (cond (has_some newns flags) OwnTable (Answer 0))) (Answer 0)
-      (λ e. safe_admin creds (cond (has_some newns flags) OwnTable (Answer 0)) held (λ h. safe_if (has_some newns flags) OwnTable (Answer 0) (λ e. tt) (λ e. tt))) (λ e. tt)
+      (λ e. safe_admin creds (cond (has_some newns flags) OwnTable (Answer 0)) held
+      (λ h. safe_if (has_some newns flags) OwnTable (Answer 0) (λ e. tt) (λ e. tt))) (λ e. tt)
 
   safe_ambient : (creds : Creds) (operation cap' : ℕ) → Keeps top creds → Safe (ambient_effect creds operation cap')
   safe_ambient creds operation cap' held =
-      safe_if (eqb operation 1) (cond (nat_lt 40 cap') (Refuse 22) (Answer (cond (has creds.ambient cap') 1 0))) _ (λ e. safe_if (nat_lt 40 cap') (Refuse 22) (Answer (cond (has creds.ambient cap') 1 0)) (λ e. tt) (λ e. tt)) λ e.
+      safe_if (eqb operation 1) (cond (nat_lt 40 cap') (Refuse 22) (Answer (cond (has creds.ambient cap') 1 0))) _
+      (λ e. safe_if (nat_lt 40 cap') (Refuse 22) (Answer (cond (has creds.ambient cap') 1 0)) (λ e. tt) (λ e. tt)) λ e.
       safe_if (eqb operation 2) (creds_effect (after_raise creds cap')) _ (λ e. safe_creds _ (kept-raise top creds held cap')) λ e.
       safe_if (eqb operation 3) (creds_effect (after_lower creds cap')) _ (λ e. safe_creds _ (kept-lower top creds held cap')) λ e.
       safe_if (eqb operation 4) (SetCreds (after_clear_ambient creds)) (Refuse 22) (λ e. kept-clear_ambient top creds held) (λ e. tt)
@@ -120,48 +137,62 @@ module _ (launch : Launch) (may_uids may_gids : Bool) (power : Power) (top : Bou
   safe_prctl : (creds : Creds) (option value third : ℕ) → Keeps top creds → Safe (prctl_effect creds option value third)
   safe_prctl creds option value third held =
       safe_if (eqb option 38) (cond (eqb value 1) (SetCreds (after_set_no_new_privs creds)) (Refuse 22)) _
-      (λ e. safe_if (eqb value 1) (SetCreds (after_set_no_new_privs creds)) (Refuse 22) (λ e. kept-no_new_privs top creds held) (λ e. tt)) λ e.
+      (λ e. safe_if (eqb value 1) (SetCreds (after_set_no_new_privs creds)) (Refuse 22) (λ e. kept-no_new_privs top creds held) (λ e. tt))
+      λ e.
       safe_if (eqb option 39) (Answer (cond creds.no_new_privs 1 0)) _ (λ e. tt) λ e.
       safe_if (eqb option 8) (cond (nat_lt value 2) (SetCreds (after_set_keepcaps creds (eqb value 1))) (Refuse 22)) _
-      (λ e. safe_if (nat_lt value 2) (SetCreds (after_set_keepcaps creds (eqb value 1))) (Refuse 22) (λ e. kept-keepcaps top creds held (eqb value 1)) (λ e. tt)) λ e.
-      safe_if (eqb option 24) (creds_effect (after_drop_bounding creds value)) _ (λ e. safe_creds _ (kept-drop_bounding top creds held value)) λ e.
+      (λ e. safe_if (nat_lt value 2) (SetCreds (after_set_keepcaps creds (eqb value 1))) (Refuse 22)
+      (λ e. kept-keepcaps top creds held (eqb value 1)) (λ e. tt)) λ e.
+      safe_if (eqb option 24) (creds_effect (after_drop_bounding creds value)) _
+      (λ e. safe_creds _ (kept-drop_bounding top creds held value)) λ e.
       safe_if (eqb option 47) (ambient_effect creds value third) (Refuse 22) (λ e. safe_ambient creds value third held) (λ e. tt)
 
   safe_push : (stack : List (List Insn)) (program : Option (List Insn)) → Safe (push_effect stack program)
   safe_push stack None = tt
   safe_push stack (Some program) = safe_if (nat_le (room_of stack + length program) 32768) (Push program) (Refuse 12) (λ e. tt) (λ e. tt)
 
-  safe_seccomp : (creds : Creds) (stack : List (List Insn)) (operation flags : ℕ) (bytes : List ℕ) → Safe (seccomp_effect creds stack operation flags bytes)
+  safe_seccomp : (creds : Creds) (stack : List (List Insn)) (operation flags : ℕ) (bytes : List ℕ)
+      → Safe (seccomp_effect creds stack operation flags bytes)
   safe_seccomp creds stack operation flags bytes =
-      safe_if (not (eqb operation 1 && eqb flags 0)) (Refuse 22) _ (λ e. tt) λ e. safe_if (not (creds.no_new_privs || has creds.effective 21)) (Refuse 13) (push_effect stack (program_of bytes)) (λ e. tt) (λ e. safe_push stack _)
+      safe_if (not (eqb operation 1 && eqb flags 0)) (Refuse 22) _ (λ e. tt) λ e. safe_if
+      (not (creds.no_new_privs || has creds.effective 21)) (Refuse 13) (push_effect stack (program_of bytes)) (λ e. tt)
+      (λ e. safe_push stack _)
 
   mounted : (table : Table) → power ≡ Mounting → CanHave power launch.table table
   mounted table e = let P : Power → Type 0 = λ power. CanHave power launch.table table in subst P (sym e) tt
 
-  unmounted : (own : Power) (table next : Table) (path : Path) (detach : Bool) → (own ≡ Nowise → ⊥) → CanHave own launch.table table → after_umount table path detach ≡ Ok next → CanHave own launch.table next
+  unmounted : (own : Power) (table next : Table) (path : Path) (detach : Bool) → (own ≡ Nowise → ⊥) → CanHave own launch.table table
+      → after_umount table path detach ≡ Ok next → CanHave own launch.table next
   unmounted Nowise table next path detach barred allowed e = absurd (barred refl)
-  unmounted Unmounting table next path detach barred allowed e = trimmed_through (trims path detach table next (trimmed_top allowed closed.rooted) e) allowed
+  unmounted Unmounting table next path detach barred allowed e =
+      trimmed_through (trims path detach table next (trimmed_top allowed closed.rooted) e) allowed
   unmounted Mounting table next path detach barred allowed e = tt
 
-  safe_table : (answer : Result Mounts ℕ) → ((mounts : Mounts) → answer ≡ Ok mounts → CanHold power launch.table mounts) → Safe (table_effect answer)
+  safe_table : (answer : Result Mounts ℕ) → ((mounts : Mounts) → answer ≡ Ok mounts → CanHold power launch.table mounts)
+      → Safe (table_effect answer)
   safe_table (Ok mounts) h = h mounts refl
   safe_table (Err errno) h = tt
 
-  safe_umount : (mounts : Mounts) (path : Path) (flags : ℕ) → CanHold power launch.table mounts → (power ≡ Nowise → ⊥) → Safe (table_effect (mounts_umount_answer mounts path flags))
+  safe_umount : (mounts : Mounts) (path : Path) (flags : ℕ) → CanHold power launch.table mounts → (power ≡ Nowise → ⊥)
+      → Safe (table_effect (mounts_umount_answer mounts path flags))
   safe_umount mounts path flags allowed h = safe_table (mounts_umount_answer mounts path flags) (λ next e. record {
     plain = umount_stays_plain mounts next path flags allowed.plain e;
-    entries = unmounted power (steps_of mounts) (steps_of next) path (eqb flags mnt_detach) h allowed.entries (by (eqb flags 0 || eqb flags mnt_detach) (steps_of next) (umount_answer_steps mounts next path flags e));
+    entries = unmounted power (steps_of mounts) (steps_of next) path (eqb flags mnt_detach) h allowed.entries
+        (by (eqb flags 0 || eqb flags mnt_detach) (steps_of next) (umount_answer_steps mounts next path flags e));
   })
     where
-      by : (b : Bool) (next : Table) → cond {A = Result Table ℕ} b (after_umount (steps_of mounts) path (eqb flags mnt_detach)) (Err einval) ≡ Ok next → after_umount (steps_of mounts) path (eqb flags mnt_detach) ≡ Ok next
+      by : (b : Bool) (next : Table) → cond {A = Result Table ℕ} b (after_umount (steps_of mounts) path (eqb flags mnt_detach))
+          (Err einval) ≡ Ok next → after_umount (steps_of mounts) path (eqb flags mnt_detach) ≡ Ok next
       by true next e = e
       by false next e = cc
 
-  safe_mount : (mounts : Mounts) (source target : Path) (flags : ℕ) → CanHold power launch.table mounts → power ≡ Mounting → Safe (table_effect (mounts_after_mount (row_at launch.site.rows) mounts source target flags))
-  safe_mount mounts source target flags allowed h = safe_table (mounts_after_mount (row_at launch.site.rows) mounts source target flags) (λ next e. record {
-    plain = mount_stays_plain (row_at launch.site.rows) mounts next source target flags allowed.plain e;
-    entries = mounted (steps_of next) h;
-  })
+  safe_mount : (mounts : Mounts) (source target : Path) (flags : ℕ) → CanHold power launch.table mounts → power ≡ Mounting
+      → Safe (table_effect (mounts_after_mount (row_at launch.site.rows) mounts source target flags))
+  safe_mount mounts source target flags allowed h = safe_table (mounts_after_mount (row_at launch.site.rows) mounts source target flags)
+      (λ next e. record {
+        plain = mount_stays_plain (row_at launch.site.rows) mounts next source target flags allowed.plain e;
+        entries = mounted (steps_of next) h;
+      })
 
   -- the kinds that a call asks for are let through
   abbrev pub Through : Doing → Type 0
@@ -171,13 +202,15 @@ module _ (launch : Launch) (may_uids may_gids : Bool) (power : Power) (top : Bou
   abbrev pub first_caller : Creds → List (List Insn) → Mounts → Caller
   first_caller creds stack table = record { creds = creds; stack = stack; table = table; newer = false; owns = true }
 
-  pub safe_effect : (families : List CallLine) (creds : Creds) (stack : List (List Insn)) (table : Mounts) (doing : Doing) → Keeps top creds → CanHold power launch.table table → Through doing → Uses may_uids may_gids creds doing
+  pub safe_effect : (families : List CallLine) (creds : Creds) (stack : List (List Insn)) (table : Mounts) (doing : Doing)
+      → Keeps top creds → CanHold power launch.table table → Through doing → Uses may_uids may_gids creds doing
       → Safe (effect_of (record { rows = row_at launch.site.rows; families = families }) (first_caller creds stack table) doing)
   safe_effect families creds stack table (d.See path) held allowed p u = safe_looks _
   safe_effect families creds stack table (d.Open flags path) held allowed p u = safe_looks _
   safe_effect families creds stack table (d.Create path) held allowed p u = safe_looks _
   safe_effect families creds stack table (d.Truncate path) held allowed p u = safe_looks _
-  safe_effect families creds stack table (d.Execve path) held allowed p u = safe_exec creds (steps_of table) path held allowed.entries _ refl
+  safe_effect families creds stack table (d.Execve path) held allowed p u =
+      safe_exec creds (steps_of table) path held allowed.entries _ refl
   safe_effect families creds stack table (d.SetMode mode) held allowed p u = tt
   safe_effect families creds stack table (d.Map protection) held allowed p u = tt
   safe_effect families creds stack table (d.Protect protection) held allowed p u = tt
@@ -192,16 +225,24 @@ module _ (launch : Launch) (may_uids may_gids : Bool) (power : Power) (top : Bou
   safe_effect families creds stack table (d.Unshare flags) held allowed p u = safe_unshare creds flags held (p (k.ForNamespace User))
   safe_effect families creds stack table d.Exit held allowed p u = tt
   safe_effect families creds stack table (d.Mount source target flags) held allowed p u =
-      safe_admin creds (table_effect (mounts_after_mount (row_at launch.site.rows) table source target flags)) held (λ h. safe_mount table source target flags allowed (closed.mount (p k.ChangesMounts refl) h))
+      safe_admin creds (table_effect (mounts_after_mount (row_at launch.site.rows) table source target flags)) held
+      (λ h. safe_mount table source target flags allowed (closed.mount (p k.ChangesMounts refl) h))
   safe_effect families creds stack table (d.Umount path flags) held allowed p u =
-      safe_admin creds (table_effect (mounts_umount_answer table path flags)) held (λ h. safe_umount table path flags allowed (closed.umount (p k.RemovesMounts refl) h))
-  safe_effect families creds stack table (d.Setuid id) held allowed p u = safe_creds _ (kept-setuid top creds held closed.settled (λ h. closed.any_uid (u.0 refl h) (held.effective.each 7 h)) id)
-  safe_effect families creds stack table (d.Setgid id) held allowed p u = safe_creds _ (kept-setgid top creds held (λ h. closed.any_gid (u.1 refl h) (held.effective.each 6 h)) id)
-  safe_effect families creds stack table (d.Setresuid r e s) held allowed p u = safe_creds _ (kept-setresuid top creds held closed.settled (λ h. closed.any_uid (u.0 refl h) (held.effective.each 7 h)) r e s)
-  safe_effect families creds stack table (d.Setresgid r e s) held allowed p u = safe_creds _ (kept-setresgid top creds held (λ h. closed.any_gid (u.1 refl h) (held.effective.each 6 h)) r e s)
-  safe_effect families creds stack table (d.Setgroups ids) held allowed p u = safe_creds _ (kept-setgroups top creds held (λ h. closed.any_gid (u.1 refl h) (held.effective.each 6 h)) ids)
+      safe_admin creds (table_effect (mounts_umount_answer table path flags)) held
+      (λ h. safe_umount table path flags allowed (closed.umount (p k.RemovesMounts refl) h))
+  safe_effect families creds stack table (d.Setuid id) held allowed p u =
+      safe_creds _ (kept-setuid top creds held closed.settled (λ h. closed.any_uid (u.0 refl h) (held.effective.each 7 h)) id)
+  safe_effect families creds stack table (d.Setgid id) held allowed p u =
+      safe_creds _ (kept-setgid top creds held (λ h. closed.any_gid (u.1 refl h) (held.effective.each 6 h)) id)
+  safe_effect families creds stack table (d.Setresuid r e s) held allowed p u =
+      safe_creds _ (kept-setresuid top creds held closed.settled (λ h. closed.any_uid (u.0 refl h) (held.effective.each 7 h)) r e s)
+  safe_effect families creds stack table (d.Setresgid r e s) held allowed p u =
+      safe_creds _ (kept-setresgid top creds held (λ h. closed.any_gid (u.1 refl h) (held.effective.each 6 h)) r e s)
+  safe_effect families creds stack table (d.Setgroups ids) held allowed p u =
+      safe_creds _ (kept-setgroups top creds held (λ h. closed.any_gid (u.1 refl h) (held.effective.each 6 h)) ids)
   safe_effect families creds stack table (d.Capset permitted effective inheritable) held allowed p u =
-      safe_creds _ (kept-capset top creds held permitted effective inheritable (closed.capset_effective (p k.SetsCaps refl)) (closed.capset_inheritable (p k.SetsCaps refl)))
+      safe_creds _ (kept-capset top creds held permitted effective inheritable (closed.capset_effective (p k.SetsCaps refl))
+      (closed.capset_inheritable (p k.SetsCaps refl)))
   safe_effect families creds stack table (d.Prctl option value third) held allowed p u = safe_prctl creds option value third held
   safe_effect families creds stack table (d.Seccomp operation flags bytes) held allowed p u = safe_seccomp creds stack operation flags bytes
   safe_effect families creds stack table (d.Plain cap') held allowed p u = safe_cap_of cap' creds 0

@@ -1,5 +1,6 @@
 -- What the ceiling closes is denied.
-use Rattle.std.proofs.Common.{◌≡◌, ℕ, inl, inr, ◌⊎◌, cond, eqb, Bool, true, false, List, ◌++◌, Option, Some, None, refl, ap, ◌∙◌, sym, subst}
+use Rattle.std.proofs.Common.{◌≡◌, ℕ, inl, inr, ◌⊎◌, cond, eqb, Bool, true, false, List, ◌++◌, Option, Some, None, refl, ap, ◌∙◌, sym}
+use Rattle.std.proofs.Common.{subst}
 use Rattle.std.specs.Prelude.{slice_get, not, ◌&&◌, ◌||◌, ◌-◌, is_some, nat_le}
 use Rattle.std.specs.List as list
 use Rattle.std.specs.List.{list_any}
@@ -46,12 +47,14 @@ use Rattle.kernel_laws.specs.declared.question_types.question.Question.TheVarian
 use Rattle.filter_settings.specs.declared.filter_rules.namespace_types.NamespaceType.TheVariants as namespace
 use Rattle.kernel_laws.specs.declared.question_types.kind.CallKind.TheVariants as k
 use Rattle.kernel_laws.specs.Questions.{is_plain, IsAsked}
-use Rattle.kernel_laws.specs.Denied.{path_for, ReachesRow, ReachesCall, Performs, Reaches, Holds, IsDenied, is_family, asks_family, asks_space, asks_map, asks_protect, asks_attach, asks_realtime, asks_personality, asks_mode}
+use Rattle.kernel_laws.specs.Denied.{path_for, ReachesRow, ReachesCall, Performs, Reaches, Holds, IsDenied, is_family, asks_family}
+use Rattle.kernel_laws.specs.Denied.{asks_space, asks_map, asks_protect, asks_attach, asks_realtime, asks_personality, asks_mode}
 use Rattle.kernel_laws.specs.Reach.{Leads, reaches}
 use Rattle.kernel_laws.specs.Kinds.{asks, asks_number}
 use Rattle.kernel_laws.specs.Launched.{Launch, data_at, lets, lets_line, can_make_user, IsLaunched, launch_of}
 use Rattle.kernel_laws.specs.Ceiling.{IsHeld, IsStable, TableIn}
-use Rattle.kernel_laws.specs.Bound.{power_of, ceiling, is_open, can_reach, is_to_exec, is_user, is_mounting, is_barred, can_have_cap, can_have_for, if_listed, is_call_open}
+use Rattle.kernel_laws.specs.Bound.{power_of, ceiling, is_open, can_reach, is_to_exec, is_user, is_mounting, is_barred, can_have_cap}
+use Rattle.kernel_laws.specs.Bound.{can_have_for, if_listed, is_call_open}
 use Rattle.kernel_laws.specs.NewerTables.{CanHaveNewer}
 use Rattle.kernel_laws.proofs.NewerTables.{tables_stable, rows_are_reached}
 use Rattle.kernel_model.specs.kern_mounts.Split.{Table}
@@ -61,7 +64,8 @@ use Rattle.kernel_laws.specs.Laws.{DenialIsSound}
 use Rattle.kernel_laws.proofs.Runs.{through_of, own_allowed, first_allowed, can_make_one}
 use Rattle.kernel_laws.proofs.Moments.{no_moment}
 use Rattle.kernel_laws.proofs.Done.{WasDone, was_done}
-use Rattle.kernel_laws.proofs.Filters.{bare_is, lets_through, line_lets, HasRule, has_rule, Asks, asks_for, at_position, any_found, found_all, among_all, all_in, slice_all}
+use Rattle.kernel_laws.proofs.Filters.{bare_is, lets_through, line_lets, HasRule, has_rule, Asks, asks_for, at_position, any_found}
+use Rattle.kernel_laws.proofs.Filters.{found_all, among_all, all_in, slice_all}
 use Rattle.kernel_laws.proofs.Reach.{leads, reaches_if}
 use Rattle.kernel_laws.proofs.Held.{AllHeld, launched_held, ceiling_step, ceiling_run, cap_within, uid_within, gid_within}
 use Rattle.kernel_laws.proofs.Sound.{DoneBy, MadeSpace, wish_fits, run_taken, honours_at, honours_below, space_done, cap_done}
@@ -79,15 +83,19 @@ module _ (launch : Launch) (l : IsLaunched launch) (below : Mounts → Type 0) (
   held_of : (now : World) (call : Call) → All now → (w : WasDone now call) → IsHeld launch power top below now.tables now.owners w.process
   held_of now call held w = held.each (call.pid - 1) w.process w.living.place
 
-  kind_lets : (now : World) (call : Call) → IsCall call → All now → (w : WasDone now call) → (kind : CallKind) → asks kind w.doing ≡ true → lets launch kind ≡ true
+  kind_lets : (now : World) (call : Call) → IsCall call → All now → (w : WasDone now call) → (kind : CallKind) → asks kind w.doing ≡ true
+      → lets launch kind ≡ true
   kind_lets now call fit held w kind asked =
-      through_of launch power top below (lets_through launch l) now call w.process fit held (held_of now call held w) w.let_through w.doing w.asks kind asked
+      through_of launch power top below (lets_through launch l) now call w.process fit held
+      (held_of now call held w) w.let_through w.doing w.asks kind asked
 
   -- one call asks for one thing
-  same_doing : (now : World) (call : Call) (one other : Doing) → asked_of now.calls call ≡ Does one → asked_of now.calls call ≡ Does other → one ≡ other
+  same_doing : (now : World) (call : Call) (one other : Doing) → asked_of now.calls call ≡ Does one → asked_of now.calls call ≡ Does other
+      → one ≡ other
   same_doing now call one other e g = cc
 
-  kind_of : (now : World) (call : Call) → IsCall call → All now → (such : Doing → Bool) → (p : Performs such (moment_at now call)) → (kind : CallKind) → ((doing : Doing) → such doing ≡ true → asks kind doing ≡ true) → lets launch kind ≡ true
+  kind_of : (now : World) (call : Call) → IsCall call → All now → (such : Doing → Bool) → (p : Performs such (moment_at now call))
+      → (kind : CallKind) → ((doing : Doing) → such doing ≡ true → asks kind doing ≡ true) → lets launch kind ≡ true
   kind_of now call fit held such p kind h =
       let w = was_done now call p.done in
       let same = same_doing now call p.doing w.doing p.is w.asks in
@@ -98,12 +106,15 @@ module _ (launch : Launch) (l : IsLaunched launch) (below : Mounts → Type 0) (
   kept_first now call held w first = let P : Bool → Type 0 = λ b. KeepsIn b top w.process.creds in subst P first (held_of now call held w).creds
 
   -- a capability of such a process is in the ceiling
-  has_top : (now : World) (call : Call) → All now → (w : WasDone now call) → is_newer w.process ≡ false → (number : ℕ) → has w.process.creds.effective number ≡ true → has top.effective number ≡ true
+  has_top : (now : World) (call : Call) → All now → (w : WasDone now call) → is_newer w.process ≡ false → (number : ℕ)
+      → has w.process.creds.effective number ≡ true → has top.effective number ≡ true
   has_top now call held w first number h = (kept_first now call held w first).effective.each number h
 
   -- ---- paths
-  not_barred : (now : World) (call : Call) → All now → (w : WasDone now call) → is_newer w.process ≡ false → (path : Path) (target : Row) → is_mounting power ≡ false
-      → is_refused w.process.creds (marks_of target) (flags_at (table_of now w.process.namespace) path).no_suid ≡ false → is_barred launch target ≡ false
+  not_barred : (now : World) (call : Call) → All now → (w : WasDone now call) → is_newer w.process ≡ false → (path : Path) (target : Row)
+      → is_mounting power ≡ false
+      → is_refused w.process.creds (marks_of target) (flags_at (table_of now w.process.namespace) path).no_suid ≡ false
+      → is_barred launch target ≡ false
   not_barred now call held w first path target low r =
       let h = held_of now call held w in
       let table = table_of now w.process.namespace in
@@ -112,12 +123,14 @@ module _ (launch : Launch) (l : IsLaunched launch) (below : Mounts → Type 0) (
       let own : (not false && target.effective) && not (within target.caps w.process.creds.bounding) ≡ false = ap (λ b. (not b && target.effective) && not (within target.caps w.process.creds.bounding)) (sym suid) ∙ r in
       by target.effective (within target.caps w.process.creds.bounding) refl own (kept_first now call held w first).bounding
     where
-      by : (e b : Bool) → within target.caps w.process.creds.bounding ≡ b → (e && not b) ≡ false → IsWithin w.process.creds.bounding launch.creds.bounding → (e && not (within target.caps launch.creds.bounding)) ≡ false
+      by : (e b : Bool) → within target.caps w.process.creds.bounding ≡ b → (e && not b) ≡ false
+          → IsWithin w.process.creds.bounding launch.creds.bounding → (e && not (within target.caps launch.creds.bounding)) ≡ false
       by false b is g within' = refl
       by true false is g within' = cc
       by true true is g within' = ap not (within-from_IsWithin _ _ (within_through _ _ _ (IsWithin-from_within _ _ is) within'))
 
-  free : (exec low barred make : Bool) → (exec ≡ true → low ≡ false → make ≡ false → barred ≡ false) → not (((exec && not low) && barred) && not make) ≡ true
+  free : (exec low barred make : Bool) → (exec ≡ true → low ≡ false → make ≡ false → barred ≡ false)
+      → not (((exec && not low) && barred) && not make) ≡ true
   free true true barred make h = refl
   free true false true true h = refl
   free true false false make h = refl
@@ -134,9 +147,11 @@ module _ (launch : Launch) (l : IsLaunched launch) (below : Mounts → Type 0) (
 
   -- what a table of a newer user namespace leads to is reached without it
   abbrev LeadsToReached : Type 0
-  LeadsToReached = (mounts : Mounts) (target : Path) (wish : Wish) → below mounts → Leads (steps_of mounts) target wish → reaches power launch.table target wish ≡ true
+  LeadsToReached = (mounts : Mounts) (target : Path) (wish : Wish) → below mounts → Leads (steps_of mounts) target wish
+      → reaches power launch.table target wish ≡ true
 
-  reaches_in : LeadsToReached → (ours : Bool) (mounts : Mounts) (target : Path) (wish : Wish) → TableIn ours launch power below mounts → Leads (steps_of mounts) target wish → reaches power launch.table target wish ≡ true
+  reaches_in : LeadsToReached → (ours : Bool) (mounts : Mounts) (target : Path) (wish : Wish) → TableIn ours launch power below mounts
+      → Leads (steps_of mounts) target wish → reaches power launch.table target wish ≡ true
   reaches_in less true mounts target wish allowed lead = reaches_if power launch.table (steps_of mounts) target wish allowed.entries lead
   reaches_in less false mounts target wish allowed lead = less mounts target wish allowed lead
 
@@ -146,7 +161,8 @@ module _ (launch : Launch) (l : IsLaunched launch) (below : Mounts → Type 0) (
   only_exec ToWrite e = cc
   only_exec ToExec e = refl
 
-  row_open : LeadsToReached → (wish : Wish) (place : ℕ) (now : World) (call : Call) → IsCall call → All now → ReachesRow wish place (moment_at now call) → is_open launch (asking.Path wish place) ≡ true
+  row_open : LeadsToReached → (wish : Wish) (place : ℕ) (now : World) (call : Call) → IsCall call → All now
+      → ReachesRow wish place (moment_at now call) → is_open launch (asking.Path wish place) ≡ true
   row_open less wish place now call fit held r =
       let w = was_done now call r.done in
       let same = same_doing now call r.doing w.doing r.asks w.asks in
@@ -168,7 +184,9 @@ module _ (launch : Launch) (l : IsLaunched launch) (below : Mounts → Type 0) (
       ap (if_listed (can_reach launch power wish)) listed ∙ and_from _ _ (and_from _ _ passes there) open'
 
   -- ---- plain calls
-  can_cap : (now : World) (call : Call) → All now → (w : WasDone now call) → (cap' : Option ℕ) (value : ℕ) → DoneBy now call.pid w.process (f.first_alone (is_newer w.process) cap' (f.with_cap_of cap' w.process.creds (f.Answer value))) → can_have_cap top cap' ≡ true
+  can_cap : (now : World) (call : Call) → All now → (w : WasDone now call) → (cap' : Option ℕ) (value : ℕ)
+      → DoneBy now call.pid w.process (f.first_alone (is_newer w.process) cap' (f.with_cap_of cap' w.process.creds (f.Answer value)))
+      → can_have_cap top cap' ≡ true
   can_cap now call held w None value h = refl
   can_cap now call held w (Some number) value h =
       let done = cap_done now call.pid w.process (is_newer w.process) (Some number) value number refl h in
@@ -179,13 +197,15 @@ module _ (launch : Launch) (l : IsLaunched launch) (below : Mounts → Type 0) (
   unfolding rule_of
   one_rule line other name cap' = ap (λ n. rule_by (known_call n) line.cap) name ∙ ap (rule_by (known_call other.name)) cap'
 
-  same_rule : (place nr abi : ℕ) (line called : CallLine) → slice_get (calls.every_call launch.calls) place ≡ Some line → numbered nr (calls.calls_in launch.calls abi) ≡ Some called → line.name ≡ called.name → rule_of line ≡ rule_of called
+  same_rule : (place nr abi : ℕ) (line called : CallLine) → slice_get (calls.every_call launch.calls) place ≡ Some line
+      → numbered nr (calls.calls_in launch.calls abi) ≡ Some called → line.name ≡ called.name → rule_of line ≡ rule_of called
   same_rule place nr abi line called listed found name =
       let caps = slice_all (λ one. list.All (λ other. one.name ≡ other.name → one.cap ≡ other.cap) (calls.every_call launch.calls)) (calls.every_call launch.calls) place line l.one_cap listed in
       let cap' = found_all (λ other. line.name ≡ other.name → line.cap ≡ other.cap) (calls.calls_in launch.calls abi) nr called (all_in (λ other. line.name ≡ other.name → line.cap ≡ other.cap) launch.calls abi caps) found in
       one_rule line called name (cap' name)
 
-  plain_open : (place : ℕ) (now : World) (call : Call) → IsAsked launch.calls (asking.Call place) → IsCall call → All now → ReachesCall place (moment_at now call) → is_open launch (asking.Call place) ≡ true
+  plain_open : (place : ℕ) (now : World) (call : Call) → IsAsked launch.calls (asking.Call place) → IsCall call → All now
+      → ReachesCall place (moment_at now call) → is_open launch (asking.Call place) ≡ true
   plain_open place now call asked fit held r =
       let w = was_done now call r.done in
       let lines : List CallLine = calls.calls_in launch.calls call.abi in
@@ -204,19 +224,24 @@ module _ (launch : Launch) (l : IsLaunched launch) (below : Mounts → Type 0) (
       ap (if_listed (is_call_open launch top)) listed
       ∙ and_from _ _ some (ap (can_have_for top) is_rule ∙ by_cap w a.rule plain a.is)
     where
-      by_lets : (w : WasDone now call) (a : Asks (calls.calls_in launch.calls call.abi) call w.doing) (h : HasRule (calls.calls_in launch.calls call.abi) call.nr a.rule) → is_plain (Some a.rule) ≡ true → lets_line launch k.PlainCall h.line ≡ true
+      by_lets : (w : WasDone now call) (a : Asks (calls.calls_in launch.calls call.abi) call w.doing)
+          (h : HasRule (calls.calls_in launch.calls call.abi) call.nr a.rule) → is_plain (Some a.rule) ≡ true
+          → lets_line launch k.PlainCall h.line ≡ true
       by_lets w a h plain =
           let g = held_of now call held w in
           let passed : decision_on (launch.stack ++ g.newer) (data_at launch call.abi call.nr call.args) ≡ decision.Pass =
-          ap (λ (c : calls.Table). decision_on (launch.stack ++ g.newer) (record { nr = call.nr; arch = calls.arch_of c call.abi; ip = 0; args = call.args })) (sym held.calls)
+          ap (λ (c : calls.Table). decision_on (launch.stack ++ g.newer)
+          (record { nr = call.nr; arch = calls.arch_of c call.abi; ip = 0; args = call.args })) (sym held.calls)
           ∙ ap (λ (s : List (List Insn)). decision_on s (record { nr = call.nr; arch = calls.arch_of now.calls call.abi; ip = 0; args = call.args })) (sym g.stack) ∙ w.passed in
           line_lets launch l g.newer call w.doing fit passed k.PlainCall (by_rule a.rule plain a.is) a h
         where
-          by_rule : (r : Rule) → is_plain (Some r) ≡ true → doing_by r call.args call.payload ≡ Some w.doing → asks k.PlainCall w.doing ≡ true
+          by_rule : (r : Rule) → is_plain (Some r) ≡ true → doing_by r call.args call.payload ≡ Some w.doing
+              → asks k.PlainCall w.doing ≡ true
           by_rule (rule.Plain cap') plain e = let P : Doing → Type 0 = λ x. asks k.PlainCall x ≡ true in subst P (bare_is w.doing (d.Plain cap') call.payload e) refl
           by_rule r plain e = cc
 
-      by_cap : (w : WasDone now call) (r : Rule) → is_plain (Some r) ≡ true → doing_by r call.args call.payload ≡ Some w.doing → can_have_for top (Some r) ≡ true
+      by_cap : (w : WasDone now call) (r : Rule) → is_plain (Some r) ≡ true → doing_by r call.args call.payload ≡ Some w.doing
+          → can_have_for top (Some r) ≡ true
       by_cap w (rule.Plain cap') plain e =
           let P : Doing → Type 0 = λ x. DoneBy now call.pid w.process (effect_of (host_of now) (caller_of now w.process) x) in
           can_cap now call held w cap' 0 (subst P (sym (bare_is w.doing (d.Plain cap') call.payload e)) w.done)
@@ -230,25 +255,33 @@ module _ (launch : Launch) (l : IsLaunched launch) (below : Mounts → Type 0) (
     pub listed : slice_get families place ≡ Some line
     pub same : family ≡ line.number
     pub asks_it : asks_number family doing ≡ true
-    pub comes_to : (host : Host) (caller : Caller) → effect_of host caller doing ≡ socket_effect caller.newer caller.creds (numbered family host.families)
+    pub comes_to : (host : Host) (caller : Caller) → effect_of host caller doing
+        ≡ socket_effect caller.newer caller.creds (numbered family host.families)
 
-  family_listed : (families : List CallLine) (place family : ℕ) (doing : Doing) → is_family (slice_get families place) family ≡ true → asks_number family doing ≡ true
-      → ((host : Host) (caller : Caller) → effect_of host caller doing ≡ socket_effect caller.newer caller.creds (numbered family host.families)) → ForFamilyAt families place doing
+  family_listed : (families : List CallLine) (place family : ℕ) (doing : Doing) → is_family (slice_get families place) family ≡ true
+      → asks_number family doing ≡ true
+      → ((host : Host) (caller : Caller) → effect_of host caller doing
+      ≡ socket_effect caller.newer caller.creds (numbered family host.families)) → ForFamilyAt families place doing
   family_listed families place family doing e asks_it comes_to = by (slice_get families place) refl e
     where
       by : (o : Option CallLine) → slice_get families place ≡ o → is_family o family ≡ true → ForFamilyAt families place doing
       by None is e = cc
-      by (Some line) is e = record { family = family; line = line; listed = is; same = eqb-true family line.number e; asks_it = asks_it; comes_to = comes_to }
+      by (Some line) is e = record
+          { family = family; line = line; listed = is; same = eqb-true family line.number e; asks_it = asks_it; comes_to = comes_to }
 
-  family_is : (families : List CallLine) (place : ℕ) (doing : Doing) → asks_family families place doing ≡ true → ForFamilyAt families place doing
-  family_is families place (d.Socket family) e = family_listed families place family (d.Socket family) e (eq-eqb family family refl) (λ host caller. refl)
+  family_is : (families : List CallLine) (place : ℕ) (doing : Doing) → asks_family families place doing ≡ true
+      → ForFamilyAt families place doing
+  family_is families place (d.Socket family) e = family_listed families place family (d.Socket family) e (eq-eqb family family refl)
+      (λ host caller. refl)
   family_is families place (d.Socketcall operation family) e =
       let both = and_parts (eqb operation 1) (is_family (slice_get families place) family) e in
       family_listed families place family (d.Socketcall operation family) both.1 (and_from _ _ both.0 (eq-eqb family family refl))
-      (λ host caller. ap (λ b. cond b (socket_effect caller.newer caller.creds (numbered family host.families)) (cond (nat_le 2 operation && nat_le operation 20) (f.Answer 0) (f.Refuse einval))) both.0)
+      (λ host caller. ap (λ b. cond b (socket_effect caller.newer caller.creds (numbered family host.families))
+      (cond (nat_le 2 operation && nat_le operation 20) (f.Answer 0) (f.Refuse einval))) both.0)
   family_is families place doing e = cc
 
-  socket_open : (place : ℕ) (now : World) (call : Call) → IsCall call → All now → Performs (asks_family now.calls.families place) (moment_at now call) → is_open launch (asking.Socket place) ≡ true
+  socket_open : (place : ℕ) (now : World) (call : Call) → IsCall call → All now
+      → Performs (asks_family now.calls.families place) (moment_at now call) → is_open launch (asking.Socket place) ≡ true
   socket_open place now call fit held p =
       let w = was_done now call p.done in
       let same = same_doing now call p.doing w.doing p.is w.asks in
@@ -261,9 +294,11 @@ module _ (launch : Launch) (l : IsLaunched launch) (below : Mounts → Type 0) (
       let passes = kind_lets now call fit held w (k.ForFamily line.number) asked in
       let P : Effect → Type 0 = λ x. DoneBy now call.pid w.process x in
       let done : DoneBy now call.pid w.process (socket_effect (is_newer w.process) w.process.creds (Some line)) = subst P (h.comes_to (host_of now) (caller_of now w.process) ∙ ap (socket_effect (is_newer w.process) w.process.creds) here) w.done in
-      ap (if_listed (λ line. lets launch (k.ForFamily line.number) && can_have_cap top line.cap)) listed ∙ and_from _ _ passes (can_cap now call held w line.cap 3 done)
+      ap (if_listed (λ line. lets launch (k.ForFamily line.number) && can_have_cap top line.cap)) listed
+      ∙ and_from _ _ passes (can_cap now call held w line.cap 3 done)
 
-  space_open : (space : NamespaceType) (now : World) (call : Call) → IsCall call → All now → Performs (asks_space space) (moment_at now call) → is_open launch (asking.Namespace space) ≡ true
+  space_open : (space : NamespaceType) (now : World) (call : Call) → IsCall call → All now
+      → Performs (asks_space space) (moment_at now call) → is_open launch (asking.Namespace space) ≡ true
   space_open space now call fit held p =
       let w = was_done now call p.done in
       let same = same_doing now call p.doing w.doing p.is w.asks in
@@ -272,25 +307,32 @@ module _ (launch : Launch) (l : IsLaunched launch) (below : Mounts → Type 0) (
       by (is_user space) refl (kind_lets now call fit held w (k.ForNamespace space) asked) made
     where
       can_make : (w : WasDone now call) → asks_space namespace.User w.doing ≡ true → has_user_left now ≡ true → can_make_user launch ≡ true
-      can_make w asked left = can_make_one launch power top below stable now held (kind_lets now call fit held w (k.ForNamespace namespace.User) asked) left
+      can_make w asked left = can_make_one launch power top below stable now held
+          (kind_lets now call fit held w (k.ForNamespace namespace.User) asked) left
 
-      by : (user : Bool) → is_user space ≡ user → lets launch (k.ForNamespace space) ≡ true → MadeSpace now space (was_done now call p.done).process (was_done now call p.done).doing
+      by : (user : Bool) → is_user space ≡ user → lets launch (k.ForNamespace space) ≡ true
+          → MadeSpace now space (was_done now call p.done).process (was_done now call p.done).doing
           → cond user (can_make_user launch) (lets launch (k.ForNamespace space) && (has top.effective 21 || can_make_user launch)) ≡ true
       by user e let' (inl made) = by_made user (can_make (was_done now call p.done) made.0 made.1) let'
         where
-          by_made : (user : Bool) → can_make_user launch ≡ true → lets launch (k.ForNamespace space) ≡ true → cond user (can_make_user launch) (lets launch (k.ForNamespace space) && (has top.effective 21 || can_make_user launch)) ≡ true
+          by_made : (user : Bool) → can_make_user launch ≡ true → lets launch (k.ForNamespace space) ≡ true
+              → cond user (can_make_user launch) (lets launch (k.ForNamespace space) && (has top.effective 21 || can_make_user launch))
+              ≡ true
           by_made true on let' = on
           by_made false on let' = and_from _ _ let' (or_right (has top.effective 21) (can_make_user launch) on)
       by true e let' (inr made) = let off = made.0 in cc
       by false e let' (inr made) = and_from _ _ let' (by_space (is_newer (was_done now call p.done).process) refl)
         where
           by_space : (b : Bool) → is_newer (was_done now call p.done).process ≡ b → (has top.effective 21 || can_make_user launch) ≡ true
-          by_space true new = or_right (has top.effective 21) (can_make_user launch) ((held_of now call held (was_done now call p.done)).made new)
-          by_space false first = or_left (has top.effective 21) (can_make_user launch) (has_top now call held (was_done now call p.done) first 21 made.1)
+          by_space true new = or_right (has top.effective 21) (can_make_user launch)
+              ((held_of now call held (was_done now call p.done)).made new)
+          by_space false first = or_left (has top.effective 21) (can_make_user launch)
+              (has_top now call held (was_done now call p.done) first 21 made.1)
 
   -- ---- states
   -- what is reached by a call from a world that is held, or holds there, is open
-  reached_open : LeadsToReached → (question : Question) → IsAsked launch.calls question → (now : World) (call : Call) → IsCall call → All now → Reaches question (moment_at now call) → is_open launch question ≡ true
+  reached_open : LeadsToReached → (question : Question) → IsAsked launch.calls question → (now : World) (call : Call) → IsCall call
+      → All now → Reaches question (moment_at now call) → is_open launch question ≡ true
   reached_open less (asking.Path wish place) asked now call fit held r = row_open less wish place now call fit held r
   reached_open less (asking.Call place) asked now call fit held r = plain_open place now call asked fit held r
   reached_open less (asking.Socket place) asked now call fit held r = socket_open place now call fit held r
@@ -299,7 +341,8 @@ module _ (launch : Launch) (l : IsLaunched launch) (below : Mounts → Type 0) (
   reached_open less asking.ProtectX asked now call fit held r = kind_of now call fit held asks_protect r k.ProtectsX (λ doing e. e)
   reached_open less asking.ShmX asked now call fit held r = kind_of now call fit held asks_attach r k.AttachesX (λ doing e. e)
   reached_open less asking.Realtime asked now call fit held r = kind_of now call fit held asks_realtime r k.SchedulesRealtime (λ doing e. e)
-  reached_open less asking.Personality asked now call fit held r = kind_of now call fit held asks_personality r k.TakesPersonality (λ doing e. e)
+  reached_open less asking.Personality asked now call fit held r =
+      kind_of now call fit held asks_personality r k.TakesPersonality (λ doing e. e)
   reached_open less asking.SuidBit asked now call fit held r = kind_of now call fit held asks_mode r k.SetsMode (λ doing e. e)
   reached_open less (asking.Cap number) asked now call fit held r = absurd r
   reached_open less (asking.Uid id) asked now call fit held r = absurd r
@@ -320,7 +363,8 @@ module _ (launch : Launch) (l : IsLaunched launch) (below : Mounts → Type 0) (
   held_open asking.Personality now held s = absurd s
   held_open asking.SuidBit now held s = absurd s
 
-  pub closed_denied : LeadsToReached → (world : World) → All world → (question : Question) → IsAsked launch.calls question → is_open launch question ≡ false → IsDenied world question
+  pub closed_denied : LeadsToReached → (world : World) → All world → (question : Question) → IsAsked launch.calls question
+      → is_open launch question ≡ false → IsDenied world question
   closed_denied less world start question asked off = record {
     no_moment = λ list fit some. no_moment All (Reaches question) (ceiling_step launch l below stable)
         (λ now call fit held r. let on = reached_open less question asked now call fit held r in cc) world start list fit some;
@@ -331,5 +375,6 @@ pub denial_is_sound : DenialIsSound
 denial_is_sound world question s asked off =
     let launch = launch_of world in
     let below : Mounts → Type 0 = CanHaveNewer (power_of launch) launch.table in
-    closed_denied launch s.launched below (tables_stable launch (power_of launch) s.launched.ordered) (rows_are_reached (power_of launch) launch.table)
+    closed_denied launch s.launched below (tables_stable launch (power_of launch) s.launched.ordered)
+    (rows_are_reached (power_of launch) launch.table)
     world (launched_held world below s) question asked off

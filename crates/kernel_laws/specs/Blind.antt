@@ -62,7 +62,8 @@ BlindIsSound = (world : World) (folder : Path) → IsLaunchedWorld world → is_
 
 -- with umount2 a folder is exposed where a path of some table that its calls make shows a place below
 abbrev pub ExposesByUnmounts : Type 0
-ExposesByUnmounts = (folder : Path) (table : Table) → IsOrdered table → exposes true folder table ≡ true → (now : Table) × Unmounts table now × SeesBelow folder now
+ExposesByUnmounts = (folder : Path) (table : Table) → IsOrdered table → exposes true folder table ≡ true
+    → (now : Table) × Unmounts table now × SeesBelow folder now
 
 -- the table is one that launches leave: at most 161 entries, at normal paths of at most 250 bytes
 pub record IsSmall (table : Table) : Type 0 where
@@ -82,6 +83,7 @@ ExposedAtOnce = (world : World) (folder : Path) → IsLaunchedWorld world → Is
 -- one entry more by a mount call shows everything: the host is bound at the folder of the processes
 abbrev pub ExposedByMount : Type 0
 ExposedByMount = (rows : Path → Option Row) (table : Table) (first : MountStep) (rest : Table) (folder : Path) (root : Row)
-    → table ≡ first ∷ rest → first.place ≡ [] → first.what ≡ Host [] → AllByRecursion (λ (entry : MountStep). is_root entry.place ≡ false) rest
+    → table ≡ first ∷ rest → first.place ≡ [] → first.what ≡ Host []
+    → AllByRecursion (λ (entry : MountStep). is_root entry.place ≡ false) rest
     → rows [] ≡ Some root → is_dir root.kind ≡ true → target_kind rows table proc ≡ Ok true → length table < mount_max
     → (now : Table) × (after_mount rows table [] proc ms_bind ≡ Ok now) × SeesBelow folder now

@@ -15,13 +15,18 @@ use Rattle.kernel_model.specs.declared.kernel_calls.rule.Rule.TheVariants.{Plain
 use Rattle.kernel_model.specs.kernel_calls.Rules.{rule_of}
 use Rattle.kernel_laws.specs.declared.question_types.power.Power.{Power}
 use Rattle.kernel_laws.specs.declared.question_types.power.Power.TheVariants.{None as Nowise, Unmount as Unmounting, Mount as Mounting}
-use Rattle.kernel_laws.specs.declared.question_types.kind.CallKind.TheVariants.{ForPath, PlainCall, ForFamily, ForNamespace, MapsWx, ProtectsX, AttachesX, SchedulesRealtime, TakesPersonality, SetsMode, ChangesMounts, RemovesMounts, SetsCaps, TakesUid, TakesGid}
+use Rattle.kernel_laws.specs.declared.question_types.kind.CallKind.TheVariants.{ForPath, PlainCall, ForFamily, ForNamespace, MapsWx}
+use Rattle.kernel_laws.specs.declared.question_types.kind.CallKind.TheVariants.{ProtectsX, AttachesX, SchedulesRealtime, TakesPersonality}
+use Rattle.kernel_laws.specs.declared.question_types.kind.CallKind.TheVariants.{SetsMode, ChangesMounts, RemovesMounts, SetsCaps, TakesUid}
+use Rattle.kernel_laws.specs.declared.question_types.kind.CallKind.TheVariants.{TakesGid}
 use Rattle.kernel_laws.specs.declared.question_types.wish.Wish.{Wish}
 use Rattle.kernel_laws.specs.declared.question_types.wish.Wish.TheVariants.{See as ToSee, Read as ToRead, Write as ToWrite, Exec as ToExec}
 use Rattle.filter_settings.specs.declared.filter_rules.namespace_types.NamespaceType.{NamespaceType}
 use Rattle.filter_settings.specs.declared.filter_rules.namespace_types.NamespaceType.TheVariants.{User}
 use Rattle.kernel_laws.specs.declared.question_types.question.Question.{Question}
-use Rattle.kernel_laws.specs.declared.question_types.question.Question.TheVariants.{Path as ByPath, Call, Socket, Namespace as Ns, MapWx, ProtectX, ShmX, Realtime, Personality, SuidBit, Cap, Uid, Gid}
+use Rattle.kernel_laws.specs.declared.question_types.question.Question.TheVariants.{Path as ByPath, Call, Socket, Namespace as Ns, MapWx}
+use Rattle.kernel_laws.specs.declared.question_types.question.Question.TheVariants.{ProtectX, ShmX, Realtime, Personality, SuidBit, Cap}
+use Rattle.kernel_laws.specs.declared.question_types.question.Question.TheVariants.{Uid, Gid}
 use Rattle.kernel_laws.specs.Launched.{Launch, lets, lets_line, can_make_user}
 
 -- the union over the rows
@@ -118,9 +123,13 @@ bounds_by launch uids gids power = record {
   effective = caps_by launch uids power;
   permitted =
       if launch.creds.no_new_privs then launch.creds.effective
-      else union (caps_by launch uids power) (gathered (λ row. when (can_run launch power row) (cut row.caps launch.creds.bounding)) launch.site.rows);
-  uid = λ id. any_by uids cap_setuid (caps_by launch uids power) || (id == launch.creds.uids.effective || (not launch.creds.no_new_privs && list_any (owned_by launch power id) launch.site.rows));
-  gid = λ id. any_by gids cap_setgid (caps_by launch uids power) || ((id == launch.creds.gids.effective || list_any (λ group. id == group) launch.creds.groups) || (not launch.creds.no_new_privs && list_any (grouped_by launch power id) launch.site.rows));
+      else union (caps_by launch uids power)
+      (gathered (λ row. when (can_run launch power row) (cut row.caps launch.creds.bounding)) launch.site.rows);
+  uid = λ id. any_by uids cap_setuid (caps_by launch uids power) ||
+      (id == launch.creds.uids.effective || (not launch.creds.no_new_privs && list_any (owned_by launch power id) launch.site.rows));
+  gid = λ id. any_by gids cap_setgid (caps_by launch uids power) ||
+      ((id == launch.creds.gids.effective || list_any (λ group. id == group) launch.creds.groups) ||
+      (not launch.creds.no_new_privs && list_any (grouped_by launch power id) launch.site.rows));
 }
 
 -- the same, where each may be used by each call that passes and takes such an id
@@ -173,15 +182,18 @@ if_listed p (Some x) = p x
 
 -- a plain call of the name passes in some ABI, and its capability can be had
 abbrev pub is_call_open : Launch → Bounds → CallLine → Bool
-is_call_open launch top line = list_any (λ other. bytes_eq line.name other.name && lets_line launch PlainCall other) (every_call launch.calls) && can_have_for top (rule_of line)
+is_call_open launch top line = list_any (λ other. bytes_eq line.name other.name && lets_line launch PlainCall other)
+    (every_call launch.calls) && can_have_for top (rule_of line)
 
 -- the verdict: open where this is so, else denied
 abbrev pub open_at : Launch → Power → Bounds → Question → Bool
 open_at launch power top (ByPath wish place) = if_listed (can_reach launch power wish) (slice_get launch.site.rows place)
 open_at launch power top (Call place) = if_listed (is_call_open launch top) (slice_get (every_call launch.calls) place)
-open_at launch power top (Socket place) = if_listed (λ line. lets launch (ForFamily line.number) && can_have_cap top line.cap) (slice_get launch.calls.families place)
+open_at launch power top (Socket place) = if_listed (λ line. lets launch (ForFamily line.number) && can_have_cap top line.cap)
+    (slice_get launch.calls.families place)
 open_at launch power top (Ns space) =
-    if is_user space then can_make_user launch else lets launch (ForNamespace space) && (has top.effective cap_sys_admin || can_make_user launch)
+    if is_user space then can_make_user launch else lets launch (ForNamespace space) &&
+    (has top.effective cap_sys_admin || can_make_user launch)
 open_at launch power top MapWx = lets launch MapsWx
 open_at launch power top ProtectX = lets launch ProtectsX
 open_at launch power top ShmX = lets launch AttachesX

@@ -51,7 +51,8 @@ pub record CanRun (launch : Launch) (power : Power) (target : Row) : Type 0 wher
 pub record IsClosed (launch : Launch) (uids gids : Bool) (power : Power) (top : Bounds) : Type 0 where
   pub settled : IsSettled top
   pub rooted : StartsAtRoot launch.table
-  pub files : (target : Row) → top.no_new_privs ≡ false → CanRun launch power target → (target.effective ≡ true → IsWithin target.caps top.bounding) → Admits top (marks_of target)
+  pub files : (target : Row) → top.no_new_privs ≡ false → CanRun launch power target
+      → (target.effective ≡ true → IsWithin target.caps top.bounding) → Admits top (marks_of target)
   pub capset_effective : lets launch SetsCaps ≡ true → IsWithin top.permitted top.effective
   pub capset_inheritable : lets launch SetsCaps ≡ true → IsWithin top.bounding top.inheritable
   pub any_uid : uids ≡ true → has top.effective cap_setuid ≡ true → (id : ℕ) → top.uid id ≡ true
@@ -64,8 +65,10 @@ pub record IsClosed (launch : Launch) (uids gids : Bool) (power : Power) (top : 
 pub record IsStable (launch : Launch) (power : Power) (below : Mounts → Type 0) : Type 0 where
   pub begins : (mounts : Mounts) → CanHold power launch.table mounts → below (locked_copy mounts)
   pub copies : (mounts : Mounts) → below mounts → below (locked_copy mounts)
-  pub mounts : (mounts now : Mounts) (source target : Path) (flags : ℕ) → below mounts → mounts_after_mount (row_at launch.site.rows) mounts source target flags ≡ Ok now → below now
-  pub unmounts : (mounts now : Mounts) (path : Path) (flags : ℕ) → below mounts → mounts_umount_answer mounts path flags ≡ Ok now → below now
+  pub mounts : (mounts now : Mounts) (source target : Path) (flags : ℕ) → below mounts
+      → mounts_after_mount (row_at launch.site.rows) mounts source target flags ≡ Ok now → below now
+  pub unmounts : (mounts now : Mounts) (path : Path) (flags : ℕ) → below mounts → mounts_umount_answer mounts path flags ≡ Ok now
+      → below now
 
 -- the mount table, by whether it belongs to the first user namespace
 abbrev pub TableIn : Bool → Launch → Power → (Mounts → Type 0) → Mounts → Type 0
@@ -93,7 +96,8 @@ pub record AreHeld (launch : Launch) (power : Power) (top : Bounds) (below : Mou
   pub calls : world.calls ≡ launch.calls
   pub site : world.site ≡ launch.site
   pub numbers : length world.owners ≡ length world.tables
-  pub each : (at : ℕ) (process : Process) → slice_get world.processes at ≡ Some process → IsHeld launch power top below world.tables world.owners process
+  pub each : (at : ℕ) (process : Process) → slice_get world.processes at ≡ Some process
+      → IsHeld launch power top below world.tables world.owners process
 
 -- an effect that leaves no bound, by whether the process is in a newer user namespace and whether its mount namespace belongs to
 -- the first one

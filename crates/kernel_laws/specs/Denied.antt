@@ -1,6 +1,7 @@
 -- What it means that a question is reached, that no list of calls reaches it, and that a list shows it; and what a
 -- service cannot see.
-use Rattle.std.specs.Prelude.{◌≡◌, ℕ, ◌==◌, ◌&&◌, ◌||◌, ◌⊎◌, not, Bool, true, false, List, [], ◌∷◌, slice_get, Option, Some, None, Any, if◌then◌else◌}
+use Rattle.std.specs.Prelude.{◌≡◌, ℕ, ◌==◌, ◌&&◌, ◌||◌, ◌⊎◌, not, Bool, true, false, List, [], ◌∷◌, slice_get, Option, Some, None, Any}
+use Rattle.std.specs.Prelude.{if◌then◌else◌}
 use Rattle.std.specs.List.{list_any}
 use Rattle.kernel_model.specs.abs_path.Paths.{Path}
 use Rattle.kernel_model.specs.abs_path.Prefix.{is_below}
@@ -25,7 +26,9 @@ use Rattle.kernel_laws.specs.declared.question_types.wish.Wish.{Wish}
 use Rattle.kernel_laws.specs.declared.question_types.wish.Wish.TheVariants.{See as ToSee, Read as ToRead, Write as ToWrite, Exec as ToExec}
 use Rattle.filter_settings.specs.declared.filter_rules.namespace_types.NamespaceType.{NamespaceType}
 use Rattle.kernel_laws.specs.declared.question_types.question.Question.{Question}
-use Rattle.kernel_laws.specs.declared.question_types.question.Question.TheVariants.{Path as ByPath, Call, Socket, Namespace as Ns, MapWx, ProtectX, ShmX, Realtime, Personality, SuidBit, Cap, Uid, Gid}
+use Rattle.kernel_laws.specs.declared.question_types.question.Question.TheVariants.{Path as ByPath, Call, Socket, Namespace as Ns, MapWx}
+use Rattle.kernel_laws.specs.declared.question_types.question.Question.TheVariants.{ProtectX, ShmX, Realtime, Personality, SuidBit, Cap}
+use Rattle.kernel_laws.specs.declared.question_types.question.Question.TheVariants.{Uid, Gid}
 use Rattle.kernel_laws.specs.Questions.{flag_of}
 
 -- the path by which a call does what is wished: stat(2) and its like see, open(2) reads and writes by its access mode, creat(2)

@@ -23,9 +23,11 @@ use Rattle.kernel_model.specs.kernel_calls.Rules.{rule_of, rule_at}
 
 -- a filter that lets a call through that asks for a kind of thing lets the words through that ask for it first
 abbrev pub FirstPasses : Type 0
-FirstPasses = (filter : FilterName) (settings : FilterSettings) (table : calls.Table) (line : CallLine) (rule : Rule) (kind : CallKind) (payload : Payload) (doing : Doing) (input first : CallData)
+FirstPasses = (filter : FilterName) (settings : FilterSettings) (table : calls.Table) (line : CallLine) (rule : Rule) (kind : CallKind)
+    (payload : Payload) (doing : Doing) (input first : CallData)
     → rule_of line ≡ Some rule → doing_by rule input.args payload ≡ Some doing → asks kind doing ≡ true → words kind rule ≡ Some first.args
-    → decision_of (word_of (named_action filter settings table line.name input)) ≡ decision.Pass → decision_of (word_of (named_action filter settings table line.name first)) ≡ decision.Pass
+    → decision_of (word_of (named_action filter settings table line.name input)) ≡ decision.Pass
+    → decision_of (word_of (named_action filter settings table line.name first)) ≡ decision.Pass
 
 -- the program's answers are the words of what some filter of the settings does for an ABI, seccomp(2)
 pub record Means (settings : FilterSettings) (table : calls.Table) (code : List Insn) : Type 0 where
@@ -37,7 +39,10 @@ pub record Means (settings : FilterSettings) (table : calls.Table) (code : List 
 
 -- a launch by programs of the settings meets what is asked of first choices
 abbrev pub SettingsChoose : Type 0
-SettingsChoose = (launch : Launch) (settings : FilterSettings) → ((abi : ℕ) → calls.arch_of launch.calls abi < 2 ^ 32) → IfSome launch.calls.second (λ second. second.arch == launch.calls.arch ≡ false) → AllByRecursion (Means settings launch.calls) launch.stack
+SettingsChoose = (launch : Launch) (settings : FilterSettings) → ((abi : ℕ) → calls.arch_of launch.calls abi < 2 ^ 32)
+    → IfSome launch.calls.second (λ second. second.arch == launch.calls.arch ≡ false)
+    → AllByRecursion (Means settings launch.calls) launch.stack
     → ((input : CallData) → IsCallData input → ArePlain (answers_of launch.stack input))
     → (kind : CallKind) (abi nr : ℕ) (args : List ℕ) (rule : Rule) (payload : Payload) (doing : Doing) → nr < 2 ^ 32 → AreWords args
-    → rule_at (calls.calls_in launch.calls abi) nr ≡ Some rule → doing_by rule args payload ≡ Some doing → asks kind doing ≡ true → passes launch abi nr args → Chosen launch kind rule abi nr
+    → rule_at (calls.calls_in launch.calls abi) nr ≡ Some rule → doing_by rule args payload ≡ Some doing → asks kind doing ≡ true
+    → passes launch abi nr args → Chosen launch kind rule abi nr

@@ -11,7 +11,10 @@ use Rattle.kernel_model.specs.kernel_calls.Doing as doing
 use Rattle.kernel_model.specs.kernel_calls.Doing.{Doing}
 use Rattle.kernel_laws.specs.declared.question_types.wish.Wish.TheVariants.{See as ToSee, Read as ToRead, Write as ToWrite, Exec as ToExec}
 use Rattle.kernel_laws.specs.declared.question_types.kind.CallKind.{CallKind}
-use Rattle.kernel_laws.specs.declared.question_types.kind.CallKind.TheVariants.{ForPath, PlainCall, ForFamily, ForNamespace, MapsWx, ProtectsX, AttachesX, SchedulesRealtime, TakesPersonality, SetsMode, ChangesMounts, RemovesMounts, SetsCaps, TakesUid, TakesGid}
+use Rattle.kernel_laws.specs.declared.question_types.kind.CallKind.TheVariants.{ForPath, PlainCall, ForFamily, ForNamespace, MapsWx}
+use Rattle.kernel_laws.specs.declared.question_types.kind.CallKind.TheVariants.{ProtectsX, AttachesX, SchedulesRealtime, TakesPersonality}
+use Rattle.kernel_laws.specs.declared.question_types.kind.CallKind.TheVariants.{SetsMode, ChangesMounts, RemovesMounts, SetsCaps, TakesUid}
+use Rattle.kernel_laws.specs.declared.question_types.kind.CallKind.TheVariants.{TakesGid}
 use Rattle.kernel_laws.specs.Questions.{flag_of}
 use Rattle.kernel_laws.specs.Denied.{path_for, asks_space, asks_map, asks_protect, asks_attach, asks_realtime, asks_personality, asks_mode}
 

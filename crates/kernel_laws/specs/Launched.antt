@@ -87,10 +87,13 @@ pub record Chosen (launch : Launch) (kind : CallKind) (rule : Rule) (abi nr : �
 pub record IsLaunched (launch : Launch) : Type 0 where
   -- each ABI gives a number once: the line of a place is what its number finds; a line says its ABI; a name has one capability;
   -- and calls have numbers of 32 bits
-  pub calls_once : (abi at : ℕ) (line : CallLine) → slice_get (calls.calls_in launch.calls abi) at ≡ Some line → place_numbered line.number (calls.calls_in launch.calls abi) ≡ Some at
+  pub calls_once : (abi at : ℕ) (line : CallLine) → slice_get (calls.calls_in launch.calls abi) at ≡ Some line
+      → place_numbered line.number (calls.calls_in launch.calls abi) ≡ Some at
   pub calls_of_abi : (abi : ℕ) → AreOf abi (calls.calls_in launch.calls abi)
-  pub one_cap : All (λ line. All (λ other. line.name ≡ other.name → line.cap ≡ other.cap) (calls.every_call launch.calls)) (calls.every_call launch.calls)
-  pub families_once : (at : ℕ) (line : CallLine) → slice_get launch.calls.families at ≡ Some line → place_numbered line.number launch.calls.families ≡ Some at
+  pub one_cap : All (λ line. All (λ other. line.name ≡ other.name → line.cap ≡ other.cap) (calls.every_call launch.calls))
+      (calls.every_call launch.calls)
+  pub families_once : (at : ℕ) (line : CallLine) → slice_get launch.calls.families at ≡ Some line
+      → place_numbered line.number launch.calls.families ≡ Some at
   pub calls_in_range : (abi : ℕ) → All IsInRange (calls.calls_in launch.calls abi)
   pub arch : (abi : ℕ) → calls.arch_of launch.calls abi < 2 ^ 32
   -- the three uids are one, and the three gids
@@ -111,8 +114,10 @@ pub record IsLaunched (launch : Launch) : Type 0 where
   pub honours : AllByRecursion (λ (step : MountStep). step.flags.no_suid ≡ false) launch.table
   -- the programs refuse for good or let through, and look at no more words than the first choices need
   pub plain : (input : CallData) → IsCallData input → ArePlain (answers_of launch.stack input)
-  pub chosen : (kind : CallKind) (abi nr : ℕ) (args : List ℕ) (rule : Rule) (payload : Payload) (doing : Doing) → nr < 2 ^ 32 → AreWords args
-      → rule_at (calls.calls_in launch.calls abi) nr ≡ Some rule → doing_by rule args payload ≡ Some doing → asks kind doing ≡ true → passes launch abi nr args → Chosen launch kind rule abi nr
+  pub chosen : (kind : CallKind) (abi nr : ℕ) (args : List ℕ) (rule : Rule) (payload : Payload) (doing : Doing) → nr < 2 ^ 32
+      → AreWords args
+      → rule_at (calls.calls_in launch.calls abi) nr ≡ Some rule → doing_by rule args payload ≡ Some doing → asks kind doing ≡ true
+      → passes launch abi nr args → Chosen launch kind rule abi nr
 
 -- process 1 of a world
 abbrev pub process_or : Option Process → Process

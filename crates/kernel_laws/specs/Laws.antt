@@ -13,7 +13,8 @@ use Rattle.kernel_model.specs.World.{World}
 -- a question that the ceiling closes is reached by no list of calls, where the tables of newer user namespaces show no more than those
 -- of the first one
 abbrev pub DenialIsSound : Type 0
-DenialIsSound = (world : World) (question : Question) → IsLaunchedWorld world → IsAsked world.calls question → is_open (launch_of world) question ≡ false → IsDenied world question
+DenialIsSound = (world : World) (question : Question) → IsLaunchedWorld world → IsAsked world.calls question
+    → is_open (launch_of world) question ≡ false → IsDenied world question
 
 -- each question of the list is asked of what it is about
 abbrev pub ListedAreAsked : Type 0

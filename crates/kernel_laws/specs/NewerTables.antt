@@ -23,16 +23,20 @@ CanHaveNewer Mounting launched mounts = Unit {0}
 
 -- a copy of a table of the first user namespace is such
 abbrev pub FirstCopies : Type 0
-FirstCopies = (power : Power) (launched table : Table) → IsOrdered launched → CanHave power launched table → CanHaveNewer power launched (locked_copy (map plain table))
+FirstCopies = (power : Power) (launched table : Table) → IsOrdered launched → CanHave power launched table
+    → CanHaveNewer power launched (locked_copy (map plain table))
 
 -- whatever calls are done, and however often it is copied, it stays such
 abbrev pub CallsKeep : Type 0
-CallsKeep = (power : Power) (launched : Table) (mounts last : Mounts) → CanHaveNewer power launched mounts → Changes mounts last → CanHaveNewer power launched last
+CallsKeep = (power : Power) (launched : Table) (mounts last : Mounts) → CanHaveNewer power launched mounts → Changes mounts last
+    → CanHaveNewer power launched last
 
 -- a path of such mounts that finds a row, with the flags that a wish needs: the row is reached for the wish
 abbrev pub RowsAreReached : Type 0
-RowsAreReached = (power : Power) (launched : Table) (mounts : Mounts) (row : Path) (wish : Wish) → CanHaveNewer power launched mounts → Leads (steps_of mounts) row wish → reaches power launched row wish ≡ true
+RowsAreReached = (power : Power) (launched : Table) (mounts : Mounts) (row : Path) (wish : Wish) → CanHaveNewer power launched mounts
+    → Leads (steps_of mounts) row wish → reaches power launched row wish ≡ true
 
 -- a path of such mounts with its host place strictly below a folder: the folder is not blind
 abbrev pub FoldersAreSeen : Type 0
-FoldersAreSeen = (power : Power) (launched : Table) (mounts : Mounts) (folder : Path) → CanHaveNewer power launched mounts → SeesBelow folder (steps_of mounts) → blind_at power launched folder ≡ false
+FoldersAreSeen = (power : Power) (launched : Table) (mounts : Mounts) (folder : Path) → CanHaveNewer power launched mounts
+    → SeesBelow folder (steps_of mounts) → blind_at power launched folder ≡ false

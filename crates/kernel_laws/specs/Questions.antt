@@ -1,5 +1,6 @@
 -- What is asked of a launched service, and the list of all questions.
-use Rattle.std.specs.Prelude.{◌≡◌, slice_get, ℕ, zero, suc, ◌+◌, ◌==◌, ◌&&◌, nat_lt, not, Bool, true, false, List, [], ◌∷◌, ◌++◌, map, Option, Some, None, if◌then◌else◌}
+use Rattle.std.specs.Prelude.{◌≡◌, slice_get, ℕ, zero, suc, ◌+◌, ◌==◌, ◌&&◌, nat_lt, not, Bool, true, false, List, [], ◌∷◌, ◌++◌, map}
+use Rattle.std.specs.Prelude.{Option, Some, None, if◌then◌else◌}
 use Rattle.filter_settings.specs.call_table.declared.listed.CallLine.{CallLine}
 use Rattle.filter_settings.specs.call_table.Table as calls
 use Rattle.filter_settings.specs.call_table.Members.{is_first}
@@ -9,7 +10,9 @@ use Rattle.kernel_model.specs.site_table.Table.{Site}
 use Rattle.filter_settings.specs.declared.filter_rules.namespace_types.NamespaceType.{NamespaceType}
 use Rattle.filter_settings.specs.declared.filter_rules.namespace_types.NamespaceType.TheVariants.{Cgroup, Ipc, Net, Mnt, Pid, User, Uts}
 use Rattle.kernel_laws.specs.declared.question_types.question.Question.{Question}
-use Rattle.kernel_laws.specs.declared.question_types.question.Question.TheVariants.{Path as ByPath, Call, Socket, Namespace as Ns, MapWx, ProtectX, ShmX, Realtime, Personality, SuidBit, Cap, Uid, Gid}
+use Rattle.kernel_laws.specs.declared.question_types.question.Question.TheVariants.{Path as ByPath, Call, Socket, Namespace as Ns, MapWx}
+use Rattle.kernel_laws.specs.declared.question_types.question.Question.TheVariants.{ProtectX, ShmX, Realtime, Personality, SuidBit, Cap}
+use Rattle.kernel_laws.specs.declared.question_types.question.Question.TheVariants.{Uid, Gid}
 use Rattle.kernel_laws.specs.declared.question_types.wish.Wish.TheVariants.{See as ToSee, Read as ToRead, Write as ToWrite, Exec as ToExec}
 use Rattle.kernel_model.specs.declared.kernel_calls.rule.Rule.{Rule}
 use Rattle.kernel_model.specs.declared.kernel_calls.rule.Rule.TheVariants.{Plain}
@@ -42,7 +45,8 @@ if_so false x = []
 
 -- of a row: to see and to read it, to write what is no directory, to execute what is a program
 abbrev pub of_row : ℕ → Row → List Question
-of_row at row = ByPath ToSee at ∷ ByPath ToRead at ∷ if_so (not (is_dir row.kind)) (ByPath ToWrite at) ++ if_so (is_exe row.kind) (ByPath ToExec at)
+of_row at row = ByPath ToSee at ∷ ByPath ToRead at ∷ if_so (not (is_dir row.kind)) (ByPath ToWrite at) ++ if_so (is_exe row.kind)
+    (ByPath ToExec at)
 
 -- of each row, counted from a number
 abbrev pub of_rows : ℕ → List Row → List Question
@@ -91,14 +95,17 @@ uids_of site = ascending (0 ∷ site.dynamic_uid ∷ map (λ user. user.uid) sit
 
 -- the group root, the dynamic group, the groups of the host, those of its users and of its set-group-id programs
 abbrev pub gids_of : Site → List ℕ
-gids_of site = ascending (0 ∷ site.dynamic_uid ∷ map (λ group. group.gid) site.groups ++ map (λ user. user.gid) site.users ++ joined (map (λ user. user.groups) site.users) ++ some_ids (map (λ row. row.setgid) site.rows))
+gids_of site = ascending (0 ∷ site.dynamic_uid ∷ map (λ group. group.gid) site.groups ++ map (λ user. user.gid) site.users ++ joined
+    (map (λ user. user.groups) site.users) ++ some_ids (map (λ row. row.setgid) site.rows))
 
 -- the questions of no table
 abbrev pub other_questions : List Question
-other_questions = Ns Cgroup ∷ Ns Ipc ∷ Ns Net ∷ Ns Mnt ∷ Ns Pid ∷ Ns User ∷ Ns Uts ∷ MapWx ∷ ProtectX ∷ ShmX ∷ Realtime ∷ Personality ∷ SuidBit ∷ []
+other_questions = Ns Cgroup ∷ Ns Ipc ∷ Ns Net ∷ Ns Mnt ∷ Ns Pid ∷ Ns User ∷ Ns Uts ∷ MapWx ∷ ProtectX ∷ ShmX ∷ Realtime ∷ Personality ∷
+    SuidBit ∷ []
 
 -- all questions: of the rows, the plain calls, the families, of no table, of the 41 capabilities, the uids and the gids
 abbrev pub questions : calls.Table → Site → List Question
 questions table site =
-    of_rows 0 site.rows ++ of_calls (calls.every_call table) 0 (calls.every_call table) ++ of_families 0 table.families ++ other_questions ++
+    of_rows 0 site.rows ++ of_calls (calls.every_call table) 0
+    (calls.every_call table) ++ of_families 0 table.families ++ other_questions ++
     map Cap (count_from 0 41) ++ map Uid (uids_of site) ++ map Gid (gids_of site)

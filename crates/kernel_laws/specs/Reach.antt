@@ -35,7 +35,8 @@ pub record Leads (table : Table) (row : Path) (wish : Wish) : Type 0 where
 
 -- the entry shows the row at a path that no later entry covers, or that can be uncovered
 abbrev pub shows_row : Bool → MountStep → Table → Path → What → Bool
-shows_row uncover entry later row (Host source) = is_prefix source row && (uncover || not (list_any (leads_to (entry.place ++ rest_of source row)) later))
+shows_row uncover entry later row (Host source) = is_prefix source row &&
+    (uncover || not (list_any (leads_to (entry.place ++ rest_of source row)) later))
 shows_row uncover entry later row Empty = false
 shows_row uncover entry later row (Hidden directory) = false
 
@@ -46,7 +47,8 @@ serves uncover row wish entry later = fits wish entry.flags && shows_row uncover
 -- the place of the first entry that serves, counted from a number
 abbrev pub reach_from : Bool → Path → Wish → Table → ℕ → Option ℕ
 reach_from uncover row wish [] at = None
-reach_from uncover row wish (entry ∷ later) at = if serves uncover row wish entry later then Some at else reach_from uncover row wish later (at + 1)
+reach_from uncover row wish (entry ∷ later) at = if serves uncover row wish entry later then Some at else reach_from uncover row wish
+    later (at + 1)
 
 -- the place of the entry that leads to the row; with mount every row can be shown, so the first entry's
 abbrev pub reach : Power → Table → Path → Wish → Option ℕ

@@ -10,7 +10,8 @@ use Rattle.kernel_model.specs.kern_mounts.Unmounts.{Unmounts, IsOrdered}
 
 -- with no power: exactly where a path of this very table finds the row
 abbrev pub ReachOfTheTable : Type 0
-ReachOfTheTable = (table : Table) (row : Path) (wish : Wish) → (reaches Nowise table row wish ≡ true → Leads table row wish) × (Leads table row wish → reaches Nowise table row wish ≡ true)
+ReachOfTheTable = (table : Table) (row : Path) (wish : Wish)
+    → (reaches Nowise table row wish ≡ true → Leads table row wish) × (Leads table row wish → reaches Nowise table row wish ≡ true)
 
 -- with umount2: exactly where a path of some table that umount2 calls make does
 abbrev pub ReachByUnmounts : Type 0

@@ -12,7 +12,8 @@ use Rattle.kernel_laws.specs.Reach.{shows_row}
 -- be uncovered
 abbrev pub shows_from : Bool → Table → Path → Flags → Bool
 shows_from uncover [] host flags = false
-shows_from uncover (entry ∷ later) host flags = (not (lacks entry.flags flags) && shows_row uncover entry later host entry.what) || shows_from uncover later host flags
+shows_from uncover (entry ∷ later) host flags = (not (lacks entry.flags flags) && shows_row uncover entry later host entry.what) ||
+    shows_from uncover later host flags
 
 -- by the power over the launched table; with mount everything is shown
 abbrev pub shown_by : Power → Table → Path → Flags → Bool

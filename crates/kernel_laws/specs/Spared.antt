@@ -22,7 +22,8 @@ Uses uids gids creds doing =
 
 -- whichever living process of the first user namespace makes the call; in a newer one no call takes an id
 abbrev pub Spares : Bool → Bool → World → Call → Type 0
-Spares uids gids world call = (process : Process) (doing : Doing) → living_of world call.pid ≡ Some process → is_newer process ≡ false → asked_of world.calls call ≡ Does doing → Uses uids gids process.creds doing
+Spares uids gids world call = (process : Process) (doing : Doing) → living_of world call.pid ≡ Some process → is_newer process ≡ false
+    → asked_of world.calls call ≡ Does doing → Uses uids gids process.creds doing
 
 -- each call of the run is such
 abbrev pub AllSpare : Bool → Bool → World → List Call → Type 0

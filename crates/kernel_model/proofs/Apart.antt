@@ -9,7 +9,8 @@ use Rattle.kernel_model.specs.declared.process.Process.{Process}
 use Rattle.kernel_model.specs.declared.reply.Reply.{Reply}
 use Rattle.kernel_model.specs.declared.reply.Reply.TheVariants.{Done}
 use Rattle.kernel_model.specs.Effects.{Child, OwnTable, UserChild, OwnUser}
-use Rattle.kernel_model.specs.World.{World, of_number, put_number, table_or, mounts_of, with_child, with_copy, with_process, moved_to, owner_or, owner_of, with_user, entered_by}
+use Rattle.kernel_model.specs.World.{World, of_number, put_number, table_or, mounts_of, with_child, with_copy, with_process, moved_to}
+use Rattle.kernel_model.specs.World.{owner_or, owner_of, with_user, entered_by}
 use Rattle.kernel_model.specs.State.{State, world_of, AtPlace, Applies, AppliesUser, IsCopyFor}
 use Rattle.kernel_model.specs.Step.{most_processes, most_namespaces}
 use Rattle.kernel_model.specs.StepCases as case
@@ -18,7 +19,8 @@ use Rattle.kernel_model.proofs.Lists.{get_same, length-push}
 use Rattle.kernel_model.proofs.Places.{has_number, some_at}
 
 -- what copied means of the namespace with a number
-copy_is : (state : State) (at number user : ℕ) (table : Table) → at < length state.tables → length state.owners ≡ length state.tables → at + 1 ≡ number → IsCopyFor state at user table
+copy_is : (state : State) (at number user : ℕ) (table : Table) → at < length state.tables → length state.owners ≡ length state.tables
+    → at + 1 ≡ number → IsCopyFor state at user table
     → table ≡ copied (not (owner_or (of_number state.owners number) == user)) (table_or (of_number state.tables number))
 copy_is state at number user table lt each is copies =
     let own = some_at state.tables at lt in
@@ -30,15 +32,22 @@ copy_is state at number user table lt each is copies =
     ∙ ap (λ (n : ℕ). copied (not (n == user)) (table_or (of_number state.tables number))) (sym (ap owner_or belongs))
 
 -- the process at a place, as the state that is seen has it
-seated : (viewed state : State) → viewed ≡ state → (place : ℕ) (who process : Process) → who ≡ get_or viewed.processes place who → slice_get state.processes place ≡ Some process → who ≡ process
-seated viewed state v place who process is stands = get_same state.processes place who process (subst (λ (s : State). who ≡ get_or s.processes place who) v is) stands
+seated : (viewed state : State) → viewed ≡ state → (place : ℕ) (who process : Process) → who ≡ get_or viewed.processes place who
+    → slice_get state.processes place ≡ Some process → who ≡ process
+seated viewed state v place who process is stands = get_same state.processes place who process
+    (subst (λ (s : State). who ≡ get_or s.processes place who) v is) stands
 
-pub made_apart : (viewed state : State) → viewed ≡ state → (place at : ℕ) (who old child : Process) (mid : List Table) (names : List ℕ) (table : Table) (ps : List Process) (ts : List Table) (os : List ℕ) (namespace count : ℕ)
-    → length state.processes < most_processes → length state.tables < most_namespaces → at < length state.tables → length state.owners ≡ length state.tables → AtPlace state place (λ pid process. at + 1 ≡ process.namespace)
-    → who ≡ get_or viewed.processes place who → old ≡ get_or viewed.processes place old → child ≡ old → IsCopyFor state at who.user table → mid ≡ viewed.tables → names ≡ viewed.owners → namespace ≡ length mid + 1
-    → ps ≡ viewed.processes ++ record child { namespace = namespace } ∷ [] → ts ≡ mid ++ table ∷ [] → os ≡ names ++ who.user ∷ [] → count ≡ length ps
+pub made_apart : (viewed state : State) → viewed ≡ state → (place at : ℕ) (who old child : Process) (mid : List Table) (names : List ℕ)
+    (table : Table) (ps : List Process) (ts : List Table) (os : List ℕ) (namespace count : ℕ)
+    → length state.processes < most_processes → length state.tables < most_namespaces → at < length state.tables
+    → length state.owners ≡ length state.tables → AtPlace state place (λ pid process. at + 1 ≡ process.namespace)
+    → who ≡ get_or viewed.processes place who → old ≡ get_or viewed.processes place old → child ≡ old → IsCopyFor state at who.user table
+    → mid ≡ viewed.tables → names ≡ viewed.owners → namespace ≡ length mid + 1
+    → ps ≡ viewed.processes ++ record child { namespace = namespace } ∷ [] → ts ≡ mid ++ table ∷ [] → os ≡ names ++ who.user ∷ []
+    → count ≡ length ps
     → Applies state place (Child true) (Done count) (record { processes = ps; tables = ts; owners = os; users = viewed.users })
-made_apart viewed state v place at who old child mid names table ps ts os namespace count room space inside each spaces who_is is child_is copies mid_is names_is number ps_is ts_is os_is count_is = λ calls site pid process place_is stands.
+made_apart viewed state v place at who old child mid names table ps ts os namespace count room space inside each spaces who_is is child_is
+    copies mid_is names_is number ps_is ts_is os_is count_is = λ calls site pid process place_is stands.
     let world : World = world_of calls site state in
     let user : who.user ≡ process.user = ap (λ (p : Process). p.user) (seated viewed state v place who process who_is stands) in
     let mids : mid ≡ state.tables = mid_is ∙ ap (λ (s : State). s.tables) v in
@@ -57,13 +66,16 @@ made_apart viewed state v place at who old child mid names table ps ts os namesp
     rw (counted, made, copies_it, owned, used) refl in
     out ∙ effect_is world pid process (Child true) _ (case.gives_copy room space)
 
-pub moved_apart : (viewed state : State) → viewed ≡ state → (place at : ℕ) (who old : Process) (names : List ℕ) (table : Table) (ps : List Process) (ts : List Table) (os : List ℕ) (count : ℕ)
-    → length state.tables < most_namespaces → at < length state.tables → length state.owners ≡ length state.tables → AtPlace state place (λ pid process. at + 1 ≡ process.namespace)
+pub moved_apart : (viewed state : State) → viewed ≡ state → (place at : ℕ) (who old : Process) (names : List ℕ) (table : Table)
+    (ps : List Process) (ts : List Table) (os : List ℕ) (count : ℕ)
+    → length state.tables < most_namespaces → at < length state.tables → length state.owners ≡ length state.tables
+    → AtPlace state place (λ pid process. at + 1 ≡ process.namespace)
     → who ≡ get_or viewed.processes place who → IsCopyFor state at who.user table → names ≡ viewed.owners
     → ts ≡ viewed.tables ++ table ∷ [] → os ≡ names ++ who.user ∷ [] → count ≡ length ts
     → old ≡ get_or viewed.processes place old → ps ≡ slice_set viewed.processes place (record old { namespace = count })
     → Applies state place OwnTable (Done 0) (record { processes = ps; tables = ts; owners = os; users = viewed.users })
-moved_apart viewed state v place at who old names table ps ts os count space inside each spaces who_is copies names_is ts_is os_is count_is is ps_is = λ calls site pid process place_is stands.
+moved_apart viewed state v place at who old names table ps ts os count space inside each spaces who_is copies names_is ts_is os_is
+    count_is is ps_is = λ calls site pid process place_is stands.
     let world : World = world_of calls site state in
     let user : who.user ≡ process.user = ap (λ (p : Process). p.user) (seated viewed state v place who process who_is stands) in
     let named : names ≡ state.owners = names_is ∙ ap (λ (s : State). s.owners) v in
@@ -85,12 +97,18 @@ moved_apart viewed state v place at who old names table ps ts os count space ins
     rw (made, copies_it, owned, used) refl in
     out ∙ effect_is world pid process OwnTable _ (case.moves space)
 
-pub user_made_apart : (viewed state : State) → viewed ≡ state → (place at : ℕ) (old child : Process) (sets : Creds) (mid : List Table) (names : List ℕ) (table : Table) (ps : List Process) (ts : List Table) (os : List ℕ) (namespace count : ℕ)
-    → length state.processes < most_processes → length state.tables < most_namespaces → at < length state.tables → length state.owners ≡ length state.tables → AtPlace state place (λ pid process. at + 1 ≡ process.namespace)
-    → old ≡ get_or viewed.processes place old → child ≡ old → sets ≡ entered child.creds → IsCopyFor state at (viewed.users + 2) table → mid ≡ viewed.tables → names ≡ viewed.owners → namespace ≡ length mid + 1
-    → ps ≡ viewed.processes ++ record child { creds = sets; namespace = namespace; user = viewed.users + 2 } ∷ [] → ts ≡ mid ++ table ∷ [] → os ≡ names ++ (viewed.users + 2) ∷ [] → count ≡ length ps
+pub user_made_apart : (viewed state : State) → viewed ≡ state
+    → (place at : ℕ) (old child : Process) (sets : Creds) (mid : List Table) (names : List ℕ) (table : Table) (ps : List Process)
+    (ts : List Table) (os : List ℕ) (namespace count : ℕ)
+    → length state.processes < most_processes → length state.tables < most_namespaces → at < length state.tables
+    → length state.owners ≡ length state.tables → AtPlace state place (λ pid process. at + 1 ≡ process.namespace)
+    → old ≡ get_or viewed.processes place old → child ≡ old → sets ≡ entered child.creds → IsCopyFor state at (viewed.users + 2) table
+    → mid ≡ viewed.tables → names ≡ viewed.owners → namespace ≡ length mid + 1
+    → ps ≡ viewed.processes ++ record child { creds = sets; namespace = namespace; user = viewed.users + 2 } ∷ [] → ts ≡ mid ++ table ∷ []
+    → os ≡ names ++ (viewed.users + 2) ∷ [] → count ≡ length ps
     → AppliesUser state place (UserChild true) (Done count) (record { processes = ps; tables = ts; owners = os; users = viewed.users + 1 })
-user_made_apart viewed state v place at old child sets mid names table ps ts os namespace count room space inside each spaces is child_is sets_is copies mid_is names_is number ps_is ts_is os_is count_is = λ site left calls pid process place_is stands.
+user_made_apart viewed state v place at old child sets mid names table ps ts os namespace count room space inside each spaces is child_is
+    sets_is copies mid_is names_is number ps_is ts_is os_is count_is = λ site left calls pid process place_is stands.
     let world : World = world_of calls site state in
     let used : viewed.users ≡ state.users = ap (λ (s : State). s.users) v in
     let user : viewed.users + 2 ≡ state.users + 2 = ap (λ (n : ℕ). n + 2) used in
@@ -115,8 +133,10 @@ user_made_apart viewed state v place at old child sets mid names table ps ts os 
     out ∙ effect_is world pid process (UserChild true) _ (case.gives_user_and_copy left room space)
 
 pub user_entered : (viewed state : State) → viewed ≡ state → (place : ℕ) (old : Process) (sets : Creds) (ps : List Process)
-    → old ≡ get_or viewed.processes place old → sets ≡ entered old.creds → ps ≡ slice_set viewed.processes place (record old { creds = sets; user = viewed.users + 2 })
-    → AppliesUser state place (OwnUser false) (Done 0) (record { processes = ps; tables = viewed.tables; owners = viewed.owners; users = viewed.users + 1 })
+    → old ≡ get_or viewed.processes place old → sets ≡ entered old.creds
+    → ps ≡ slice_set viewed.processes place (record old { creds = sets; user = viewed.users + 2 })
+    → AppliesUser state place (OwnUser false) (Done 0)
+    (record { processes = ps; tables = viewed.tables; owners = viewed.owners; users = viewed.users + 1 })
 user_entered viewed state v place old sets ps is sets_is ps_is = λ site left calls pid process place_is stands.
     let world : World = world_of calls site state in
     let used : viewed.users ≡ state.users = ap (λ (s : State). s.users) v in
@@ -132,12 +152,18 @@ user_entered viewed state v place old sets ps is sets_is ps_is = λ site left ca
     rw (made, tabled, owned, used) refl in
     out ∙ effect_is world pid process (OwnUser false) _ (case.enters left)
 
-pub user_moved_apart : (viewed state : State) → viewed ≡ state → (place at : ℕ) (old : Process) (sets : Creds) (names : List ℕ) (table : Table) (ps : List Process) (ts : List Table) (os : List ℕ) (count : ℕ)
-    → length state.tables < most_namespaces → at < length state.tables → length state.owners ≡ length state.tables → AtPlace state place (λ pid process. at + 1 ≡ process.namespace)
-    → IsCopyFor state at (viewed.users + 2) table → names ≡ viewed.owners → ts ≡ viewed.tables ++ table ∷ [] → os ≡ names ++ (viewed.users + 2) ∷ [] → count ≡ length ts
-    → old ≡ get_or viewed.processes place old → sets ≡ entered old.creds → ps ≡ slice_set viewed.processes place (record old { creds = sets; namespace = count; user = viewed.users + 2 })
+pub user_moved_apart : (viewed state : State) → viewed ≡ state
+    → (place at : ℕ) (old : Process) (sets : Creds) (names : List ℕ) (table : Table) (ps : List Process) (ts : List Table) (os : List ℕ)
+    (count : ℕ)
+    → length state.tables < most_namespaces → at < length state.tables → length state.owners ≡ length state.tables
+    → AtPlace state place (λ pid process. at + 1 ≡ process.namespace)
+    → IsCopyFor state at (viewed.users + 2) table → names ≡ viewed.owners → ts ≡ viewed.tables ++ table ∷ []
+    → os ≡ names ++ (viewed.users + 2) ∷ [] → count ≡ length ts
+    → old ≡ get_or viewed.processes place old → sets ≡ entered old.creds
+    → ps ≡ slice_set viewed.processes place (record old { creds = sets; namespace = count; user = viewed.users + 2 })
     → AppliesUser state place (OwnUser true) (Done 0) (record { processes = ps; tables = ts; owners = os; users = viewed.users + 1 })
-user_moved_apart viewed state v place at old sets names table ps ts os count space inside each spaces copies names_is ts_is os_is count_is is sets_is ps_is = λ site left calls pid process place_is stands.
+user_moved_apart viewed state v place at old sets names table ps ts os count space inside each spaces copies names_is ts_is os_is count_is
+    is sets_is ps_is = λ site left calls pid process place_is stands.
     let world : World = world_of calls site state in
     let used : viewed.users ≡ state.users = ap (λ (s : State). s.users) v in
     let user : viewed.users + 2 ≡ state.users + 2 = ap (λ (n : ℕ). n + 2) used in
@@ -151,7 +177,8 @@ user_moved_apart viewed state v place at old sets names table ps ts os count spa
     let counted : count ≡ length state.tables + 1 = count_is ∙ ap (λ (xs : List Table). length xs) copies_it ∙ length-push state.tables copy in
     let moved : record old { creds = sets; namespace = count; user = viewed.users + 2 } ≡ moved_to (entered_by process state.users) (length state.tables) =
     ap (λ (c : Creds). record old { creds = c; namespace = count; user = viewed.users + 2 }) sets_is
-    ∙ ap (λ (p : Process). record p { creds = entered p.creds; namespace = count; user = viewed.users + 2 }) (seated viewed state v place old process is stands)
+    ∙ ap (λ (p : Process). record p { creds = entered p.creds; namespace = count; user = viewed.users + 2 })
+    (seated viewed state v place old process is stands)
     ∙ ap (λ (n : ℕ). record process { creds = entered process.creds; namespace = n; user = viewed.users + 2 }) counted
     ∙ ap (λ (n : ℕ). record process { creds = entered process.creds; namespace = length state.tables + 1; user = n }) user in
     let made : ps ≡ put_number state.processes pid (moved_to (entered_by process state.users) (length state.tables)) =
@@ -163,11 +190,14 @@ user_moved_apart viewed state v place at old sets names table ps ts os count spa
     out ∙ effect_is world pid process (OwnUser true) _ (case.enters_and_moves left space)
 
 -- whether a mount namespace belongs to the caller's user namespace
-pub owns_here : (viewed state : State) → viewed ≡ state → (place at owner : ℕ) (who : Process) → at < length state.tables → length state.owners ≡ length state.tables → AtPlace state place (λ pid process. at + 1 ≡ process.namespace)
+pub owns_here : (viewed state : State) → viewed ≡ state → (place at owner : ℕ) (who : Process) → at < length state.tables
+    → length state.owners ≡ length state.tables → AtPlace state place (λ pid process. at + 1 ≡ process.namespace)
     → owner ≡ get_or viewed.owners at owner → who ≡ get_or viewed.processes place who
     → AtPlace state place (λ pid process. (owner == who.user) ≡ (owner_or (of_number state.owners process.namespace) == process.user))
 owns_here viewed state v place at owner who inside each spaces owner_is who_is pid process place_is stands =
     let found = some_at state.owners at (subst (λ (n : ℕ). at < n) (sym each) inside) in
     let same : owner ≡ found.0 = get_same state.owners at owner found.0 (subst (λ (s : State). owner ≡ get_or s.owners at owner) v owner_is) found.1 in
     let belongs : of_number state.owners process.namespace ≡ Some found.0 = has_number state.owners process.namespace at found.0 (spaces pid process place_is stands) found.1 in
-    ap (λ (n : ℕ). n == who.user) (same ∙ sym (ap owner_or belongs)) ∙ ap (λ (p : Process). owner_or (of_number state.owners process.namespace) == p.user) (seated viewed state v place who process who_is stands)
+    ap (λ (n : ℕ). n == who.user) (same ∙ sym (ap owner_or belongs))
+    ∙ ap (λ (p : Process). owner_or (of_number state.owners process.namespace) == p.user)
+    (seated viewed state v place who process who_is stands)

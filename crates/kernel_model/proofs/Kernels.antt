@@ -1,5 +1,6 @@
 -- What holds of every world stays, whatever is called.
-use Rattle.std.proofs.Common.{◌≡◌, ℕ, ◌<◌, ◌≤◌, ◌-◌, ◌+◌, ◌==◌, zero, suc, Bool, true, false, cond, List, [], ◌∷◌, ◌++◌, length, Option, Some, None, Result, Ok, Err, refl, sym, ◌∙◌, subst, arith}
+use Rattle.std.proofs.Common.{◌≡◌, ℕ, ◌<◌, ◌≤◌, ◌-◌, ◌+◌, ◌==◌, zero, suc, Bool, true, false, cond, List, [], ◌∷◌, ◌++◌, length, Option}
+use Rattle.std.proofs.Common.{Some, None, Result, Ok, Err, refl, sym, ◌∙◌, subst, arith}
 use Rattle.std.specs.Prelude.{slice_get, nat_lt, nat_le, not, ◌&&◌, ◌||◌}
 use Rattle.std.specs.List.{AllByRecursion}
 use Rattle.bpf_code.specs.declared.machine.Insn.{Insn}
@@ -12,7 +13,8 @@ use Rattle.kern_mounts.specs.linux_numbers.Limits.{max_insns_per_path, no_id}
 use Rattle.kernel_model.specs.kern_files.Bits.{has_some}
 use Rattle.call_table.specs.declared.listed.CallLine.{CallLine}
 use Rattle.kern_creds.specs.declared.creds.Creds.{Creds}
-use Rattle.kern_creds.specs.Prctl.{after_drop_bounding, after_raise, after_lower, after_clear_ambient, after_set_keepcaps, after_set_no_new_privs}
+use Rattle.kern_creds.specs.Prctl.{after_drop_bounding, after_raise, after_lower, after_clear_ambient, after_set_keepcaps}
+use Rattle.kern_creds.specs.Prctl.{after_set_no_new_privs}
 use Rattle.kern_creds.specs.Setuid.{after_setuid, after_setgid}
 use Rattle.kern_creds.specs.Setresuid.{after_setresuid, after_setresgid}
 use Rattle.kern_creds.specs.Setgroups.{after_setgroups}
@@ -25,8 +27,12 @@ use Rattle.kernel_model.specs.kernel_calls.Doing.{Doing}
 use Rattle.kernel_model.specs.declared.process.Process.{Process}
 use Rattle.kernel_model.specs.declared.reply.Reply.{Reply}
 use Rattle.kernel_model.specs.Effects as f
-use Rattle.kernel_model.specs.Effects.{Effect, Host, Caller, thread_flag, newns, newuser, other_spaces, no_spaces, effect_of, looks, creds_effect, table_effect, with_cap, with_cap_of, with_admin, socket_effect, clone_effect, unshare_effect, is_set_effect, ambient_effect, no_new_privs_effect, keepcaps_effect, prctl_effect, push_effect, seccomp_effect, first_alone, socketcall_effect}
-use Rattle.kernel_model.specs.World.{World, living_of, of_number, table_or, mounts_of, with_process, with_table, with_child, with_copy, moved_to, ended, host_of, caller_of, owner_of, with_user, entered_by}
+use Rattle.kernel_model.specs.Effects.{Effect, Host, Caller, thread_flag, newns, newuser, other_spaces, no_spaces, effect_of, looks}
+use Rattle.kernel_model.specs.Effects.{creds_effect, table_effect, with_cap, with_cap_of, with_admin, socket_effect, clone_effect}
+use Rattle.kernel_model.specs.Effects.{unshare_effect, is_set_effect, ambient_effect, no_new_privs_effect, keepcaps_effect, prctl_effect}
+use Rattle.kernel_model.specs.Effects.{push_effect, seccomp_effect, first_alone, socketcall_effect}
+use Rattle.kernel_model.specs.World.{World, living_of, of_number, table_or, mounts_of, with_process, with_table, with_child, with_copy}
+use Rattle.kernel_model.specs.World.{moved_to, ended, host_of, caller_of, owner_of, with_user, entered_by}
 use Rattle.kernel_model.specs.Step.{step, most_processes, most_namespaces}
 use Rattle.kernel_model.specs.StepCases as case
 use Rattle.kernel_model.specs.StepCases.{StepCase, EffectCase}
@@ -86,7 +92,8 @@ roots_cap_of : (cap : Option ℕ) (creds : Creds) (value : ℕ) → MakesRooted 
 roots_cap_of None creds value = gives value
 roots_cap_of (Some cap) creds value = roots_cap cap creds (f.Answer value) (gives value)
 
-roots_alone : (newer : Bool) (cap : Option ℕ) (creds : Creds) (value : ℕ) → MakesRooted (first_alone newer cap (with_cap_of cap creds (f.Answer value)))
+roots_alone : (newer : Bool) (cap : Option ℕ) (creds : Creds) (value : ℕ)
+    → MakesRooted (first_alone newer cap (with_cap_of cap creds (f.Answer value)))
 roots_alone false cap creds value = roots_cap_of cap creds value
 roots_alone true None creds value = gives value
 roots_alone true (Some cap) creds value = refuses eperm
@@ -96,13 +103,17 @@ roots_socket newer creds None = refuses _
 roots_socket newer creds (Some line) = roots_alone newer line.cap creds 3
 
 -- where ids are not mapped
-roots_ids : (real effective saved : ℕ) → MakesRooted (cond ((real == no_id && effective == no_id) && saved == no_id) (f.Answer 0) (f.Refuse einval))
-roots_ids real effective saved = roots_if ((real == no_id && effective == no_id) && saved == no_id) (f.Answer 0) (f.Refuse einval) (gives 0) (refuses einval)
+roots_ids : (real effective saved : ℕ)
+    → MakesRooted (cond ((real == no_id && effective == no_id) && saved == no_id) (f.Answer 0) (f.Refuse einval))
+roots_ids real effective saved = roots_if ((real == no_id && effective == no_id) && saved == no_id) (f.Answer 0) (f.Refuse einval)
+    (gives 0) (refuses einval)
 
-roots_socketcall : (newer : Bool) (creds : Creds) (operation : ℕ) (line : Option CallLine) → MakesRooted (socketcall_effect newer creds operation line)
+roots_socketcall : (newer : Bool) (creds : Creds) (operation : ℕ) (line : Option CallLine)
+    → MakesRooted (socketcall_effect newer creds operation line)
 roots_socketcall newer creds operation line =
     let other : Effect = cond (nat_le 2 operation && nat_le operation 20) (f.Answer 0) (f.Refuse einval) in
-    roots_if (operation == 1) (socket_effect newer creds line) other (roots_socket newer creds line) (roots_if (nat_le 2 operation && nat_le operation 20) (f.Answer 0) (f.Refuse einval) (gives 0) (refuses einval))
+    roots_if (operation == 1) (socket_effect newer creds line) other (roots_socket newer creds line)
+    (roots_if (nat_le 2 operation && nat_le operation 20) (f.Answer 0) (f.Refuse einval) (gives 0) (refuses einval))
 
 child : (own : Bool) → MakesRooted (f.Child own)
 child own = record { rooted = tt }
@@ -123,11 +134,16 @@ roots_clone creds flags = thread (has_some thread_flag flags)
     spaces true = roots_cap cap_sys_admin creds (f.Child (has_some newns flags)) (child (has_some newns flags))
     spaces false = child false
 
-    user : (b : Bool) → MakesRooted (cond b (f.UserChild (has_some newns flags)) (cond (has_some other_spaces flags) (with_admin creds (f.Child (has_some newns flags))) (f.Child false)))
+    user : (b : Bool) → MakesRooted
+        (cond b (f.UserChild (has_some newns flags))
+        (cond (has_some other_spaces flags) (with_admin creds (f.Child (has_some newns flags))) (f.Child false)))
     user true = user_child (has_some newns flags)
     user false = spaces (has_some other_spaces flags)
 
-    thread : (b : Bool) → MakesRooted (cond b (f.Refuse einval) (cond (has_some newuser flags) (f.UserChild (has_some newns flags)) (cond (has_some other_spaces flags) (with_admin creds (f.Child (has_some newns flags))) (f.Child false))))
+    thread : (b : Bool) → MakesRooted
+        (cond b (f.Refuse einval)
+        (cond (has_some newuser flags) (f.UserChild (has_some newns flags))
+        (cond (has_some other_spaces flags) (with_admin creds (f.Child (has_some newns flags))) (f.Child false))))
     thread true = refuses einval
     thread false = user (has_some newuser flags)
 
@@ -142,16 +158,22 @@ roots_unshare creds flags = outside (has_some no_spaces flags)
     spaces true = roots_cap cap_sys_admin creds (cond (has_some newns flags) f.OwnTable (f.Answer 0)) (table (has_some newns flags))
     spaces false = gives 0
 
-    user : (b : Bool) → MakesRooted (cond b (f.OwnUser (has_some newns flags)) (cond (has_some other_spaces flags) (with_admin creds (cond (has_some newns flags) f.OwnTable (f.Answer 0))) (f.Answer 0)))
+    user : (b : Bool) → MakesRooted
+        (cond b (f.OwnUser (has_some newns flags))
+        (cond (has_some other_spaces flags) (with_admin creds (cond (has_some newns flags) f.OwnTable (f.Answer 0))) (f.Answer 0)))
     user true = own_user (has_some newns flags)
     user false = spaces (has_some other_spaces flags)
 
-    outside : (b : Bool) → MakesRooted (cond b (f.Refuse einval) (cond (has_some newuser flags) (f.OwnUser (has_some newns flags)) (cond (has_some other_spaces flags) (with_admin creds (cond (has_some newns flags) f.OwnTable (f.Answer 0))) (f.Answer 0))))
+    outside : (b : Bool) → MakesRooted
+        (cond b (f.Refuse einval)
+        (cond (has_some newuser flags) (f.OwnUser (has_some newns flags))
+        (cond (has_some other_spaces flags) (with_admin creds (cond (has_some newns flags) f.OwnTable (f.Answer 0))) (f.Answer 0))))
     outside true = refuses einval
     outside false = user (has_some newuser flags)
 
 roots_is_set : (creds : Creds) (cap : ℕ) → MakesRooted (is_set_effect creds cap)
-roots_is_set creds cap = roots_if (nat_lt cap_last_cap cap) (f.Refuse einval) (f.Answer (cond (has creds.ambient cap) 1 0)) (refuses einval) (gives (cond (has creds.ambient cap) 1 0))
+roots_is_set creds cap = roots_if (nat_lt cap_last_cap cap) (f.Refuse einval) (f.Answer (cond (has creds.ambient cap) 1 0))
+    (refuses einval) (gives (cond (has creds.ambient cap) 1 0))
 
 roots_clear : (creds : Creds) → MakesRooted (f.SetCreds creds)
 roots_clear creds = record { rooted = tt }
@@ -163,24 +185,33 @@ roots_ambient creds operation cap = is_set (operation == 1)
     clear true = roots_clear (after_clear_ambient creds)
     clear false = refuses einval
 
-    lower : (b : Bool) → MakesRooted (cond b (creds_effect (after_lower creds cap)) (cond (operation == 4) (f.SetCreds (after_clear_ambient creds)) (f.Refuse einval)))
+    lower : (b : Bool) → MakesRooted
+        (cond b (creds_effect (after_lower creds cap)) (cond (operation == 4) (f.SetCreds (after_clear_ambient creds)) (f.Refuse einval)))
     lower true = roots_creds (after_lower creds cap)
     lower false = clear (operation == 4)
 
-    raise : (b : Bool) → MakesRooted (cond b (creds_effect (after_raise creds cap)) (cond (operation == 3) (creds_effect (after_lower creds cap)) (cond (operation == 4) (f.SetCreds (after_clear_ambient creds)) (f.Refuse einval))))
+    raise : (b : Bool) → MakesRooted
+        (cond b (creds_effect (after_raise creds cap))
+        (cond (operation == 3) (creds_effect (after_lower creds cap))
+        (cond (operation == 4) (f.SetCreds (after_clear_ambient creds)) (f.Refuse einval))))
     raise true = roots_creds (after_raise creds cap)
     raise false = lower (operation == 3)
 
     is_set : (b : Bool)
-        → MakesRooted (cond b (is_set_effect creds cap) (cond (operation == 2) (creds_effect (after_raise creds cap)) (cond (operation == 3) (creds_effect (after_lower creds cap)) (cond (operation == 4) (f.SetCreds (after_clear_ambient creds)) (f.Refuse einval)))))
+        → MakesRooted (cond b (is_set_effect creds cap)
+        (cond (operation == 2) (creds_effect (after_raise creds cap))
+        (cond (operation == 3) (creds_effect (after_lower creds cap))
+        (cond (operation == 4) (f.SetCreds (after_clear_ambient creds)) (f.Refuse einval)))))
     is_set true = roots_is_set creds cap
     is_set false = raise (operation == 2)
 
 roots_no_new_privs : (creds : Creds) (value : ℕ) → MakesRooted (no_new_privs_effect creds value)
-roots_no_new_privs creds value = roots_if (value == 1) (f.SetCreds (after_set_no_new_privs creds)) (f.Refuse einval) (roots_clear (after_set_no_new_privs creds)) (refuses einval)
+roots_no_new_privs creds value = roots_if (value == 1) (f.SetCreds (after_set_no_new_privs creds)) (f.Refuse einval)
+    (roots_clear (after_set_no_new_privs creds)) (refuses einval)
 
 roots_keepcaps : (creds : Creds) (value : ℕ) → MakesRooted (keepcaps_effect creds value)
-roots_keepcaps creds value = roots_if (nat_lt value 2) (f.SetCreds (after_set_keepcaps creds (value == 1))) (f.Refuse einval) (roots_clear (after_set_keepcaps creds (value == 1))) (refuses einval)
+roots_keepcaps creds value = roots_if (nat_lt value 2) (f.SetCreds (after_set_keepcaps creds (value == 1))) (f.Refuse einval)
+    (roots_clear (after_set_keepcaps creds (value == 1))) (refuses einval)
 
 roots_prctl : (creds : Creds) (option value third : ℕ) → MakesRooted (prctl_effect creds option value third)
 roots_prctl creds option value third = set (option == 38)
@@ -189,21 +220,32 @@ roots_prctl creds option value third = set (option == 38)
     ambient true = roots_ambient creds value third
     ambient false = refuses einval
 
-    drop : (b : Bool) → MakesRooted (cond b (creds_effect (after_drop_bounding creds value)) (cond (option == 47) (ambient_effect creds value third) (f.Refuse einval)))
+    drop : (b : Bool) → MakesRooted
+        (cond b (creds_effect (after_drop_bounding creds value)) (cond (option == 47) (ambient_effect creds value third) (f.Refuse einval)))
     drop true = roots_creds (after_drop_bounding creds value)
     drop false = ambient (option == 47)
 
-    keep : (b : Bool) → MakesRooted (cond b (keepcaps_effect creds value) (cond (option == 24) (creds_effect (after_drop_bounding creds value)) (cond (option == 47) (ambient_effect creds value third) (f.Refuse einval))))
+    keep : (b : Bool) → MakesRooted
+        (cond b (keepcaps_effect creds value)
+        (cond (option == 24) (creds_effect (after_drop_bounding creds value))
+        (cond (option == 47) (ambient_effect creds value third) (f.Refuse einval))))
     keep true = roots_keepcaps creds value
     keep false = drop (option == 24)
 
     get : (b : Bool)
-        → MakesRooted (cond b (f.Answer (cond creds.no_new_privs 1 0)) (cond (option == 8) (keepcaps_effect creds value) (cond (option == 24) (creds_effect (after_drop_bounding creds value)) (cond (option == 47) (ambient_effect creds value third) (f.Refuse einval)))))
+        → MakesRooted (cond b (f.Answer (cond creds.no_new_privs 1 0))
+        (cond (option == 8) (keepcaps_effect creds value)
+        (cond (option == 24) (creds_effect (after_drop_bounding creds value))
+        (cond (option == 47) (ambient_effect creds value third) (f.Refuse einval)))))
     get true = gives (cond creds.no_new_privs 1 0)
     get false = keep (option == 8)
 
     set : (b : Bool)
-        → MakesRooted (cond b (no_new_privs_effect creds value) (cond (option == 39) (f.Answer (cond creds.no_new_privs 1 0)) (cond (option == 8) (keepcaps_effect creds value) (cond (option == 24) (creds_effect (after_drop_bounding creds value)) (cond (option == 47) (ambient_effect creds value third) (f.Refuse einval))))))
+        → MakesRooted (cond b (no_new_privs_effect creds value)
+        (cond (option == 39) (f.Answer (cond creds.no_new_privs 1 0))
+        (cond (option == 8) (keepcaps_effect creds value)
+        (cond (option == 24) (creds_effect (after_drop_bounding creds value))
+        (cond (option == 47) (ambient_effect creds value third) (f.Refuse einval))))))
     set true = roots_no_new_privs creds value
     set false = get (option == 39)
 
@@ -212,16 +254,20 @@ pushes program = record { rooted = tt }
 
 roots_push : (stack : List (List Insn)) (program : Option (List Insn)) → MakesRooted (push_effect stack program)
 roots_push stack None = refuses einval
-roots_push stack (Some program) = roots_if (nat_le (room_of stack + length program) max_insns_per_path) (f.Push program) (f.Refuse enomem) (pushes program) (refuses enomem)
+roots_push stack (Some program) = roots_if (nat_le (room_of stack + length program) max_insns_per_path) (f.Push program) (f.Refuse enomem)
+    (pushes program) (refuses enomem)
 
-roots_seccomp : (creds : Creds) (stack : List (List Insn)) (operation flags : ℕ) (bytes : List ℕ) → MakesRooted (seccomp_effect creds stack operation flags bytes)
+roots_seccomp : (creds : Creds) (stack : List (List Insn)) (operation flags : ℕ) (bytes : List ℕ)
+    → MakesRooted (seccomp_effect creds stack operation flags bytes)
 roots_seccomp creds stack operation flags bytes = mode (not (operation == 1 && flags == 0))
   where
     may : (b : Bool) → MakesRooted (cond b (f.Refuse eacces) (push_effect stack (program_of bytes)))
     may true = refuses eacces
     may false = roots_push stack (program_of bytes)
 
-    mode : (b : Bool) → MakesRooted (cond b (f.Refuse einval) (cond (not (creds.no_new_privs || has creds.effective cap_sys_admin)) (f.Refuse eacces) (push_effect stack (program_of bytes))))
+    mode : (b : Bool) → MakesRooted
+        (cond b (f.Refuse einval)
+        (cond (not (creds.no_new_privs || has creds.effective cap_sys_admin)) (f.Refuse eacces) (push_effect stack (program_of bytes))))
     mode true = refuses einval
     mode false = may (not (creds.no_new_privs || has creds.effective cap_sys_admin))
 
@@ -245,14 +291,28 @@ roots_effect host caller (d.Clone flags) h = roots_clone caller.creds flags
 roots_effect host caller (d.Unshare flags) h = roots_unshare caller.creds flags
 roots_effect host caller d.Exit h = record { rooted = tt }
 roots_effect host caller (d.Mount source target flags) h =
-    roots_if caller.owns (with_admin caller.creds (table_effect (mounts_after_mount host.rows caller.table source target flags))) (f.Refuse eperm) (roots_cap cap_sys_admin caller.creds (table_effect (mounts_after_mount host.rows caller.table source target flags)) (roots_table (mounts_after_mount host.rows caller.table source target flags) (λ next e. rooted_mount host.rows caller.table next source target flags h e))) (refuses eperm)
+    roots_if caller.owns (with_admin caller.creds (table_effect (mounts_after_mount host.rows caller.table source target flags)))
+    (f.Refuse eperm) (roots_cap cap_sys_admin caller.creds
+    (table_effect (mounts_after_mount host.rows caller.table source target flags))
+    (roots_table (mounts_after_mount host.rows caller.table source target flags)
+    (λ next e. rooted_mount host.rows caller.table next source target flags h e))) (refuses eperm)
 roots_effect host caller (d.Umount path flags) h =
-    roots_if caller.owns (with_admin caller.creds (table_effect (mounts_umount_answer caller.table path flags))) (f.Refuse eperm) (roots_cap cap_sys_admin caller.creds (table_effect (mounts_umount_answer caller.table path flags)) (roots_table (mounts_umount_answer caller.table path flags) (λ next e. rooted_umount_call caller.table next path flags h e))) (refuses eperm)
-roots_effect host caller (d.Setuid id) h = roots_if caller.newer (f.Refuse einval) (creds_effect (after_setuid caller.creds id)) (refuses einval) (roots_creds _)
-roots_effect host caller (d.Setgid id) h = roots_if caller.newer (f.Refuse einval) (creds_effect (after_setgid caller.creds id)) (refuses einval) (roots_creds _)
-roots_effect host caller (d.Setresuid real effective saved) h = roots_if caller.newer (cond ((real == no_id && effective == no_id) && saved == no_id) (f.Answer 0) (f.Refuse einval)) (creds_effect (after_setresuid caller.creds real effective saved)) (roots_ids real effective saved) (roots_creds _)
-roots_effect host caller (d.Setresgid real effective saved) h = roots_if caller.newer (cond ((real == no_id && effective == no_id) && saved == no_id) (f.Answer 0) (f.Refuse einval)) (creds_effect (after_setresgid caller.creds real effective saved)) (roots_ids real effective saved) (roots_creds _)
-roots_effect host caller (d.Setgroups ids) h = roots_if caller.newer (f.Refuse eperm) (creds_effect (after_setgroups caller.creds ids)) (refuses eperm) (roots_creds _)
+    roots_if caller.owns (with_admin caller.creds (table_effect (mounts_umount_answer caller.table path flags))) (f.Refuse eperm)
+    (roots_cap cap_sys_admin caller.creds (table_effect (mounts_umount_answer caller.table path flags))
+    (roots_table (mounts_umount_answer caller.table path flags) (λ next e. rooted_umount_call caller.table next path flags h e)))
+    (refuses eperm)
+roots_effect host caller (d.Setuid id) h = roots_if caller.newer (f.Refuse einval) (creds_effect (after_setuid caller.creds id))
+    (refuses einval) (roots_creds _)
+roots_effect host caller (d.Setgid id) h = roots_if caller.newer (f.Refuse einval) (creds_effect (after_setgid caller.creds id))
+    (refuses einval) (roots_creds _)
+roots_effect host caller (d.Setresuid real effective saved) h =
+    roots_if caller.newer (cond ((real == no_id && effective == no_id) && saved == no_id) (f.Answer 0) (f.Refuse einval))
+    (creds_effect (after_setresuid caller.creds real effective saved)) (roots_ids real effective saved) (roots_creds _)
+roots_effect host caller (d.Setresgid real effective saved) h =
+    roots_if caller.newer (cond ((real == no_id && effective == no_id) && saved == no_id) (f.Answer 0) (f.Refuse einval))
+    (creds_effect (after_setresgid caller.creds real effective saved)) (roots_ids real effective saved) (roots_creds _)
+roots_effect host caller (d.Setgroups ids) h = roots_if caller.newer (f.Refuse eperm) (creds_effect (after_setgroups caller.creds ids))
+    (refuses eperm) (roots_creds _)
 roots_effect host caller (d.Capset permitted effective inheritable) h = roots_creds _
 roots_effect host caller (d.Prctl option value third) h = roots_prctl caller.creds option value third
 roots_effect host caller (d.Seccomp operation flags bytes) h = roots_seccomp caller.creds caller.stack operation flags bytes
@@ -260,7 +320,8 @@ roots_effect host caller (d.Plain cap) h = roots_alone caller.newer cap caller.c
 
 -- a process in its namespace, whatever else of it changes
 pub spaced : (count : ℕ) (process now : Process) → HasSpace count process → now.namespace ≡ process.namespace → HasSpace count now
-spaced count process now h e = record { numbered = subst (λ (n : ℕ). 1 ≤ n) (sym e) h.numbered; within = subst (λ (n : ℕ). n ≤ count) (sym e) h.within }
+spaced count process now h e =
+    record { numbered = subst (λ (n : ℕ). 1 ≤ n) (sym e) h.numbered; within = subst (λ (n : ℕ). n ≤ count) (sym e) h.within }
 
 more_space : (count : ℕ) (process : Process) → HasSpace count process → HasSpace (count + 1) process
 more_space count process h = record { numbered = h.numbered; within = omega (arith, h.within) }
@@ -268,7 +329,8 @@ more_space count process h = record { numbered = h.numbered; within = omega (ari
 new_space : (count : ℕ) (process : Process) → HasSpace (count + 1) (moved_to process count)
 new_space count process = record { numbered = omega arith; within = omega arith }
 
-pub kernel_process : (world : World) (pid : ℕ) (process : Process) → Kernel world → HasSpace (length world.tables) process → Kernel (with_process world pid process)
+pub kernel_process : (world : World) (pid : ℕ) (process : Process) → Kernel world → HasSpace (length world.tables) process
+    → Kernel (with_process world pid process)
 kernel_process world pid process k h = record {
   few_processes = subst (λ (n : ℕ). n ≤ most_processes) (sym (length-set world.processes (pid - 1) process)) k.few_processes;
   few_namespaces = k.few_namespaces;
@@ -276,7 +338,8 @@ kernel_process world pid process k h = record {
   roots = k.roots;
 }
 
-pub kernel_table : (world : World) (namespace : ℕ) (table : Table) → Kernel world → IsRooted table → Kernel (with_table world namespace table)
+pub kernel_table : (world : World) (namespace : ℕ) (table : Table) → Kernel world → IsRooted table
+    → Kernel (with_table world namespace table)
 kernel_table world namespace table k h =
     let same = length-set world.tables (namespace - 1) table in
     record {
@@ -286,7 +349,8 @@ kernel_table world namespace table k h =
       roots = each-set IsRooted world.tables (namespace - 1) table k.roots h;
     }
 
-kernel_child : (world : World) (child : Process) → Kernel world → length world.processes < most_processes → HasSpace (length world.tables) child → Kernel (with_child world child)
+kernel_child : (world : World) (child : Process) → Kernel world → length world.processes < most_processes
+    → HasSpace (length world.tables) child → Kernel (with_child world child)
 kernel_child world child k room h = record {
   few_processes = subst (λ (n : ℕ). n ≤ most_processes) (sym (length-push world.processes child)) (let more : length world.processes + 1 ≤ most_processes = omega (arith, room) in more);
   few_namespaces = k.few_namespaces;
@@ -302,51 +366,78 @@ rooted_copied : (locked : Bool) (table : Table) → IsRooted table → IsRooted 
 rooted_copied false table h = h
 rooted_copied true table h = rooted_locked table h
 
-kernel_copy : (world : World) (namespace user : ℕ) → Kernel world → length world.tables < most_namespaces → IsRooted (mounts_of world namespace) → Kernel (with_copy world namespace user)
+kernel_copy : (world : World) (namespace user : ℕ) → Kernel world → length world.tables < most_namespaces
+    → IsRooted (mounts_of world namespace) → Kernel (with_copy world namespace user)
 kernel_copy world namespace user k room h =
     let copy = copied (not (owner_of world namespace == user)) (mounts_of world namespace) in
     let more = length-push world.tables copy in
     record {
       few_processes = k.few_processes;
       few_namespaces = subst (λ (n : ℕ). n ≤ most_namespaces) (sym more) (let fits : length world.tables + 1 ≤ most_namespaces = omega (arith, room) in fits);
-      spaces = subst (λ (n : ℕ). AllByRecursion (HasSpace n) world.processes) (sym more) (each-map (HasSpace (length world.tables)) (HasSpace (length world.tables + 1)) world.processes (more_space (length world.tables)) k.spaces);
-      roots = each-append IsRooted world.tables (copy ∷ []) k.roots (rooted_copied (not (owner_of world namespace == user)) (mounts_of world namespace) h, tt);
+      spaces = subst (λ (n : ℕ). AllByRecursion (HasSpace n) world.processes) (sym more)
+          (each-map (HasSpace (length world.tables)) (HasSpace (length world.tables + 1)) world.processes
+          (more_space (length world.tables)) k.spaces);
+      roots = each-append IsRooted world.tables (copy ∷ []) k.roots
+          (rooted_copied (not (owner_of world namespace == user)) (mounts_of world namespace) h, tt);
     }
 
 -- the process in the new namespace
-moved_space : (world : World) (namespace user : ℕ) (process : Process) → HasSpace (length (with_copy world namespace user).tables) (moved_to process (length world.tables))
+moved_space : (world : World) (namespace user : ℕ) (process : Process)
+    → HasSpace (length (with_copy world namespace user).tables) (moved_to process (length world.tables))
 moved_space world namespace user process =
-    subst (λ (n : ℕ). HasSpace n (moved_to process (length world.tables))) (sym (length-push world.tables (copied (not (owner_of world namespace == user)) (mounts_of world namespace)))) (new_space (length world.tables) process)
+    subst (λ (n : ℕ). HasSpace n (moved_to process (length world.tables)))
+    (sym (length-push world.tables (copied (not (owner_of world namespace == user)) (mounts_of world namespace))))
+    (new_space (length world.tables) process)
 
-kernel_effect : (world : World) (pid : ℕ) (process : Process) (effect : Effect) (out : Reply × World) → Kernel world → HasSpace (length world.tables) process → IsRooted (mounts_of world process.namespace) → MakesRooted effect
+kernel_effect : (world : World) (pid : ℕ) (process : Process) (effect : Effect) (out : Reply × World) → Kernel world
+    → HasSpace (length world.tables) process → IsRooted (mounts_of world process.namespace) → MakesRooted effect
     → EffectCase world pid process effect out → Kernel out.1
 kernel_effect world pid process effect out k h t r (case.refuses errno) = k
 kernel_effect world pid process effect out k h t r (case.answers value) = k
-kernel_effect world pid process effect out k h t r (case.takes_creds creds) = kernel_process world pid (record process { creds = creds }) k (spaced (length world.tables) process (record process { creds = creds }) h refl)
+kernel_effect world pid process effect out k h t r (case.takes_creds creds) =
+    kernel_process world pid (record process { creds = creds }) k
+    (spaced (length world.tables) process (record process { creds = creds }) h refl)
 kernel_effect world pid process effect out k h t r (case.takes_table table) = kernel_table world process.namespace table k r.rooted
 kernel_effect world pid process effect out k h t r (case.takes_program program) =
-    kernel_process world pid (record process { stack = process.stack ++ program ∷ [] }) k (spaced (length world.tables) process (record process { stack = process.stack ++ program ∷ [] }) h refl)
+    kernel_process world pid (record process { stack = process.stack ++ program ∷ [] }) k
+    (spaced (length world.tables) process (record process { stack = process.stack ++ program ∷ [] }) h refl)
 kernel_effect world pid process effect out k h t r (case.no_process_left own full) = k
 kernel_effect world pid process effect out k h t r (case.shares room) = kernel_child world process k room h
 kernel_effect world pid process effect out k h t r (case.no_namespace_for_child room full) = k
 kernel_effect world pid process effect out k h t r (case.gives_copy room space) =
-    kernel_child (with_copy world process.namespace process.user) (moved_to process (length world.tables)) (kernel_copy world process.namespace process.user k space t) room (moved_space world process.namespace process.user process)
+    kernel_child (with_copy world process.namespace process.user) (moved_to process (length world.tables))
+    (kernel_copy world process.namespace process.user k space t) room (moved_space world process.namespace process.user process)
 kernel_effect world pid process effect out k h t r (case.no_namespace_left full) = k
 kernel_effect world pid process effect out k h t r (case.moves space) =
-    kernel_process (with_copy world process.namespace process.user) pid (moved_to process (length world.tables)) (kernel_copy world process.namespace process.user k space t) (moved_space world process.namespace process.user process)
+    kernel_process (with_copy world process.namespace process.user) pid (moved_to process (length world.tables))
+    (kernel_copy world process.namespace process.user k space t) (moved_space world process.namespace process.user process)
 kernel_effect world pid process effect out k h t r (case.no_user_for_child own full) = k
 kernel_effect world pid process effect out k h t r (case.no_process_for_user own left full) = k
-kernel_effect world pid process effect out k h t r (case.gives_user left room) = kernel_child (with_user world) (entered_by process world.users) k room (spaced (length world.tables) process (entered_by process world.users) h refl)
+kernel_effect world pid process effect out k h t r (case.gives_user left room) =
+    kernel_child (with_user world) (entered_by process world.users) k room
+    (spaced (length world.tables) process (entered_by process world.users) h refl)
 kernel_effect world pid process effect out k h t r (case.no_namespace_for_user left room full) = k
-kernel_effect world pid process effect out k h t r (case.gives_user_and_copy left room space) = kernel_child (with_copy (with_user world) process.namespace (world.users + 2)) (moved_to (entered_by process world.users) (length world.tables)) (kernel_copy (with_user world) process.namespace (world.users + 2) k space t) room (moved_space (with_user world) process.namespace (world.users + 2) (entered_by process world.users))
+kernel_effect world pid process effect out k h t r (case.gives_user_and_copy left room space) =
+    kernel_child (with_copy (with_user world) process.namespace (world.users + 2))
+    (moved_to (entered_by process world.users) (length world.tables))
+    (kernel_copy (with_user world) process.namespace (world.users + 2) k space t) room
+    (moved_space (with_user world) process.namespace (world.users + 2) (entered_by process world.users))
 kernel_effect world pid process effect out k h t r (case.no_user_left own full) = k
-kernel_effect world pid process effect out k h t r (case.enters left) = kernel_process (with_user world) pid (entered_by process world.users) k (spaced (length world.tables) process (entered_by process world.users) h refl)
+kernel_effect world pid process effect out k h t r (case.enters left) =
+    kernel_process (with_user world) pid (entered_by process world.users) k
+    (spaced (length world.tables) process (entered_by process world.users) h refl)
 kernel_effect world pid process effect out k h t r (case.no_namespace_behind_user left full) = k
-kernel_effect world pid process effect out k h t r (case.enters_and_moves left space) = kernel_process (with_copy (with_user world) process.namespace (world.users + 2)) pid (moved_to (entered_by process world.users) (length world.tables)) (kernel_copy (with_user world) process.namespace (world.users + 2) k space t) (moved_space (with_user world) process.namespace (world.users + 2) (entered_by process world.users))
-kernel_effect world pid process effect out k h t r case.ends = kernel_process world pid (ended process) k (spaced (length world.tables) process (ended process) h refl)
+kernel_effect world pid process effect out k h t r (case.enters_and_moves left space) =
+    kernel_process (with_copy (with_user world) process.namespace (world.users + 2)) pid
+    (moved_to (entered_by process world.users) (length world.tables))
+    (kernel_copy (with_user world) process.namespace (world.users + 2) k space t)
+    (moved_space (with_user world) process.namespace (world.users + 2) (entered_by process world.users))
+kernel_effect world pid process effect out k h t r case.ends =
+    kernel_process world pid (ended process) k (spaced (length world.tables) process (ended process) h refl)
 
 -- a process of a kernel has a table, and it is rooted
-rooted_or : (tables : List Table) (number : ℕ) → AllByRecursion IsRooted tables → 1 ≤ number → number ≤ length tables → IsRooted (table_or (of_number tables number))
+rooted_or : (tables : List Table) (number : ℕ) → AllByRecursion IsRooted tables → 1 ≤ number → number ≤ length tables
+    → IsRooted (table_or (of_number tables number))
 rooted_or tables number all one within = by (number - 1) (length tables) tables (nonzero number one) (omega (arith, one, within)) refl all
   where
     nonzero : (n : ℕ) → 1 ≤ n → (n == 0) ≡ false
@@ -357,25 +448,32 @@ rooted_or tables number all one within = by (number - 1) (length tables) tables 
     get (x ∷ xs) zero lt all = all.0
     get (x ∷ xs) (suc i) lt all = let less : i < length xs = omega (arith, lt) in get xs i less all.1
 
-    by : (i n : ℕ) (xs : List Table) → (number == 0) ≡ false → i < n → n ≡ length xs → AllByRecursion IsRooted xs → IsRooted (table_or (cond (number == 0) None (slice_get xs i)))
+    by : (i n : ℕ) (xs : List Table) → (number == 0) ≡ false → i < n → n ≡ length xs → AllByRecursion IsRooted xs
+        → IsRooted (table_or (cond (number == 0) None (slice_get xs i)))
     by i n xs zero_not lt is all = rw zero_not (get xs i (subst (λ (m : ℕ). i < m) is lt) all)
 
-pub rooted_table : (world : World) (process : Process) → Kernel world → HasSpace (length world.tables) process → IsRooted (mounts_of world process.namespace)
+pub rooted_table : (world : World) (process : Process) → Kernel world → HasSpace (length world.tables) process
+    → IsRooted (mounts_of world process.namespace)
 rooted_table world process k h = rooted_or world.tables process.namespace k.roots h.numbered h.within
 
-pub living_space : (world : World) (pid : ℕ) (process : Process) → Kernel world → living_of world pid ≡ Some process → HasSpace (length world.tables) process
-living_space world pid process k living = each-get (HasSpace (length world.tables)) world.processes (pid - 1) process k.spaces (living_get world pid process living)
+pub living_space : (world : World) (pid : ℕ) (process : Process) → Kernel world → living_of world pid ≡ Some process
+    → HasSpace (length world.tables) process
+living_space world pid process k living = each-get (HasSpace (length world.tables)) world.processes (pid - 1) process k.spaces
+    (living_get world pid process living)
 
 kernel_case : (world : World) (call : Call) (out : Reply × World) → Kernel world → StepCase world call out → Kernel out.1
 kernel_case world call out k (case.absent e) = k
 kernel_case world call out k (case.filtered process errno living e) = k
-kernel_case world call out k (case.killed process living e) = kernel_process world call.pid (ended process) k (spaced (length world.tables) process (ended process) (living_space world call.pid process k living) refl)
+kernel_case world call out k (case.killed process living e) =
+    kernel_process world call.pid (ended process) k
+    (spaced (length world.tables) process (ended process) (living_space world call.pid process k living) refl)
 kernel_case world call out k (case.lacking process passes e) = k
 kernel_case world call out k (case.misformed process passes e) = k
 kernel_case world call out k (case.does process doing made passes e h) =
     let space = living_space world call.pid process k passes.living in
     let table = rooted_table world process k space in
-    kernel_effect world call.pid process (effect_of (host_of world) (caller_of world process) doing) made k space table (roots_effect (host_of world) (caller_of world process) doing table) h
+    kernel_effect world call.pid process (effect_of (host_of world) (caller_of world process) doing) made k space table
+    (roots_effect (host_of world) (caller_of world process) doing table) h
 
 pub kernel_step : (world : World) (call : Call) → Kernel world → Kernel (step world call).1
 kernel_step world call k = kernel_case world call (step world call) k (steps_by_cases world call)
@@ -386,7 +484,8 @@ worlds_stay world k (call ∷ calls) = worlds_stay (step world call).1 (kernel_s
 
 -- and what the kernel is told
 
-told_effect : (world : World) (pid : ℕ) (process : Process) (effect : Effect) (out : Reply × World) → EffectCase world pid process effect out → (out.1.calls ≡ world.calls) × (out.1.site ≡ world.site)
+told_effect : (world : World) (pid : ℕ) (process : Process) (effect : Effect) (out : Reply × World)
+    → EffectCase world pid process effect out → (out.1.calls ≡ world.calls) × (out.1.site ≡ world.site)
 told_effect world pid process effect out (case.refuses errno) = (refl, refl)
 told_effect world pid process effect out (case.answers value) = (refl, refl)
 told_effect world pid process effect out (case.takes_creds creds) = (refl, refl)
@@ -409,13 +508,15 @@ told_effect world pid process effect out (case.no_namespace_behind_user left ful
 told_effect world pid process effect out (case.enters_and_moves left space) = (refl, refl)
 told_effect world pid process effect out case.ends = (refl, refl)
 
-told_case : (world : World) (call : Call) (out : Reply × World) → StepCase world call out → (out.1.calls ≡ world.calls) × (out.1.site ≡ world.site)
+told_case : (world : World) (call : Call) (out : Reply × World) → StepCase world call out
+    → (out.1.calls ≡ world.calls) × (out.1.site ≡ world.site)
 told_case world call out (case.absent e) = (refl, refl)
 told_case world call out (case.filtered process errno living e) = (refl, refl)
 told_case world call out (case.killed process living e) = (refl, refl)
 told_case world call out (case.lacking process passes e) = (refl, refl)
 told_case world call out (case.misformed process passes e) = (refl, refl)
-told_case world call out (case.does process doing made passes e h) = told_effect world call.pid process (effect_of (host_of world) (caller_of world process) doing) made h
+told_case world call out (case.does process doing made passes e h) =
+    told_effect world call.pid process (effect_of (host_of world) (caller_of world process) doing) made h
 
 pub told_stays : ToldStays
 told_stays world [] = (refl, refl)

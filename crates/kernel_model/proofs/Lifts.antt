@@ -1,5 +1,6 @@
 -- From what is done at a caller's place to the whole world.
-use Rattle.std.proofs.Common.{◌≡◌, ℕ, ◌<◌, ◌-◌, ◌+◌, Bool, true, false, [], ◌∷◌, ◌++◌, length, get_or, Some, Result, Ok, Err, refl, sym, ap, ◌∙◌, subst, arith, Option}
+use Rattle.std.proofs.Common.{◌≡◌, ℕ, ◌<◌, ◌-◌, ◌+◌, Bool, true, false, [], ◌∷◌, ◌++◌, length, get_or, Some, Result, Ok, Err, refl, sym, ap}
+use Rattle.std.proofs.Common.{◌∙◌, subst, arith, Option}
 use Rattle.std.specs.Prelude.{◌||◌, ◌==◌, nat_lt, slice_get, slice_set, IfOk, OnErr, IsOk}
 use Rattle.std.specs.List.{AllByRecursion}
 use Rattle.std.specs.Option.{option_map_or}
@@ -37,7 +38,8 @@ if_ok P Q (Err error) h next = tt
 
 -- the state with the parts of a caller put back
 abbrev pub put_back : State → ℕ → ℕ → Parts → State
-put_back state place at new = record state { processes = slice_set state.processes place new.process; tables = slice_set state.tables at new.table }
+put_back state place at new =
+    record state { processes = slice_set state.processes place new.process; tables = slice_set state.tables at new.table }
 
 -- a caller stands at a place, and its table at another
 pub record Seat (state : State) (place at pid : ℕ) (process : Process) (table : Table) : Type 0 where
@@ -56,10 +58,12 @@ module _ (calls : calls.Table) (site : Site) (state : State) (place at pid : ℕ
   same : world_of calls site (put_back state place at (parts process table)) ≡ world_of calls site state
   same = rw (same_process, same_table) refl
 
-  one_process : (now : Process) → world_of calls site (put_back state place at (parts now table)) ≡ record (world_of calls site state) { processes = slice_set state.processes (pid - 1) now }
+  one_process : (now : Process) → world_of calls site (put_back state place at (parts now table))
+      ≡ record (world_of calls site state) { processes = slice_set state.processes (pid - 1) now }
   one_process now = rw (same_table, seat.place_is) refl
 
-  one_table : (now : Table) → world_of calls site (put_back state place at (parts process now)) ≡ record (world_of calls site state) { tables = slice_set state.tables (process.namespace - 1) now }
+  one_table : (now : Table) → world_of calls site (put_back state place at (parts process now))
+      ≡ record (world_of calls site state) { tables = slice_set state.tables (process.namespace - 1) now }
   one_table now = let there : at ≡ process.namespace - 1 = omega (arith, seat.space) in rw (same_process, there) refl
 
   abbrev Now : Effect → Outcome × Parts → Type 0
@@ -81,7 +85,8 @@ module _ (calls : calls.Table) (site : Site) (state : State) (place at pid : ℕ
   left_by f.End = with_reply (reply.Done 0) _ _ (one_process (ended process))
 
   -- what is done at the parts is what is left of the world
-  pub left : (effect : Effect) (outcome : Outcome) (new : Parts) → (outcome, new) ≡ done_here (parts process table) effect → Left (world_of calls site state) pid process outcome (world_of calls site (put_back state place at new)) effect
+  pub left : (effect : Effect) (outcome : Outcome) (new : Parts) → (outcome, new) ≡ done_here (parts process table) effect
+      → Left (world_of calls site state) pid process outcome (world_of calls site (put_back state place at new)) effect
   left effect outcome new e = subst (Now effect) (sym e) (left_by effect)
 
 unless_done : (old : Parts) (effect : Effect) → UnlessReplied (done_here old effect).0 ((done_here old effect).1 ≡ old)
@@ -104,17 +109,27 @@ unless_map (MakesUserChild own) h next = next h
 unless_map (MakesOwnUser own) h next = next h
 
 -- where something is to be made, the parts are put back as they were
-unless_there : (state : State) (place at : ℕ) (old now : Process) (table new : Table) (outcome : Outcome) (effect : Effect) → old ≡ get_or state.processes place old → table ≡ get_or state.tables at table
-    → (outcome, parts now new) ≡ done_here (parts old table) effect → UnlessReplied outcome (put_back state place at (parts now new) ≡ state)
+unless_there : (state : State) (place at : ℕ) (old now : Process) (table new : Table) (outcome : Outcome) (effect : Effect)
+    → old ≡ get_or state.processes place old → table ≡ get_or state.tables at table
+    → (outcome, parts now new) ≡ done_here (parts old table) effect
+    → UnlessReplied outcome (put_back state place at (parts now new) ≡ state)
 unless_there state place at old now table new outcome effect is has e =
     let same : UnlessReplied outcome (parts now new ≡ parts old table) = subst (λ (out : Outcome × Parts). UnlessReplied out.0 (out.1 ≡ parts old table)) (sym e) (unless_done (parts old table) effect) in
-    unless_map outcome same (λ p. ap (put_back state place at) p ∙ rw (set_or state.processes place old is, set_or state.tables at table has) refl)
+    unless_map outcome same (λ p. ap (put_back state place at) p
+    ∙ rw (set_or state.processes place old is, set_or state.tables at table has) refl)
 
 -- what the rules make of a caller and its table, in the place of both
-there_here : {E : Type 0} (calls : calls.Table) (site : Site) (state : State) (place at : ℕ) (old now : Process) (table new : Table) (doing : Doing) (owns : Bool) (result : Result Outcome E)
-    → old ≡ get_or state.processes place old → table ≡ get_or state.tables at table → at < length state.tables → AtPlace state place (λ pid process. at + 1 ≡ process.namespace) → AtPlace state place (λ pid process. owns ≡ (owner_or (of_number state.owners process.namespace) == process.user))
-    → IfOk result (λ outcome. (outcome, parts now new) ≡ done_here (parts old table) (effect_of (host_by calls site) (caller_by old table owns) doing))
-    → IfOk result (λ outcome. AtPlace state place (λ pid process. Left (world_of calls site state) pid process outcome (world_of calls site (put_back state place at (parts now new))) (effect_of (host_of (world_of calls site state)) (caller_of (world_of calls site state) process) doing)))
+there_here : {E : Type 0} (calls : calls.Table) (site : Site) (state : State) (place at : ℕ) (old now : Process) (table new : Table)
+    (doing : Doing) (owns : Bool) (result : Result Outcome E)
+    → old ≡ get_or state.processes place old → table ≡ get_or state.tables at table → at < length state.tables
+    → AtPlace state place (λ pid process. at + 1 ≡ process.namespace)
+    → AtPlace state place (λ pid process. owns ≡ (owner_or (of_number state.owners process.namespace) == process.user))
+    → IfOk result (λ outcome. (outcome, parts now new) ≡ done_here (parts old table)
+    (effect_of (host_by calls site) (caller_by old table owns) doing))
+    → IfOk result (λ outcome. AtPlace state place
+    (λ pid process. Left (world_of calls site state) pid process outcome
+    (world_of calls site (put_back state place at (parts now new)))
+    (effect_of (host_of (world_of calls site state)) (caller_of (world_of calls site state) process) doing)))
 there_here calls site state place at old now table new doing owns result is tis lt spaces home h =
     if_ok _ _ result h (λ outcome e pid process place_is stands.
     let same : old ≡ process = get_same state.processes place old process is stands in
@@ -123,92 +138,145 @@ there_here calls site state place at old now table new doing owns result is tis 
     let own : mounts_of (world_of calls site state) process.namespace ≡ table = ap table_or (has_table state.tables process at table space has) in
     let seat : Seat state place at pid process table = record { place_is = place_is; stands = stands; space = space; has = has } in
     let effect : effect_of (host_by calls site) (caller_by old table owns) doing ≡ effect_of (host_of (world_of calls site state)) (caller_of (world_of calls site state) process) doing =
-    ap (λ (p : Process). effect_of (host_by calls site) (caller_by p table owns) doing) same ∙ ap (λ (t : Table). effect_of (host_by calls site) (caller_by process t owns) doing) (sym own)
+    ap (λ (p : Process). effect_of (host_by calls site) (caller_by p table owns) doing) same
+    ∙ ap (λ (t : Table). effect_of (host_by calls site) (caller_by process t owns) doing) (sym own)
     ∙ ap (λ (b : Bool). effect_of (host_by calls site) (caller_by process (mounts_of (world_of calls site state) process.namespace) b) doing) (home pid process place_is stands) in
-    left calls site state place at pid process table seat (effect_of (host_of (world_of calls site state)) (caller_of (world_of calls site state) process) doing) outcome (parts now new)
-    (e ∙ ap (λ (p : Process). done_here (parts p table) (effect_of (host_by calls site) (caller_by old table owns) doing)) same ∙ ap (done_here (parts process table)) effect))
+    left calls site state place at pid process table seat
+    (effect_of (host_of (world_of calls site state)) (caller_of (world_of calls site state) process) doing) outcome (parts now new)
+    (e ∙ ap (λ (p : Process). done_here (parts p table) (effect_of (host_by calls site) (caller_by old table owns) doing)) same
+    ∙ ap (done_here (parts process table)) effect))
 
 -- the same where the state is seen through its lists
-pub performed_there : {E : Type 0} (viewed state : State) → viewed ≡ state → (calls : calls.Table) (site : Site) (place at : ℕ) (old now : Process) (table new : Table) (doing : Doing) (owns : Bool) (result : Result Outcome E)
-    → old ≡ get_or viewed.processes place old → table ≡ get_or viewed.tables at table → at < length state.tables → AtPlace state place (λ pid process. at + 1 ≡ process.namespace) → AtPlace state place (λ pid process. owns ≡ (owner_or (of_number state.owners process.namespace) == process.user))
-    → IfOk result (λ outcome. (outcome, parts now new) ≡ done_here (parts old table) (effect_of (host_by calls site) (caller_by old table owns) doing))
-    → IfOk result (λ outcome. AtPlace state place (λ pid process. Left (world_of calls site state) pid process outcome (world_of calls site (put_back viewed place at (parts now new))) (effect_of (host_of (world_of calls site state)) (caller_of (world_of calls site state) process) doing)))
+pub performed_there : {E : Type 0} (viewed state : State) → viewed ≡ state
+    → (calls : calls.Table) (site : Site) (place at : ℕ) (old now : Process) (table new : Table) (doing : Doing) (owns : Bool)
+    (result : Result Outcome E)
+    → old ≡ get_or viewed.processes place old → table ≡ get_or viewed.tables at table → at < length state.tables
+    → AtPlace state place (λ pid process. at + 1 ≡ process.namespace)
+    → AtPlace state place (λ pid process. owns ≡ (owner_or (of_number state.owners process.namespace) == process.user))
+    → IfOk result (λ outcome. (outcome, parts now new) ≡ done_here (parts old table)
+    (effect_of (host_by calls site) (caller_by old table owns) doing))
+    → IfOk result (λ outcome. AtPlace state place
+    (λ pid process. Left (world_of calls site state) pid process outcome
+    (world_of calls site (put_back viewed place at (parts now new)))
+    (effect_of (host_of (world_of calls site state)) (caller_of (world_of calls site state) process) doing)))
 performed_there viewed state v calls site place at old now table new doing owns result is tis lt spaces home h =
-    subst (λ (s : State). IfOk result (λ outcome. AtPlace state place (λ pid process. Left (world_of calls site state) pid process outcome (world_of calls site (put_back s place at (parts now new))) (effect_of (host_of (world_of calls site state)) (caller_of (world_of calls site state) process) doing))))
+    subst (λ (s : State). IfOk result
+    (λ outcome. AtPlace state place
+    (λ pid process. Left (world_of calls site state) pid process outcome (world_of calls site (put_back s place at (parts now new)))
+    (effect_of (host_of (world_of calls site state)) (caller_of (world_of calls site state) process) doing))))
     (sym v)
-    (there_here calls site state place at old now table new doing owns result (subst (λ (s : State). old ≡ get_or s.processes place old) v is) (subst (λ (s : State). table ≡ get_or s.tables at table) v tis) lt spaces home h)
+    (there_here calls site state place at old now table new doing owns result
+    (subst (λ (s : State). old ≡ get_or s.processes place old) v is)
+    (subst (λ (s : State). table ≡ get_or s.tables at table) v tis) lt spaces home h)
 
-pub stays_there : {E : Type 0} (viewed state : State) → viewed ≡ state → (place at : ℕ) (old now : Process) (table new : Table) (effect : Effect) (result : Result Outcome E)
-    → old ≡ get_or viewed.processes place old → table ≡ get_or viewed.tables at table → IfOk result (λ outcome. (outcome, parts now new) ≡ done_here (parts old table) effect)
+pub stays_there : {E : Type 0} (viewed state : State) → viewed ≡ state
+    → (place at : ℕ) (old now : Process) (table new : Table) (effect : Effect) (result : Result Outcome E)
+    → old ≡ get_or viewed.processes place old → table ≡ get_or viewed.tables at table
+    → IfOk result (λ outcome. (outcome, parts now new) ≡ done_here (parts old table) effect)
     → IfOk result (λ outcome. UnlessReplied outcome (put_back viewed place at (parts now new) ≡ state))
 stays_there viewed state v place at old now table new effect result is tis h =
-    if_ok _ _ result h (λ outcome e. unless_map outcome (unless_there viewed place at old now table new outcome effect is tis e) (λ p. p ∙ v))
+    if_ok _ _ result h (λ outcome e. unless_map outcome (unless_there viewed place at old now table new outcome effect is tis e)
+    (λ p. p ∙ v))
 
 -- of a call of which nothing is left the reply is that of its effect
-pub replied_there : (state after : State) (calls : calls.Table) (site : Site) (place : ℕ) (effect : Process → Effect) (outcome : Outcome) (r : Reply) → outcome ≡ Replied r
+pub replied_there : (state after : State) (calls : calls.Table) (site : Site) (place : ℕ) (effect : Process → Effect) (outcome : Outcome)
+    (r : Reply) → outcome ≡ Replied r
     → AtPlace state place (λ pid process. Left (world_of calls site state) pid process outcome (world_of calls site after) (effect process))
     → AtPlace state place (λ pid process. (r, world_of calls site after) ≡ applied (world_of calls site state) pid process (effect process))
 replied_there state after calls site place effect outcome r is h pid process place_is stands =
-    subst (λ (o : Outcome). Left (world_of calls site state) pid process o (world_of calls site after) (effect process)) is (h pid process place_is stands)
+    subst (λ (o : Outcome). Left (world_of calls site state) pid process o (world_of calls site after) (effect process)) is
+    (h pid process place_is stands)
 
 -- where a child or a namespace is to be made, that is the effect
-child_is : (state after : State) (calls : calls.Table) (site : Site) (place : ℕ) (effect : Process → Effect) (outcome : Outcome) (own : Bool) → outcome ≡ MakesChild own
-    → AtPlace state place (λ pid process. Left (world_of calls site state) pid process outcome (world_of calls site after) (effect process)) → AtPlace state place (λ pid process. effect process ≡ f.Child own)
+child_is : (state after : State) (calls : calls.Table) (site : Site) (place : ℕ) (effect : Process → Effect) (outcome : Outcome)
+    (own : Bool) → outcome ≡ MakesChild own
+    → AtPlace state place (λ pid process. Left (world_of calls site state) pid process outcome (world_of calls site after)
+    (effect process)) → AtPlace state place (λ pid process. effect process ≡ f.Child own)
 child_is state after calls site place effect outcome own is h pid process place_is stands =
-    (subst (λ (o : Outcome). Left (world_of calls site state) pid process o (world_of calls site after) (effect process)) is (h pid process place_is stands)).0
+    (subst (λ (o : Outcome). Left (world_of calls site state) pid process o (world_of calls site after) (effect process)) is
+    (h pid process place_is stands)).0
 
-table_is : (state after : State) (calls : calls.Table) (site : Site) (place : ℕ) (effect : Process → Effect) (outcome : Outcome) → outcome ≡ MakesTable
-    → AtPlace state place (λ pid process. Left (world_of calls site state) pid process outcome (world_of calls site after) (effect process)) → AtPlace state place (λ pid process. effect process ≡ f.OwnTable)
+table_is : (state after : State) (calls : calls.Table) (site : Site) (place : ℕ) (effect : Process → Effect) (outcome : Outcome)
+    → outcome ≡ MakesTable
+    → AtPlace state place (λ pid process. Left (world_of calls site state) pid process outcome (world_of calls site after)
+    (effect process)) → AtPlace state place (λ pid process. effect process ≡ f.OwnTable)
 table_is state after calls site place effect outcome is h pid process place_is stands =
-    (subst (λ (o : Outcome). Left (world_of calls site state) pid process o (world_of calls site after) (effect process)) is (h pid process place_is stands)).0
+    (subst (λ (o : Outcome). Left (world_of calls site state) pid process o (world_of calls site after) (effect process)) is
+    (h pid process place_is stands)).0
 
 -- what is made then is what the effect makes
-made_there : {E : Type 0} (state mid new : State) → mid ≡ state → (calls : calls.Table) (site : Site) (place : ℕ) (effect : Process → Effect) (one : Effect) (result : Result Reply E)
+made_there : {E : Type 0} (state mid new : State) → mid ≡ state
+    → (calls : calls.Table) (site : Site) (place : ℕ) (effect : Process → Effect) (one : Effect) (result : Result Reply E)
     → AtPlace state place (λ pid process. effect process ≡ one) → IfOk result (λ r. AppliesAt site mid place one r new)
-    → IfOk result (λ r. AtPlace state place (λ pid process. (r, world_of calls site new) ≡ applied (world_of calls site state) pid process (effect process)))
+    → IfOk result (λ r. AtPlace state place (λ pid process. (r, world_of calls site new)
+    ≡ applied (world_of calls site state) pid process (effect process)))
 made_there state mid new m calls site place effect one result is h =
     if_ok _ _ result h (λ r made pid process place_is stands.
     let here : AppliesAt site state place one r new = subst (λ (s : State). AppliesAt site s place one r new) m made in
     here calls pid process place_is stands ∙ ap (applied (world_of calls site state) pid process) (sym (is pid process place_is stands)))
 
-pub child_made : {E : Type 0} (state mid new : State) (unless : Outcome) → (calls : calls.Table) (site : Site) (place : ℕ) (effect : Process → Effect) (own : Bool) (result : Result Reply E) → unless ≡ MakesChild own
-    → UnlessReplied unless (mid ≡ state) → AtPlace state place (λ pid process. Left (world_of calls site state) pid process unless (world_of calls site mid) (effect process))
+pub child_made : {E : Type 0} (state mid new : State) (unless : Outcome)
+    → (calls : calls.Table) (site : Site) (place : ℕ) (effect : Process → Effect) (own : Bool) (result : Result Reply E)
+    → unless ≡ MakesChild own
+    → UnlessReplied unless (mid ≡ state) → AtPlace state place
+    (λ pid process. Left (world_of calls site state) pid process unless (world_of calls site mid) (effect process))
     → IfOk result (λ r. Applies mid place (f.Child own) r new)
-    → IfOk result (λ r. AtPlace state place (λ pid process. (r, world_of calls site new) ≡ applied (world_of calls site state) pid process (effect process)))
+    → IfOk result (λ r. AtPlace state place (λ pid process. (r, world_of calls site new)
+    ≡ applied (world_of calls site state) pid process (effect process)))
 child_made state mid new unless calls site place effect own result is same h made =
-    made_there state mid new (subst (λ (o : Outcome). UnlessReplied o (mid ≡ state)) is same) calls site place effect (f.Child own) result (child_is state mid calls site place effect unless own is h) (if_ok _ _ result made (λ r a calls. a calls site))
+    made_there state mid new (subst (λ (o : Outcome). UnlessReplied o (mid ≡ state)) is same) calls site place effect (f.Child own) result
+    (child_is state mid calls site place effect unless own is h) (if_ok _ _ result made (λ r a calls. a calls site))
 
-pub table_made : {E : Type 0} (state mid new : State) (unless : Outcome) → (calls : calls.Table) (site : Site) (place : ℕ) (effect : Process → Effect) (result : Result Reply E) → unless ≡ MakesTable
-    → UnlessReplied unless (mid ≡ state) → AtPlace state place (λ pid process. Left (world_of calls site state) pid process unless (world_of calls site mid) (effect process))
+pub table_made : {E : Type 0} (state mid new : State) (unless : Outcome)
+    → (calls : calls.Table) (site : Site) (place : ℕ) (effect : Process → Effect) (result : Result Reply E) → unless ≡ MakesTable
+    → UnlessReplied unless (mid ≡ state) → AtPlace state place
+    (λ pid process. Left (world_of calls site state) pid process unless (world_of calls site mid) (effect process))
     → IfOk result (λ r. Applies mid place f.OwnTable r new)
-    → IfOk result (λ r. AtPlace state place (λ pid process. (r, world_of calls site new) ≡ applied (world_of calls site state) pid process (effect process)))
+    → IfOk result (λ r. AtPlace state place (λ pid process. (r, world_of calls site new)
+    ≡ applied (world_of calls site state) pid process (effect process)))
 table_made state mid new unless calls site place effect result is same h made =
-    made_there state mid new (subst (λ (o : Outcome). UnlessReplied o (mid ≡ state)) is same) calls site place effect f.OwnTable result (table_is state mid calls site place effect unless is h) (if_ok _ _ result made (λ r a calls. a calls site))
+    made_there state mid new (subst (λ (o : Outcome). UnlessReplied o (mid ≡ state)) is same) calls site place effect f.OwnTable result
+    (table_is state mid calls site place effect unless is h) (if_ok _ _ result made (λ r a calls. a calls site))
 
-pub user_child_made : {E : Type 0} (state mid new : State) (unless : Outcome) → (calls : calls.Table) (site : Site) (place : ℕ) (effect : Process → Effect) (own : Bool) (result : Result Reply E) → unless ≡ MakesUserChild own
-    → UnlessReplied unless (mid ≡ state) → AtPlace state place (λ pid process. Left (world_of calls site state) pid process unless (world_of calls site mid) (effect process))
+pub user_child_made : {E : Type 0} (state mid new : State) (unless : Outcome)
+    → (calls : calls.Table) (site : Site) (place : ℕ) (effect : Process → Effect) (own : Bool) (result : Result Reply E)
+    → unless ≡ MakesUserChild own
+    → UnlessReplied unless (mid ≡ state) → AtPlace state place
+    (λ pid process. Left (world_of calls site state) pid process unless (world_of calls site mid) (effect process))
     → IfOk result (λ r. AppliesAt site mid place (f.UserChild own) r new)
-    → IfOk result (λ r. AtPlace state place (λ pid process. (r, world_of calls site new) ≡ applied (world_of calls site state) pid process (effect process)))
+    → IfOk result (λ r. AtPlace state place (λ pid process. (r, world_of calls site new)
+    ≡ applied (world_of calls site state) pid process (effect process)))
 user_child_made state mid new unless calls site place effect own result is same h made =
-    made_there state mid new (subst (λ (o : Outcome). UnlessReplied o (mid ≡ state)) is same) calls site place effect (f.UserChild own) result
-    (λ pid process place_is stands. (subst (λ (o : Outcome). Left (world_of calls site state) pid process o (world_of calls site mid) (effect process)) is (h pid process place_is stands)).0) made
+    made_there state mid new (subst (λ (o : Outcome). UnlessReplied o (mid ≡ state)) is same) calls site place effect
+    (f.UserChild own) result
+    (λ pid process place_is stands.
+    (subst (λ (o : Outcome). Left (world_of calls site state) pid process o (world_of calls site mid) (effect process)) is
+    (h pid process place_is stands)).0) made
 
-pub own_user_made : {E : Type 0} (state mid new : State) (unless : Outcome) → (calls : calls.Table) (site : Site) (place : ℕ) (effect : Process → Effect) (own : Bool) (result : Result Reply E) → unless ≡ MakesOwnUser own
-    → UnlessReplied unless (mid ≡ state) → AtPlace state place (λ pid process. Left (world_of calls site state) pid process unless (world_of calls site mid) (effect process))
+pub own_user_made : {E : Type 0} (state mid new : State) (unless : Outcome)
+    → (calls : calls.Table) (site : Site) (place : ℕ) (effect : Process → Effect) (own : Bool) (result : Result Reply E)
+    → unless ≡ MakesOwnUser own
+    → UnlessReplied unless (mid ≡ state) → AtPlace state place
+    (λ pid process. Left (world_of calls site state) pid process unless (world_of calls site mid) (effect process))
     → IfOk result (λ r. AppliesAt site mid place (f.OwnUser own) r new)
-    → IfOk result (λ r. AtPlace state place (λ pid process. (r, world_of calls site new) ≡ applied (world_of calls site state) pid process (effect process)))
+    → IfOk result (λ r. AtPlace state place (λ pid process. (r, world_of calls site new)
+    ≡ applied (world_of calls site state) pid process (effect process)))
 own_user_made state mid new unless calls site place effect own result is same h made =
     made_there state mid new (subst (λ (o : Outcome). UnlessReplied o (mid ≡ state)) is same) calls site place effect (f.OwnUser own) result
-    (λ pid process place_is stands. (subst (λ (o : Outcome). Left (world_of calls site state) pid process o (world_of calls site mid) (effect process)) is (h pid process place_is stands)).0) made
+    (λ pid process place_is stands.
+    (subst (λ (o : Outcome). Left (world_of calls site state) pid process o (world_of calls site mid) (effect process)) is
+    (h pid process place_is stands)).0) made
 
 -- and it needs no memory where the effect does not
 or_right : (a b : Bool) → (a || b) ≡ false → b ≡ false
 or_right true b e = cc
 or_right false b e = e
 
-pub child_ready : {E : Type 0} (state mid : State) (unless : Outcome) (calls : calls.Table) (site : Site) (place : ℕ) (doing : Doing) (own : Bool) (result : Result Reply E) → unless ≡ MakesChild own
+pub child_ready : {E : Type 0} (state mid : State) (unless : Outcome) (calls : calls.Table) (site : Site) (place : ℕ) (doing : Doing)
+    (own : Bool) (result : Result Reply E) → unless ≡ MakesChild own
     → UnlessReplied unless (mid ≡ state)
-    → AtPlace state place (λ pid process. Left (world_of calls site state) pid process unless (world_of calls site mid) (effect_of (host_of (world_of calls site state)) (caller_of (world_of calls site state) process) doing))
+    → AtPlace state place (λ pid process. Left (world_of calls site state) pid process unless (world_of calls site mid)
+    (effect_of (host_of (world_of calls site state)) (caller_of (world_of calls site state) process) doing))
     → (makes_one false (length mid.processes) (length mid.tables) (f.Child own) ≡ false → IsOk result)
     → AtPlace state place (λ pid process. takes_doing (world_of calls site state) process doing ≡ false → IsOk result)
 child_ready state mid unless calls site place doing own result is same h ready pid process place_is stands none =
@@ -216,11 +284,15 @@ child_ready state mid unless calls site place doing own result is same h ready p
     let m : mid ≡ state = subst (λ (o : Outcome). UnlessReplied o (mid ≡ state)) is same in
     let one : effect process ≡ f.Child own = child_is state mid calls site place effect unless own is h pid process place_is stands in
     let not_made : makes_one (nat_lt state.users site.user_namespaces) (length state.processes) (length state.tables) (effect process) ≡ false = or_right (asks_for_room doing) (makes_one (nat_lt state.users site.user_namespaces) (length state.processes) (length state.tables) (effect process)) none in
-    ready (subst (λ (s : State). makes_one false (length s.processes) (length s.tables) (f.Child own) ≡ false) (sym m) (subst (λ (e : Effect). makes_one (nat_lt state.users site.user_namespaces) (length state.processes) (length state.tables) e ≡ false) one not_made))
+    ready (subst (λ (s : State). makes_one false (length s.processes) (length s.tables) (f.Child own) ≡ false) (sym m)
+    (subst (λ (e : Effect). makes_one (nat_lt state.users site.user_namespaces) (length state.processes) (length state.tables) e
+    ≡ false) one not_made))
 
-pub table_ready : {E : Type 0} (state mid : State) (unless : Outcome) (calls : calls.Table) (site : Site) (place : ℕ) (doing : Doing) (result : Result Reply E) → unless ≡ MakesTable
+pub table_ready : {E : Type 0} (state mid : State) (unless : Outcome) (calls : calls.Table) (site : Site) (place : ℕ) (doing : Doing)
+    (result : Result Reply E) → unless ≡ MakesTable
     → UnlessReplied unless (mid ≡ state)
-    → AtPlace state place (λ pid process. Left (world_of calls site state) pid process unless (world_of calls site mid) (effect_of (host_of (world_of calls site state)) (caller_of (world_of calls site state) process) doing))
+    → AtPlace state place (λ pid process. Left (world_of calls site state) pid process unless (world_of calls site mid)
+    (effect_of (host_of (world_of calls site state)) (caller_of (world_of calls site state) process) doing))
     → (makes_one false (length mid.processes) (length mid.tables) f.OwnTable ≡ false → IsOk result)
     → AtPlace state place (λ pid process. takes_doing (world_of calls site state) process doing ≡ false → IsOk result)
 table_ready state mid unless calls site place doing result is same h ready pid process place_is stands none =
@@ -228,23 +300,32 @@ table_ready state mid unless calls site place doing result is same h ready pid p
     let m : mid ≡ state = subst (λ (o : Outcome). UnlessReplied o (mid ≡ state)) is same in
     let one : effect process ≡ f.OwnTable = table_is state mid calls site place effect unless is h pid process place_is stands in
     let not_made : makes_one (nat_lt state.users site.user_namespaces) (length state.processes) (length state.tables) (effect process) ≡ false = or_right (asks_for_room doing) (makes_one (nat_lt state.users site.user_namespaces) (length state.processes) (length state.tables) (effect process)) none in
-    ready (subst (λ (s : State). makes_one false (length s.processes) (length s.tables) f.OwnTable ≡ false) (sym m) (subst (λ (e : Effect). makes_one (nat_lt state.users site.user_namespaces) (length state.processes) (length state.tables) e ≡ false) one not_made))
+    ready (subst (λ (s : State). makes_one false (length s.processes) (length s.tables) f.OwnTable ≡ false) (sym m)
+    (subst (λ (e : Effect). makes_one (nat_lt state.users site.user_namespaces) (length state.processes) (length state.tables) e
+    ≡ false) one not_made))
 
 -- the step of a call that is asked for
-pub step_is : {E : Type 0} (world after : World) (call : Call) (place : ℕ) (d : Decision) (doing : Doing) (result : Result Reply E) → place_of world.processes call.pid ≡ Some place
-    → ((pid : ℕ) (process : Process) → place ≡ pid - 1 → slice_get world.processes place ≡ Some process → d ≡ decision_of world call process) → d ≡ decision.Pass → asked_of world.calls call ≡ Does doing
-    → IfOk result (λ r. (pid : ℕ) (process : Process) → place ≡ pid - 1 → slice_get world.processes place ≡ Some process → (r, after) ≡ applied world pid process (effect_of (host_of world) (caller_of world process) doing))
+pub step_is : {E : Type 0} (world after : World) (call : Call) (place : ℕ) (d : Decision) (doing : Doing) (result : Result Reply E)
+    → place_of world.processes call.pid ≡ Some place
+    → ((pid : ℕ) (process : Process) → place ≡ pid - 1 → slice_get world.processes place ≡ Some process
+    → d ≡ decision_of world call process) → d ≡ decision.Pass → asked_of world.calls call ≡ Does doing
+    → IfOk result (λ r. (pid : ℕ) (process : Process) → place ≡ pid - 1 → slice_get world.processes place ≡ Some process
+    → (r, after) ≡ applied world pid process (effect_of (host_of world) (caller_of world process) doing))
     → IfOk result (λ r. (r, after) ≡ step world call)
 step_is world after call place d doing result at is passes asked h =
     if_ok _ _ result h (λ r made.
     let who = stands world call.pid place at in
     let decided_is : decision_of world call who.caller ≡ decision.Pass = sym (is call.pid who.caller who.place_is who.stands) ∙ passes in
     made call.pid who.caller who.place_is who.stands
-    ∙ sym (ap (step_by world call) who.lives ∙ ap (decided world call who.caller) decided_is ∙ ap (answered world call.pid who.caller) asked))
+    ∙ sym (ap (step_by world call) who.lives ∙ ap (decided world call who.caller) decided_is
+    ∙ ap (answered world call.pid who.caller) asked))
 
-pub step_ready : {E : Type 0} (world : World) (call : Call) (place : ℕ) (d : Decision) (doing : Doing) (result : Result Reply E) → place_of world.processes call.pid ≡ Some place
-    → ((pid : ℕ) (process : Process) → place ≡ pid - 1 → slice_get world.processes place ≡ Some process → d ≡ decision_of world call process) → d ≡ decision.Pass → asked_of world.calls call ≡ Does doing
-    → ((pid : ℕ) (process : Process) → place ≡ pid - 1 → slice_get world.processes place ≡ Some process → takes_doing world process doing ≡ false → IsOk result)
+pub step_ready : {E : Type 0} (world : World) (call : Call) (place : ℕ) (d : Decision) (doing : Doing) (result : Result Reply E)
+    → place_of world.processes call.pid ≡ Some place
+    → ((pid : ℕ) (process : Process) → place ≡ pid - 1 → slice_get world.processes place ≡ Some process
+    → d ≡ decision_of world call process) → d ≡ decision.Pass → asked_of world.calls call ≡ Does doing
+    → ((pid : ℕ) (process : Process) → place ≡ pid - 1 → slice_get world.processes place ≡ Some process
+    → takes_doing world process doing ≡ false → IsOk result)
     → takes_memory world call ≡ false → IsOk result
 step_ready world call place d doing result at is passes asked h none =
     let who = stands world call.pid place at in
@@ -253,53 +334,72 @@ step_ready world call place d doing result at is passes asked h none =
     h call.pid who.caller who.place_is who.stands (sym takes ∙ none)
 
 -- the same of a world that is seen through its parts
-pub step_seen : {E : Type 0} (viewed world : World) → viewed ≡ world → (after : World) (call : Call) (place : ℕ) (d : Decision) (doing : Doing) (result : Result Reply E) → place_of viewed.processes call.pid ≡ Some place
-    → ((pid : ℕ) (process : Process) → place ≡ pid - 1 → slice_get viewed.processes place ≡ Some process → d ≡ decision_of viewed call process) → d ≡ decision.Pass → asked_of viewed.calls call ≡ Does doing
-    → IfOk result (λ r. (pid : ℕ) (process : Process) → place ≡ pid - 1 → slice_get viewed.processes place ≡ Some process → (r, after) ≡ applied viewed pid process (effect_of (host_of viewed) (caller_of viewed process) doing))
+pub step_seen : {E : Type 0} (viewed world : World) → viewed ≡ world
+    → (after : World) (call : Call) (place : ℕ) (d : Decision) (doing : Doing) (result : Result Reply E)
+    → place_of viewed.processes call.pid ≡ Some place
+    → ((pid : ℕ) (process : Process) → place ≡ pid - 1 → slice_get viewed.processes place ≡ Some process
+    → d ≡ decision_of viewed call process) → d ≡ decision.Pass → asked_of viewed.calls call ≡ Does doing
+    → IfOk result (λ r. (pid : ℕ) (process : Process) → place ≡ pid - 1 → slice_get viewed.processes place ≡ Some process
+    → (r, after) ≡ applied viewed pid process (effect_of (host_of viewed) (caller_of viewed process) doing))
     → IfOk result (λ r. (r, after) ≡ step world call)
 step_seen viewed world v after call place d doing result at is passes asked h =
-    subst (λ (w : World). IfOk result (λ r. (r, after) ≡ step w call)) v (step_is viewed after call place d doing result at is passes asked h)
+    subst (λ (w : World). IfOk result (λ r. (r, after) ≡ step w call)) v
+    (step_is viewed after call place d doing result at is passes asked h)
 
-pub ready_seen : {E : Type 0} (viewed world : World) → viewed ≡ world → (call : Call) (place : ℕ) (d : Decision) (doing : Doing) (result : Result Reply E) → place_of viewed.processes call.pid ≡ Some place
-    → ((pid : ℕ) (process : Process) → place ≡ pid - 1 → slice_get viewed.processes place ≡ Some process → d ≡ decision_of viewed call process) → d ≡ decision.Pass → asked_of viewed.calls call ≡ Does doing
-    → ((pid : ℕ) (process : Process) → place ≡ pid - 1 → slice_get viewed.processes place ≡ Some process → takes_doing viewed process doing ≡ false → IsOk result)
+pub ready_seen : {E : Type 0} (viewed world : World) → viewed ≡ world
+    → (call : Call) (place : ℕ) (d : Decision) (doing : Doing) (result : Result Reply E) → place_of viewed.processes call.pid ≡ Some place
+    → ((pid : ℕ) (process : Process) → place ≡ pid - 1 → slice_get viewed.processes place ≡ Some process
+    → d ≡ decision_of viewed call process) → d ≡ decision.Pass → asked_of viewed.calls call ≡ Does doing
+    → ((pid : ℕ) (process : Process) → place ≡ pid - 1 → slice_get viewed.processes place ≡ Some process
+    → takes_doing viewed process doing ≡ false → IsOk result)
     → takes_memory world call ≡ false → IsOk result
 ready_seen viewed world v call place d doing result at is passes asked h none =
     step_ready viewed call place d doing result at is passes asked h (subst (λ (w : World). takes_memory w call ≡ false) (sym v) none)
 
 -- what holds of every world, after a step
-pub kernel_after : {E : Type 0} (calls : calls.Table) (site : Site) (old new : State) (call : Call) (result : Result Reply E) → IsKernel old.processes old.tables
-    → IfOk result (λ r. (r, world_of calls site new) ≡ step (world_of calls site old) call) → OnErr result (new ≡ old) → IsKernel new.processes new.tables
+pub kernel_after : {E : Type 0} (calls : calls.Table) (site : Site) (old new : State) (call : Call) (result : Result Reply E)
+    → IsKernel old.processes old.tables
+    → IfOk result (λ r. (r, world_of calls site new) ≡ step (world_of calls site old) call) → OnErr result (new ≡ old)
+    → IsKernel new.processes new.tables
 kernel_after calls site old new call (Ok r) k h s =
     let same : world_of calls site new ≡ (step (world_of calls site old) call).1 = ap (λ (out : Reply × World). out.1) h in
     subst (λ (w : World). IsKernel w.processes w.tables) (sym same) (kernel_step (world_of calls site old) call k)
 kernel_after calls site old new call (Err e) k h s = rw s k
 
 -- and after the end of a process
-pub kernel_ended : (calls : calls.Table) (site : Site) (old new : State) (pid place : ℕ) → place_of old.processes pid ≡ Some place → IsKernel old.processes old.tables
-    → AtPlace old place (λ pid process. new ≡ record old { processes = put_number old.processes pid (ended process) }) → IsKernel new.processes new.tables
+pub kernel_ended : (calls : calls.Table) (site : Site) (old new : State) (pid place : ℕ) → place_of old.processes pid ≡ Some place
+    → IsKernel old.processes old.tables
+    → AtPlace old place (λ pid process. new ≡ record old { processes = put_number old.processes pid (ended process) })
+    → IsKernel new.processes new.tables
 kernel_ended calls site old new pid place at k h =
     let world : World = world_of calls site old in
     let who = stands world pid place at in
     let space = living_space world pid who.caller k who.lives in
-    subst (λ (s : State). IsKernel s.processes s.tables) (sym (h pid who.caller who.place_is who.stands)) (kernel_process world pid (ended who.caller) k (spaced (length old.tables) who.caller (ended who.caller) space refl))
+    subst (λ (s : State). IsKernel s.processes s.tables) (sym (h pid who.caller who.place_is who.stands))
+    (kernel_process world pid (ended who.caller) k (spaced (length old.tables) who.caller (ended who.caller) space refl))
 
 -- what the programs decide, with the architecture of the call's ABI
 in_abi : (table : calls.Table) (call : Call) (process : Process) → call.abi < length (abis table)
-    → decision_on process.stack (record { nr = call.nr; arch = arch_of table call.abi; ip = 0; args = call.args }) ≡ decision_by call process (abi_at table call.abi)
+    → decision_on process.stack (record { nr = call.nr; arch = arch_of table call.abi; ip = 0; args = call.args })
+    ≡ decision_by call process (abi_at table call.abi)
 in_abi table call process lt =
     let found = slice_get-get_or (abis table) call.abi (native table) lt in
-    ap (λ (o : Option Abi). decision_on process.stack (record { nr = call.nr; arch = option_map_or (λ abi. abi.arch) o 0; ip = 0; args = call.args })) found ∙ sym (ap (decision_by call process) found)
+    ap (λ (o : Option Abi). decision_on process.stack
+    (record { nr = call.nr; arch = option_map_or (λ abi. abi.arch) o 0; ip = 0; args = call.args })) found
+    ∙ sym (ap (decision_by call process) found)
 
-pub decides_here : (calls : calls.Table) (site : Site) (state : State) (place : ℕ) (call : Call) (arch : ℕ) (d : Decision) → call.abi < length (abis calls) → arch ≡ arch_of calls call.abi
+pub decides_here : (calls : calls.Table) (site : Site) (state : State) (place : ℕ) (call : Call) (arch : ℕ) (d : Decision)
+    → call.abi < length (abis calls) → arch ≡ arch_of calls call.abi
     → AtPlace state place (λ pid process. d ≡ decision_on process.stack (record { nr = call.nr; arch = arch; ip = 0; args = call.args }))
     → AtPlace state place (λ pid process. d ≡ decision_of (world_of calls site state) call process)
 decides_here calls site state place call arch d lt e h pid process at stands =
-    h pid process at stands ∙ ap (λ (a : ℕ). decision_on process.stack (record { nr = call.nr; arch = a; ip = 0; args = call.args })) e ∙ in_abi calls call process lt
+    h pid process at stands ∙ ap (λ (a : ℕ). decision_on process.stack (record { nr = call.nr; arch = a; ip = 0; args = call.args })) e
+    ∙ in_abi calls call process lt
 
 -- the effect of what the process at a place asks for
 abbrev pub effect_at : calls.Table → Site → State → Doing → Process → Effect
-effect_at calls site state doing process = effect_of (host_of (world_of calls site state)) (caller_of (world_of calls site state) process) doing
+effect_at calls site state doing process = effect_of (host_of (world_of calls site state))
+    (caller_of (world_of calls site state) process) doing
 
 pub child_same : {A : Type 0} (outcome : Outcome) (own : Bool) → outcome ≡ MakesChild own → UnlessReplied outcome A → A
 child_same {A} outcome own is h = let P : Outcome → Type 0 = λ o. UnlessReplied o A in subst P is h
@@ -310,10 +410,12 @@ table_same {A} outcome is h = let P : Outcome → Type 0 = λ o. UnlessReplied o
 pub there_too : (mid state : State) (place : ℕ) → mid ≡ state → place < length state.processes → place < length mid.processes
 there_too mid state place m h = subst (λ (s : State). place < length s.processes) (sym m) h
 
-pub spaces_too : (mid state : State) → mid ≡ state → AllByRecursion (HasSpace (length state.tables)) state.processes → AllByRecursion (HasSpace (length mid.tables)) mid.processes
+pub spaces_too : (mid state : State) → mid ≡ state → AllByRecursion (HasSpace (length state.tables)) state.processes
+    → AllByRecursion (HasSpace (length mid.tables)) mid.processes
 spaces_too mid state m h = subst (λ (s : State). AllByRecursion (HasSpace (length s.tables)) s.processes) (sym m) h
 
-pub stays_too : {T E : Type 0} (result : Result T E) (new mid state : State) → mid ≡ state → OnErr result (new ≡ mid) → OnErr result (new ≡ state)
+pub stays_too : {T E : Type 0} (result : Result T E) (new mid state : State) → mid ≡ state → OnErr result (new ≡ mid)
+    → OnErr result (new ≡ state)
 stays_too (Ok value) new mid state m h = tt
 stays_too (Err error) new mid state m h = h ∙ m
 
@@ -326,9 +428,11 @@ own_user_same {A} outcome own is h = let P : Outcome → Type 0 = λ o. UnlessRe
 pub owned_too : (mid state : State) → mid ≡ state → length state.owners ≡ length state.tables → length mid.owners ≡ length mid.tables
 owned_too mid state m h = subst (λ (s : State). length s.owners ≡ length s.tables) (sym m) h
 
-pub user_child_ready : {E : Type 0} (state mid : State) (unless : Outcome) (calls : calls.Table) (site : Site) (place : ℕ) (doing : Doing) (own : Bool) (result : Result Reply E) → unless ≡ MakesUserChild own
+pub user_child_ready : {E : Type 0} (state mid : State) (unless : Outcome) (calls : calls.Table) (site : Site) (place : ℕ) (doing : Doing)
+    (own : Bool) (result : Result Reply E) → unless ≡ MakesUserChild own
     → UnlessReplied unless (mid ≡ state)
-    → AtPlace state place (λ pid process. Left (world_of calls site state) pid process unless (world_of calls site mid) (effect_of (host_of (world_of calls site state)) (caller_of (world_of calls site state) process) doing))
+    → AtPlace state place (λ pid process. Left (world_of calls site state) pid process unless (world_of calls site mid)
+    (effect_of (host_of (world_of calls site state)) (caller_of (world_of calls site state) process) doing))
     → (makes_one (nat_lt mid.users site.user_namespaces) (length mid.processes) (length mid.tables) (f.UserChild own) ≡ false → IsOk result)
     → AtPlace state place (λ pid process. takes_doing (world_of calls site state) process doing ≡ false → IsOk result)
 user_child_ready state mid unless calls site place doing own result is same h ready pid process place_is stands none =
@@ -336,11 +440,16 @@ user_child_ready state mid unless calls site place doing own result is same h re
     let m : mid ≡ state = subst (λ (o : Outcome). UnlessReplied o (mid ≡ state)) is same in
     let one : effect ≡ f.UserChild own = (subst (λ (o : Outcome). Left (world_of calls site state) pid process o (world_of calls site mid) effect) is (h pid process place_is stands)).0 in
     let not_made : makes_one (nat_lt state.users site.user_namespaces) (length state.processes) (length state.tables) effect ≡ false = or_right (asks_for_room doing) (makes_one (nat_lt state.users site.user_namespaces) (length state.processes) (length state.tables) effect) none in
-    ready (subst (λ (s : State). makes_one (nat_lt s.users site.user_namespaces) (length s.processes) (length s.tables) (f.UserChild own) ≡ false) (sym m) (subst (λ (e : Effect). makes_one (nat_lt state.users site.user_namespaces) (length state.processes) (length state.tables) e ≡ false) one not_made))
+    ready (subst (λ (s : State). makes_one (nat_lt s.users site.user_namespaces) (length s.processes) (length s.tables) (f.UserChild own)
+    ≡ false) (sym m) (subst
+    (λ (e : Effect). makes_one (nat_lt state.users site.user_namespaces) (length state.processes) (length state.tables) e ≡ false) one
+    not_made))
 
-pub own_user_ready : {E : Type 0} (state mid : State) (unless : Outcome) (calls : calls.Table) (site : Site) (place : ℕ) (doing : Doing) (own : Bool) (result : Result Reply E) → unless ≡ MakesOwnUser own
+pub own_user_ready : {E : Type 0} (state mid : State) (unless : Outcome) (calls : calls.Table) (site : Site) (place : ℕ) (doing : Doing)
+    (own : Bool) (result : Result Reply E) → unless ≡ MakesOwnUser own
     → UnlessReplied unless (mid ≡ state)
-    → AtPlace state place (λ pid process. Left (world_of calls site state) pid process unless (world_of calls site mid) (effect_of (host_of (world_of calls site state)) (caller_of (world_of calls site state) process) doing))
+    → AtPlace state place (λ pid process. Left (world_of calls site state) pid process unless (world_of calls site mid)
+    (effect_of (host_of (world_of calls site state)) (caller_of (world_of calls site state) process) doing))
     → (makes_one (nat_lt mid.users site.user_namespaces) (length mid.processes) (length mid.tables) (f.OwnUser own) ≡ false → IsOk result)
     → AtPlace state place (λ pid process. takes_doing (world_of calls site state) process doing ≡ false → IsOk result)
 own_user_ready state mid unless calls site place doing own result is same h ready pid process place_is stands none =
@@ -348,4 +457,7 @@ own_user_ready state mid unless calls site place doing own result is same h read
     let m : mid ≡ state = subst (λ (o : Outcome). UnlessReplied o (mid ≡ state)) is same in
     let one : effect ≡ f.OwnUser own = (subst (λ (o : Outcome). Left (world_of calls site state) pid process o (world_of calls site mid) effect) is (h pid process place_is stands)).0 in
     let not_made : makes_one (nat_lt state.users site.user_namespaces) (length state.processes) (length state.tables) effect ≡ false = or_right (asks_for_room doing) (makes_one (nat_lt state.users site.user_namespaces) (length state.processes) (length state.tables) effect) none in
-    ready (subst (λ (s : State). makes_one (nat_lt s.users site.user_namespaces) (length s.processes) (length s.tables) (f.OwnUser own) ≡ false) (sym m) (subst (λ (e : Effect). makes_one (nat_lt state.users site.user_namespaces) (length state.processes) (length state.tables) e ≡ false) one not_made))
+    ready (subst (λ (s : State). makes_one (nat_lt s.users site.user_namespaces) (length s.processes) (length s.tables) (f.OwnUser own)
+    ≡ false) (sym m) (subst
+    (λ (e : Effect). makes_one (nat_lt state.users site.user_namespaces) (length state.processes) (length state.tables) e ≡ false) one
+    not_made))

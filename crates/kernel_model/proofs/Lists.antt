@@ -1,5 +1,6 @@
 -- Lists by place, and facts of each item.
-use Rattle.std.proofs.Common.{◌≡◌, ℕ, zero, suc, ◌<◌, ◌+◌, Bool, true, false, cond, List, [], ◌∷◌, ◌++◌, length, get_or, Some, refl, ap, ◌∙◌, subst, arith}
+use Rattle.std.proofs.Common.{◌≡◌, ℕ, zero, suc, ◌<◌, ◌+◌, Bool, true, false, cond, List, [], ◌∷◌, ◌++◌, length, get_or, Some, refl, ap}
+use Rattle.std.proofs.Common.{◌∙◌, subst, arith}
 use Rattle.std.specs.Prelude.{slice_get, slice_set, filter}
 use Rattle.std.specs.List.{AllByRecursion}
 
@@ -29,7 +30,8 @@ pub each-map : {X : Type 0} (P Q : X → Type 0) (xs : List X) → ((x : X) → 
 each-map P Q [] next all = tt
 each-map P Q (x ∷ xs) next all = (next x all.0, each-map P Q xs next all.1)
 
-each-kept : {X : Type 0} (P : X → Type 0) (b : Bool) (x : X) (xs : List X) → P x → AllByRecursion P xs → AllByRecursion P (cond b (x ∷ xs) xs)
+each-kept : {X : Type 0} (P : X → Type 0) (b : Bool) (x : X) (xs : List X) → P x → AllByRecursion P xs
+    → AllByRecursion P (cond b (x ∷ xs) xs)
 each-kept P true x xs h all = (h, all)
 each-kept P false x xs h all = all
 

@@ -16,9 +16,11 @@ use Rattle.kernel_model.specs.kernel_calls.Rules.{rule_by, rule_of, rule_at, for
 use Rattle.kernel_model.proofs.Search.{at_its_place}
 use Rattle.kernel_model.proofs.Forms.{form_decides}
 
-pub one_rule : (calls : List CallLine) (at : ℕ) (line : CallLine) → AreOnce calls → slice_get calls at ≡ Some line → rule_at calls line.number ≡ rule_of line
+pub one_rule : (calls : List CallLine) (at : ℕ) (line : CallLine) → AreOnce calls → slice_get calls at ≡ Some line
+    → rule_at calls line.number ≡ rule_of line
 one_rule calls at line once e =
-    ap (option_and_then rule_of) (at_its_place (has_number line.number) calls ∙ ap (option_and_then (slice_get calls)) (once.by_number at line e) ∙ e)
+    ap (option_and_then rule_of) (at_its_place (has_number line.number) calls
+    ∙ ap (option_and_then (slice_get calls)) (once.by_number at line e) ∙ e)
 
 pub absent : (line : CallLine) → (rule_of line ≡ None) ↔ (known_call line.name ≡ Some Absent)
 unfolding rule_of
@@ -49,13 +51,16 @@ lacking table call = by (rule_at (calls_in table call.abi) call.nr)
     by None = (λ h. refl, λ h. refl)
     by (Some rule) = (λ h. absurd (asks (doing_by rule call.args call.payload) h), λ h. cc)
 
-pub absent_calls_are_lacking : (table : Table) (call : Call) (at : ℕ) (line : CallLine) → AreOnce (calls_in table call.abi) → slice_get (calls_in table call.abi) at ≡ Some line → call.nr ≡ line.number → (asked_of table call ≡ Lacking) ↔ (known_call line.name ≡ Some Absent)
+pub absent_calls_are_lacking : (table : Table) (call : Call) (at : ℕ) (line : CallLine) → AreOnce (calls_in table call.abi)
+    → slice_get (calls_in table call.abi) at ≡ Some line → call.nr ≡ line.number
+    → (asked_of table call ≡ Lacking) ↔ (known_call line.name ≡ Some Absent)
 absent_calls_are_lacking table call at line once e same =
     let calls : List CallLine = calls_in table call.abi in
     let rule : rule_at calls call.nr ≡ rule_of line = ap (rule_at calls) same ∙ one_rule calls at line once e in
     (λ h. (absent line).0 (sym rule ∙ (lacking table call).0 h), λ h. (lacking table call).1 (rule ∙ (absent line).1 h))
 
-pub misformed : (table : Table) (call : Call) (rule : Rule) → rule_at (calls_in table call.abi) call.nr ≡ Some rule → (asked_of table call ≡ Misformed) ↔ (¬ (form_of_payload call.payload ≡ form_of_rule rule))
+pub misformed : (table : Table) (call : Call) (rule : Rule) → rule_at (calls_in table call.abi) call.nr ≡ Some rule
+    → (asked_of table call ≡ Misformed) ↔ (¬ (form_of_payload call.payload ≡ form_of_rule rule))
 misformed table call rule e =
     let decides = form_decides rule call.args call.payload in
     let same : asked_of table call ≡ asked_if (doing_by rule call.args call.payload) = ap (λ o. asked_by o call) e in

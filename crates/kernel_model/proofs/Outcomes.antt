@@ -13,7 +13,8 @@ use Rattle.kernel_model.specs.Effects.{Effect, looks, creds_effect}
 use Rattle.kernel_model.specs.Parts.{Parts, parts, done_here}
 use Rattle.kernel_model.specs.Replies.{value_reply, zero_reply, Answers, Changes, Mounts, Pushes}
 
-pub looked : (old : Parts) (reply : Reply) (answer : Result ℕ ℕ) → reply ≡ value_reply answer → (Replied reply, old) ≡ done_here old (looks answer)
+pub looked : (old : Parts) (reply : Reply) (answer : Result ℕ ℕ) → reply ≡ value_reply answer
+    → (Replied reply, old) ≡ done_here old (looks answer)
 looked old reply (Ok value) e = rw e refl
 looked old reply (Err errno) e = rw e refl
 
@@ -61,7 +62,8 @@ mounted process table reply new (f.UserChild own) e = absurd e
 mounted process table reply new (f.OwnUser own) e = absurd e
 mounted process table reply new f.End e = absurd e
 
-pub pushed : (process : Process) (table : Table) (reply : Reply) (new : List (List Insn)) (effect : Effect) → Pushes process.stack reply new effect
+pub pushed : (process : Process) (table : Table) (reply : Reply) (new : List (List Insn)) (effect : Effect)
+    → Pushes process.stack reply new effect
     → (Replied reply, parts (record process { stack = new }) table) ≡ done_here (parts process table) effect
 pushed process table reply new (f.Refuse errno) e = rw (e.0, e.1) refl
 pushed process table reply new (f.Push program) e = rw (e.0, e.1) refl

@@ -1,5 +1,6 @@
 -- Processes, living ones and their tables, by number and by place.
-use Rattle.std.proofs.Common.{◌≡◌, ℕ, zero, suc, ◌<◌, ◌-◌, ◌+◌, ◌==◌, Bool, true, false, cond, List, [], ◌∷◌, length, Option, Some, None, refl, sym, ap, ◌∙◌, subst, arith}
+use Rattle.std.proofs.Common.{◌≡◌, ℕ, zero, suc, ◌<◌, ◌-◌, ◌+◌, ◌==◌, Bool, true, false, cond, List, [], ◌∷◌, length, Option, Some, None}
+use Rattle.std.proofs.Common.{refl, sym, ap, ◌∙◌, subst, arith}
 use Rattle.std.specs.Prelude.{slice_get, option_map}
 use Rattle.kern_mounts.specs.Mounts.{Mounts as Table}
 use Rattle.kernel_model.specs.declared.process.Process.{Process}
@@ -20,24 +21,29 @@ numbered_by : {X : Type 0} (t : Bool) (found : Option X) (x : X) → cond t None
 numbered_by true found x e = cc
 numbered_by false found x e = (refl, e)
 
-pub number_get : {X : Type 0} (xs : List X) (number : ℕ) (x : X) → of_number xs number ≡ Some x → ((number == 0) ≡ false) × (slice_get xs (number - 1) ≡ Some x)
+pub number_get : {X : Type 0} (xs : List X) (number : ℕ) (x : X) → of_number xs number ≡ Some x
+    → ((number == 0) ≡ false) × (slice_get xs (number - 1) ≡ Some x)
 number_get xs number x e = numbered_by (number == 0) (slice_get xs (number - 1)) x e
 
-pub get_number : {X : Type 0} (xs : List X) (number : ℕ) (x : X) → (number == 0) ≡ false → slice_get xs (number - 1) ≡ Some x → of_number xs number ≡ Some x
+pub get_number : {X : Type 0} (xs : List X) (number : ℕ) (x : X) → (number == 0) ≡ false → slice_get xs (number - 1) ≡ Some x
+    → of_number xs number ≡ Some x
 get_number xs number x n e = rw n e
 
 pub living_made : (world : World) (pid : ℕ) (process : Process) → living_of world pid ≡ Some process → process_of world pid ≡ Some process
 living_made world pid process e = alive_same (process_of world pid) process e
 
-pub living_get : (world : World) (pid : ℕ) (process : Process) → living_of world pid ≡ Some process → slice_get world.processes (pid - 1) ≡ Some process
+pub living_get : (world : World) (pid : ℕ) (process : Process) → living_of world pid ≡ Some process
+    → slice_get world.processes (pid - 1) ≡ Some process
 living_get world pid process e = (number_get world.processes pid process (living_made world pid process e)).1
 
 -- the place of a living process
-place_alive : (process : Process) (t : Bool) (place at : ℕ) → option_map (λ p. at) (cond t (Some process) None) ≡ Some place → (place ≡ at) × (cond t (Some process) None ≡ Some process)
+place_alive : (process : Process) (t : Bool) (place at : ℕ) → option_map (λ p. at) (cond t (Some process) None) ≡ Some place
+    → (place ≡ at) × (cond t (Some process) None ≡ Some process)
 place_alive process true place at e = (cc, refl)
 place_alive process false place at e = cc
 
-place_found : (found : Option Process) (place at : ℕ) → option_map (λ process. at) (if_alive found) ≡ Some place → (caller : Process) × (place ≡ at) × (if_alive found ≡ Some caller) × (found ≡ Some caller)
+place_found : (found : Option Process) (place at : ℕ) → option_map (λ process. at) (if_alive found) ≡ Some place
+    → (caller : Process) × (place ≡ at) × (if_alive found ≡ Some caller) × (found ≡ Some caller)
 place_found None place at e = cc
 place_found (Some process) place at e = let h = place_alive process process.alive place at e in (process, h.0, h.1, refl)
 
@@ -49,7 +55,8 @@ pub record Stands (world : World) (pid place : ℕ) : Type 0 where
   pub stands : slice_get world.processes place ≡ Some caller
   pub there : place < length world.processes
 
-place_by : (world : World) (pid place : ℕ) (t : Bool) → (pid == 0) ≡ t → cond t None (option_map (λ process. pid - 1) (if_alive (slice_get world.processes (pid - 1)))) ≡ Some place → Stands world pid place
+place_by : (world : World) (pid place : ℕ) (t : Bool) → (pid == 0) ≡ t
+    → cond t None (option_map (λ process. pid - 1) (if_alive (slice_get world.processes (pid - 1)))) ≡ Some place → Stands world pid place
 place_by world pid place true n e = cc
 place_by world pid place false n e =
     let h = place_found (slice_get world.processes (pid - 1)) place (pid - 1) e in
@@ -57,7 +64,8 @@ place_by world pid place false n e =
     record {
       caller = h.0;
       place_is = h.1;
-      lives = ap (λ (o : Option Process). if_alive o) (get_number world.processes pid h.0 n h.3) ∙ ap (λ (o : Option Process). if_alive o) (sym h.3) ∙ h.2;
+      lives = ap (λ (o : Option Process). if_alive o) (get_number world.processes pid h.0 n h.3)
+          ∙ ap (λ (o : Option Process). if_alive o) (sym h.3) ∙ h.2;
       stands = at;
       there = get_within world.processes place h.0 at;
     }
@@ -66,7 +74,8 @@ pub stands : (world : World) (pid place : ℕ) → place_of world.processes pid 
 stands world pid place e = place_by world pid place (pid == 0) refl e
 
 -- the thing of a number
-pub has_number : {X : Type 0} (xs : List X) (number at : ℕ) (x : X) → at + 1 ≡ number → slice_get xs at ≡ Some x → of_number xs number ≡ Some x
+pub has_number : {X : Type 0} (xs : List X) (number at : ℕ) (x : X) → at + 1 ≡ number → slice_get xs at ≡ Some x
+    → of_number xs number ≡ Some x
 has_number xs number at x is e =
     let n : (number == 0) ≡ false = subst (λ (k : ℕ). (k == 0) ≡ false) is (positive at) in
     let p : number - 1 ≡ at = omega (arith, is) in
@@ -81,7 +90,8 @@ some_at (y ∷ ys) zero lt = (y, refl)
 some_at (y ∷ ys) (suc i) lt = let less : i < length ys = omega (arith, lt) in some_at ys i less
 
 -- the table of a process that is in a namespace
-pub has_table : (tables : List Table) (process : Process) (at : ℕ) (table : Table) → at + 1 ≡ process.namespace → slice_get tables at ≡ Some table → of_number tables process.namespace ≡ Some table
+pub has_table : (tables : List Table) (process : Process) (at : ℕ) (table : Table) → at + 1 ≡ process.namespace
+    → slice_get tables at ≡ Some table → of_number tables process.namespace ≡ Some table
 has_table tables process at table is e =
     let n : (process.namespace == 0) ≡ false = subst (λ (k : ℕ). (k == 0) ≡ false) is (positive at) in
     let p : process.namespace - 1 ≡ at = omega (arith, is) in

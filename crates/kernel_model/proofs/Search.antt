@@ -1,5 +1,6 @@
 -- The place of a number's line, found in the order of the numbers.
-use Rattle.std.proofs.Common.{◌≡◌, ℕ, ◌<◌, ◌≤◌, Bool, true, false, eqb, ltb, cond, List, [], length, map, get_or, Option, Some, None, refl, sym, ap, ◌∙◌, arith, zero-add}
+use Rattle.std.proofs.Common.{◌≡◌, ℕ, ◌<◌, ◌≤◌, Bool, true, false, eqb, ltb, cond, List, [], length, map, get_or, Option, Some, None, refl}
+use Rattle.std.proofs.Common.{sym, ap, ◌∙◌, arith, zero-add}
 use Rattle.std.specs.Prelude.{find, slice_get, option_and_then}
 use Rattle.std.specs.List.{enumerate_from, position, position_or_len, HoldsAt}
 use Rattle.std.specs.List.Sorted.{IsNonDecreasingBy, IsPartitionPoint}
@@ -38,7 +39,9 @@ many_lines lines = length-map (enumerate_from 0 lines) numbered_at ∙ length-en
 get_line : (lines : List CallLine) (at : ℕ) → at < length lines → get_or (numbered_lines lines) at none ≡ line_at lines at
 get_line lines at h =
     let many = length-enumerate_from 0 lines in
-    get_or-map numbered_at (enumerate_from 0 lines) at (0, blank) none (omega (arith, many)) ∙ ap numbered_at (get_or-enumerate_from 0 lines at (0, blank) h) ∙ ap (λ n. record { number = (get_or lines at blank).number; position = n }) (zero-add at)
+    get_or-map numbered_at (enumerate_from 0 lines) at (0, blank) none (omega (arith, many))
+    ∙ ap numbered_at (get_or-enumerate_from 0 lines at (0, blank) h)
+    ∙ ap (λ n. record { number = (get_or lines at blank).number; position = n }) (zero-add at)
 
 module _ (lines : List CallLine) (order : List Numbered) (ascends : AscendsByNumber lines order) where
   -- each line stands in the order
@@ -73,7 +76,8 @@ module _ (lines : List CallLine) (order : List Numbered) (ascends : AscendsByNum
       grind (arith, nat_tests))
 
   -- the line of a number stands where its element of the order says
-  at_place : (nr k : ℕ) → k < length order → (get_or order k none).number ≡ nr → place_numbered nr lines ≡ Some (get_or order k none).position
+  at_place : (nr k : ℕ) → k < length order → (get_or order k none).number ≡ nr
+      → place_numbered nr lines ≡ Some (get_or order k none).position
   at_place nr k h same =
       let line = of_line k h in
       let at = line.0 in
@@ -99,10 +103,13 @@ module _ (lines : List CallLine) (order : List Numbered) (ascends : AscendsByNum
               let places : (get_or order m none).position ≡ (get_or order k none).position = ap (λ i. (get_or order i none).position) both in
               absurd (omega arith)
 
-  pub found_at : (nr k : ℕ) → k < length order → HoldsAt (λ line. nat_cmp line.number nr ≡ Equal) order k → Some (get_or order k none).position ≡ place_numbered nr lines
+  pub found_at : (nr k : ℕ) → k < length order → HoldsAt (λ line. nat_cmp line.number nr ≡ Equal) order k
+      → Some (get_or order k none).position ≡ place_numbered nr lines
   found_at nr k h equal = sym (at_place nr k h (ranked _ nr _ (sym (equal none))))
 
-  pub found_nowhere : (nr i : ℕ) → (IsNonDecreasingBy (λ line. ordering_index (nat_cmp line.number nr)) order → IsPartitionPoint (λ line. nat_cmp line.number nr ≡ Less) (λ line. nat_cmp line.number nr ≡ Greater) order i) →
+  pub found_nowhere : (nr i : ℕ)
+      → (IsNonDecreasingBy (λ line. ordering_index (nat_cmp line.number nr)) order
+      → IsPartitionPoint (λ line. nat_cmp line.number nr ≡ Less) (λ line. nat_cmp line.number nr ≡ Greater) order i) →
       None ≡ place_numbered nr lines
   found_nowhere nr i parted = sym (place_nowhere (has_number nr) lines blank differs)
     where
@@ -119,15 +126,18 @@ module _ (lines : List CallLine) (order : List Numbered) (ascends : AscendsByNum
 pub at_its_place : {X : Type 0} (p : X → Bool) (xs : List X) → find p xs ≡ option_and_then (slice_get xs) (position p xs)
 at_its_place p xs = by (ltb (position_or_len p xs) (length xs)) refl
   where
-    by : (b : Bool) → ltb (position_or_len p xs) (length xs) ≡ b → find p xs ≡ option_and_then (slice_get xs) (cond b (Some (position_or_len p xs)) None)
+    by : (b : Bool) → ltb (position_or_len p xs) (length xs) ≡ b
+        → find p xs ≡ option_and_then (slice_get xs) (cond b (Some (position_or_len p xs)) None)
     by true h = find_at p xs
     by false h = find_at p xs ∙ slice_get_past xs (position_or_len p xs) (grind (arith, nat_tests))
 
-pub rule_found : (calls : List CallLine) (nr place : ℕ) (rules : List (Option Rule)) (d : Option Rule) → rules ≡ map rule_of calls → place_numbered nr calls ≡ Some place → get_or rules place d ≡ rule_at calls nr
+pub rule_found : (calls : List CallLine) (nr place : ℕ) (rules : List (Option Rule)) (d : Option Rule) → rules ≡ map rule_of calls
+    → place_numbered nr calls ≡ Some place → get_or rules place d ≡ rule_at calls nr
 rule_found calls nr place rules d same at =
     let within : place < length calls = (place_is (has_number nr) calls place at).1 in
     let line : numbered nr calls ≡ Some (get_or calls place blank) = at_its_place (has_number nr) calls ∙ ap (option_and_then (slice_get calls)) at ∙ slice_get-get_or calls place blank within in
-    ap (λ (all : List (Option Rule)). get_or all place d) same ∙ get_or-map rule_of calls place blank d within ∙ sym (ap (option_and_then rule_of) line)
+    ap (λ (all : List (Option Rule)). get_or all place d) same ∙ get_or-map rule_of calls place blank d within
+    ∙ sym (ap (option_and_then rule_of) line)
 
 pub rule_missing : (calls : List CallLine) (nr : ℕ) → place_numbered nr calls ≡ None → None ≡ rule_at calls nr
 rule_missing calls nr at =

@@ -1,5 +1,6 @@
 -- What finding a row, an empty directory or nothing says of the path, and back.
-use Rattle.std.proofs.Common.{◌≡◌, ◌⊎◌, inl, inr, ℕ, ◌++◌, ◌∙◌, Bool, true, false, cond, Option, Some, None, Result, Ok, Err, option_and_then, refl, ap}
+use Rattle.std.proofs.Common.{◌≡◌, ◌⊎◌, inl, inr, ℕ, ◌++◌, ◌∙◌, Bool, true, false, cond, Option, Some, None, Result, Ok, Err}
+use Rattle.std.proofs.Common.{option_and_then, refl, ap}
 use Rattle.std.specs.Prelude.{not, ◌==◌}
 use Rattle.site_table.specs.abs_path.Paths.{Path}
 use Rattle.site_table.specs.abs_path.Prefix.{is_same, rest_of}
@@ -22,7 +23,8 @@ use Rattle.kernel_model.specs.declared.kern_files.program.Program.{Program}
 abbrev AtPlace : (Path → Option Row) → Option Path → Row → Type 0
 AtPlace rows place found = (at : Path) × (place ≡ Some at) × (rows at ≡ Some found)
 
-row_shown : (rows : Path → Option Row) (table : Table) (path : Path) (found : Row) → finds rows table path ≡ row found → ShowsRow rows table path found
+row_shown : (rows : Path → Option Row) (table : Table) (path : Path) (found : Row) → finds rows table path ≡ row found
+    → ShowsRow rows table path found
 row_shown rows table path found e = let at = by (entry_of table path) e in record { place = at.0; on_host = at.1; stands = at.2 }
   where
     there : (place : Path) (o : Option Row) → rows place ≡ o → row_or_nothing o ≡ row found → rows place ≡ Some found
@@ -34,16 +36,19 @@ row_shown rows table path found e = let at = by (entry_of table path) e in recor
     none false e = cc
 
     shows : (what : What) (place : Path) → found_by rows what place path ≡ row found → AtPlace rows (host_place_by what place path) found
-    shows (Host source) place e = (source ++ rest_of place path, refl, there (source ++ rest_of place path) (rows (source ++ rest_of place path)) refl e)
+    shows (Host source) place e =
+        (source ++ rest_of place path, refl, there (source ++ rest_of place path) (rows (source ++ rest_of place path)) refl e)
     shows Empty place e = absurd (none (is_same place path) e)
     shows (Hidden directory) place e = absurd (cc)
 
-    by : (o : Option MountStep) → found_at rows path o ≡ row found → AtPlace rows (option_and_then (λ step. host_place_by step.what step.place path) o) found
+    by : (o : Option MountStep) → found_at rows path o ≡ row found
+        → AtPlace rows (option_and_then (λ step. host_place_by step.what step.place path) o) found
     by None e = absurd (cc)
     by (Some step) e = shows step.what step.place e
 
 -- and where the host has it, it is found
-shown_row : (rows : Path → Option Row) (table : Table) (path : Path) (found : Row) → ShowsRow rows table path found → finds rows table path ≡ row found
+shown_row : (rows : Path → Option Row) (table : Table) (path : Path) (found : Row) → ShowsRow rows table path found
+    → finds rows table path ≡ row found
 shown_row rows table path found shows = by (entry_of table path) shows.on_host
   where
     there : (what : What) (place : Path) → host_place_by what place path ≡ Some shows.place → found_by rows what place path ≡ row found
@@ -51,7 +56,8 @@ shown_row rows table path found shows = by (entry_of table path) shows.on_host
     there Empty place e = absurd (cc)
     there (Hidden directory) place e = absurd (cc)
 
-    by : (o : Option MountStep) → option_and_then (λ step. host_place_by step.what step.place path) o ≡ Some shows.place → found_at rows path o ≡ row found
+    by : (o : Option MountStep) → option_and_then (λ step. host_place_by step.what step.place path) o ≡ Some shows.place
+        → found_at rows path o ≡ row found
     by None e = absurd (cc)
     by (Some step) e = there step.what step.place e
 
@@ -84,13 +90,15 @@ shown_empty rows table path at =
     ∙ ap (λ place. cond {A = Found Row} (is_same place path) empty_directory (nothing enoent)) at.here
     ∙ ap (λ same. cond {A = Found Row} same empty_directory (nothing enoent)) (same_itself path)
 
-pub hidden_is_refused : (rows : Path → Option Row) (table : Table) (path : Path) → IsHidden table path → finds rows table path ≡ nothing eacces
+pub hidden_is_refused : (rows : Path → Option Row) (table : Table) (path : Path) → IsHidden table path
+    → finds rows table path ≡ nothing eacces
 hidden_is_refused rows table path at = ap (found_at rows path) at.entry ∙ ap (λ what. found_by rows what at.step.place path) at.hidden
 
 abbrev chosen : Bool → Bool → Result ℕ ℕ → Result ℕ ℕ → Result ℕ ℕ
 chosen none writes written seen = cond none (Err einval) (cond writes written seen)
 
-pub hidden_is_not_opened : (rows : Path → Option Row) (table : Table) (path : Path) (flags : ℕ) → IsHidden table path → (access_mode flags == 3) ≡ false → open_answer flags (flags_at table path) (finds rows table path) ≡ Err eacces
+pub hidden_is_not_opened : (rows : Path → Option Row) (table : Table) (path : Path) (flags : ℕ) → IsHidden table path
+    → (access_mode flags == 3) ≡ false → open_answer flags (flags_at table path) (finds rows table path) ≡ Err eacces
 hidden_is_not_opened rows table path flags at mode =
     ap (open_answer flags (flags_at table path)) (hidden_is_refused rows table path at)
     ∙ ap (λ none. chosen none (is_writing flags) (Err eacces) (Err eacces)) mode
@@ -100,36 +108,43 @@ hidden_is_not_opened rows table path flags at mode =
     either true = refl
     either false = refl
 
-pub seen_is_there : (rows : Path → Option Row) (table : Table) (path : Path) (value : ℕ) → see_answer value (finds rows table path) ≡ Ok value → ((found : Row) × ShowsRow rows table path found) ⊎ IsEmptyPlace table path
+pub seen_is_there : (rows : Path → Option Row) (table : Table) (path : Path) (value : ℕ)
+    → see_answer value (finds rows table path) ≡ Ok value → ((found : Row) × ShowsRow rows table path found) ⊎ IsEmptyPlace table path
 seen_is_there rows table path value e = by (finds rows table path) refl e
   where
-    by : (o : Found Row) → finds rows table path ≡ o → see_answer value o ≡ Ok value → ((found : Row) × ShowsRow rows table path found) ⊎ IsEmptyPlace table path
+    by : (o : Found Row) → finds rows table path ≡ o → see_answer value o ≡ Ok value
+        → ((found : Row) × ShowsRow rows table path found) ⊎ IsEmptyPlace table path
     by (row found) is e = inl (found, row_shown rows table path found is)
     by empty_directory is e = inr (empty_shown rows table path is)
     by (nothing errno) is e = absurd (cc)
 
-pub there_is_seen : (rows : Path → Option Row) (table : Table) (path : Path) (value : ℕ) → ((found : Row) × ShowsRow rows table path found) ⊎ IsEmptyPlace table path → see_answer value (finds rows table path) ≡ Ok value
+pub there_is_seen : (rows : Path → Option Row) (table : Table) (path : Path) (value : ℕ)
+    → ((found : Row) × ShowsRow rows table path found) ⊎ IsEmptyPlace table path → see_answer value (finds rows table path) ≡ Ok value
 there_is_seen rows table path value there = elim there [
   | inl shows ↦ ap (see_answer value) (shown_row rows table path shows.0 shows.1)
   | inr at ↦ ap (see_answer value) (shown_empty rows table path at)
 ]
 
-pub written_may_be : (rows : Path → Option Row) (table : Table) (path : Path) (value : ℕ) → write_answer value (flags_at table path) (finds rows table path) ≡ Ok value → IsWritableFile rows table path
+pub written_may_be : (rows : Path → Option Row) (table : Table) (path : Path) (value : ℕ)
+    → write_answer value (flags_at table path) (finds rows table path) ≡ Ok value → IsWritableFile rows table path
 written_may_be rows table path value e = by (finds rows table path) refl e
   where
-    tests : (dir only : Bool) → ◌≡◌ {A = Result ℕ ℕ} (cond dir (Err eisdir) (cond only (Err erofs) (Ok value))) (Ok value) → (dir ≡ false) × (only ≡ false)
+    tests : (dir only : Bool) → ◌≡◌ {A = Result ℕ ℕ} (cond dir (Err eisdir) (cond only (Err erofs) (Ok value))) (Ok value)
+        → (dir ≡ false) × (only ≡ false)
     tests true only e = absurd (cc)
     tests false true e = absurd (cc)
     tests false false e = (refl, refl)
 
-    by : (o : Found Row) → finds rows table path ≡ o → write_answer value (flags_at table path) o ≡ Ok value → IsWritableFile rows table path
+    by : (o : Found Row) → finds rows table path ≡ o → write_answer value (flags_at table path) o ≡ Ok value
+        → IsWritableFile rows table path
     by (row found) is e =
         let passed = tests (is_dir found.kind) (flags_at table path).read_only e in
         record { found = found; shown = row_shown rows table path found is; file = passed.0; writable = passed.1 }
     by empty_directory is e = absurd (cc)
     by (nothing errno) is e = absurd (cc)
 
-pub may_be_written : (rows : Path → Option Row) (table : Table) (path : Path) (value : ℕ) → IsWritableFile rows table path → write_answer value (flags_at table path) (finds rows table path) ≡ Ok value
+pub may_be_written : (rows : Path → Option Row) (table : Table) (path : Path) (value : ℕ) → IsWritableFile rows table path
+    → write_answer value (flags_at table path) (finds rows table path) ≡ Ok value
 may_be_written rows table path value may =
     ap (write_answer value (flags_at table path)) (shown_row rows table path may.found may.shown)
     ∙ ap (λ dir. cond {A = Result ℕ ℕ} dir (Err eisdir) (cond (flags_at table path).read_only (Err erofs) (Ok value))) may.file
@@ -138,15 +153,18 @@ may_be_written rows table path value may =
 abbrev tried : Bool → Bool → Program → Result Program ℕ
 tried exe stopped program = cond (not exe) (Err eacces) (cond stopped (Err eacces) (Ok program))
 
-pub executed_may_be : (rows : Path → Option Row) (table : Table) (path : Path) (program : Program) → program_answer (flags_at table path) (finds rows table path) ≡ Ok program → IsProgram rows table path program
+pub executed_may_be : (rows : Path → Option Row) (table : Table) (path : Path) (program : Program)
+    → program_answer (flags_at table path) (finds rows table path) ≡ Ok program → IsProgram rows table path program
 executed_may_be rows table path program e = by (finds rows table path) refl e
   where
-    tests : (exe stopped : Bool) (made : Program) → tried exe stopped made ≡ Ok program → (exe ≡ true) × (stopped ≡ false) × (made ≡ program)
+    tests : (exe stopped : Bool) (made : Program) → tried exe stopped made ≡ Ok program
+        → (exe ≡ true) × (stopped ≡ false) × (made ≡ program)
     tests false stopped made e = absurd (cc)
     tests true true made e = absurd (cc)
     tests true false made e = (refl, refl, (cc))
 
-    by : (o : Found Row) → finds rows table path ≡ o → program_answer (flags_at table path) o ≡ Ok program → IsProgram rows table path program
+    by : (o : Found Row) → finds rows table path ≡ o → program_answer (flags_at table path) o ≡ Ok program
+        → IsProgram rows table path program
     by (row found) is e =
         let passed = tests (is_exe found.kind) (flags_at table path).no_exec (record { file = marks_of found; no_suid = (flags_at table path).no_suid }) e in
         record {
@@ -160,10 +178,12 @@ executed_may_be rows table path program e = by (finds rows table path) refl e
     by empty_directory is e = absurd (cc)
     by (nothing errno) is e = absurd (cc)
 
-pub may_be_executed : (rows : Path → Option Row) (table : Table) (path : Path) (program : Program) → IsProgram rows table path program → program_answer (flags_at table path) (finds rows table path) ≡ Ok program
+pub may_be_executed : (rows : Path → Option Row) (table : Table) (path : Path) (program : Program) → IsProgram rows table path program
+    → program_answer (flags_at table path) (finds rows table path) ≡ Ok program
 may_be_executed rows table path program may =
     ap (program_answer (flags_at table path)) (shown_row rows table path may.found may.shown)
-    ∙ ap (λ exe. tried exe (flags_at table path).no_exec (record { file = marks_of may.found; no_suid = (flags_at table path).no_suid })) may.executable
+    ∙ ap (λ exe. tried exe (flags_at table path).no_exec (record { file = marks_of may.found; no_suid = (flags_at table path).no_suid }))
+    may.executable
     ∙ ap (λ stopped. tried true stopped (record { file = marks_of may.found; no_suid = (flags_at table path).no_suid })) may.leave
     ∙ ap (λ file. tried true false (record { file = file; no_suid = (flags_at table path).no_suid })) may.marks
     ∙ ap (λ no_suid. tried true false (record { file = program.file; no_suid = no_suid })) may.no_suid

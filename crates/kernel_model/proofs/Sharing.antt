@@ -1,5 +1,6 @@
 -- Which table processes have after fork, clone and unshare.
-use Rattle.std.proofs.Common.{◌≡◌, ℕ, ◌+◌, ◌-◌, ◌==◌, Bool, true, false, cond, List, [], ◌∷◌, ◌++◌, length, Some, refl, sym, ap, ◌∙◌, subst, arith}
+use Rattle.std.proofs.Common.{◌≡◌, ℕ, ◌+◌, ◌-◌, ◌==◌, Bool, true, false, cond, List, [], ◌∷◌, ◌++◌, length, Some, refl, sym, ap, ◌∙◌, subst}
+use Rattle.std.proofs.Common.{arith}
 use Rattle.std.specs.Prelude.{slice_get, slice_set, not}
 use Rattle.std.specs.Int.RustNames.{bit_and}
 use Rattle.std.proofs.lemmas.Nat.{and_assoc}
@@ -19,8 +20,10 @@ use Rattle.kernel_model.specs.declared.process.Process.{Process}
 use Rattle.kernel_model.specs.declared.reply.Reply.{Reply}
 use Rattle.kernel_model.specs.declared.reply.Reply.TheVariants as reply
 use Rattle.kernel_model.specs.Effects as f
-use Rattle.kernel_model.specs.Effects.{Effect, effect_of, with_admin, clone_effect, unshare_effect, thread_flag, newns, newuser, other_spaces, no_spaces}
-use Rattle.kernel_model.specs.World.{World, living_of, process_of, of_number, mounts_of, with_copy, moved_to, host_of, caller_of, owner_of, owner_or}
+use Rattle.kernel_model.specs.Effects.{Effect, effect_of, with_admin, clone_effect, unshare_effect, thread_flag, newns, newuser}
+use Rattle.kernel_model.specs.Effects.{other_spaces, no_spaces}
+use Rattle.kernel_model.specs.World.{World, living_of, process_of, of_number, mounts_of, with_copy, moved_to, host_of, caller_of, owner_of}
+use Rattle.kernel_model.specs.World.{owner_or}
 use Rattle.kernel_model.specs.Step.{step, step_by, decided, answered, applied, decision_of}
 use Rattle.kernel_model.specs.StepCases as case
 use Rattle.kernel_model.specs.StepCases.{EffectCase}
@@ -30,17 +33,20 @@ use Rattle.kernel_model.proofs.Places.{number_get, get_number, living_made}
 use Rattle.kernel_model.proofs.Cases.{effect_case}
 
 -- a step that is done is what its effect comes to
-decided_done : (world : World) (call : Call) (process : Process) (doing : Doing) (value : ℕ) (d : Decision) → asked_of world.calls call ≡ Does doing → (decided world call process d).0 ≡ reply.Done value
+decided_done : (world : World) (call : Call) (process : Process) (doing : Doing) (value : ℕ) (d : Decision)
+    → asked_of world.calls call ≡ Does doing → (decided world call process d).0 ≡ reply.Done value
     → decided world call process d ≡ applied world call.pid process (effect_of (host_of world) (caller_of world process) doing)
 decided_done world call process doing value decision.Pass asked e = ap (answered world call.pid process) asked
 decided_done world call process doing value (decision.Errno errno) asked e = cc
 decided_done world call process doing value decision.Kill asked e = cc
 
-done_is : (world : World) (call : Call) (process : Process) (doing : Doing) (value : ℕ) → living_of world call.pid ≡ Some process → asked_of world.calls call ≡ Does doing → (step world call).0 ≡ reply.Done value
+done_is : (world : World) (call : Call) (process : Process) (doing : Doing) (value : ℕ) → living_of world call.pid ≡ Some process
+    → asked_of world.calls call ≡ Does doing → (step world call).0 ≡ reply.Done value
     → step world call ≡ applied world call.pid process (effect_of (host_of world) (caller_of world process) doing)
 done_is world call process doing value living asked e =
     let lived : step world call ≡ decided world call process (decision_of world call process) = ap (step_by world call) living in
-    lived ∙ decided_done world call process doing value (decision_of world call process) asked (ap (λ (out : Reply × World). out.0) (sym lived) ∙ e)
+    lived ∙ decided_done world call process doing value (decision_of world call process) asked
+    (ap (λ (out : Reply × World). out.0) (sym lived) ∙ e)
 
 -- what is behind the others has the next number
 last_number : {X : Type 0} (xs : List X) (x : X) → of_number (xs ++ x ∷ []) (length xs + 1) ≡ Some x
@@ -54,10 +60,13 @@ last_number xs x =
 earlier_number : {X : Type 0} (xs : List X) (number : ℕ) (x y : X) → of_number xs number ≡ Some y → of_number (xs ++ x ∷ []) number ≡ Some y
 earlier_number xs number x y e = let h = number_get xs number y e in get_number (xs ++ x ∷ []) number y h.0 (get_earlier xs (number - 1) x y h.1)
 
-set_number : {X : Type 0} (xs : List X) (number : ℕ) (x y : X) → of_number xs number ≡ Some y → of_number (slice_set xs (number - 1) x) number ≡ Some x
+set_number : {X : Type 0} (xs : List X) (number : ℕ) (x y : X) → of_number xs number ≡ Some y
+    → of_number (slice_set xs (number - 1) x) number ≡ Some x
 set_number xs number x y e = let h = number_get xs number y e in get_number (slice_set xs (number - 1) x) number x h.0 (get_set xs (number - 1) x y h.1)
 
-forked : (world : World) (pid : ℕ) (process : Process) (value : ℕ) (effect : Effect) (out : Reply × World) → process_of world pid ≡ Some process → effect ≡ f.Child false → EffectCase world pid process effect out → out.0 ≡ reply.Done value → IsForked world pid process value out.1
+forked : (world : World) (pid : ℕ) (process : Process) (value : ℕ) (effect : Effect) (out : Reply × World)
+    → process_of world pid ≡ Some process → effect ≡ f.Child false → EffectCase world pid process effect out → out.0 ≡ reply.Done value
+    → IsForked world pid process value out.1
 forked world pid process value effect out made is (case.shares room) e =
     let number : value ≡ length world.processes + 1 = cc in
     record {
@@ -97,7 +106,9 @@ fork_shares world call process value living asked e =
 abbrev copy_of : World → Process → Table
 copy_of world process = copied (not (owner_of world process.namespace == process.user)) (mounts_of world process.namespace)
 
-cloned : (world : World) (numbers : length world.owners ≡ length world.tables) (pid : ℕ) (process : Process) (value : ℕ) (effect : Effect) (out : Reply × World) → process_of world pid ≡ Some process → effect ≡ f.Child true → EffectCase world pid process effect out → out.0 ≡ reply.Done value → IsCloned world pid process value out.1
+cloned : (world : World) (numbers : length world.owners ≡ length world.tables) (pid : ℕ) (process : Process) (value : ℕ) (effect : Effect)
+    (out : Reply × World) → process_of world pid ≡ Some process → effect ≡ f.Child true → EffectCase world pid process effect out
+    → out.0 ≡ reply.Done value → IsCloned world pid process value out.1
 cloned world numbers pid process value effect out made is (case.gives_copy room space) e =
     let number : value ≡ length world.processes + 1 = cc in
     let child = moved_to process (length world.tables) in
@@ -110,11 +121,14 @@ cloned world numbers pid process value effect out made is (case.gives_copy room 
       count = length-push world.tables (copy_of world process);
     }
   where
-    own : (world : World) (process : Process) → mounts_of (with_copy world process.namespace process.user) (length world.tables + 1) ≡ copy_of world process
+    own : (world : World) (process : Process) → mounts_of (with_copy world process.namespace process.user) (length world.tables + 1)
+        ≡ copy_of world process
     own world process = rw (last_number world.tables (copy_of world process)) refl
 
-    home : (world : World) (process : Process) → length world.owners ≡ length world.tables → owner_of (with_copy world process.namespace process.user) (length world.tables + 1) ≡ process.user
-    home world process numbers = ap (λ (n : ℕ). owner_or (of_number (world.owners ++ process.user ∷ []) (n + 1))) (sym numbers) ∙ ap owner_or (last_number world.owners process.user)
+    home : (world : World) (process : Process) → length world.owners ≡ length world.tables
+        → owner_of (with_copy world process.namespace process.user) (length world.tables + 1) ≡ process.user
+    home world process numbers = ap (λ (n : ℕ). owner_or (of_number (world.owners ++ process.user ∷ []) (n + 1))) (sym numbers)
+        ∙ ap owner_or (last_number world.owners process.user)
 cloned world numbers pid process value effect out made is (case.refuses errno) e = cc
 cloned world numbers pid process value effect out made is (case.answers other) e = cc
 cloned world numbers pid process value effect out made is (case.takes_creds creds) e = cc
@@ -136,11 +150,14 @@ cloned world numbers pid process value effect out made is (case.no_namespace_beh
 cloned world numbers pid process value effect out made is (case.enters_and_moves left space) e = cc
 cloned world numbers pid process value effect out made is case.ends e = cc
 
-unshared : (world : World) (numbers : length world.owners ≡ length world.tables) (pid : ℕ) (process : Process) (value : ℕ) (effect : Effect) (out : Reply × World) → process_of world pid ≡ Some process → effect ≡ f.OwnTable → EffectCase world pid process effect out → out.0 ≡ reply.Done value → IsUnshared world pid process out.1
+unshared : (world : World) (numbers : length world.owners ≡ length world.tables) (pid : ℕ) (process : Process) (value : ℕ)
+    (effect : Effect) (out : Reply × World) → process_of world pid ≡ Some process → effect ≡ f.OwnTable
+    → EffectCase world pid process effect out → out.0 ≡ reply.Done value → IsUnshared world pid process out.1
 unshared world numbers pid process value effect out made is (case.moves space) e = record {
   caller = set_number world.processes pid (moved_to process (length world.tables)) process made;
   own_table = rw (last_number world.tables (copy_of world process)) refl;
-  owner = ap (λ (n : ℕ). owner_or (of_number (world.owners ++ process.user ∷ []) (n + 1))) (sym numbers) ∙ ap owner_or (last_number world.owners process.user);
+  owner = ap (λ (n : ℕ). owner_or (of_number (world.owners ++ process.user ∷ []) (n + 1))) (sym numbers)
+      ∙ ap owner_or (last_number world.owners process.user);
   count = length-push world.tables (copy_of world process);
 }
 unshared world numbers pid process value effect out made is (case.gives_copy room space) e = cc
@@ -190,7 +207,8 @@ asks_admin : (creds : Creds) (effect : Effect) (b : Bool) → Asks effect (cond 
 asks_admin creds effect true = asks
 asks_admin creds effect false = refuses eperm
 
-clone_asks : (creds : Creds) (flags : ℕ) → has_some newuser flags ≡ false → has_some newns flags ≡ true → Asks (f.Child true) (clone_effect creds flags)
+clone_asks : (creds : Creds) (flags : ℕ) → has_some newuser flags ≡ false → has_some newns flags ≡ true
+    → Asks (f.Child true) (clone_effect creds flags)
 clone_asks creds flags none e = thread (has_some thread_flag flags)
   where
     spaces : (b own : Bool) → b ≡ true → own ≡ true → Asks (f.Child true) (cond b (with_admin creds (f.Child own)) (f.Child false))
@@ -198,46 +216,69 @@ clone_asks creds flags none e = thread (has_some thread_flag flags)
     spaces true false s o = cc
     spaces false own s o = cc
 
-    user : (b : Bool) → b ≡ false → Asks (f.Child true) (cond b (f.UserChild (has_some newns flags)) (cond (has_some other_spaces flags) (with_admin creds (f.Child (has_some newns flags))) (f.Child false)))
+    user : (b : Bool) → b ≡ false
+        → Asks (f.Child true)
+        (cond b (f.UserChild (has_some newns flags))
+        (cond (has_some other_spaces flags) (with_admin creds (f.Child (has_some newns flags))) (f.Child false)))
     user true n = cc
     user false n = spaces (has_some other_spaces flags) (has_some newns flags) (newns_is_other flags e) e
 
-    thread : (b : Bool) → Asks (f.Child true) (cond b (f.Refuse einval) (cond (has_some newuser flags) (f.UserChild (has_some newns flags)) (cond (has_some other_spaces flags) (with_admin creds (f.Child (has_some newns flags))) (f.Child false))))
+    thread : (b : Bool) → Asks (f.Child true)
+        (cond b (f.Refuse einval)
+        (cond (has_some newuser flags) (f.UserChild (has_some newns flags))
+        (cond (has_some other_spaces flags) (with_admin creds (f.Child (has_some newns flags))) (f.Child false))))
     thread true = refuses einval
     thread false = user (has_some newuser flags) none
 
-unshare_asks : (creds : Creds) (flags : ℕ) → has_some newuser flags ≡ false → has_some newns flags ≡ true → Asks f.OwnTable (unshare_effect creds flags)
+unshare_asks : (creds : Creds) (flags : ℕ) → has_some newuser flags ≡ false → has_some newns flags ≡ true
+    → Asks f.OwnTable (unshare_effect creds flags)
 unshare_asks creds flags none e = outside (has_some no_spaces flags)
   where
-    spaces : (b own : Bool) → b ≡ true → own ≡ true → Asks f.OwnTable (cond b (with_admin creds (cond own f.OwnTable (f.Answer 0))) (f.Answer 0))
+    spaces : (b own : Bool) → b ≡ true → own ≡ true → Asks f.OwnTable
+        (cond b (with_admin creds (cond own f.OwnTable (f.Answer 0))) (f.Answer 0))
     spaces true true s o = asks_admin creds f.OwnTable (has creds.effective cap_sys_admin)
     spaces true false s o = cc
     spaces false own s o = cc
 
-    user : (b : Bool) → b ≡ false → Asks f.OwnTable (cond b (f.OwnUser (has_some newns flags)) (cond (has_some other_spaces flags) (with_admin creds (cond (has_some newns flags) f.OwnTable (f.Answer 0))) (f.Answer 0)))
+    user : (b : Bool) → b ≡ false
+        → Asks f.OwnTable (cond b (f.OwnUser (has_some newns flags))
+        (cond (has_some other_spaces flags) (with_admin creds (cond (has_some newns flags) f.OwnTable (f.Answer 0))) (f.Answer 0)))
     user true n = cc
     user false n = spaces (has_some other_spaces flags) (has_some newns flags) (newns_is_other flags e) e
 
-    outside : (b : Bool) → Asks f.OwnTable (cond b (f.Refuse einval) (cond (has_some newuser flags) (f.OwnUser (has_some newns flags)) (cond (has_some other_spaces flags) (with_admin creds (cond (has_some newns flags) f.OwnTable (f.Answer 0))) (f.Answer 0))))
+    outside : (b : Bool) → Asks f.OwnTable
+        (cond b (f.Refuse einval)
+        (cond (has_some newuser flags) (f.OwnUser (has_some newns flags))
+        (cond (has_some other_spaces flags) (with_admin creds (cond (has_some newns flags) f.OwnTable (f.Answer 0))) (f.Answer 0))))
     outside true = refuses einval
     outside false = user (has_some newuser flags) none
 
-cloned_by : (world : World) (numbers : length world.owners ≡ length world.tables) (pid : ℕ) (process : Process) (value : ℕ) (effect : Effect) → process_of world pid ≡ Some process → Asks (f.Child true) effect → (applied world pid process effect).0 ≡ reply.Done value → IsCloned world pid process value (applied world pid process effect).1
+cloned_by : (world : World) (numbers : length world.owners ≡ length world.tables) (pid : ℕ) (process : Process) (value : ℕ)
+    (effect : Effect) → process_of world pid ≡ Some process → Asks (f.Child true) effect
+    → (applied world pid process effect).0 ≡ reply.Done value → IsCloned world pid process value (applied world pid process effect).1
 cloned_by world numbers pid process value effect made (refuses errno) e = cc
-cloned_by world numbers pid process value effect made asks e = cloned world numbers pid process value (f.Child true) (applied world pid process (f.Child true)) made refl (effect_case world pid process (f.Child true)) e
+cloned_by world numbers pid process value effect made asks e =
+    cloned world numbers pid process value (f.Child true) (applied world pid process (f.Child true)) made refl
+    (effect_case world pid process (f.Child true)) e
 
 pub clone_gives_a_copy : CloneGivesACopy
 clone_gives_a_copy world call process flags value numbers living asked none own e =
     let is = done_is world call process (Clone flags) value living asked e in
     subst (λ (out : Reply × World). IsCloned world call.pid process value out.1) (sym is)
-    (cloned_by world numbers call.pid process value (clone_effect process.creds flags) (living_made world call.pid process living) (clone_asks process.creds flags none own) (ap (λ (out : Reply × World). out.0) (sym is) ∙ e))
+    (cloned_by world numbers call.pid process value (clone_effect process.creds flags) (living_made world call.pid process living)
+    (clone_asks process.creds flags none own) (ap (λ (out : Reply × World). out.0) (sym is) ∙ e))
 
-unshared_by : (world : World) (numbers : length world.owners ≡ length world.tables) (pid : ℕ) (process : Process) (value : ℕ) (effect : Effect) → process_of world pid ≡ Some process → Asks f.OwnTable effect → (applied world pid process effect).0 ≡ reply.Done value → IsUnshared world pid process (applied world pid process effect).1
+unshared_by : (world : World) (numbers : length world.owners ≡ length world.tables) (pid : ℕ) (process : Process) (value : ℕ)
+    (effect : Effect) → process_of world pid ≡ Some process → Asks f.OwnTable effect
+    → (applied world pid process effect).0 ≡ reply.Done value → IsUnshared world pid process (applied world pid process effect).1
 unshared_by world numbers pid process value effect made (refuses errno) e = cc
-unshared_by world numbers pid process value effect made asks e = unshared world numbers pid process value f.OwnTable (applied world pid process f.OwnTable) made refl (effect_case world pid process f.OwnTable) e
+unshared_by world numbers pid process value effect made asks e =
+    unshared world numbers pid process value f.OwnTable (applied world pid process f.OwnTable) made refl
+    (effect_case world pid process f.OwnTable) e
 
 pub unshare_gives_a_copy : UnshareGivesACopy
 unshare_gives_a_copy world call process flags value numbers living asked none own e =
     let is = done_is world call process (Unshare flags) value living asked e in
     subst (λ (out : Reply × World). IsUnshared world call.pid process out.1) (sym is)
-    (unshared_by world numbers call.pid process value (unshare_effect process.creds flags) (living_made world call.pid process living) (unshare_asks process.creds flags none own) (ap (λ (out : Reply × World). out.0) (sym is) ∙ e))
+    (unshared_by world numbers call.pid process value (unshare_effect process.creds flags) (living_made world call.pid process living)
+    (unshare_asks process.creds flags none own) (ap (λ (out : Reply × World). out.0) (sym is) ∙ e))

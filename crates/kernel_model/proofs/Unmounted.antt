@@ -7,7 +7,8 @@ use Rattle.kern_mounts.specs.Split.{Table}
 use Rattle.kern_mounts.specs.Umount.{after_umount}
 use Rattle.kernel_model.specs.kern_files.UmountCall.{mnt_detach, umount_answer}
 
-pub no_other_flags : (table : Table) (path : Path) (flags : ℕ) → (flags == 0 || flags == mnt_detach) ≡ false → umount_answer table path flags ≡ Err einval
+pub no_other_flags : (table : Table) (path : Path) (flags : ℕ) → (flags == 0 || flags == mnt_detach) ≡ false
+    → umount_answer table path flags ≡ Err einval
 no_other_flags table path flags other = ap (λ b. cond b (after_umount table path (flags == mnt_detach)) (Err einval)) other
 
 pub root_stays : (table : Table) (flags : ℕ) → umount_answer table [] flags ≡ Err einval

@@ -1,5 +1,6 @@
 -- What a call comes to, said of the calling process and its mount table alone: its rule, with the errors in their order.
-use Rattle.std.specs.Prelude.{ℕ, ◌+◌, ◌==◌, ◌&&◌, ◌||◌, not, nat_lt, nat_le, Bool, true, false, List, length, Option, Some, None, Result, Ok, Err, if◌then◌else◌}
+use Rattle.std.specs.Prelude.{ℕ, ◌+◌, ◌==◌, ◌&&◌, ◌||◌, not, nat_lt, nat_le, Bool, true, false, List, length, Option, Some, None, Result}
+use Rattle.std.specs.Prelude.{Ok, Err, if◌then◌else◌}
 use Rattle.bpf_code.specs.declared.machine.Insn.{Insn}
 use Rattle.bpf_code.specs.ProgramOf.{program_of}
 use Rattle.bpf_code.specs.Stack.{room_of}
@@ -16,13 +17,16 @@ use Rattle.kern_creds.specs.Setuid.{after_setuid, after_setgid}
 use Rattle.kern_creds.specs.Setresuid.{after_setresuid, after_setresgid}
 use Rattle.kern_creds.specs.Setgroups.{after_setgroups}
 use Rattle.kern_creds.specs.Capset.{after_capset}
-use Rattle.kern_creds.specs.Prctl.{after_drop_bounding, after_raise, after_lower, after_clear_ambient, after_set_keepcaps, after_set_no_new_privs}
+use Rattle.kern_creds.specs.Prctl.{after_drop_bounding, after_raise, after_lower, after_clear_ambient, after_set_keepcaps}
+use Rattle.kern_creds.specs.Prctl.{after_set_no_new_privs}
 use Rattle.kern_mounts.specs.Finds.{finds}
 use Rattle.kern_mounts.specs.Mounts.{Mounts as Table, steps_of}
 use Rattle.kernel_model.specs.kern_files.Bits.{has_some}
 use Rattle.kernel_model.specs.kern_files.Looking.{flags_at, see_answer, write_answer, open_answer}
 use Rattle.kernel_model.specs.kern_files.Executing.{exec_answer_in}
-use Rattle.kernel_model.specs.kernel_calls.Doing.{Doing, See, Open, Create, Truncate, Execve, SetMode, Map, Protect, Attach, Schedule, Personality, Socket, Enter, Fork, Clone, Unshare, Exit, Mount, Umount, Setuid, Setgid, Setresuid, Setresgid, Setgroups, Capset, Prctl, Seccomp, Plain, Socketcall}
+use Rattle.kernel_model.specs.kernel_calls.Doing.{Doing, See, Open, Create, Truncate, Execve, SetMode, Map, Protect, Attach, Schedule}
+use Rattle.kernel_model.specs.kernel_calls.Doing.{Personality, Socket, Enter, Fork, Clone, Unshare, Exit, Mount, Umount, Setuid, Setgid}
+use Rattle.kernel_model.specs.kernel_calls.Doing.{Setresuid, Setresgid, Setgroups, Capset, Prctl, Seccomp, Plain, Socketcall}
 use Rattle.kernel_model.specs.kern_files.MountsCall.{mounts_after_mount, mounts_umount_answer}
 
 pub data Effect : Type 0 where
@@ -222,10 +226,15 @@ seccomp_effect creds stack operation flags bytes =
 -- what a call that the caller's programs let through comes to, by what it asks for
 abbrev pub effect_of : Host → Caller → Doing → Effect
 effect_of host caller (See path) = looks (see_answer 0 (finds host.rows (steps_of caller.table) path))
-effect_of host caller (Open flags path) = looks (open_answer flags (flags_at (steps_of caller.table) path) (finds host.rows (steps_of caller.table) path))
-effect_of host caller (Create path) = looks (write_answer 3 (flags_at (steps_of caller.table) path) (finds host.rows (steps_of caller.table) path))
-effect_of host caller (Truncate path) = looks (write_answer 0 (flags_at (steps_of caller.table) path) (finds host.rows (steps_of caller.table) path))
-effect_of host caller (Execve path) = creds_effect (exec_answer_in caller.newer caller.creds (flags_at (steps_of caller.table) path) (finds host.rows (steps_of caller.table) path))
+effect_of host caller (Open flags path) =
+    looks (open_answer flags (flags_at (steps_of caller.table) path) (finds host.rows (steps_of caller.table) path))
+effect_of host caller (Create path) =
+    looks (write_answer 3 (flags_at (steps_of caller.table) path) (finds host.rows (steps_of caller.table) path))
+effect_of host caller (Truncate path) =
+    looks (write_answer 0 (flags_at (steps_of caller.table) path) (finds host.rows (steps_of caller.table) path))
+effect_of host caller (Execve path) =
+    creds_effect (exec_answer_in caller.newer caller.creds (flags_at (steps_of caller.table) path)
+    (finds host.rows (steps_of caller.table) path))
 effect_of host caller (SetMode mode) = Answer 0
 effect_of host caller (Map protection) = Answer 0
 effect_of host caller (Protect protection) = Answer 0
@@ -239,12 +248,16 @@ effect_of host caller Fork = Child false
 effect_of host caller (Clone flags) = clone_effect caller.creds flags
 effect_of host caller (Unshare flags) = unshare_effect caller.creds flags
 effect_of host caller Exit = End
-effect_of host caller (Mount source target flags) = with_own caller.owns (with_admin caller.creds (table_effect (mounts_after_mount host.rows caller.table source target flags)))
-effect_of host caller (Umount path flags) = with_own caller.owns (with_admin caller.creds (table_effect (mounts_umount_answer caller.table path flags)))
+effect_of host caller (Mount source target flags) = with_own caller.owns
+    (with_admin caller.creds (table_effect (mounts_after_mount host.rows caller.table source target flags)))
+effect_of host caller (Umount path flags) = with_own caller.owns
+    (with_admin caller.creds (table_effect (mounts_umount_answer caller.table path flags)))
 effect_of host caller (Setuid id) = with_mapped caller.newer (creds_effect (after_setuid caller.creds id))
 effect_of host caller (Setgid id) = with_mapped caller.newer (creds_effect (after_setgid caller.creds id))
-effect_of host caller (Setresuid real effective saved) = with_mapped_ids caller.newer real effective saved (creds_effect (after_setresuid caller.creds real effective saved))
-effect_of host caller (Setresgid real effective saved) = with_mapped_ids caller.newer real effective saved (creds_effect (after_setresgid caller.creds real effective saved))
+effect_of host caller (Setresuid real effective saved) = with_mapped_ids caller.newer real effective saved
+    (creds_effect (after_setresuid caller.creds real effective saved))
+effect_of host caller (Setresgid real effective saved) = with_mapped_ids caller.newer real effective saved
+    (creds_effect (after_setresgid caller.creds real effective saved))
 effect_of host caller (Setgroups ids) = with_groups caller.newer (creds_effect (after_setgroups caller.creds ids))
 effect_of host caller (Capset permitted effective inheritable) = creds_effect (after_capset caller.creds permitted effective inheritable)
 effect_of host caller (Prctl option value third) = prctl_effect caller.creds option value third

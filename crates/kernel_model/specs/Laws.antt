@@ -30,7 +30,8 @@ RefusedChangesNothing = (world : World) (call : Call) (errno : ℕ) → (step wo
 
 -- a call that kills ends its caller and changes nothing else
 abbrev pub KilledEndsTheCaller : Type 0
-KilledEndsTheCaller = (world : World) (call : Call) → (step world call).0 ≡ Killed → (process : Process) × (living_of world call.pid ≡ Some process) × ((step world call).1 ≡ with_process world call.pid (ended process))
+KilledEndsTheCaller = (world : World) (call : Call) → (step world call).0 ≡ Killed
+    → (process : Process) × (living_of world call.pid ≡ Some process) × ((step world call).1 ≡ with_process world call.pid (ended process))
 
 -- programs are the oldest of a process
 abbrev pub StandsOn : List (List Insn) → Process → Type 0
@@ -41,11 +42,13 @@ OfEach P world = AllByRecursion P world.processes
 
 -- programs that are the oldest of every process, as those of a launch are, stay so whatever calls follow
 abbrev pub ProgramsStay : Type 0
-ProgramsStay = (programs : List (List Insn)) (world : World) → OfEach (StandsOn programs) world → (calls : List Call) → OfEach (StandsOn programs) (run world calls)
+ProgramsStay = (programs : List (List Insn)) (world : World) → OfEach (StandsOn programs) world → (calls : List Call)
+    → OfEach (StandsOn programs) (run world calls)
 
 -- what holds of a world holds of each that calls make of it
 abbrev pub WorldsStay : Type 0
-WorldsStay = (world : World) → IsKernel world.processes world.tables → (calls : List Call) → IsKernel (run world calls).processes (run world calls).tables
+WorldsStay = (world : World) → IsKernel world.processes world.tables → (calls : List Call)
+    → IsKernel (run world calls).processes (run world calls).tables
 
 -- what the kernel was told stays
 abbrev pub ToldStays : Type 0
@@ -69,23 +72,27 @@ pub record IsCloned (world : World) (pid : ℕ) (process : Process) (value : ℕ
   pub parent : process_of after pid ≡ Some process
   pub child : process_of after value ≡ Some (record process { namespace = length world.tables + 1 })
   pub number : value ≡ length world.processes + 1
-  pub own_table : mounts_of after (length world.tables + 1) ≡ copied (not (owner_of world process.namespace == process.user)) (mounts_of world process.namespace)
+  pub own_table : mounts_of after (length world.tables + 1) ≡ copied (not (owner_of world process.namespace == process.user))
+      (mounts_of world process.namespace)
   pub owner : owner_of after (length world.tables + 1) ≡ process.user
   pub count : length after.tables ≡ length world.tables + 1
 
 abbrev pub CloneGivesACopy : Type 0
 CloneGivesACopy = (world : World) (call : Call) (process : Process) (flags value : ℕ) → length world.owners ≡ length world.tables
-    → living_of world call.pid ≡ Some process → asked_of world.calls call ≡ Does (Clone flags) → has_some newuser flags ≡ false → has_some newns flags ≡ true → (step world call).0 ≡ Done value
+    → living_of world call.pid ≡ Some process → asked_of world.calls call ≡ Does (Clone flags) → has_some newuser flags ≡ false
+    → has_some newns flags ≡ true → (step world call).0 ≡ Done value
     → IsCloned world call.pid process value (step world call).1
 
 -- after unshare(2) with CLONE_NEWNS alone the caller is as before but for its namespace, which is a new one as after clone(2)
 pub record IsUnshared (world : World) (pid : ℕ) (process : Process) (after : World) : Type 0 where
   pub caller : process_of after pid ≡ Some (record process { namespace = length world.tables + 1 })
-  pub own_table : mounts_of after (length world.tables + 1) ≡ copied (not (owner_of world process.namespace == process.user)) (mounts_of world process.namespace)
+  pub own_table : mounts_of after (length world.tables + 1) ≡ copied (not (owner_of world process.namespace == process.user))
+      (mounts_of world process.namespace)
   pub owner : owner_of after (length world.tables + 1) ≡ process.user
   pub count : length after.tables ≡ length world.tables + 1
 
 abbrev pub UnshareGivesACopy : Type 0
 UnshareGivesACopy = (world : World) (call : Call) (process : Process) (flags value : ℕ) → length world.owners ≡ length world.tables
-    → living_of world call.pid ≡ Some process → asked_of world.calls call ≡ Does (Unshare flags) → has_some newuser flags ≡ false → has_some newns flags ≡ true → (step world call).0 ≡ Done value
+    → living_of world call.pid ≡ Some process → asked_of world.calls call ≡ Does (Unshare flags) → has_some newuser flags ≡ false
+    → has_some newns flags ≡ true → (step world call).0 ≡ Done value
     → IsUnshared world call.pid process (step world call).1

@@ -8,7 +8,8 @@ use Rattle.kernel_model.specs.kern_files.MountCall.{ms_remount_bind}
 use Rattle.kernel_model.specs.declared.kernel_calls.call.Call.{Call}
 use Rattle.kernel_model.specs.kernel_calls.Doing.{Doing, Mount, Setgroups, Seccomp, Asked, Lacking, Misformed, Does, asked_of}
 use Rattle.kernel_model.specs.declared.process.Process.{Process}
-use Rattle.kernel_model.specs.Effects.{Effect, Refuse, Answer, SetCreds, SetTable, Push, Child, OwnTable, UserChild, OwnUser, End, effect_of}
+use Rattle.kernel_model.specs.Effects.{Effect, Refuse, Answer, SetCreds, SetTable, Push, Child, OwnTable, UserChild, OwnUser, End}
+use Rattle.kernel_model.specs.Effects.{effect_of}
 use Rattle.kernel_model.specs.World.{World, living_of, host_of, caller_of}
 use Rattle.kernel_model.specs.Step.{most_processes, most_namespaces, has_user_left, decision_of}
 
@@ -23,7 +24,8 @@ asks_for_room doing = false
 abbrev pub makes_one : Bool → ℕ → ℕ → Effect → Bool
 makes_one user processes namespaces (Child own) = nat_lt processes most_processes && (not own || nat_lt namespaces most_namespaces)
 makes_one user processes namespaces OwnTable = nat_lt namespaces most_namespaces
-makes_one user processes namespaces (UserChild own) = user && (nat_lt processes most_processes && (not own || nat_lt namespaces most_namespaces))
+makes_one user processes namespaces (UserChild own) = user &&
+    (nat_lt processes most_processes && (not own || nat_lt namespaces most_namespaces))
 makes_one user processes namespaces (OwnUser own) = user && (own && nat_lt namespaces most_namespaces)
 makes_one user processes namespaces (Refuse errno) = false
 makes_one user processes namespaces (Answer value) = false
@@ -33,7 +35,8 @@ makes_one user processes namespaces (Push program) = false
 makes_one user processes namespaces End = false
 
 abbrev pub takes_doing : World → Process → Doing → Bool
-takes_doing world process doing = asks_for_room doing || makes_one (has_user_left world) (length world.processes) (length world.tables) (effect_of (host_of world) (caller_of world process) doing)
+takes_doing world process doing = asks_for_room doing || makes_one (has_user_left world) (length world.processes) (length world.tables)
+    (effect_of (host_of world) (caller_of world process) doing)
 
 abbrev pub takes_asked : World → Process → Asked → Bool
 takes_asked world process Lacking = false

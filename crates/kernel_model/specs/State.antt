@@ -20,7 +20,8 @@ pub record State : Type 0 where
   pub users : ℕ
 
 abbrev pub world_of : calls.Table → Site → State → World
-world_of calls site state = record { calls = calls; site = site; processes = state.processes; tables = state.tables; owners = state.owners; users = state.users }
+world_of calls site state =
+    record { calls = calls; site = site; processes = state.processes; tables = state.tables; owners = state.owners; users = state.users }
 
 abbrev pub world_with : Told → State → World
 world_with told state = world_of told.calls.now told.site.now state
@@ -41,15 +42,18 @@ place_of processes pid = if pid == 0 then None else option_map (λ process. pid 
 
 -- the process that stands at a place makes a call, and it comes to this
 abbrev pub AtPlace : State → ℕ → (ℕ → Process → Type 0) → Type 0
-AtPlace state place Fact = (pid : ℕ) (process : Process) → place ≡ pid - 1 → slice_get state.processes place ≡ Some process → Fact pid process
+AtPlace state place Fact = (pid : ℕ) (process : Process) → place ≡ pid - 1 → slice_get state.processes place ≡ Some process
+    → Fact pid process
 
 -- with this effect, whatever the kernel is told
 abbrev pub Applies : State → ℕ → Effect → Reply → State → Type 0
-Applies old place effect reply new = (calls : calls.Table) (site : Site) → AtPlace old place (λ pid process. (reply, world_of calls site new) ≡ applied (world_of calls site old) pid process effect)
+Applies old place effect reply new = (calls : calls.Table) (site : Site)
+    → AtPlace old place (λ pid process. (reply, world_of calls site new) ≡ applied (world_of calls site old) pid process effect)
 
 -- the same where the kernel is told this site
 abbrev pub AppliesAt : Site → State → ℕ → Effect → Reply → State → Type 0
-AppliesAt site old place effect reply new = (calls : calls.Table) → AtPlace old place (λ pid process. (reply, world_of calls site new) ≡ applied (world_of calls site old) pid process effect)
+AppliesAt site old place effect reply new = (calls : calls.Table)
+    → AtPlace old place (λ pid process. (reply, world_of calls site new) ≡ applied (world_of calls site old) pid process effect)
 
 -- and where it allows one more user namespace
 abbrev pub AppliesUser : State → ℕ → Effect → Reply → State → Type 0
@@ -57,4 +61,5 @@ AppliesUser old place effect reply new = (site : Site) → old.users < site.user
 
 -- a copy of the table at a place for a user namespace
 abbrev pub IsCopyFor : State → ℕ → ℕ → Table → Type 0
-IsCopyFor state at user table = (own : Table) (owner : ℕ) → slice_get state.tables at ≡ Some own → slice_get state.owners at ≡ Some owner → table ≡ copied (not (owner == user)) own
+IsCopyFor state at user table = (own : Table) (owner : ℕ) → slice_get state.tables at ≡ Some own → slice_get state.owners at ≡ Some owner
+    → table ≡ copied (not (owner == user)) own

@@ -11,8 +11,10 @@ use Rattle.kernel_model.specs.kernel_calls.Doing.{Asked, Lacking, Misformed, Doe
 use Rattle.kernel_model.specs.declared.reply.Reply.{Reply}
 use Rattle.kernel_model.specs.declared.reply.Reply.TheVariants.{Done, Refused, Killed}
 use Rattle.kernel_model.specs.declared.process.Process.{Process}
-use Rattle.kernel_model.specs.Effects.{Effect, Refuse, Answer, SetCreds, SetTable, Push, Child, OwnTable, UserChild, OwnUser, End, effect_of}
-use Rattle.kernel_model.specs.World.{World, living_of, with_process, with_table, with_child, with_copy, with_user, entered_by, moved_to, ended, host_of, caller_of}
+use Rattle.kernel_model.specs.Effects.{Effect, Refuse, Answer, SetCreds, SetTable, Push, Child, OwnTable, UserChild, OwnUser, End}
+use Rattle.kernel_model.specs.Effects.{effect_of}
+use Rattle.kernel_model.specs.World.{World, living_of, with_process, with_table, with_child, with_copy, with_user, entered_by, moved_to}
+use Rattle.kernel_model.specs.World.{ended, host_of, caller_of}
 
 -- at most 1,024 processes are made in a world, those that ended among them
 abbrev pub most_processes : ℕ
@@ -54,11 +56,13 @@ applied world pid process (Answer value) = (Done value, world)
 applied world pid process (SetCreds creds) = (Done 0, with_process world pid (record process { creds = creds }))
 applied world pid process (SetTable table) = (Done 0, with_table world process.namespace table)
 applied world pid process (Push program) = (Done 0, with_process world pid (record process { stack = process.stack ++ program ∷ [] }))
-applied world pid process (Child own) = if nat_lt (length world.processes) most_processes then child_of world process own else (Refused eagain, world)
+applied world pid process (Child own) = if nat_lt (length world.processes) most_processes then child_of world process own else
+    (Refused eagain, world)
 applied world pid process OwnTable = moved_in world world pid process true
 applied world pid process (UserChild own) =
     if has_user_left world
-    then (if nat_lt (length world.processes) most_processes then child_in world (with_user world) (entered_by process world.users) own else (Refused eagain, world))
+    then (if nat_lt (length world.processes) most_processes then child_in world (with_user world)
+    (entered_by process world.users) own else (Refused eagain, world))
     else (Refused enospc, world)
 applied world pid process (OwnUser own) =
     if has_user_left world then moved_in world (with_user world) pid (entered_by process world.users) own else (Refused enospc, world)

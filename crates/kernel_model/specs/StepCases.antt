@@ -10,8 +10,10 @@ use Rattle.kernel_model.specs.kernel_calls.Doing.{Doing, Lacking, Misformed, Doe
 use Rattle.kernel_model.specs.declared.reply.Reply.{Reply}
 use Rattle.kernel_model.specs.declared.reply.Reply.TheVariants.{Done, Refused, Killed}
 use Rattle.kernel_model.specs.declared.process.Process.{Process}
-use Rattle.kernel_model.specs.Effects.{Effect, Refuse, Answer, SetCreds, SetTable, Push, Child, OwnTable, UserChild, OwnUser, End, effect_of}
-use Rattle.kernel_model.specs.World.{World, living_of, with_process, with_table, with_child, with_copy, with_user, entered_by, moved_to, ended, host_of, caller_of}
+use Rattle.kernel_model.specs.Effects.{Effect, Refuse, Answer, SetCreds, SetTable, Push, Child, OwnTable, UserChild, OwnUser, End}
+use Rattle.kernel_model.specs.Effects.{effect_of}
+use Rattle.kernel_model.specs.World.{World, living_of, with_process, with_table, with_child, with_copy, with_user, entered_by, moved_to}
+use Rattle.kernel_model.specs.World.{ended, host_of, caller_of}
 use Rattle.kernel_model.specs.Step.{most_processes, most_namespaces, decision_of}
 
 -- the caller lives, and its stack lets the call through
@@ -23,26 +25,40 @@ pub record Passes (world : World) (call : Call) (process : Process) : Type 0 whe
 pub data EffectCase (world : World) (pid : ℕ) (process : Process) : Effect → Reply × World → Type 0 where
   refuses : (errno : ℕ) → EffectCase world pid process (Refuse errno) (Refused errno, world)
   answers : (value : ℕ) → EffectCase world pid process (Answer value) (Done value, world)
-  takes_creds : (creds : Creds) → EffectCase world pid process (SetCreds creds) (Done 0, with_process world pid (record process { creds = creds }))
+  takes_creds : (creds : Creds) → EffectCase world pid process (SetCreds creds)
+      (Done 0, with_process world pid (record process { creds = creds }))
   takes_table : (table : Table) → EffectCase world pid process (SetTable table) (Done 0, with_table world process.namespace table)
-  takes_program : (program : List Insn) → EffectCase world pid process (Push program) (Done 0, with_process world pid (record process { stack = process.stack ++ program ∷ [] }))
-  no_process_left : (own : Bool) → most_processes ≤ length world.processes → EffectCase world pid process (Child own) (Refused eagain, world)
-  shares : length world.processes < most_processes → EffectCase world pid process (Child false) (Done (length world.processes + 1), with_child world process)
-  no_namespace_for_child : length world.processes < most_processes → most_namespaces ≤ length world.tables → EffectCase world pid process (Child true) (Refused enospc, world)
+  takes_program : (program : List Insn) → EffectCase world pid process (Push program)
+      (Done 0, with_process world pid (record process { stack = process.stack ++ program ∷ [] }))
+  no_process_left : (own : Bool) → most_processes ≤ length world.processes
+      → EffectCase world pid process (Child own) (Refused eagain, world)
+  shares : length world.processes < most_processes → EffectCase world pid process (Child false)
+      (Done (length world.processes + 1), with_child world process)
+  no_namespace_for_child : length world.processes < most_processes → most_namespaces ≤ length world.tables
+      → EffectCase world pid process (Child true) (Refused enospc, world)
   gives_copy : length world.processes < most_processes → length world.tables < most_namespaces → EffectCase world pid process (Child true) (Done (length world.processes + 1), with_child (with_copy world process.namespace process.user) (moved_to process (length world.tables)))
   no_namespace_left : most_namespaces ≤ length world.tables → EffectCase world pid process OwnTable (Refused enospc, world)
-  moves : length world.tables < most_namespaces → EffectCase world pid process OwnTable (Done 0, with_process (with_copy world process.namespace process.user) pid (moved_to process (length world.tables)))
-  no_user_for_child : (own : Bool) → world.site.user_namespaces ≤ world.users → EffectCase world pid process (UserChild own) (Refused enospc, world)
-  no_process_for_user : (own : Bool) → world.users < world.site.user_namespaces → most_processes ≤ length world.processes → EffectCase world pid process (UserChild own) (Refused eagain, world)
+  moves : length world.tables < most_namespaces → EffectCase world pid process OwnTable
+      (Done 0, with_process (with_copy world process.namespace process.user) pid (moved_to process (length world.tables)))
+  no_user_for_child : (own : Bool) → world.site.user_namespaces ≤ world.users
+      → EffectCase world pid process (UserChild own) (Refused enospc, world)
+  no_process_for_user : (own : Bool) → world.users < world.site.user_namespaces → most_processes ≤ length world.processes
+      → EffectCase world pid process (UserChild own) (Refused eagain, world)
   gives_user : world.users < world.site.user_namespaces → length world.processes < most_processes
-      → EffectCase world pid process (UserChild false) (Done (length world.processes + 1), with_child (with_user world) (entered_by process world.users))
-  no_namespace_for_user : world.users < world.site.user_namespaces → length world.processes < most_processes → most_namespaces ≤ length world.tables
+      → EffectCase world pid process (UserChild false)
+      (Done (length world.processes + 1), with_child (with_user world) (entered_by process world.users))
+  no_namespace_for_user : world.users < world.site.user_namespaces → length world.processes < most_processes
+      → most_namespaces ≤ length world.tables
       → EffectCase world pid process (UserChild true) (Refused enospc, world)
-  gives_user_and_copy : world.users < world.site.user_namespaces → length world.processes < most_processes → length world.tables < most_namespaces
+  gives_user_and_copy : world.users < world.site.user_namespaces → length world.processes < most_processes
+      → length world.tables < most_namespaces
       → EffectCase world pid process (UserChild true) (Done (length world.processes + 1), with_child (with_copy (with_user world) process.namespace (world.users + 2)) (moved_to (entered_by process world.users) (length world.tables)))
-  no_user_left : (own : Bool) → world.site.user_namespaces ≤ world.users → EffectCase world pid process (OwnUser own) (Refused enospc, world)
-  enters : world.users < world.site.user_namespaces → EffectCase world pid process (OwnUser false) (Done 0, with_process (with_user world) pid (entered_by process world.users))
-  no_namespace_behind_user : world.users < world.site.user_namespaces → most_namespaces ≤ length world.tables → EffectCase world pid process (OwnUser true) (Refused enospc, world)
+  no_user_left : (own : Bool) → world.site.user_namespaces ≤ world.users
+      → EffectCase world pid process (OwnUser own) (Refused enospc, world)
+  enters : world.users < world.site.user_namespaces → EffectCase world pid process (OwnUser false)
+      (Done 0, with_process (with_user world) pid (entered_by process world.users))
+  no_namespace_behind_user : world.users < world.site.user_namespaces → most_namespaces ≤ length world.tables
+      → EffectCase world pid process (OwnUser true) (Refused enospc, world)
   enters_and_moves : world.users < world.site.user_namespaces → length world.tables < most_namespaces
       → EffectCase world pid process (OwnUser true) (Done 0, with_process (with_copy (with_user world) process.namespace (world.users + 2)) pid (moved_to (entered_by process world.users) (length world.tables)))
   ends : EffectCase world pid process End (Done 0, with_process world pid (ended process))
@@ -51,9 +67,13 @@ pub data EffectCase (world : World) (pid : ℕ) (process : Process) : Effect →
 -- kernel lacks it; its payload is not of its form; or it is asked for something, which comes to what its effect comes to
 pub data StepCase (world : World) (call : Call) : Reply × World → Type 0 where
   absent : living_of world call.pid ≡ None → StepCase world call (Refused esrch, world)
-  filtered : (process : Process) (errno : ℕ) → living_of world call.pid ≡ Some process → decision_of world call process ≡ Errno errno → StepCase world call (Refused errno, world)
-  killed : (process : Process) → living_of world call.pid ≡ Some process → decision_of world call process ≡ Kill → StepCase world call (Killed, with_process world call.pid (ended process))
-  lacking : (process : Process) → Passes world call process → asked_of world.calls call ≡ Lacking → StepCase world call (Refused enosys, world)
-  misformed : (process : Process) → Passes world call process → asked_of world.calls call ≡ Misformed → StepCase world call (Refused efault, world)
+  filtered : (process : Process) (errno : ℕ) → living_of world call.pid ≡ Some process → decision_of world call process ≡ Errno errno
+      → StepCase world call (Refused errno, world)
+  killed : (process : Process) → living_of world call.pid ≡ Some process → decision_of world call process ≡ Kill
+      → StepCase world call (Killed, with_process world call.pid (ended process))
+  lacking : (process : Process) → Passes world call process → asked_of world.calls call ≡ Lacking
+      → StepCase world call (Refused enosys, world)
+  misformed : (process : Process) → Passes world call process → asked_of world.calls call ≡ Misformed
+      → StepCase world call (Refused efault, world)
   does : (process : Process) (doing : Doing) (out : Reply × World) → Passes world call process → asked_of world.calls call ≡ Does doing
       → EffectCase world call.pid process (effect_of (host_of world) (caller_of world process) doing) out → StepCase world call out

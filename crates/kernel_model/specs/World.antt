@@ -1,5 +1,6 @@
 -- A world of the kernel: processes that share mount tables.
-use Rattle.std.specs.Prelude.{ℕ, ◌+◌, ◌-◌, ◌==◌, not, Bool, true, false, List, [], ◌∷◌, ◌++◌, slice_get, slice_set, Option, Some, None, if◌then◌else◌}
+use Rattle.std.specs.Prelude.{ℕ, ◌+◌, ◌-◌, ◌==◌, not, Bool, true, false, List, [], ◌∷◌, ◌++◌, slice_get, slice_set, Option, Some, None}
+use Rattle.std.specs.Prelude.{if◌then◌else◌}
 use Rattle.call_table.specs.Table as calls
 use Rattle.site_table.specs.Table.{Site, row_at}
 use Rattle.kern_creds.specs.Start as creds
@@ -115,4 +116,5 @@ abbrev pub first_process : Process
 first_process = record { creds = creds.start; stack = []; namespace = 1; user = 1; alive = true }
 
 abbrev pub start_world : calls.Table → Site → World
-start_world calls site = record { calls = calls; site = site; processes = first_process ∷ []; tables = first_mounts ∷ []; owners = 1 ∷ []; users = 0 }
+start_world calls site = record
+    { calls = calls; site = site; processes = first_process ∷ []; tables = first_mounts ∷ []; owners = 1 ∷ []; users = 0 }

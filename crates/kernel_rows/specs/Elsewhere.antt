@@ -15,7 +15,8 @@ use Rattle.kernel_rows.specs.declared.alike.asked.Asked.{Asked}
 -- a service that was launched with these programs is the same on the other site, where that agrees outside the folder
 abbrev pub IsSameThere : Asked → Settings → Table → List (List ℕ) → Path → World → ℕ → Type 0
 IsSameThere asked made plan programs folder last steps =
-    AgreeForUnit folder asked.unit.now asked.site.now asked.other.now → IsAlike asked.unit.now asked.calls.now asked.other.now made plan programs last steps
+    AgreeForUnit folder asked.unit.now asked.site.now asked.other.now
+    → IsAlike asked.unit.now asked.calls.now asked.other.now made plan programs last steps
 
 -- whichever programs they are, if the service is blind to the folder
 abbrev pub AreSameThere : Asked → Settings → Table → List (List ℕ) → Path → Type 0

@@ -1,5 +1,6 @@
 -- Each capability of the computed ceiling is gained by some calls.
-use Rattle.std.proofs.Common.{◌≡◌, ℕ, Bool, true, false, List, [], ◌∷◌, ◌++◌, Option, Some, None, refl, ap, ◌∙◌, sym, subst, cond, eqb, ◌⊎◌, inl, inr, arith, ◌<◌, suc}
+use Rattle.std.proofs.Common.{◌≡◌, ℕ, Bool, true, false, List, [], ◌∷◌, ◌++◌, Option, Some, None, refl, ap, ◌∙◌, sym, subst, cond, eqb, ◌⊎◌}
+use Rattle.std.proofs.Common.{inl, inr, arith, ◌<◌, suc}
 use Rattle.std.specs.Prelude.{slice_get, not, ◌&&◌, ◌||◌, ◌^◌, ◌==◌}
 use Rattle.std.proofs.lemmas.Bool.{and_parts, or_cases, or_parts, not-true, not-false, eqb-true}
 use Rattle.launcher.specs.cap_sets.Sets.{has, none, cut, within}
@@ -11,13 +12,16 @@ use Rattle.launcher.specs.kern_creds.Exec.{exec_done, owner_or, is_set_id}
 use Rattle.launcher.specs.kern_creds.Capset.{with_sets}
 use Rattle.launcher.specs.kern_creds.Ids.{all_of}
 use Rattle.launcher.specs.kern_creds.RootChange.{with_uids, after_switch, after_leaving_root, has_root}
-use Rattle.launcher.specs.kernel_laws.Bound.{is_owner, is_barred, can_run, file_gain, gain_at, gathered, when, caps_before, caps_at, with_root, power_by, power_of}
+use Rattle.launcher.specs.kernel_laws.Bound.{is_owner, is_barred, can_run, file_gain, gain_at, gathered, when, caps_before, caps_at}
+use Rattle.launcher.specs.kernel_laws.Bound.{with_root, power_by, power_of}
 use Rattle.launcher.specs.kernel_model.declared.kernel_calls.call.Call.{Call}
 use Rattle.launcher.specs.kernel_model.kern_files.Executing.{marks_of}
-use Rattle.launcher.specs.kernel_laws.declared.question_types.kind.CallKind.TheVariants.{SetsCaps, TakesUid, TakesGid, ChangesMounts, RemovesMounts}
+use Rattle.launcher.specs.kernel_laws.declared.question_types.kind.CallKind.TheVariants.{SetsCaps, TakesUid, TakesGid, ChangesMounts}
+use Rattle.launcher.specs.kernel_laws.declared.question_types.kind.CallKind.TheVariants.{RemovesMounts}
 use Rattle.launcher.specs.kernel_laws.declared.question_types.wish.Wish.TheVariants.{Exec as ToExec}
 use Rattle.launcher.specs.kernel_laws.declared.question_types.power.Power.{Power}
-use Rattle.launcher.specs.kernel_laws.declared.question_types.power.Power.TheVariants.{None as Nowise, Unmount as Unmounting, Mount as Mounting}
+use Rattle.launcher.specs.kernel_laws.declared.question_types.power.Power.TheVariants.{None as Nowise, Unmount as Unmounting}
+use Rattle.launcher.specs.kernel_laws.declared.question_types.power.Power.TheVariants.{Mount as Mounting}
 use Rattle.launcher.specs.kernel_laws.Launched.{Launch, IsLaunched, lets}
 use Rattle.launcher.specs.site_table.Kinds.{is_exe}
 use Rattle.launcher.specs.kern_mounts.Split.{Table}
@@ -35,7 +39,8 @@ use Rattle.kernel_ways.proofs.Gains as gains
 use Rattle.kernel_ways.proofs.Gains.{Basis, Runnable, runs, common_small}
 
 -- a member of the union over the rows is a member of some row's part
-pub gathered_from : (f : Row → ℕ) (rows : List Row) (number : ℕ) → has (gathered f rows) number ≡ true → (at : ℕ) × (target : Row) × (slice_get rows at ≡ Some target) × (has (f target) number ≡ true)
+pub gathered_from : (f : Row → ℕ) (rows : List Row) (number : ℕ) → has (gathered f rows) number ≡ true
+    → (at : ℕ) × (target : Row) × (slice_get rows at ≡ Some target) × (has (f target) number ≡ true)
 gathered_from f [] number h = let off = has_none number in cc
 gathered_from f (first ∷ rows) number h = elim (or_cases _ _ (sym (has_union (f first) (gathered f rows) number) ∙ h)) [
   | inl here' ↦ (0, first, refl, here')
@@ -66,7 +71,8 @@ module _ (launch : Launch) where
   basis_uids creds ids b =
       let p = has_root creds.uids && not (has_root ids) in
       let base : Creds = record creds { uids = ids } in
-      basis_switch (eqb creds.uids.effective 0) (eqb ids.effective 0) (after_leaving_root p base) (basis_leaving p base (record { bounding = b.bounding; inheritable = b.inheritable; mark = b.mark }))
+      basis_switch (eqb creds.uids.effective 0) (eqb ids.effective 0) (after_leaving_root p base)
+      (basis_leaving p base (record { bounding = b.bounding; inheritable = b.inheritable; mark = b.mark }))
 
 uids_switch : (was is : Bool) (creds : Creds) → (after_switch was is creds).uids ≡ creds.uids
 uids_switch true true creds = refl
@@ -85,7 +91,8 @@ uids_after creds ids =
     uids_switch (eqb creds.uids.effective 0) (eqb ids.effective 0) (after_leaving_root p base) ∙ uids_leaving p base
 
 -- a file that is not privileged has no owner's bit and no capabilities
-pub unmarked : (uid gid : Option ℕ) (caps : ℕ) → ((is_set_id uid || is_set_id gid) || not (caps == none)) ≡ false → (uid ≡ None) × (caps ≡ none)
+pub unmarked : (uid gid : Option ℕ) (caps : ℕ) → ((is_set_id uid || is_set_id gid) || not (caps == none)) ≡ false
+    → (uid ≡ None) × (caps ≡ none)
 unmarked uid gid caps e =
     let both = or_parts (is_set_id uid || is_set_id gid) (not (caps == none)) e in
     let ids = or_parts (is_set_id uid) (is_set_id gid) both.0 in
@@ -95,7 +102,8 @@ unmarked uid gid caps e =
     by None e = refl
     by (Some id) e = cc
 
-pub stays_zero : (owner : Option ℕ) (id : ℕ) → (is_owner 0 owner ≡ true) ⊎ (owner ≡ None) → eqb id 0 ≡ true → eqb (owner_or owner id) 0 ≡ true
+pub stays_zero : (owner : Option ℕ) (id : ℕ) → (is_owner 0 owner ≡ true) ⊎ (owner ≡ None) → eqb id 0 ≡ true
+    → eqb (owner_or owner id) 0 ≡ true
 stays_zero None id like z = z
 stays_zero (Some owner) id (inl e) z = e
 stays_zero (Some owner) id (inr e) z = cc
@@ -148,7 +156,8 @@ module _ (launch : Launch) (l : IsLaunched launch) (o : Offers launch) where
     pub no_uid : Avoids launch TakesUid calls
     pub no_gid : Avoids launch TakesGid calls
 
-  pub exposed_runs : (power : Power) (creds : Creds) (target : Row) → IsKnown launch.site target → HasPower launch creds power → can_run launch power target ≡ true → Shown creds power target
+  pub exposed_runs : (power : Power) (creds : Creds) (target : Row) → IsKnown launch.site target → HasPower launch creds power
+      → can_run launch power target ≡ true → Shown creds power target
   exposed_runs power creds target known h c =
       let parts = and_parts (is_exe target.kind && reaches power launch.table target.path ToExec) (not (is_barred launch target)) c in
       let inner = and_parts (is_exe target.kind) (reaches power launch.table target.path ToExec) parts.0 in
@@ -164,7 +173,8 @@ module _ (launch : Launch) (l : IsLaunched launch) (o : Offers launch) where
       }
 
   -- held at launch
-  pub at_launch : (spares : Bool) (number : ℕ) → has launch.creds.effective number ≡ true → Gained spares launch.creds launch.table launch.table number
+  pub at_launch : (spares : Bool) (number : ℕ) → has launch.creds.effective number ≡ true
+      → Gained spares launch.creds launch.table launch.table number
   at_launch spares number h = record { calls = []; creds = launch.creds; way = here; basis = basis_launch; holds = h; target = program; again = program_runs; rootlike = inr program_marks.0; no_uid = λ e. tt; no_gid = tt }
 
   module _ (free : launch.creds.no_new_privs ≡ false) where
@@ -172,7 +182,9 @@ module _ (launch : Launch) (l : IsLaunched launch) (o : Offers launch) where
     off_of creds b = b.mark ∙ free
 
     -- uid 0 by the owner of a file
-    owner_gains : (spares : Bool) (creds : Creds) (table : Table) (target : Row) (number : ℕ) → Basis launch creds → Runnable launch table target → (owner : Option ℕ) → target.setuid ≡ owner → is_owner 0 owner ≡ true → has launch.creds.bounding number ≡ true → Gained spares creds table table number
+    owner_gains : (spares : Bool) (creds : Creds) (table : Table) (target : Row) (number : ℕ) → Basis launch creds
+        → Runnable launch table target → (owner : Option ℕ) → target.setuid ≡ owner → is_owner 0 owner ≡ true
+        → has launch.creds.bounding number ≡ true → Gained spares creds table table number
     owner_gains spares creds table target number b r None e z h = cc
     owner_gains spares creds table target number b r (Some owner) e z h =
         let ran = runs launch l o creds table target b.bounding r in
@@ -194,7 +206,8 @@ module _ (launch : Launch) (l : IsLaunched launch) (o : Offers launch) where
         }
 
     -- with the effective bit at once, else by capset
-    file_gains : (spares : Bool) (creds : Creds) (table : Table) (target : Row) (number : ℕ) → Basis launch creds → Runnable launch table target → target.setuid ≡ None → (bit : Bool) → target.effective ≡ bit → (bit || lets launch SetsCaps) ≡ true
+    file_gains : (spares : Bool) (creds : Creds) (table : Table) (target : Row) (number : ℕ) → Basis launch creds
+        → Runnable launch table target → target.setuid ≡ None → (bit : Bool) → target.effective ≡ bit → (bit || lets launch SetsCaps) ≡ true
         → has (cut target.caps launch.creds.bounding) number ≡ true → Gained spares creds table table number
     file_gains spares creds table target number b r plain true e z h =
         let ran = runs launch l o creds table target b.bounding r in
@@ -235,10 +248,12 @@ module _ (launch : Launch) (l : IsLaunched launch) (o : Offers launch) where
         }
 
     -- what a row gives, it gives
-    gain_row : (spares : Bool) (creds : Creds) (table : Table) (target : Row) (number : ℕ) → Basis launch creds → Runnable launch table target → has (file_gain launch target) number ≡ true → Gained spares creds table table number
+    gain_row : (spares : Bool) (creds : Creds) (table : Table) (target : Row) (number : ℕ) → Basis launch creds
+        → Runnable launch table target → has (file_gain launch target) number ≡ true → Gained spares creds table table number
     gain_row spares creds table target number b r h = by (is_owner 0 target.setuid) refl (target.effective || lets launch SetsCaps) refl h
       where
-        plain : (owner : Option ℕ) → target.setuid ≡ owner → has (cut target.caps launch.creds.bounding) number ≡ true → target.setuid ≡ None
+        plain : (owner : Option ℕ) → target.setuid ≡ owner → has (cut target.caps launch.creds.bounding) number ≡ true
+            → target.setuid ≡ None
         plain None f h = f
         plain (Some owner) f h =
             let empty = owner_alone launch.site target o.site r.known owner f in
@@ -246,13 +261,17 @@ module _ (launch : Launch) (l : IsLaunched launch) (o : Offers launch) where
             let yes : has (cut none launch.creds.bounding) number ≡ true = ap (λ s. has (cut s launch.creds.bounding) number) (sym empty) ∙ h in
             cc
 
-        by : (z : Bool) → is_owner 0 target.setuid ≡ z → (y : Bool) → (target.effective || lets launch SetsCaps) ≡ y → has (cond z launch.creds.bounding (cond y (cut target.caps launch.creds.bounding) none)) number ≡ true → Gained spares creds table table number
+        by : (z : Bool) → is_owner 0 target.setuid ≡ z → (y : Bool) → (target.effective || lets launch SetsCaps) ≡ y
+            → has (cond z launch.creds.bounding (cond y (cut target.caps launch.creds.bounding) none)) number ≡ true
+            → Gained spares creds table table number
         by true f y g h = owner_gains spares creds table target number b r target.setuid refl f h
         by false f true g h = file_gains spares creds table target number b r (plain target.setuid refl h) target.effective refl g h
         by false f false g h = let off = has_none number in cc
 
     -- uid 0, and execve behind it
-    root_gains : (from creds : Creds) (start table : Table) (number : ℕ) (calls : List Call) → Avoids launch TakesGid calls → Way launch from start calls creds table → Basis launch creds → has creds.effective 7 ≡ true → (target : Row) → Runnable launch table target → IsRootlike target → lets launch TakesUid ≡ true
+    root_gains : (from creds : Creds) (start table : Table) (number : ℕ) (calls : List Call) → Avoids launch TakesGid calls
+        → Way launch from start calls creds table → Basis launch creds → has creds.effective 7 ≡ true → (target : Row)
+        → Runnable launch table target → IsRootlike target → lets launch TakesUid ≡ true
         → has launch.creds.bounding number ≡ true → Gained false from start table number
     root_gains from creds start table number calls no_gid way basis h target r like s own =
         let line = some_line launch l TakesUid s in
@@ -285,12 +304,14 @@ module _ (launch : Launch) (l : IsLaunched launch) (o : Offers launch) where
       pub gained : Gained spares creds launch.table end number
       pub still : power ≡ Nowise → end ≡ launch.table
 
-    pub rows_gain : (spares : Bool) (power : Power) (creds : Creds) (number : ℕ) → Basis launch creds → HasPower launch creds power → has (gathered (gain_at launch power) launch.site.rows) number ≡ true → GainedAt spares power creds number
+    pub rows_gain : (spares : Bool) (power : Power) (creds : Creds) (number : ℕ) → Basis launch creds → HasPower launch creds power
+        → has (gathered (gain_at launch power) launch.site.rows) number ≡ true → GainedAt spares power creds number
     rows_gain spares power creds number b admin h =
         let f = gathered_from (gain_at launch power) launch.site.rows number h in
         by f.0 f.1 f.2 (can_run launch power f.1) refl f.3
       where
-        by : (at : ℕ) (target : Row) → slice_get launch.site.rows at ≡ Some target → (c : Bool) → can_run launch power target ≡ c → has (cond c (file_gain launch target) none) number ≡ true → GainedAt spares power creds number
+        by : (at : ℕ) (target : Row) → slice_get launch.site.rows at ≡ Some target → (c : Bool) → can_run launch power target ≡ c
+            → has (cond c (file_gain launch target) none) number ≡ true → GainedAt spares power creds number
         by at target e false f h = let off = has_none number in cc
         by at target e true f h =
             let x = exposed_runs power creds target (known_at launch.site o.site at target e) admin f in
@@ -302,52 +323,75 @@ module _ (launch : Launch) (l : IsLaunched launch) (o : Offers launch) where
             }
 
     -- on the launched table
-    pub nowise_before : (spares : Bool) (number : ℕ) → has (caps_before launch Nowise) number ≡ true → Gained spares launch.creds launch.table launch.table number
-    nowise_before spares number h = by (or_cases _ _ (sym (has_union launch.creds.effective (gathered (gain_at launch Nowise) launch.site.rows) number) ∙ h))
+    pub nowise_before : (spares : Bool) (number : ℕ) → has (caps_before launch Nowise) number ≡ true
+        → Gained spares launch.creds launch.table launch.table number
+    nowise_before spares number h =
+        by (or_cases _ _ (sym (has_union launch.creds.effective (gathered (gain_at launch Nowise) launch.site.rows) number) ∙ h))
       where
-        by : (has launch.creds.effective number ≡ true) ⊎ (has (gathered (gain_at launch Nowise) launch.site.rows) number ≡ true) → Gained spares launch.creds launch.table launch.table number
+        by : (has launch.creds.effective number ≡ true) ⊎ (has (gathered (gain_at launch Nowise) launch.site.rows) number ≡ true)
+            → Gained spares launch.creds launch.table launch.table number
         by (inl h) = at_launch spares number h
         by (inr h) = let g = rows_gain spares Nowise launch.creds number basis_launch (inl refl) h in subst (λ (t : Table). Gained spares launch.creds launch.table t number) (g.still refl) g.gained
 
-    then_root : (end : Table) (number : ℕ) → Gained false launch.creds launch.table end 7 → lets launch TakesUid ≡ true → has launch.creds.bounding number ≡ true → Gained false launch.creds launch.table end number
-    then_root end number g s own = root_gains launch.creds g.creds launch.table end number g.calls g.no_gid g.way g.basis g.holds g.target g.again g.rootlike s own
+    then_root : (end : Table) (number : ℕ) → Gained false launch.creds launch.table end 7 → lets launch TakesUid ≡ true
+        → has launch.creds.bounding number ≡ true → Gained false launch.creds launch.table end number
+    then_root end number g s own = root_gains launch.creds g.creds launch.table end number g.calls g.no_gid g.way g.basis g.holds g.target
+        g.again g.rootlike s own
 
     -- what root adds
-    root_part : (end : Table) (number : ℕ) (before : ℕ) → (has before 7 ≡ true → Gained false launch.creds launch.table end 7) → has (when (has before 7 && lets launch TakesUid) launch.creds.bounding) number ≡ true → Gained false launch.creds launch.table end number
+    root_part : (end : Table) (number : ℕ) (before : ℕ) → (has before 7 ≡ true → Gained false launch.creds launch.table end 7)
+        → has (when (has before 7 && lets launch TakesUid) launch.creds.bounding) number ≡ true
+        → Gained false launch.creds launch.table end number
     root_part end number before g h = by (has before 7) refl (lets launch TakesUid) refl h
       where
-        by : (x : Bool) → has before 7 ≡ x → (y : Bool) → lets launch TakesUid ≡ y → has (when (x && y) launch.creds.bounding) number ≡ true → Gained false launch.creds launch.table end number
+        by : (x : Bool) → has before 7 ≡ x → (y : Bool) → lets launch TakesUid ≡ y
+            → has (when (x && y) launch.creds.bounding) number ≡ true → Gained false launch.creds launch.table end number
         by true e true f h = then_root end number (g e) f h
         by true e false f h = let off = has_none number in cc
         by false e y f h = let off = has_none number in cc
 
-    nowise : (number : ℕ) → has (with_root launch (lets launch TakesUid) (caps_before launch Nowise)) number ≡ true → Gained false launch.creds launch.table launch.table number
-    nowise number h = by (or_cases _ _ (sym (has_union (caps_before launch Nowise) (when (has (caps_before launch Nowise) 7 && lets launch TakesUid) launch.creds.bounding) number) ∙ h))
+    nowise : (number : ℕ) → has (with_root launch (lets launch TakesUid) (caps_before launch Nowise)) number ≡ true
+        → Gained false launch.creds launch.table launch.table number
+    nowise number h = by (or_cases _ _
+        (sym (has_union (caps_before launch Nowise)
+        (when (has (caps_before launch Nowise) 7 && lets launch TakesUid) launch.creds.bounding) number) ∙ h))
       where
-        by : (has (caps_before launch Nowise) number ≡ true) ⊎ (has (when (has (caps_before launch Nowise) 7 && lets launch TakesUid) launch.creds.bounding) number ≡ true) → Gained false launch.creds launch.table launch.table number
+        by : (has (caps_before launch Nowise) number ≡ true) ⊎
+            (has (when (has (caps_before launch Nowise) 7 && lets launch TakesUid) launch.creds.bounding) number ≡ true)
+            → Gained false launch.creds launch.table launch.table number
         by (inl h) = nowise_before false number h
         by (inr h) = root_part launch.table number (caps_before launch Nowise) (nowise_before false 7) h
 
     -- and with CAP_SYS_ADMIN at hand
     module _ (admin : Gained false launch.creds launch.table launch.table 21) (power : Power) (same : power_of launch ≡ power) where
-      powered_before : (number : ℕ) → has (caps_before launch power) number ≡ true → (end : Table) × Gained false launch.creds launch.table end number
-      powered_before number h = by (or_cases _ _ (sym (has_union launch.creds.effective (gathered (gain_at launch power) launch.site.rows) number) ∙ h))
+      powered_before : (number : ℕ) → has (caps_before launch power) number ≡ true
+          → (end : Table) × Gained false launch.creds launch.table end number
+      powered_before number h =
+          by (or_cases _ _ (sym (has_union launch.creds.effective (gathered (gain_at launch power) launch.site.rows) number) ∙ h))
         where
-          by : (has launch.creds.effective number ≡ true) ⊎ (has (gathered (gain_at launch power) launch.site.rows) number ≡ true) → (end : Table) × Gained false launch.creds launch.table end number
+          by : (has launch.creds.effective number ≡ true) ⊎ (has (gathered (gain_at launch power) launch.site.rows) number ≡ true)
+              → (end : Table) × Gained false launch.creds launch.table end number
           by (inl h) = (launch.table, at_launch false number h)
           by (inr h) =
               let x = rows_gain false power admin.creds number admin.basis (inr (admin.holds, same)) h in
               let g = x.gained in
               (x.end, record { calls = admin.calls ++ g.calls; creds = g.creds; way = way_join admin.way g.way; basis = g.basis; holds = g.holds; target = g.target; again = g.again; rootlike = g.rootlike; no_uid = λ e. cc; no_gid = avoid_join launch TakesGid admin.calls g.calls admin.no_gid g.no_gid })
 
-      powered : (number : ℕ) → has (with_root launch (lets launch TakesUid) (caps_before launch power)) number ≡ true → (end : Table) × Gained false launch.creds launch.table end number
-      powered number h = by (or_cases _ _ (sym (has_union (caps_before launch power) (when (has (caps_before launch power) 7 && lets launch TakesUid) launch.creds.bounding) number) ∙ h))
+      powered : (number : ℕ) → has (with_root launch (lets launch TakesUid) (caps_before launch power)) number ≡ true
+          → (end : Table) × Gained false launch.creds launch.table end number
+      powered number h = by (or_cases _ _
+          (sym (has_union (caps_before launch power)
+          (when (has (caps_before launch power) 7 && lets launch TakesUid) launch.creds.bounding) number) ∙ h))
         where
-          by_root : (x : Bool) → has (caps_before launch power) 7 ≡ x → has (when (x && lets launch TakesUid) launch.creds.bounding) number ≡ true → (end : Table) × Gained false launch.creds launch.table end number
+          by_root : (x : Bool) → has (caps_before launch power) 7 ≡ x
+              → has (when (x && lets launch TakesUid) launch.creds.bounding) number ≡ true
+              → (end : Table) × Gained false launch.creds launch.table end number
           by_root true e h = let g = powered_before 7 e in (g.0, root_part g.0 number (caps_before launch power) (λ e. g.1) (ap (λ x. has (when (x && lets launch TakesUid) launch.creds.bounding) number) e ∙ h))
           by_root false e h = let off = has_none number in cc
 
-          by : (has (caps_before launch power) number ≡ true) ⊎ (has (when (has (caps_before launch power) 7 && lets launch TakesUid) launch.creds.bounding) number ≡ true) → (end : Table) × Gained false launch.creds launch.table end number
+          by : (has (caps_before launch power) number ≡ true) ⊎
+              (has (when (has (caps_before launch power) 7 && lets launch TakesUid) launch.creds.bounding) number ≡ true)
+              → (end : Table) × Gained false launch.creds launch.table end number
           by (inl h) = powered_before number h
           by (inr h) = by_root (has (caps_before launch power) 7) refl h
 
@@ -355,27 +399,37 @@ module _ (launch : Launch) (l : IsLaunched launch) (o : Offers launch) where
   pub at_nowise : (number : ℕ) → has (caps_at launch Nowise) number ≡ true → Gained false launch.creds launch.table launch.table number
   at_nowise number h = by launch.creds.no_new_privs refl h
     where
-      by : (n : Bool) → launch.creds.no_new_privs ≡ n → has (cond n launch.creds.effective (with_root launch (lets launch TakesUid) (caps_before launch Nowise))) number ≡ true → Gained false launch.creds launch.table launch.table number
+      by : (n : Bool) → launch.creds.no_new_privs ≡ n
+          → has (cond n launch.creds.effective (with_root launch (lets launch TakesUid) (caps_before launch Nowise))) number ≡ true
+          → Gained false launch.creds launch.table launch.table number
       by true e h = at_launch false number h
       by false e h = nowise e number h
 
-  admin_at : (x m u : Bool) (power : Power) → has (caps_at launch Nowise) 21 ≡ x → power_by x m u ≡ power → (power ≡ Nowise → ⊥) → has (caps_at launch Nowise) 21 ≡ true
+  admin_at : (x m u : Bool) (power : Power) → has (caps_at launch Nowise) 21 ≡ x → power_by x m u ≡ power → (power ≡ Nowise → ⊥)
+      → has (caps_at launch Nowise) 21 ≡ true
   admin_at true m u power e f n = e
   admin_at false m u power e f n = absurd (n (sym f))
 
   -- CAP_SYS_ADMIN, where there is some power
-  pub admin_gained : (power : Power) → power_of launch ≡ power → (power ≡ Nowise → ⊥) → Gained false launch.creds launch.table launch.table 21
-  admin_gained power e n = at_nowise 21 (admin_at (has (caps_at launch Nowise) 21) (lets launch ChangesMounts) (lets launch RemovesMounts) power refl e n)
+  pub admin_gained : (power : Power) → power_of launch ≡ power → (power ≡ Nowise → ⊥)
+      → Gained false launch.creds launch.table launch.table 21
+  admin_gained power e n = at_nowise 21
+      (admin_at (has (caps_at launch Nowise) 21) (lets launch ChangesMounts) (lets launch RemovesMounts) power refl e n)
 
   -- each member of the computed ceiling is gained by some calls
-  pub attained : (number : ℕ) → has (caps_at launch (power_of launch)) number ≡ true → (end : Table) × Gained false launch.creds launch.table end number
+  pub attained : (number : ℕ) → has (caps_at launch (power_of launch)) number ≡ true
+      → (end : Table) × Gained false launch.creds launch.table end number
   attained number h = by_mark launch.creds.no_new_privs refl h
     where
-      by : launch.creds.no_new_privs ≡ false → (power : Power) → power_of launch ≡ power → has (with_root launch (lets launch TakesUid) (caps_before launch power)) number ≡ true → (end : Table) × Gained false launch.creds launch.table end number
+      by : launch.creds.no_new_privs ≡ false → (power : Power) → power_of launch ≡ power
+          → has (with_root launch (lets launch TakesUid) (caps_before launch power)) number ≡ true
+          → (end : Table) × Gained false launch.creds launch.table end number
       by free Nowise e h = (launch.table, nowise free number h)
       by free Unmounting e h = powered free (admin_gained Unmounting e (λ x. cc)) Unmounting e number h
       by free Mounting e h = powered free (admin_gained Mounting e (λ x. cc)) Mounting e number h
 
-      by_mark : (n : Bool) → launch.creds.no_new_privs ≡ n → has (cond n launch.creds.effective (with_root launch (lets launch TakesUid) (caps_before launch (power_of launch)))) number ≡ true → (end : Table) × Gained false launch.creds launch.table end number
+      by_mark : (n : Bool) → launch.creds.no_new_privs ≡ n → has
+          (cond n launch.creds.effective (with_root launch (lets launch TakesUid) (caps_before launch (power_of launch)))) number ≡ true
+          → (end : Table) × Gained false launch.creds launch.table end number
       by_mark true e h = (launch.table, at_launch false number h)
       by_mark false e h = by e (power_of launch) refl h

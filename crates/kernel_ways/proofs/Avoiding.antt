@@ -17,12 +17,15 @@ AvoidsOne launch kind call = (doing : Doing) → asked_of launch.calls call ≡ 
 abbrev pub Avoids : Launch → CallKind → List Call → Type 0
 Avoids launch kind calls = AllByRecursion (AvoidsOne launch kind) calls
 
-same_doing : (launch : Launch) (call : Call) (one other : Doing) → asked_of launch.calls call ≡ Does one → asked_of launch.calls call ≡ Does other → one ≡ other
+same_doing : (launch : Launch) (call : Call) (one other : Doing) → asked_of launch.calls call ≡ Does one
+    → asked_of launch.calls call ≡ Does other → one ≡ other
 same_doing launch call one other e g = cc
 
-pub avoid_one : (launch : Launch) (creds : Creds) (table : Table) (doing : Doing) (call : Call) (effect : Effect) → Makes launch creds table doing call effect → (kind : CallKind) → asks kind doing ≡ false → AvoidsOne launch kind call
+pub avoid_one : (launch : Launch) (creds : Creds) (table : Table) (doing : Doing) (call : Call) (effect : Effect)
+    → Makes launch creds table doing call effect → (kind : CallKind) → asks kind doing ≡ false → AvoidsOne launch kind call
 avoid_one launch creds table doing call effect m kind off other e = ap (asks kind) (same_doing launch call other doing e m.asks) ∙ off
 
-pub avoid_join : (launch : Launch) (kind : CallKind) (xs ys : List Call) → Avoids launch kind xs → Avoids launch kind ys → Avoids launch kind (xs ++ ys)
+pub avoid_join : (launch : Launch) (kind : CallKind) (xs ys : List Call) → Avoids launch kind xs → Avoids launch kind ys
+    → Avoids launch kind (xs ++ ys)
 avoid_join launch kind [] ys h g = g
 avoid_join launch kind (x ∷ xs) ys h g = (h.0, avoid_join launch kind xs ys h.1 g)

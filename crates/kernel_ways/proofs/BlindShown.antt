@@ -1,5 +1,6 @@
 -- What is not blind by the launched table calls expose: no call, calls of umount2(2), or one of mount(2).
-use Rattle.std.proofs.Common.{◌≡◌, ◌∙◌, ◌≤◌, ℕ, Bool, true, false, List, [], ◌∷◌, ◌++◌, Option, Some, None, Result, Ok, Err, refl, cond, ap, sym, subst, length, length-append, arith}
+use Rattle.std.proofs.Common.{◌≡◌, ◌∙◌, ◌≤◌, ℕ, Bool, true, false, List, [], ◌∷◌, ◌++◌, Option, Some, None, Result, Ok, Err, refl, cond, ap}
+use Rattle.std.proofs.Common.{sym, subst, length, length-append, arith}
 use Rattle.std.specs.Prelude.{codes, slice_get, nat_lt, option_and_then, ◌+◌, ◌-◌}
 use Rattle.std.specs.List.{AllByRecursion}
 use Rattle.std.proofs.lemmas.Bool.{and_from, not-false}
@@ -28,7 +29,8 @@ use Rattle.launcher.proofs.KernMounts.Entries.{entry_push}
 use Rattle.launcher.proofs.KernMounts.Leaving.{ascending_is_ordered}
 use Rattle.launcher.proofs.KernMounts.Splits.{IsSplit, split_some}
 use Rattle.launcher.proofs.KernMounts.Unmounting.{append_all, trimmed_part, unmounts_trim}
-use Rattle.launcher.specs.kernel_model.kern_files.MountCall.{ms_bind, ms_remount_bind, kind_found, is_same_kind, target_kind, bind_found, mount_onto, after_mount}
+use Rattle.launcher.specs.kernel_model.kern_files.MountCall.{ms_bind, ms_remount_bind, kind_found, is_same_kind, target_kind, bind_found}
+use Rattle.launcher.specs.kernel_model.kern_files.MountCall.{mount_onto, after_mount}
 use Rattle.launcher.specs.kernel_model.kernel_calls.Calls.{IsPath}
 use Rattle.launcher.specs.kernel_model.declared.kernel_calls.call.Call.{Call}
 use Rattle.launcher.specs.kernel_model.Runs.{run}
@@ -38,7 +40,8 @@ use Rattle.launcher.specs.kernel_laws.Bound.{caps_at, power_of}
 use Rattle.launcher.specs.kernel_laws.Denied.{Exposes, IsBlind}
 use Rattle.launcher.specs.kernel_laws.declared.question_types.kind.CallKind.TheVariants.{ChangesMounts, RemovesMounts}
 use Rattle.launcher.specs.kernel_laws.declared.question_types.power.Power.{Power}
-use Rattle.launcher.specs.kernel_laws.declared.question_types.power.Power.TheVariants.{None as Nowise, Unmount as Unmounting, Mount as Mounting}
+use Rattle.launcher.specs.kernel_laws.declared.question_types.power.Power.TheVariants.{None as Nowise, Unmount as Unmounting}
+use Rattle.launcher.specs.kernel_laws.declared.question_types.power.Power.TheVariants.{Mount as Mounting}
 use Rattle.launcher.specs.kernel_laws.Launched.{Launch, IsLaunched, launch_of, lets}
 use Rattle.launcher.proofs.KernelLaws.Blind.{blind_is_sound, seen_exposes}
 use Rattle.launcher.proofs.KernelLaws.Exposed.{below_by_part, exposed_at_once, exposes_by_unmounts, exposes_seen}
@@ -66,7 +69,8 @@ record AddsAtProc (table now : Table) : Type 0 where
 adds_at_proc : (rows : Path → Option Row) (table now : Table) → after_mount rows table [] proc ms_bind ≡ Ok now → AddsAtProc table now
 adds_at_proc rows table now e = by_target (target_kind rows table proc) e
   where
-    by_room : (split : Split) → split_at [] table ≡ Some split → (full : Bool) → cond {A = Result Table ℕ} full (Err enospc) (Ok (table ++ bound_entry [] proc split.entry ∷ [])) ≡ Ok now → AddsAtProc table now
+    by_room : (split : Split) → split_at [] table ≡ Some split → (full : Bool)
+        → cond {A = Result Table ℕ} full (Err enospc) (Ok (table ++ bound_entry [] proc split.entry ∷ [])) ≡ Ok now → AddsAtProc table now
     by_room split is true e = cc
     by_room split is false e = (let same : table ++ bound_entry [] proc split.entry ∷ [] ≡ now = cc in record { split = split; own = is; now_is = sym same })
 
@@ -95,7 +99,8 @@ leads_root : (place : Path) → is_prefix place [] ≡ true → place ≡ []
 leads_root [] h = refl
 leads_root (part ∷ place) h = cc
 
-root_entry : (table : Table) → BeginsAtRoot table → IsOrdered table → (split : Split) → split_at [] table ≡ Some split → IsHostRoot split.entry
+root_entry : (table : Table) → BeginsAtRoot table → IsOrdered table → (split : Split) → split_at [] table ≡ Some split
+    → IsHostRoot split.entry
 root_entry [] begins ordered split e = absurd begins
 root_entry (first ∷ rest) begins ordered split e = by split.earlier is.whole
   where
@@ -113,7 +118,8 @@ root_entry (first ∷ rest) begins ordered split e = by split.earlier is.whole
         cc
 
 -- so each path of the host is shown below that folder
-shown_below_proc : (table now : Table) → BeginsAtRoot table → IsOrdered table → AddsAtProc table now → (path : Path) → host_place now (proc ++ path) ≡ Some path
+shown_below_proc : (table now : Table) → BeginsAtRoot table → IsOrdered table → AddsAtProc table now → (path : Path)
+    → host_place now (proc ++ path) ≡ Some path
 shown_below_proc table now begins ordered adds path =
     let entry = adds.split.entry in
     let root = root_entry table begins ordered adds.split adds.own in
@@ -152,7 +158,8 @@ record Sees (folder : Path) (table : Table) : Type 0 where
   shown : host_place table path ≡ Some place
   below : is_below place folder ≡ true
 
-sees_exposes : (launch : Launch) (creds : Creds) (table : Table) (world : World) → IsSolo launch creds table world → (folder : Path) → Sees folder table → Exposes folder world
+sees_exposes : (launch : Launch) (creds : Creds) (table : Table) (world : World) → IsSolo launch creds table world → (folder : Path)
+    → Sees folder table → Exposes folder world
 sees_exposes launch creds table world s folder sees =
     let own : World = solo_world launch creds s.namespace s.tables s.owners in
     let table_is : table_of own s.namespace ≡ table = ap (λ b. steps_of (table_or (cond b None (slice_get s.tables (s.namespace - 1))))) s.numbered ∙ ap (λ o. steps_of (table_or o)) s.own ∙ steps_plain table in
@@ -185,9 +192,11 @@ module _ (world : World) (s : IsServedWorld world) (folder : Path) (f : IsFolder
 
   -- a part of the launched table is as small
   small_part : (now : Table) → IsPart now launch.table → IsSmall now
-  small_part now part = record { few = omega (arith, part_length part, o.plan.few); places = part_all HasShortPlace part o.plan.places_are_short }
+  small_part now part = record
+      { few = omega (arith, part_length part, o.plan.few); places = part_all HasShortPlace part o.plan.places_are_short }
 
-  by_way : (calls : List Call) (creds : Creds) (now : Table) → Way launch launch.creds launch.table calls creds now → Sees folder now → IsExposed world folder
+  by_way : (calls : List Call) (creds : Creds) (now : Table) → Way launch launch.creds launch.table calls creds now → Sees folder now
+      → IsExposed world folder
   by_way calls creds now way sees =
       let w = way_runs way world (starts_solo world s.launched s.few) in
       (calls, record { fit = w.fit; done = w.done; exposes = sees_exposes launch creds now (run world calls) w.solo folder sees })
@@ -199,7 +208,8 @@ module _ (world : World) (s : IsServedWorld world) (folder : Path) (f : IsFolder
       let m = exposes_by_unmounts folder launch.table ordered shown in
       let way = way_unmounts launch o admin.creds admin.holds (some_line launch l RemovesMounts pass.1) l.rooted o.plan.places_are_short m.1 in
       let sees = exposes_seen folder m.0 (small_part m.0 (trimmed_part (unmounts_trim m.1 l.rooted))) f (seen_exposes folder m.0 m.2) in
-      by_way (admin.calls ++ way.calls) admin.creds m.0 (way_join admin.way way.way) (record { path = sees.seen.path; fits = sees.fits; place = sees.seen.place; shown = sees.seen.shown; below = sees.seen.below })
+      by_way (admin.calls ++ way.calls) admin.creds m.0 (way_join admin.way way.way)
+      (record { path = sees.seen.path; fits = sees.fits; place = sees.seen.place; shown = sees.seen.shown; below = sees.seen.below })
 
   by_mount : power_of launch ≡ Mounting → IsExposed world folder
   by_mount e =

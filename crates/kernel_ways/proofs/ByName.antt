@@ -44,7 +44,8 @@ use Rattle.reach_paths.proofs.Mounted.{mounted_twice}
 use Rattle.reach_paths.proofs.Naming.{named_both, rest_short}
 use Rattle.reach_paths.proofs.Parts.{part_all}
 use Rattle.reach_paths.proofs.RowsOfSites.{found_row}
-use Rattle.kernel_ways.specs.Exposures.{CanMount, FindsAt, UnmountsShowRow, TwoMountsShowRows, FindsAfter, UnmountsShowRowAtOnce, TwoMountsShowRowsAtOnce}
+use Rattle.kernel_ways.specs.Exposures.{CanMount, FindsAt, UnmountsShowRow, TwoMountsShowRows, FindsAfter, UnmountsShowRowAtOnce}
+use Rattle.kernel_ways.specs.Exposures.{TwoMountsShowRowsAtOnce}
 use Rattle.kernel_ways.specs.Offers.{Offers}
 use Rattle.kernel_ways.specs.Showing.{IsDoneTo}
 use Rattle.kernel_ways.specs.Uncovering.{covering, Detaches, still, then_one, umount_call, umount_calls, mount_call, mount_calls}
@@ -62,7 +63,9 @@ module _ (launch : Launch) (o : Offers launch) (creds : Creds) (nr : CallAt) whe
   detach_words : AreWords (one_word 1 mnt_detach)
   detach_words = six 0 2 0 0 (omega arith) (omega arith) (omega arith) (omega arith)
 
-  unmounts_way : CanMount launch creds known.Umount nr → (path : Path) → {table now : Table} {places : List Path} → Detaches path table places now → StartsAtRoot table → AllByRecursion HasShortPlace table → Way launch creds table (umount_calls nr places) creds now
+  unmounts_way : CanMount launch creds known.Umount nr → (path : Path) → {table now : Table} {places : List Path}
+      → Detaches path table places now → StartsAtRoot table → AllByRecursion HasShortPlace table
+      → Way launch creds table (umount_calls nr places) creds now
   unmounts_way can path still top short = here
   unmounts_way can path {table = table} (then_one {next = next} split belongs e more) top short =
       let c = split.entry in
@@ -72,18 +75,25 @@ module _ (launch : Launch) (o : Offers launch) (creds : Creds) (nr : CallAt) whe
       let named : IsPath c.place = record { normal = place.normal; short = omega (arith, place.short) } in
       let through : passes_at launch nr (one_word 1 mnt_detach) = o.alike nr (Known known.Umount) no_words (one_word 1 mnt_detach) can.number zeros detach_words can.follows refl can.through in
       let makes : Makes launch creds table (d.Umount c.place 2) (umount_call nr c.place) (SetTable (map plain next)) =
-      make launch creds table nr (Known known.Umount) (one_word 1 mnt_detach) (OnePath c.place) (d.Umount c.place 2) (SetTable (map plain next)) can.number detach_words named can.follows refl through
+      make launch creds table nr (Known known.Umount) (one_word 1 mnt_detach) (OnePath c.place) (d.Umount c.place 2)
+      (SetTable (map plain next)) can.number detach_words named can.follows refl through
       (ap (λ b. cond b (table_effect (plain_answer (after_umount table c.place true))) (Refuse eperm)) can.admin ∙ ap (λ answer. table_effect (plain_answer answer)) e) in
       let part = trims c.place true table next top e in
-      by_table (umount_call nr c.place) makes (unmounts_way can path more (trimmed_top part top) (part_all HasShortPlace (trimmed_part part) short))
+      by_table (umount_call nr c.place) makes
+      (unmounts_way can path more (trimmed_top part top) (part_all HasShortPlace (trimmed_part part) short))
 
   -- ---- mount
-  mount_makes : CanMount launch creds known.Mount nr → (table now : Table) (flags : ℕ) → flags < 2 ^ 32 → after_mount (row_at launch.site.rows) table [] proc flags ≡ Ok now → Makes launch creds table (d.Mount [] proc flags) (mount_call nr [] proc flags) (SetTable (map plain now))
+  mount_makes : CanMount launch creds known.Mount nr → (table now : Table) (flags : ℕ) → flags < 2 ^ 32
+      → after_mount (row_at launch.site.rows) table [] proc flags ≡ Ok now
+      → Makes launch creds table (d.Mount [] proc flags) (mount_call nr [] proc flags) (SetTable (map plain now))
   mount_makes can table now flags small e =
       let words : AreWords (one_word 3 flags) = six 0 0 0 flags (omega arith) (omega arith) (omega arith) small in
       let through : passes_at launch nr (one_word 3 flags) = o.alike nr (Known known.Mount) no_words (one_word 3 flags) can.number zeros words can.follows refl can.through in
-      make launch creds table nr (Known known.Mount) (one_word 3 flags) (TwoPaths [] proc) (d.Mount [] proc flags) (SetTable (map plain now)) can.number words (root_named, proc_named) can.follows (ap (λ w. Some (d.Mount [] proc w)) (low flags small)) through
-      (ap (λ b. cond b (table_effect (plain_answer (after_mount (row_at launch.site.rows) table [] proc flags))) (Refuse eperm)) can.admin ∙ ap (λ answer. table_effect (plain_answer answer)) e)
+      make launch creds table nr (Known known.Mount) (one_word 3 flags) (TwoPaths [] proc) (d.Mount [] proc flags)
+      (SetTable (map plain now)) can.number words (root_named, proc_named) can.follows
+      (ap (λ w. Some (d.Mount [] proc w)) (low flags small)) through
+      (ap (λ b. cond b (table_effect (plain_answer (after_mount (row_at launch.site.rows) table [] proc flags))) (Refuse eperm)) can.admin
+      ∙ ap (λ answer. table_effect (plain_answer answer)) e)
     where
       low : (n : ℕ) → n < 2 ^ 32 → n % 2 ^ 32 ≡ n
       low n h = omega (arith, h)
@@ -115,7 +125,9 @@ unmounts_show_row launch creds nr target wish at l o can known shows =
       way = unmounts_way launch o creds nr can path detaches l.rooted o.plan.places_are_short;
       finds_row = record {
         can_be_named = named_both shows.entry.place shows.rest place.normal place.short rest.0 rest.1;
-        is_found = ap (found_at (row_at launch.site.rows) path) by ∙ ap (λ w. found_by (row_at launch.site.rows) w shows.entry.place path) shows.host ∙ ap (λ (p : Path). row_or_nothing (row_at launch.site.rows p)) there ∙ ap row_or_nothing known;
+        is_found = ap (found_at (row_at launch.site.rows) path) by
+            ∙ ap (λ w. found_by (row_at launch.site.rows) w shows.entry.place path) shows.host
+            ∙ ap (λ (p : Path). row_or_nothing (row_at launch.site.rows p)) there ∙ ap row_or_nothing known;
         is_allowed = ap (λ e. fits wish (flags_by e)) by ∙ shows.flags;
       };
     }
@@ -129,7 +141,8 @@ two_mounts_show_rows launch creds nr flags l o can small again other =
 
 -- ---- from the launched world itself
 -- what process 1 alone finds on its table, it finds in its world
-found_alone : (launch : Launch) (creds : Creds) (table : Table) (world : World) (calls : List Call) (path : Path) (target : Row) (wish : Wish) → world.site ≡ launch.site → IsDoneTo launch creds table world calls
+found_alone : (launch : Launch) (creds : Creds) (table : Table) (world : World) (calls : List Call) (path : Path) (target : Row)
+    (wish : Wish) → world.site ≡ launch.site → IsDoneTo launch creds table world calls
     → FindsAt (row_at launch.site.rows) table path target wish → FindsAfter world calls path target wish
 found_alone launch creds table world calls path target wish told d found =
     let s = d.solo in
@@ -141,7 +154,8 @@ found_alone launch creds table world calls path target wish told d found =
       done = d.done;
       process = process;
       lives = ap (λ (w : World). living_of w 1) s.is;
-      finds_row = subst (λ (t : Table). FindsAt (row_at world.site.rows) t path target wish) (sym own) (subst (λ (s : Site). FindsAt (row_at s.rows) table path target wish) (sym told) found);
+      finds_row = subst (λ (t : Table). FindsAt (row_at world.site.rows) t path target wish) (sym own)
+          (subst (λ (s : Site). FindsAt (row_at s.rows) table path target wish) (sym told) found);
     }
 
 pub unmounts_show_row_at_once : UnmountsShowRowAtOnce
@@ -159,4 +173,5 @@ two_mounts_show_rows_at_once world nr flags target wish s can small again other 
     let u = two_mounts_show_rows launch launch.creds nr flags s.launched.launched s.offers can small again other in
     let below = u.each_row target known in
     let d = ways_are_done launch launch.creds launch.creds launch.table u.now world (mount_calls nr flags) (served_is_solo world s) u.way in
-    found_alone launch launch.creds u.now world (mount_calls nr flags) (proc ++ target.path) target wish refl d (record { can_be_named = below.can_be_named; is_found = below.is_found; is_allowed = ap (fits wish) below.flags_are ∙ allowed })
+    found_alone launch launch.creds u.now world (mount_calls nr flags) (proc ++ target.path) target wish refl d
+    (record { can_be_named = below.can_be_named; is_found = below.is_found; is_allowed = ap (fits wish) below.flags_are ∙ allowed })

@@ -1,5 +1,6 @@
 -- A launch makes one mount namespace at most.
-use Rattle.std.proofs.Common.{◌≡◌, ℕ, Bool, true, false, cond, codes, List, [], ◌∷◌, ◌++◌, Option, Some, None, Result, Ok, Err, refl, ap, ◌∙◌, sym, length, ◌≤◌, arith, eqb}
+use Rattle.std.proofs.Common.{◌≡◌, ℕ, Bool, true, false, cond, codes, List, [], ◌∷◌, ◌++◌, Option, Some, None, Result, Ok, Err, refl, ap}
+use Rattle.std.proofs.Common.{◌∙◌, sym, length, ◌≤◌, arith, eqb}
 use Rattle.std.specs.Prelude.{◌+◌, ◌-◌, ◌&&◌, ◌||◌, nat_le, nat_lt, map, filter, not}
 use Rattle.std.specs.List.{AllByRecursion}
 use Rattle.launcher.specs.bpf_code.declared.machine.Insn.{Insn}
@@ -12,7 +13,8 @@ use Rattle.launcher.specs.call_table.Table as calls
 use Rattle.launcher.specs.cap_sets.Sets.{has}
 use Rattle.launcher.specs.kern_creds.declared.creds.Creds.{Creds}
 use Rattle.launcher.specs.kern_creds.Capset.{after_capset}
-use Rattle.launcher.specs.kern_creds.Prctl.{after_drop_bounding, after_raise, after_lower, after_clear_ambient, after_set_keepcaps, after_set_no_new_privs}
+use Rattle.launcher.specs.kern_creds.Prctl.{after_drop_bounding, after_raise, after_lower, after_clear_ambient, after_set_keepcaps}
+use Rattle.launcher.specs.kern_creds.Prctl.{after_set_no_new_privs}
 use Rattle.launcher.specs.kern_creds.Setgroups.{after_setgroups}
 use Rattle.launcher.specs.kern_creds.Setresuid.{after_setresuid, after_setresgid}
 use Rattle.launcher.specs.kern_creds.Setuid.{after_setuid, after_setgid}
@@ -31,7 +33,10 @@ use Rattle.launcher.specs.kernel_model.declared.kernel_calls.payload.Payload.The
 use Rattle.launcher.specs.kernel_model.declared.kernel_calls.rule.Rule.{Rule}
 use Rattle.launcher.specs.kernel_model.declared.kernel_calls.rule.Rule.TheVariants.{Known}
 use Rattle.launcher.specs.kernel_model.Effects as f
-use Rattle.launcher.specs.kernel_model.Effects.{Effect, Host, Caller, looks, creds_effect, table_effect, with_cap_of, with_admin, first_alone, schedule_answer, socket_effect, is_set_effect, ambient_effect, no_new_privs_effect, keepcaps_effect, prctl_effect, push_effect, seccomp_effect, effect_of, socketcall_effect}
+use Rattle.launcher.specs.kernel_model.Effects.{Effect, Host, Caller, looks, creds_effect, table_effect, with_cap_of, with_admin}
+use Rattle.launcher.specs.kernel_model.Effects.{first_alone, schedule_answer, socket_effect, is_set_effect, ambient_effect}
+use Rattle.launcher.specs.kernel_model.Effects.{no_new_privs_effect, keepcaps_effect, prctl_effect, push_effect, seccomp_effect, effect_of}
+use Rattle.launcher.specs.kernel_model.Effects.{socketcall_effect}
 use Rattle.launcher.specs.kernel_model.MountStep.{with_step, stepped_by}
 use Rattle.launcher.specs.kernel_model.Step.{step}
 use Rattle.launcher.specs.kernel_model.StepCases as case
@@ -43,7 +48,10 @@ use Rattle.launcher.proofs.KernelModel.Cases.{steps_by_cases}
 use Rattle.launcher.proofs.KernelModel.Kernels.{told_stays}
 use Rattle.launcher.proofs.KernelModel.Lists.{each-append, length-set, length-push}
 use Rattle.launcher.specs.kernel_laws.Questions.{if_so, count_from}
-use Rattle.launcher.specs.Launch.{Wanted, LaunchStep, Makes, Mounts, number_of, first_call, makes, capset_step, prctl_step, launch_step, launch_steps, mount_steps, with_unshare, group_steps, drop_steps, inherit_steps, user_steps, raise_steps, left_steps, privilege_steps, identity_steps, filter_steps, program_steps, call_steps, set_keepcaps, capbset_drop, set_no_new_privs, cap_ambient, ambient_raise, set_mode_filter}
+use Rattle.launcher.specs.Launch.{Wanted, LaunchStep, Makes, Mounts, number_of, first_call, makes, capset_step, prctl_step, launch_step}
+use Rattle.launcher.specs.Launch.{launch_steps, mount_steps, with_unshare, group_steps, drop_steps, inherit_steps, user_steps, raise_steps}
+use Rattle.launcher.specs.Launch.{left_steps, privilege_steps, identity_steps, filter_steps, program_steps, call_steps, set_keepcaps}
+use Rattle.launcher.specs.Launch.{capbset_drop, set_no_new_privs, cap_ambient, ambient_raise, set_mode_filter}
 use Rattle.launcher.specs.Launches.{HasLaunchCalls}
 use Rattle.launcher.proofs.Leading.{Leads, leads_parts}
 use Rattle.launcher.specs.linux_numbers.Capabilities.{cap_sys_admin, cap_last_cap}
@@ -95,17 +103,20 @@ stays_socket : (newer : Bool) (creds : Creds) (o : Option CallLine) → Stays (s
 stays_socket newer creds None = tt
 stays_socket newer creds (Some line) = stays_alone newer line.cap creds 3
 
-stays_ids : (real effective saved : ℕ) → Stays (cond ((eqb real no_id && eqb effective no_id) && eqb saved no_id) (f.Answer 0) (f.Refuse einval))
+stays_ids : (real effective saved : ℕ)
+    → Stays (cond ((eqb real no_id && eqb effective no_id) && eqb saved no_id) (f.Answer 0) (f.Refuse einval))
 stays_ids real effective saved = either ((eqb real no_id && eqb effective no_id) && eqb saved no_id) (f.Answer 0) (f.Refuse einval) tt tt
 
 stays_socketcall : (newer : Bool) (creds : Creds) (operation : ℕ) (o : Option CallLine) → Stays (socketcall_effect newer creds operation o)
 stays_socketcall newer creds operation o =
     let other : Effect = cond (nat_le 2 operation && nat_le operation 20) (f.Answer 0) (f.Refuse einval) in
-    either (eqb operation 1) (socket_effect newer creds o) other (stays_socket newer creds o) (either (nat_le 2 operation && nat_le operation 20) (f.Answer 0) (f.Refuse einval) tt tt)
+    either (eqb operation 1) (socket_effect newer creds o) other (stays_socket newer creds o)
+    (either (nat_le 2 operation && nat_le operation 20) (f.Answer 0) (f.Refuse einval) tt tt)
 
 stays_push : (stack : List (List Insn)) (o : Option (List Insn)) → Stays (push_effect stack o)
 stays_push stack None = tt
-stays_push stack (Some program) = either (nat_le (room_of stack + length program) max_insns_per_path) (f.Push program) (f.Refuse enomem) tt tt
+stays_push stack (Some program) = either (nat_le (room_of stack + length program) max_insns_per_path) (f.Push program)
+    (f.Refuse enomem) tt tt
 
 stays_admin : (creds : Creds) (r : Result Mounts' ℕ) → Stays (with_admin creds (table_effect r))
 stays_admin creds r = either (has creds.effective cap_sys_admin) (table_effect r) (f.Refuse eperm) (stays_table r) tt
@@ -119,8 +130,11 @@ stays_ambient creds operation cap' =
     let four : Effect = cond (eqb operation 4) clear (f.Refuse einval) in
     let three : Effect = cond (eqb operation 3) lower four in
     let two : Effect = cond (eqb operation 2) raise three in
-    either (eqb operation 1) set two (either (nat_lt cap_last_cap cap') (f.Refuse einval) (f.Answer (cond (has creds.ambient cap') 1 0)) tt tt)
-    (either (eqb operation 2) raise three (stays_creds (after_raise creds cap')) (either (eqb operation 3) lower four (stays_creds (after_lower creds cap')) (either (eqb operation 4) clear (f.Refuse einval) tt tt)))
+    either (eqb operation 1) set two
+    (either (nat_lt cap_last_cap cap') (f.Refuse einval) (f.Answer (cond (has creds.ambient cap') 1 0)) tt tt)
+    (either (eqb operation 2) raise three (stays_creds (after_raise creds cap'))
+    (either (eqb operation 3) lower four (stays_creds (after_lower creds cap'))
+    (either (eqb operation 4) clear (f.Refuse einval) tt tt)))
 
 stays_prctl : (creds : Creds) (option value third : ℕ) → Stays (prctl_effect creds option value third)
 stays_prctl creds option value third =
@@ -135,20 +149,29 @@ stays_prctl creds option value third =
     either (eqb option 38) mark two (either (eqb value 1) (f.SetCreds (after_set_no_new_privs creds)) (f.Refuse einval) tt tt)
     (either (eqb option 39) marked three tt
     (either (eqb option 8) keep four (either (nat_lt value 2) (f.SetCreds (after_set_keepcaps creds (eqb value 1))) (f.Refuse einval) tt tt)
-    (either (eqb option 24) drop five (stays_creds (after_drop_bounding creds value)) (either (eqb option 47) (ambient_effect creds value third) (f.Refuse einval) (stays_ambient creds value third) tt))))
+    (either (eqb option 24) drop five (stays_creds (after_drop_bounding creds value))
+    (either (eqb option 47) (ambient_effect creds value third) (f.Refuse einval) (stays_ambient creds value third) tt))))
 
-stays_seccomp : (creds : Creds) (stack : List (List Insn)) (operation flags : ℕ) (code : List ℕ) → Stays (seccomp_effect creds stack operation flags code)
+stays_seccomp : (creds : Creds) (stack : List (List Insn)) (operation flags : ℕ) (code : List ℕ)
+    → Stays (seccomp_effect creds stack operation flags code)
 stays_seccomp creds stack operation flags code =
     let pushed : Effect = push_effect stack (program_of code) in
     let allowed : Effect = cond (not (creds.no_new_privs || has creds.effective cap_sys_admin)) (f.Refuse eacces) pushed in
-    either (not (eqb operation 1 && eqb flags 0)) (f.Refuse einval) allowed tt (either (not (creds.no_new_privs || has creds.effective cap_sys_admin)) (f.Refuse eacces) pushed tt (stays_push stack (program_of code)))
+    either (not (eqb operation 1 && eqb flags 0)) (f.Refuse einval) allowed tt
+    (either (not (creds.no_new_privs || has creds.effective cap_sys_admin)) (f.Refuse eacces) pushed tt
+    (stays_push stack (program_of code)))
 
 effect_stays : (host : Host) (caller : Caller) (doing : Doing) → parts doing ≡ false → Stays (effect_of host caller doing)
 effect_stays host caller (d.See path) e = stays_looks (see_answer 0 (finds host.rows (steps_of caller.table) path))
-effect_stays host caller (d.Open flags path) e = stays_looks (open_answer flags (flags_at (steps_of caller.table) path) (finds host.rows (steps_of caller.table) path))
-effect_stays host caller (d.Create path) e = stays_looks (write_answer 3 (flags_at (steps_of caller.table) path) (finds host.rows (steps_of caller.table) path))
-effect_stays host caller (d.Truncate path) e = stays_looks (write_answer 0 (flags_at (steps_of caller.table) path) (finds host.rows (steps_of caller.table) path))
-effect_stays host caller (d.Execve path) e = stays_creds (exec_answer_in caller.newer caller.creds (flags_at (steps_of caller.table) path) (finds host.rows (steps_of caller.table) path))
+effect_stays host caller (d.Open flags path) e = stays_looks
+    (open_answer flags (flags_at (steps_of caller.table) path) (finds host.rows (steps_of caller.table) path))
+effect_stays host caller (d.Create path) e =
+    stays_looks (write_answer 3 (flags_at (steps_of caller.table) path) (finds host.rows (steps_of caller.table) path))
+effect_stays host caller (d.Truncate path) e =
+    stays_looks (write_answer 0 (flags_at (steps_of caller.table) path) (finds host.rows (steps_of caller.table) path))
+effect_stays host caller (d.Execve path) e =
+    stays_creds (exec_answer_in caller.newer caller.creds (flags_at (steps_of caller.table) path)
+    (finds host.rows (steps_of caller.table) path))
 effect_stays host caller (d.SetMode mode) e = tt
 effect_stays host caller (d.Map protection) e = tt
 effect_stays host caller (d.Protect protection) e = tt
@@ -156,27 +179,43 @@ effect_stays host caller (d.Attach flags) e = tt
 effect_stays host caller (d.Schedule policy) e = stays_looks (schedule_answer policy)
 effect_stays host caller (d.Personality persona) e = tt
 effect_stays host caller (d.Socket family) e = stays_socket caller.newer caller.creds (numbered family host.families)
-effect_stays host caller (d.Socketcall operation family) e = stays_socketcall caller.newer caller.creds operation (numbered family host.families)
+effect_stays host caller (d.Socketcall operation family) e =
+    stays_socketcall caller.newer caller.creds operation (numbered family host.families)
 effect_stays host caller d.Enter e = tt
 effect_stays host caller d.Fork e = refl
 effect_stays host caller (d.Clone flags) e = cc
 effect_stays host caller (d.Unshare flags) e = cc
 effect_stays host caller d.Exit e = tt
-effect_stays host caller (d.Mount source target flags) e = either caller.owns (with_admin caller.creds (table_effect (mounts_after_mount host.rows caller.table source target flags))) (f.Refuse eperm) (stays_admin caller.creds (mounts_after_mount host.rows caller.table source target flags)) tt
-effect_stays host caller (d.Umount path flags) e = either caller.owns (with_admin caller.creds (table_effect (mounts_umount_answer caller.table path flags))) (f.Refuse eperm) (stays_admin caller.creds (mounts_umount_answer caller.table path flags)) tt
-effect_stays host caller (d.Setuid id) e = either caller.newer (f.Refuse einval) (creds_effect (after_setuid caller.creds id)) tt (stays_creds (after_setuid caller.creds id))
-effect_stays host caller (d.Setgid id) e = either caller.newer (f.Refuse einval) (creds_effect (after_setgid caller.creds id)) tt (stays_creds (after_setgid caller.creds id))
-effect_stays host caller (d.Setresuid real effective saved) e = either caller.newer (cond ((eqb real no_id && eqb effective no_id) && eqb saved no_id) (f.Answer 0) (f.Refuse einval)) (creds_effect (after_setresuid caller.creds real effective saved)) (stays_ids real effective saved) (stays_creds (after_setresuid caller.creds real effective saved))
-effect_stays host caller (d.Setresgid real effective saved) e = either caller.newer (cond ((eqb real no_id && eqb effective no_id) && eqb saved no_id) (f.Answer 0) (f.Refuse einval)) (creds_effect (after_setresgid caller.creds real effective saved)) (stays_ids real effective saved) (stays_creds (after_setresgid caller.creds real effective saved))
-effect_stays host caller (d.Setgroups ids) e = either caller.newer (f.Refuse eperm) (creds_effect (after_setgroups caller.creds ids)) tt (stays_creds (after_setgroups caller.creds ids))
-effect_stays host caller (d.Capset permitted effective inheritable) e = stays_creds (after_capset caller.creds permitted effective inheritable)
+effect_stays host caller (d.Mount source target flags) e = either caller.owns
+    (with_admin caller.creds (table_effect (mounts_after_mount host.rows caller.table source target flags))) (f.Refuse eperm)
+    (stays_admin caller.creds (mounts_after_mount host.rows caller.table source target flags)) tt
+effect_stays host caller (d.Umount path flags) e = either caller.owns
+    (with_admin caller.creds (table_effect (mounts_umount_answer caller.table path flags))) (f.Refuse eperm)
+    (stays_admin caller.creds (mounts_umount_answer caller.table path flags)) tt
+effect_stays host caller (d.Setuid id) e = either caller.newer (f.Refuse einval) (creds_effect (after_setuid caller.creds id)) tt
+    (stays_creds (after_setuid caller.creds id))
+effect_stays host caller (d.Setgid id) e = either caller.newer (f.Refuse einval) (creds_effect (after_setgid caller.creds id)) tt
+    (stays_creds (after_setgid caller.creds id))
+effect_stays host caller (d.Setresuid real effective saved) e =
+    either caller.newer (cond ((eqb real no_id && eqb effective no_id) && eqb saved no_id) (f.Answer 0) (f.Refuse einval))
+    (creds_effect (after_setresuid caller.creds real effective saved)) (stays_ids real effective saved)
+    (stays_creds (after_setresuid caller.creds real effective saved))
+effect_stays host caller (d.Setresgid real effective saved) e =
+    either caller.newer (cond ((eqb real no_id && eqb effective no_id) && eqb saved no_id) (f.Answer 0) (f.Refuse einval))
+    (creds_effect (after_setresgid caller.creds real effective saved)) (stays_ids real effective saved)
+    (stays_creds (after_setresgid caller.creds real effective saved))
+effect_stays host caller (d.Setgroups ids) e = either caller.newer (f.Refuse eperm) (creds_effect (after_setgroups caller.creds ids)) tt
+    (stays_creds (after_setgroups caller.creds ids))
+effect_stays host caller (d.Capset permitted effective inheritable) e =
+    stays_creds (after_capset caller.creds permitted effective inheritable)
 effect_stays host caller (d.Prctl option value third) e = stays_prctl caller.creds option value third
 effect_stays host caller (d.Seccomp operation flags code) e = stays_seccomp caller.creds caller.stack operation flags code
 effect_stays host caller (d.Plain cap') e = stays_alone caller.newer cap' caller.creds 0
 
 -- ---- a step
 module _ (world : World) where
-  effect_count : {pid : ℕ} {process : Process} {effect : Effect} {out : Reply × World} → EffectCase world pid process effect out → Stays effect → length out.1.tables ≡ length world.tables
+  effect_count : {pid : ℕ} {process : Process} {effect : Effect} {out : Reply × World} → EffectCase world pid process effect out
+      → Stays effect → length out.1.tables ≡ length world.tables
   effect_count (case.refuses errno) h = refl
   effect_count (case.answers value) h = refl
   effect_count (case.takes_creds creds) h = refl
@@ -199,7 +238,8 @@ module _ (world : World) where
   effect_count (case.enters_and_moves left space) h = cc
   effect_count case.ends h = refl
 
-  effect_more : {pid : ℕ} {process : Process} {effect : Effect} {out : Reply × World} → EffectCase world pid process effect out → length out.1.tables ≤ length world.tables + 1
+  effect_more : {pid : ℕ} {process : Process} {effect : Effect} {out : Reply × World} → EffectCase world pid process effect out
+      → length out.1.tables ≤ length world.tables + 1
   effect_more (case.refuses errno) = omega arith
   effect_more (case.answers value) = omega arith
   effect_more (case.takes_creds creds) = omega arith
@@ -222,13 +262,15 @@ module _ (world : World) where
   effect_more {process = process} (case.enters_and_moves left space) = let e = length-push world.tables (copied (not (eqb (owner_of world process.namespace) (world.users + 2))) (mounts_of world process.namespace)) in omega (arith, e)
   effect_more case.ends = omega arith
 
-  case_count : {call : Call} {out : Reply × World} → StepCase world call out → ((doing : Doing) → asked_of world.calls call ≡ Does doing → parts doing ≡ false) → length out.1.tables ≡ length world.tables
+  case_count : {call : Call} {out : Reply × World} → StepCase world call out
+      → ((doing : Doing) → asked_of world.calls call ≡ Does doing → parts doing ≡ false) → length out.1.tables ≡ length world.tables
   case_count (case.absent e) h = refl
   case_count (case.filtered process errno e g) h = refl
   case_count (case.killed process e g) h = refl
   case_count (case.lacking process passes e) h = refl
   case_count (case.misformed process passes e) h = refl
-  case_count (case.does process doing out passes e c) h = effect_count c (effect_stays (host_of world) (caller_of world process) doing (h doing e))
+  case_count (case.does process doing out passes e c) h = effect_count c
+      (effect_stays (host_of world) (caller_of world process) doing (h doing e))
 
   case_more : {call : Call} {out : Reply × World} → StepCase world call out → length out.1.tables ≤ length world.tables + 1
   case_more (case.absent e) = omega arith
@@ -256,24 +298,30 @@ module _ (table : calls.Table) where
       by None = refl
       by (Some process) = refl
 
-  quiet_step : (world : World) (own : LaunchStep) → world.calls ≡ table → IsQuiet own → length (launch_step world own).1.tables ≡ length world.tables
-  quiet_step world (Makes call) is quiet = case_count world (steps_by_cases world call) (λ doing e. quiet doing (ap (λ (t : calls.Table). asked_of t call) (sym is) ∙ e))
+  quiet_step : (world : World) (own : LaunchStep) → world.calls ≡ table → IsQuiet own
+      → length (launch_step world own).1.tables ≡ length world.tables
+  quiet_step world (Makes call) is quiet = case_count world (steps_by_cases world call)
+      (λ doing e. quiet doing (ap (λ (t : calls.Table). asked_of t call) (sym is) ∙ e))
   quiet_step world (Mounts entry) is quiet = by (living_of world 1)
     where
       by : (o : Option Process) → length (stepped_by world entry o).tables ≡ length world.tables
       by None = refl
       by (Some process) = length-set world.tables (process.namespace - 1) (with_step (mounts_of world process.namespace) entry)
 
-  quiet_steps : (world last : World) (steps : List LaunchStep) → world.calls ≡ table → AreQuiet steps → Leads world steps last → length last.tables ≡ length world.tables
+  quiet_steps : (world last : World) (steps : List LaunchStep) → world.calls ≡ table → AreQuiet steps → Leads world steps last
+      → length last.tables ≡ length world.tables
   quiet_steps world last [] is quiet l = ap (λ (w : World). length w.tables) (sym l)
-  quiet_steps world last (own ∷ steps) is quiet l = quiet_steps (launch_step world own).1 last steps (told_after world own ∙ is) quiet.1 l.1 ∙ quiet_step world own is quiet.0
+  quiet_steps world last (own ∷ steps) is quiet l = quiet_steps (launch_step world own).1 last steps
+      (told_after world own ∙ is) quiet.1 l.1 ∙ quiet_step world own is quiet.0
 
   told_steps : (world last : World) (steps : List LaunchStep) → Leads world steps last → last.calls ≡ world.calls
   told_steps world last [] l = ap (λ (w : World). w.calls) (sym l)
   told_steps world last (own ∷ steps) l = told_steps (launch_step world own).1 last steps l.1 ∙ told_after world own
 
   -- calls by their names
-  quiet_call : (name args : List ℕ) (payload : Payload) (rule : Rule) (doing : Doing) → rule_at table.calls (number_of table.calls name) ≡ Some rule → doing_by rule args payload ≡ Some doing → parts doing ≡ false → IsQuiet (Makes (first_call table.calls name args payload))
+  quiet_call : (name args : List ℕ) (payload : Payload) (rule : Rule) (doing : Doing)
+      → rule_at table.calls (number_of table.calls name) ≡ Some rule → doing_by rule args payload ≡ Some doing → parts doing ≡ false
+      → IsQuiet (Makes (first_call table.calls name args payload))
   quiet_call name args payload rule doing at is off other e =
       let own : asked_of table (first_call table.calls name args payload) ≡ Does doing = ap (λ (r : Option Rule). asked_by r (first_call table.calls name args payload)) at ∙ ap asked_if is in
       let same : doing ≡ other = does_same doing other (sym own ∙ e) in
@@ -296,7 +344,8 @@ module _ (table : calls.Table) where
 
   mounts_quiet : (plan : Table) → AreQuiet (mount_steps plan)
   mounts_quiet [] = tt
-  mounts_quiet (first ∷ rest) = each-append IsQuiet (if_so _ (Mounts first)) (map Mounts rest) (if_quiet _ (Mounts first) tt) (each_made Mounts (λ entry. tt) rest)
+  mounts_quiet (first ∷ rest) = each-append IsQuiet (if_so _ (Mounts first)) (map Mounts rest) (if_quiet _ (Mounts first) tt)
+      (each_made Mounts (λ entry. tt) rest)
 
   module _ (calls' : HasLaunchCalls table.calls) (wanted : Wanted) where
     prctl_quiet : (option value third : ℕ) → IsQuiet (prctl_step table.calls option value third)
@@ -330,7 +379,8 @@ module _ (table : calls.Table) where
         join (identity_steps lines wanted ++ filter_steps lines wanted.programs) (program_steps lines wanted.program) seven program
 
     -- the mounts in a namespace of their own
-    unshared : (steps : List LaunchStep) (world mid : World) → world.calls ≡ table → AreQuiet steps → Leads world (with_unshare table.calls steps) mid → length mid.tables ≤ length world.tables + 1
+    unshared : (steps : List LaunchStep) (world mid : World) → world.calls ≡ table → AreQuiet steps
+        → Leads world (with_unshare table.calls steps) mid → length mid.tables ≤ length world.tables + 1
     unshared [] world mid is quiet l = let e = ap (λ (w : World). length w.tables) l in omega (arith, e)
     unshared (own ∷ steps) world mid is quiet l =
         let call : Call = first_call table.calls (codes "unshare") (0x2_0000 ∷ 0 ∷ 0 ∷ 0 ∷ 0 ∷ 0 ∷ []) Nothing in
@@ -338,7 +388,8 @@ module _ (table : calls.Table) where
         let rest = quiet_steps (step world call).1 mid (own ∷ steps) (told_after world (Makes call) ∙ is) quiet l.1 in
         omega (arith, more, rest)
 
-    pub few_tables : (site : Site) (plan : Table) (last : World) → Leads (start_world table site) (launch_steps table.calls wanted plan) last → length last.tables ≤ 2
+    pub few_tables : (site : Site) (plan : Table) (last : World)
+        → Leads (start_world table site) (launch_steps table.calls wanted plan) last → length last.tables ≤ 2
     few_tables site plan last l =
         let own = leads_parts (start_world table site) (with_unshare table.calls (mount_steps plan)) (call_steps table.calls wanted) last l in
         let first = unshared (mount_steps plan) (start_world table site) own.mid refl (mounts_quiet plan) own.before in

@@ -28,7 +28,8 @@ use Rattle.launcher.specs.kernel_laws.Denied.{path_for}
 use Rattle.launcher.specs.kernel_laws.Kinds.{AreWords, no_words, one_word}
 use Rattle.launcher.specs.kernel_laws.Launched.{Launch, passes}
 use Rattle.launcher.specs.kernel_laws.declared.question_types.wish.Wish.{Wish}
-use Rattle.launcher.specs.kernel_laws.declared.question_types.wish.Wish.TheVariants.{See as ToSee, Read as ToRead, Write as ToWrite, Exec as ToExec}
+use Rattle.launcher.specs.kernel_laws.declared.question_types.wish.Wish.TheVariants.{See as ToSee, Read as ToRead, Write as ToWrite}
+use Rattle.launcher.specs.kernel_laws.declared.question_types.wish.Wish.TheVariants.{Exec as ToExec}
 use Rattle.launcher.specs.kernel_laws.declared.question_types.kind.CallKind.TheVariants as k
 use Rattle.launcher.specs.kernel_laws.Reach.{fits}
 use Rattle.kernel_ways.specs.Ways.{effect_on, Makes, host_at, caller_at, place_of, CallAt, IsCallAt, rule_there, passes_at}
@@ -61,8 +62,11 @@ module _ (launch : Launch) (creds : Creds) (table : Table) where
     seen value = ap (λ x. looks (see_answer value x)) found
 
     -- a call by the path alone that changes nothing
-    by_path : (nr : CallAt) (own : Rule) (args : List ℕ) (doing : Doing) (value : ℕ) (wish : Wish) → IsCallAt nr → AreWords args → rule_there launch nr ≡ Some own → passes_at launch nr args
-        → d.doing_by own args (pay.OnePath path) ≡ Some doing → path_for wish doing ≡ Some path → effect_on (host_at launch) (caller_at launch creds table) table doing ≡ f.Answer value → PathCall wish path (first_by nr args (pay.OnePath path))
+    by_path : (nr : CallAt) (own : Rule) (args : List ℕ) (doing : Doing) (value : ℕ) (wish : Wish) → IsCallAt nr → AreWords args
+        → rule_there launch nr ≡ Some own → passes_at launch nr args
+        → d.doing_by own args (pay.OnePath path) ≡ Some doing → path_for wish doing ≡ Some path
+        → effect_on (host_at launch) (caller_at launch creds table) table doing ≡ f.Answer value
+        → PathCall wish path (first_by nr args (pay.OnePath path))
     by_path nr own args doing value wish n w at t is wanted e = record {
       doing = doing;
       effect = f.Answer value;
@@ -71,37 +75,50 @@ module _ (launch : Launch) (creds : Creds) (table : Table) where
       wanted = wanted;
     }
 
-    see_by : {own : Rule} {args : List ℕ} → (nr : CallAt) → IsCallAt nr → rule_there launch nr ≡ Some own → passes_at launch nr args → choices.Choice (k.ForPath ToSee) own args → PathCall ToSee path (first_by nr args (pay.OnePath path))
+    see_by : {own : Rule} {args : List ℕ} → (nr : CallAt) → IsCallAt nr → rule_there launch nr ≡ Some own → passes_at launch nr args
+        → choices.Choice (k.ForPath ToSee) own args → PathCall ToSee path (first_by nr args (pay.OnePath path))
     see_by nr n at t choices.sees = by_path nr (rule.Known known.See) no_words (d.See path) 0 ToSee n zeros at t refl refl (seen 0)
 
     pub see_path : (line : Line launch (k.ForPath ToSee)) → PathCall ToSee path (first_by (place_of line.line) line.args (pay.OnePath path))
     see_path line = see_by (place_of line.line) line.number line.at line.through (choice_of line)
 
-    read_by : {own : Rule} {args : List ℕ} → (nr : CallAt) → IsCallAt nr → rule_there launch nr ≡ Some own → passes_at launch nr args → choices.Choice (k.ForPath ToRead) own args → PathCall ToRead path (first_by nr args (pay.OnePath path))
-    read_by nr n at t (choices.reads argument.Second) = by_path nr (rule.Known (known.Open argument.Second)) no_words (d.Open 0 path) 3 ToRead n zeros at t refl refl (seen 3)
-    read_by nr n at t (choices.reads argument.Third) = by_path nr (rule.Known (known.Open argument.Third)) no_words (d.Open 0 path) 3 ToRead n zeros at t refl refl (seen 3)
+    read_by : {own : Rule} {args : List ℕ} → (nr : CallAt) → IsCallAt nr → rule_there launch nr ≡ Some own → passes_at launch nr args
+        → choices.Choice (k.ForPath ToRead) own args → PathCall ToRead path (first_by nr args (pay.OnePath path))
+    read_by nr n at t (choices.reads argument.Second) = by_path nr (rule.Known (known.Open argument.Second)) no_words
+        (d.Open 0 path) 3 ToRead n zeros at t refl refl (seen 3)
+    read_by nr n at t (choices.reads argument.Third) = by_path nr (rule.Known (known.Open argument.Third)) no_words
+        (d.Open 0 path) 3 ToRead n zeros at t refl refl (seen 3)
 
-    pub read_path : (line : Line launch (k.ForPath ToRead)) → PathCall ToRead path (first_by (place_of line.line) line.args (pay.OnePath path))
+    pub read_path : (line : Line launch (k.ForPath ToRead)) → PathCall ToRead path
+        (first_by (place_of line.line) line.args (pay.OnePath path))
     read_path line = read_by (place_of line.line) line.number line.at line.through (choice_of line)
 
     module _ (file : is_dir target.kind ≡ false) (writes : fits ToWrite (flags_at table path) ≡ true) where
       pub written : (value : ℕ) → looks (write_answer value (flags_at table path) (finds rows table path)) ≡ f.Answer value
-      written value = ap (λ x. looks (write_answer value (flags_at table path) x)) found ∙ by (is_dir target.kind) (flags_at table path).read_only file writes
+      written value = ap (λ x. looks (write_answer value (flags_at table path) x)) found
+          ∙ by (is_dir target.kind) (flags_at table path).read_only file writes
         where
-          by : (a b : Bool) → a ≡ false → not b ≡ true → looks (cond {A = Result ℕ ℕ} a (Err eisdir) (cond {A = Result ℕ ℕ} b (Err erofs) (Ok value))) ≡ f.Answer value
+          by : (a b : Bool) → a ≡ false → not b ≡ true → looks
+              (cond {A = Result ℕ ℕ} a (Err eisdir) (cond {A = Result ℕ ℕ} b (Err erofs) (Ok value))) ≡ f.Answer value
           by false false g h = refl
           by false true g h = cc
           by true b g h = cc
 
-      write_by : {own : Rule} {args : List ℕ} → (nr : CallAt) → IsCallAt nr → rule_there launch nr ≡ Some own → passes_at launch nr args → choices.Choice (k.ForPath ToWrite) own args → PathCall ToWrite path (first_by nr args (pay.OnePath path))
+      write_by : {own : Rule} {args : List ℕ} → (nr : CallAt) → IsCallAt nr → rule_there launch nr ≡ Some own → passes_at launch nr args
+          → choices.Choice (k.ForPath ToWrite) own args → PathCall ToWrite path (first_by nr args (pay.OnePath path))
       write_by nr n at t (choices.opens argument.Second) =
-          by_path nr (rule.Known (known.Open argument.Second)) (one_word 1 1) (d.Open 1 path) 3 ToWrite n (six 0 1 0 0 (omega arith) (omega arith) (omega arith) (omega arith)) at t refl refl (written 3)
+          by_path nr (rule.Known (known.Open argument.Second)) (one_word 1 1) (d.Open 1 path) 3 ToWrite n
+          (six 0 1 0 0 (omega arith) (omega arith) (omega arith) (omega arith)) at t refl refl (written 3)
       write_by nr n at t (choices.opens argument.Third) =
-          by_path nr (rule.Known (known.Open argument.Third)) (one_word 2 1) (d.Open 1 path) 3 ToWrite n (six 0 0 1 0 (omega arith) (omega arith) (omega arith) (omega arith)) at t refl refl (written 3)
-      write_by nr n at t choices.creates = by_path nr (rule.Known known.Create) no_words (d.Create path) 3 ToWrite n zeros at t refl refl (written 3)
-      write_by nr n at t choices.truncates = by_path nr (rule.Known known.Truncate) no_words (d.Truncate path) 0 ToWrite n zeros at t refl refl (written 0)
+          by_path nr (rule.Known (known.Open argument.Third)) (one_word 2 1) (d.Open 1 path) 3 ToWrite n
+          (six 0 0 1 0 (omega arith) (omega arith) (omega arith) (omega arith)) at t refl refl (written 3)
+      write_by nr n at t choices.creates = by_path nr (rule.Known known.Create) no_words (d.Create path) 3 ToWrite n zeros at t refl refl
+          (written 3)
+      write_by nr n at t choices.truncates = by_path nr (rule.Known known.Truncate) no_words
+          (d.Truncate path) 0 ToWrite n zeros at t refl refl (written 0)
 
-      pub write_path : (line : Line launch (k.ForPath ToWrite)) → PathCall ToWrite path (first_by (place_of line.line) line.args (pay.OnePath path))
+      pub write_path : (line : Line launch (k.ForPath ToWrite))
+          → PathCall ToWrite path (first_by (place_of line.line) line.args (pay.OnePath path))
       write_path line = write_by (place_of line.line) line.number line.at line.through (choice_of line)
 
     module _ (exe : is_exe target.kind ≡ true) (runs : fits ToExec (flags_at table path) ≡ true) (admitted : is_refused creds (marks_of target) (flags_at table path).no_suid ≡ false) where
@@ -109,17 +126,25 @@ module _ (launch : Launch) (creds : Creds) (table : Table) where
       after_run = exec_done creds (marks_of target) (flags_at table path).no_suid
 
       pub exec_is : creds_effect (exec_answer creds (flags_at table path) (finds rows table path)) ≡ SetCreds after_run
-      exec_is = ap (λ x. creds_effect (exec_answer creds (flags_at table path) x)) found ∙ by (is_exe target.kind) (flags_at table path).no_exec exe runs
+      exec_is = ap (λ x. creds_effect (exec_answer creds (flags_at table path) x)) found
+          ∙ by (is_exe target.kind) (flags_at table path).no_exec exe runs
         where
           by : (a b : Bool) → a ≡ true → not b ≡ true
-              → creds_effect (executed creds (cond (not a) (Err eacces) (cond b (Err eacces) (Ok (record { file = marks_of target; no_suid = (flags_at table path).no_suid }))))) ≡ SetCreds after_run
+              → creds_effect (executed creds
+              (cond (not a) (Err eacces)
+              (cond b (Err eacces) (Ok (record { file = marks_of target; no_suid = (flags_at table path).no_suid })))))
+              ≡ SetCreds after_run
           by true false g h = ap (λ b. creds_effect (cond {A = Result Creds ℕ} b (Err eperm) (Ok after_run))) admitted
           by true true g h = cc
           by false b g h = cc
 
-      exec_by : {own : Rule} {args : List ℕ} → (nr : CallAt) → IsCallAt nr → rule_there launch nr ≡ Some own → passes_at launch nr args → choices.Choice (k.ForPath ToExec) own args → Makes launch creds table (d.Execve path) (first_by nr args (pay.OnePath path)) (SetCreds after_run)
-      exec_by nr n at t choices.execs = make launch creds table nr (rule.Known known.Execve) no_words (pay.OnePath path) (d.Execve path) (SetCreds after_run) n zeros fit at refl t exec_is
+      exec_by : {own : Rule} {args : List ℕ} → (nr : CallAt) → IsCallAt nr → rule_there launch nr ≡ Some own → passes_at launch nr args
+          → choices.Choice (k.ForPath ToExec) own args → Makes launch creds table (d.Execve path) (first_by nr args (pay.OnePath path))
+          (SetCreds after_run)
+      exec_by nr n at t choices.execs = make launch creds table nr (rule.Known known.Execve) no_words (pay.OnePath path) (d.Execve path)
+          (SetCreds after_run) n zeros fit at refl t exec_is
 
       -- its call
-      pub exec_path : (line : Line launch (k.ForPath ToExec)) → Makes launch creds table (d.Execve path) (first_by (place_of line.line) line.args (pay.OnePath path)) (SetCreds after_run)
+      pub exec_path : (line : Line launch (k.ForPath ToExec))
+          → Makes launch creds table (d.Execve path) (first_by (place_of line.line) line.args (pay.OnePath path)) (SetCreds after_run)
       exec_path line = exec_by (place_of line.line) line.number line.at line.through (choice_of line)

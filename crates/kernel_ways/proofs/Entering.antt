@@ -1,5 +1,6 @@
 -- What a process in a newer user namespace is done, and what it shows.
-use Rattle.std.proofs.Common.{◌≡◌, ℕ, Bool, true, false, List, [], ◌∷◌, ◌++◌, Option, Some, None, refl, ap, ◌∙◌, sym, subst, cond, inl, eqb, map}
+use Rattle.std.proofs.Common.{◌≡◌, ℕ, Bool, true, false, List, [], ◌∷◌, ◌++◌, Option, Some, None, refl, ap, ◌∙◌, sym, subst, cond, inl, eqb}
+use Rattle.std.proofs.Common.{map}
 use Rattle.std.specs.Prelude.{nat_lt, slice_get, length, not, ◌+◌}
 use Rattle.launcher.specs.abs_path.Paths.{Path}
 use Rattle.launcher.specs.bpf_code.declared.decision.Decision.TheVariants as decision
@@ -23,7 +24,8 @@ use Rattle.launcher.specs.kernel_model.Step.{step, step_by, decided, answered, a
 use Rattle.launcher.specs.kernel_model.World.{World, living_of, mounts_of, table_of, owner_of, host_of, caller_of, is_newer}
 use Rattle.launcher.specs.kernel_model.declared.process.Process.{Process}
 use Rattle.launcher.specs.kernel_model.declared.reply.Reply.{Reply}
-use Rattle.launcher.specs.kernel_laws.Denied.{path_for, ReachesRow, Performs, Reaches, asks_family, asks_space, asks_map, asks_protect, asks_attach, asks_realtime, asks_personality, asks_mode}
+use Rattle.launcher.specs.kernel_laws.Denied.{path_for, ReachesRow, Performs, Reaches, asks_family, asks_space, asks_map, asks_protect}
+use Rattle.launcher.specs.kernel_laws.Denied.{asks_attach, asks_realtime, asks_personality, asks_mode}
 use Rattle.launcher.specs.kernel_laws.Launched.{Launch, data_at}
 use Rattle.launcher.specs.kernel_laws.declared.question_types.wish.Wish.{Wish}
 use Rattle.launcher.specs.kernel_laws.declared.question_types.question.Question.{Question}
@@ -58,7 +60,8 @@ module _ (launch : Launch) (creds : Creds) (table : Table) (pid : ℕ) (world : 
     is_passed : decision_of world call own ≡ decision.Pass
     is_passed =
         ap (λ (c : calls.Table). decision_by call own (calls.abi_at c call.abi)) e.calls
-        ∙ let_pass launch call own doing m.asks (ap (λ (s : List (List Insn)). decision_on s (data_at launch call.abi call.nr call.args)) e.stack ∙ m.through)
+        ∙ let_pass launch call own doing m.asks
+        (ap (λ (s : List (List Insn)). decision_on s (data_at launch call.abi call.nr call.args)) e.stack ∙ m.through)
 
     is_asked : asked_of world.calls call ≡ Does doing
     is_asked = ap (λ (c : calls.Table). asked_of c call) e.calls ∙ m.asks
@@ -69,16 +72,22 @@ module _ (launch : Launch) (creds : Creds) (table : Table) (pid : ℕ) (world : 
     comes_to : effect_of (host_of world) (caller_of world own) doing ≡ effect
     comes_to =
         ap (λ (s : Site). effect_of (record { rows = row_at s.rows; families = world.calls.families }) (caller_of world own) doing) e.site
-        ∙ ap (λ (c : calls.Table). effect_of (record { rows = row_at launch.site.rows; families = c.families }) (caller_of world own) doing) e.calls
-        ∙ ap (λ (c : Creds). effect_of (host_at launch) (record { creds = c; stack = own.stack; table = mounts_of world own.namespace; newer = is_newer own; owns = owns }) doing) e.has
-        ∙ ap (λ (s : List (List Insn)). effect_of (host_at launch) (record { creds = creds; stack = s; table = mounts_of world own.namespace; newer = is_newer own; owns = owns }) doing) e.stack
-        ∙ ap (λ (t : Mounts). effect_of (host_at launch) (record { creds = creds; stack = launch.stack; table = t; newer = is_newer own; owns = owns }) doing) e.own
-        ∙ ap (λ (b : Bool). effect_of (host_at launch) (record { creds = creds; stack = launch.stack; table = map plain table; newer = b; owns = owns }) doing) e.newer
+        ∙ ap (λ (c : calls.Table). effect_of (record { rows = row_at launch.site.rows; families = c.families })
+        (caller_of world own) doing) e.calls
+        ∙ ap (λ (c : Creds). effect_of (host_at launch)
+        (record { creds = c; stack = own.stack; table = mounts_of world own.namespace; newer = is_newer own; owns = owns }) doing) e.has
+        ∙ ap (λ (s : List (List Insn)). effect_of (host_at launch)
+        (record { creds = creds; stack = s; table = mounts_of world own.namespace; newer = is_newer own; owns = owns }) doing) e.stack
+        ∙ ap (λ (t : Mounts). effect_of (host_at launch)
+        (record { creds = creds; stack = launch.stack; table = t; newer = is_newer own; owns = owns }) doing) e.own
+        ∙ ap (λ (b : Bool). effect_of (host_at launch)
+        (record { creds = creds; stack = launch.stack; table = map plain table; newer = b; owns = owns }) doing) e.newer
         ∙ m.comes_to owns
 
     steps : step world call ≡ applied world call.pid own effect
     steps =
-        ap (step_by world call) is_living ∙ ap (decided world call own) is_passed ∙ ap (answered world call.pid own) is_asked ∙ ap (applied world call.pid own) comes_to
+        ap (step_by world call) is_living ∙ ap (decided world call own) is_passed ∙ ap (answered world call.pid own) is_asked
+        ∙ ap (applied world call.pid own) comes_to
 
     pub inside_done : IsDoable effect → IsDone (step world call).0
     inside_done h = let P : Reply × World → Type 0 = λ r. IsDone r.0 in subst P (sym steps) (done_by call.pid effect h)
@@ -89,7 +98,9 @@ module _ (launch : Launch) (creds : Creds) (table : Table) (pid : ℕ) (world : 
     performs : (p : Doing → Bool) → p doing ≡ true → IsDone (step world call).0 → Performs p (moment_at world call)
     performs p such done = record { done = done; doing = doing; is = is_asked; such = such }
 
-    reaches_row : (wish : Wish) (place : ℕ) (target : Row) → slice_get launch.site.rows place ≡ Some target → (path : Path) → path_for wish doing ≡ Some path → finds (row_at launch.site.rows) table path ≡ row target → IsDone (step world call).0 → ReachesRow wish place (moment_at world call)
+    reaches_row : (wish : Wish) (place : ℕ) (target : Row) → slice_get launch.site.rows place ≡ Some target → (path : Path)
+        → path_for wish doing ≡ Some path → finds (row_at launch.site.rows) table path ≡ row target → IsDone (step world call).0
+        → ReachesRow wish place (moment_at world call)
     reaches_row wish place target listed path wanted found done = record {
       done = done;
       doing = doing;
@@ -100,15 +111,18 @@ module _ (launch : Launch) (creds : Creds) (table : Table) (pid : ℕ) (world : 
       listed = ap (λ (s : Site). slice_get s.rows place) e.site ∙ listed;
       process = own;
       caller = (lives world call.pid own is_living).made;
-      found = ap (λ (s : Site). finds (row_at s.rows) (table_of world own.namespace) path) e.site ∙ ap (λ (t : Table). finds (row_at launch.site.rows) t path) own_table ∙ found;
+      found = ap (λ (s : Site). finds (row_at s.rows) (table_of world own.namespace) path) e.site
+          ∙ ap (λ (t : Table). finds (row_at launch.site.rows) t path) own_table ∙ found;
     }
 
-    family_reached : (place : ℕ) → asks_family launch.calls.families place doing ≡ true → IsDone (step world call).0 → Reaches (asking.Socket place) (moment_at world call)
+    family_reached : (place : ℕ) → asks_family launch.calls.families place doing ≡ true → IsDone (step world call).0
+        → Reaches (asking.Socket place) (moment_at world call)
     family_reached place such done =
         let P : calls.Table → Type 0 = λ t. asks_family t.families place doing ≡ true in
         performs (asks_family world.calls.families place) (subst P (sym e.calls) such) done
 
-    pub inside_reached : (question : Question) → Answers launch table question call doing → IsDone (step world call).0 → Reaches question (moment_at world call)
+    pub inside_reached : (question : Question) → Answers launch table question call doing → IsDone (step world call).0
+        → Reaches question (moment_at world call)
     inside_reached (asking.Path wish place) a done = reaches_row wish place a.1 a.3 a.0 a.2 a.4 done
     inside_reached (asking.Call place) a done = record {
       done = done;
@@ -144,5 +158,6 @@ calls_show_inside launch from to table now world calls question pid user last do
     record {
       fit = fit_behind (calls ++ user ∷ []) last (fit_behind calls user w.fit fit) m.fit;
       done = done_behind world (calls ++ user ∷ []) last (done_behind world calls user w.done u.0) own;
-      last = inl (run_behind world (calls ++ user ∷ []) last (Reaches question) (inside_reached launch _ now pid (run world (calls ++ user ∷ [])) entered' doing last effect m question a own));
+      last = inl (run_behind world (calls ++ user ∷ []) last (Reaches question)
+          (inside_reached launch _ now pid (run world (calls ++ user ∷ [])) entered' doing last effect m question a own));
     }

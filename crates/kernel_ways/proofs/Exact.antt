@@ -18,7 +18,8 @@ use Rattle.launcher.specs.kernel_model.World.{World}
 use Rattle.launcher.proofs.KernelLaws.AskedQuestions.{all_asked}
 use Rattle.launcher.proofs.KernelLaws.Verdict.{denial_is_sound}
 use Rattle.kernel_ways.proofs.FitQuestions.{listed_are_fit}
-use Rattle.kernel_ways.specs.Laws.{IsFit, IsServedWorld, IsShown, IsExact, VerdictIsExact, QuestionsAreExact, BoundsAreExact, CeilingIsExact}
+use Rattle.kernel_ways.specs.Laws.{IsFit, IsServedWorld, IsShown, IsExact, VerdictIsExact, QuestionsAreExact, BoundsAreExact}
+use Rattle.kernel_ways.specs.Laws.{CeilingIsExact}
 use Rattle.kernel_ways.proofs.Attained.{at_nowise}
 use Rattle.kernel_ways.proofs.Shown.{open_is_shown}
 use Rattle.kernel_ways.proofs.Shown as shown
@@ -58,12 +59,14 @@ verdict_is_exact world question s asked fit =
       stays_denied = λ d. is_false open' (λ e. shown_not_denied world question (open_is_shown world question s fit e) d);
     }
 
-each_exact : (world : World) (s : IsServedWorld world) (list : List Question) → AllByRecursion (IsAsked world.calls) list → AllByRecursion (IsFit world.site) list → AllByRecursion (IsExact world) list
+each_exact : (world : World) (s : IsServedWorld world) (list : List Question) → AllByRecursion (IsAsked world.calls) list
+    → AllByRecursion (IsFit world.site) list → AllByRecursion (IsExact world) list
 each_exact world s [] asked fit = tt
 each_exact world s (question ∷ list) asked fit = (verdict_is_exact world question s asked.0 fit.0, each_exact world s list asked.1 fit.1)
 
 pub questions_are_exact : QuestionsAreExact
-questions_are_exact world s = each_exact world s (questions world.calls world.site) (all_asked world.calls world.site) (listed_are_fit world.calls world.site s.offers.site)
+questions_are_exact world s = each_exact world s (questions world.calls world.site) (all_asked world.calls world.site)
+    (listed_are_fit world.calls world.site s.offers.site)
 
 module _ (world : World) (s : IsServedWorld world) where
   abbrev launch : Launch
@@ -77,9 +80,11 @@ module _ (world : World) (s : IsServedWorld world) where
   more e =
       let g = at_nowise launch s.launched.launched s.offers 21 e in
       let held' : IsShown world (asking.Cap 21) = shown.cap_shown world launch s.launched.launched s.offers (shown.solo_of world s) 21 launch.table g in
-      is_true (admin (power_of launch)) (λ f. shown_not_denied world (asking.Cap 21) held' (denial_is_sound world (asking.Cap 21) s.launched tt f))
+      is_true (admin (power_of launch))
+      (λ f. shown_not_denied world (asking.Cap 21) held' (denial_is_sound world (asking.Cap 21) s.launched tt f))
 
-  once : (b : Bool) → admin Nowise ≡ b → power_of launch ≡ power_by (admin (power_of launch)) (lets launch ChangesMounts) (lets launch RemovesMounts)
+  once : (b : Bool) → admin Nowise ≡ b → power_of launch ≡ power_by (admin (power_of launch)) (lets launch ChangesMounts)
+      (lets launch RemovesMounts)
   once true f = ap (λ b. power_by b (lets launch ChangesMounts) (lets launch RemovesMounts)) (f ∙ sym (more f))
   once false f =
       let none' : power_of launch ≡ Nowise = ap (λ b. power_by b (lets launch ChangesMounts) (lets launch RemovesMounts)) f in

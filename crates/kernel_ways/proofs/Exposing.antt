@@ -1,5 +1,6 @@
 -- What a power exposes, calls expose.
-use Rattle.std.proofs.Common.{◌≡◌, ℕ, Bool, true, false, List, [], ◌∷◌, ◌++◌, Option, Some, None, refl, ap, ◌∙◌, sym, subst, arith, ◌<◌, ◌⊎◌, inl, inr}
+use Rattle.std.proofs.Common.{◌≡◌, ℕ, Bool, true, false, List, [], ◌∷◌, ◌++◌, Option, Some, None, refl, ap, ◌∙◌, sym, subst, arith, ◌<◌}
+use Rattle.std.proofs.Common.{◌⊎◌, inl, inr}
 use Rattle.std.specs.Prelude.{◌^◌}
 use Rattle.std.specs.List.{AllByRecursion}
 use Rattle.launcher.specs.abs_path.Paths.{Path, proc}
@@ -23,9 +24,11 @@ use Rattle.launcher.specs.kernel_model.declared.kernel_calls.call.Call.{Call}
 use Rattle.launcher.specs.kernel_laws.Bound.{power_by, power_of, caps_at}
 use Rattle.launcher.specs.kernel_laws.declared.question_types.kind.CallKind.TheVariants.{ChangesMounts, RemovesMounts, TakesUid, TakesGid}
 use Rattle.launcher.specs.kernel_laws.declared.question_types.wish.Wish.{Wish}
-use Rattle.launcher.specs.kernel_laws.declared.question_types.wish.Wish.TheVariants.{See as ToSee, Read as ToRead, Write as ToWrite, Exec as ToExec}
+use Rattle.launcher.specs.kernel_laws.declared.question_types.wish.Wish.TheVariants.{See as ToSee, Read as ToRead, Write as ToWrite}
+use Rattle.launcher.specs.kernel_laws.declared.question_types.wish.Wish.TheVariants.{Exec as ToExec}
 use Rattle.launcher.specs.kernel_laws.declared.question_types.power.Power.{Power}
-use Rattle.launcher.specs.kernel_laws.declared.question_types.power.Power.TheVariants.{None as Nowise, Unmount as Unmounting, Mount as Mounting}
+use Rattle.launcher.specs.kernel_laws.declared.question_types.power.Power.TheVariants.{None as Nowise, Unmount as Unmounting}
+use Rattle.launcher.specs.kernel_laws.declared.question_types.power.Power.TheVariants.{Mount as Mounting}
 use Rattle.launcher.specs.kernel_laws.Launched.{Launch, IsLaunched, lets}
 use Rattle.launcher.specs.kernel_laws.Reach.{fits, reaches}
 use Rattle.reach_paths.specs.Finding.{FindsRow}
@@ -67,7 +70,8 @@ module _ (launch : Launch) (o : Offers launch) (creds : Creds) (admin : has cred
     pub no_uid : Avoids launch TakesUid calls
     pub no_gid : Avoids launch TakesGid calls
 
-  pub way_unmounts : {table now : Table} → Line launch RemovesMounts → StartsAtRoot table → AllByRecursion HasShortPlace table → Unmounts table now → ByUnmounts table now
+  pub way_unmounts : {table now : Table} → Line launch RemovesMounts → StartsAtRoot table → AllByRecursion HasShortPlace table
+      → Unmounts table now → ByUnmounts table now
   way_unmounts line top short still = record { calls = []; way = here; no_uid = tt; no_gid = tt }
   way_unmounts {table = table} line top short (then_one {next = next} path detach e more) =
       let r = removes path detach table next e in
@@ -93,7 +97,8 @@ module _ (launch : Launch) (o : Offers launch) (creds : Creds) (admin : has cred
     pub no_uid : Avoids launch TakesUid calls
     pub no_gid : Avoids launch TakesGid calls
 
-  pub way_mounts : Line launch ChangesMounts → (flags : ℕ) → flags < 2 ^ 32 → has_all ms_remount_bind flags ≡ true → has_other_kind flags ≡ false → ByMounts flags
+  pub way_mounts : Line launch ChangesMounts → (flags : ℕ) → flags < 2 ^ 32 → has_all ms_remount_bind flags ≡ true
+      → has_other_kind flags ≡ false → ByMounts flags
   way_mounts line flags small again other =
       let two = mounted_twice launch.site launch.table flags o.site o.plan again other in
       let one = mount_call launch o creds launch.table admin line [] proc root_named proc_named ms_bind (omega arith) two.middle two.bound in
@@ -148,7 +153,8 @@ module _ (launch : Launch) (l : IsLaunched launch) (o : Offers launch) (creds : 
       let found : P launch.table = subst P f.1 f.2 in
       record { calls = []; now = launch.table; way = here; found = found; suid = marks_count launch.table l.honours found.path; still = λ e. refl; no_uid = tt; no_gid = tt }
 
-  unmounting : has creds.effective 21 ≡ true → lets launch RemovesMounts ≡ true → reaches Unmounting launch.table target.path wish ≡ true → Exposed launch creds Unmounting target wish
+  unmounting : has creds.effective 21 ≡ true → lets launch RemovesMounts ≡ true → reaches Unmounting launch.table target.path wish ≡ true
+      → Exposed launch creds Unmounting target wish
   unmounting admin passes e =
       let f = (exactly Unmounting launch.table target.path wish launch.site target o.site o.plan known).0 e in
       let way = way_unmounts launch o creds admin (some_line launch l RemovesMounts passes) l.rooted o.plan.places_are_short f.1 in
@@ -170,9 +176,12 @@ module _ (launch : Launch) (l : IsLaunched launch) (o : Offers launch) (creds : 
         no_gid = two.no_gid;
       }
 
-  pub exposed : (power : Power) → HasPower launch creds power → reaches power launch.table target.path wish ≡ true → Exposed launch creds power target wish
+  pub exposed : (power : Power) → HasPower launch creds power → reaches power launch.table target.path wish ≡ true
+      → Exposed launch creds power target wish
   exposed Nowise h e = at_once e
   exposed Unmounting (inl none') e = cc
-  exposed Unmounting (inr both) e = unmounting both.0 (unmounts_pass (has (caps_at launch Nowise) 21) (lets launch ChangesMounts) (lets launch RemovesMounts) both.1).1 e
+  exposed Unmounting (inr both) e =
+      unmounting both.0 (unmounts_pass (has (caps_at launch Nowise) 21) (lets launch ChangesMounts) (lets launch RemovesMounts) both.1).1 e
   exposed Mounting (inl none') e = cc
-  exposed Mounting (inr both) e = mounting both.0 (mounts_pass (has (caps_at launch Nowise) 21) (lets launch ChangesMounts) (lets launch RemovesMounts) both.1).1
+  exposed Mounting (inr both) e =
+      mounting both.0 (mounts_pass (has (caps_at launch Nowise) 21) (lets launch ChangesMounts) (lets launch RemovesMounts) both.1).1

@@ -1,5 +1,6 @@
 -- Each question of the list is put to what it is about.
-use Rattle.std.proofs.Common.{◌≡◌, ℕ, Bool, true, false, List, [], ◌∷◌, ◌++◌, Option, Some, None, refl, ap, ◌∙◌, sym, subst, cond, eqb, append_assoc, length, length-append, ◌≤◌, arith}
+use Rattle.std.proofs.Common.{◌≡◌, ℕ, Bool, true, false, List, [], ◌∷◌, ◌++◌, Option, Some, None, refl, ap, ◌∙◌, sym, subst, cond, eqb}
+use Rattle.std.proofs.Common.{append_assoc, length, length-append, ◌≤◌, arith}
 use Rattle.std.specs.Prelude.{map, not, slice_get, nat_lt, ◌+◌, IfSome, ◌&&◌}
 use Rattle.std.specs.List.{AllByRecursion}
 use Rattle.std.proofs.lemmas.Bool.{not-true}
@@ -16,7 +17,8 @@ use Rattle.launcher.proofs.KernelModel.Lists.{each-append}
 use Rattle.launcher.specs.kernel_laws.declared.question_types.question.Question.{Question}
 use Rattle.launcher.specs.kernel_laws.declared.question_types.question.Question.TheVariants.{Path as ByPath, Call, Cap, Uid, Gid}
 use Rattle.launcher.specs.kernel_laws.declared.question_types.wish.Wish.TheVariants.{Write as ToWrite, Exec as ToExec}
-use Rattle.launcher.specs.kernel_laws.Questions.{is_plain, if_so, of_row, of_rows, of_calls, of_families, count_from, placed, ascending, some_ids, joined, uids_of, gids_of, other_questions, questions}
+use Rattle.launcher.specs.kernel_laws.Questions.{is_plain, if_so, of_row, of_rows, of_calls, of_families, count_from, placed, ascending}
+use Rattle.launcher.specs.kernel_laws.Questions.{some_ids, joined, uids_of, gids_of, other_questions, questions}
 use Rattle.kernel_ways.specs.Laws.{IsFit, ListedAreFit}
 
 abbrev AreSmall : List ℕ → Type 0
@@ -74,7 +76,8 @@ module _ (table : calls.Table) (site : Site) (ids : IsSite site) where
   calls_fit every at [] = tt
   calls_fit every at (line ∷ lines) =
       let asked = is_plain (rule_of line) && is_first every line.name at in
-      each-append (IsFit site) (if_so asked (Call at)) (of_calls every (at + 1) lines) (fit_if asked (Call at) (λ e. tt)) (calls_fit every (at + 1) lines)
+      each-append (IsFit site) (if_so asked (Call at)) (of_calls every (at + 1) lines) (fit_if asked (Call at) (λ e. tt))
+      (calls_fit every (at + 1) lines)
 
   families_fit : (at : ℕ) (lines : List CallLine) → AllFit (of_families at lines)
   families_fit at [] = tt
@@ -111,7 +114,8 @@ module _ (table : calls.Table) (site : Site) (ids : IsSite site) where
   group_gids [] h = tt
   group_gids (group ∷ groups) h = (h.0.gid, group_gids groups h.1)
 
-  some_small : (o : Option ℕ) (ids : List (Option ℕ)) → IfSome o (λ id. id ≤ 4294967294) → AreSmall (some_ids ids) → AreSmall (some_ids (o ∷ ids))
+  some_small : (o : Option ℕ) (ids : List (Option ℕ)) → IfSome o (λ id. id ≤ 4294967294) → AreSmall (some_ids ids)
+      → AreSmall (some_ids (o ∷ ids))
   some_small None ids h g = g
   some_small (Some id) ids h g = (h, g)
 

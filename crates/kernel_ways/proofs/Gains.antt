@@ -66,12 +66,14 @@ module _ (creds : Creds) (file : FileCreds) (off : creds.no_new_privs ≡ false)
 
   pub common_permitted : IsWithin common done.permitted
   common_permitted = gains_permitted common
-      (above_if (runs_as_root uids) (union creds.inheritable creds.bounding) _ common (λ z. within_union_right _ _ _ (cut_within_right _ _ _ (within_self _)))
+      (above_if (runs_as_root uids) (union creds.inheritable creds.bounding) _ common
+      (λ z. within_union_right _ _ _ (cut_within_right _ _ _ (within_self _)))
       λ z. above_if (honours creds false) (union common (exec_ambient creds file false)) (exec_ambient creds file false) common (λ h. within_union_left _ _ _ (within_self common)) (λ h. let no' : true ≡ false = sym honoured ∙ h in cc))
 
   -- uid 0 gives the bounding set at once
   pub zero_gives : eqb uids.effective 0 ≡ true → IsWithin creds.bounding done.effective
-  zero_gives root = above_if (eqb uids.effective 0 || (honours creds false && file.effective)) done.permitted (exec_ambient creds file false) creds.bounding
+  zero_gives root = above_if (eqb uids.effective 0 || (honours creds false && file.effective)) done.permitted
+      (exec_ambient creds file false) creds.bounding
       (λ y. gains_permitted creds.bounding (above_if (eqb uids.real 0 || eqb uids.effective 0) (union creds.inheritable creds.bounding) _ creds.bounding (λ z. within_union_right _ _ _ (within_self _)) (λ z. let yes = or_right (eqb uids.real 0) (eqb uids.effective 0) root in let no' : true ≡ false = sym yes ∙ z in cc)))
       (λ y. let yes = or_left (eqb uids.effective 0) (honours creds false && file.effective) root in let no' : true ≡ false = sym yes ∙ y in cc)
 
@@ -84,15 +86,19 @@ module _ (creds : Creds) (file : FileCreds) (off : creds.no_new_privs ≡ false)
 
   -- the effective bit gives the file's set at once
   pub bit_gives : file.effective ≡ true → IsWithin common done.effective
-  bit_gives e = above_if (eqb uids.effective 0 || (honours creds false && file.effective)) done.permitted (exec_ambient creds file false) common (λ y. common_permitted)
+  bit_gives e = above_if (eqb uids.effective 0 || (honours creds false && file.effective)) done.permitted
+      (exec_ambient creds file false) common (λ y. common_permitted)
       (λ y. let yes = or_right (eqb uids.effective 0) (honours creds false && file.effective) (and_from _ _ honoured e) in let no' : true ≡ false = sym yes ∙ y in cc)
 
   -- else capset takes it up
   pub may_take : may_capset done common common creds.inheritable ≡ true
   may_take =
-      and_from _ _ (and_from _ _ (within-from_IsWithin common done.permitted common_permitted) (within-from_IsWithin common common (within_self common)))
-      (and_from _ _ (within-from_IsWithin creds.inheritable (union creds.inheritable creds.bounding) (within_union_left _ _ _ (within_self _)))
-      (or_right (has done.effective 8) _ (within-from_IsWithin creds.inheritable (union creds.inheritable done.permitted) (within_union_left _ _ _ (within_self _)))))
+      and_from _ _ (and_from _ _ (within-from_IsWithin common done.permitted common_permitted)
+      (within-from_IsWithin common common (within_self common)))
+      (and_from _ _ (within-from_IsWithin creds.inheritable (union creds.inheritable creds.bounding)
+      (within_union_left _ _ _ (within_self _)))
+      (or_right (has done.effective 8) _
+      (within-from_IsWithin creds.inheritable (union creds.inheritable done.permitted) (within_union_left _ _ _ (within_self _)))))
 
 pub common_small : (caps bounding : ℕ) → bounding < 2 ^ 41 → cut caps bounding < 2 ^ 41
 unfolding cut
@@ -101,7 +107,10 @@ common_small caps bounding h = omega (arith, and_le_r caps bounding, h)
 -- ---- its call
 module _ (launch : Launch) (l : IsLaunched launch) (o : Offers launch) where
   -- by a line that execve follows
-  pub runs_by : (line : Line launch (ForPath ToExec)) (creds : Creds) (table : Table) (target : Row) → creds.bounding ≡ launch.creds.bounding → (r : Runnable launch table target) → Makes launch creds table (d.Execve r.found.path) (first_by (place_of line.line) line.args (pay.OnePath r.found.path)) (SetCreds (exec_done creds (marks_of target) false))
+  pub runs_by : (line : Line launch (ForPath ToExec)) (creds : Creds) (table : Table) (target : Row)
+      → creds.bounding ≡ launch.creds.bounding → (r : Runnable launch table target)
+      → Makes launch creds table (d.Execve r.found.path) (first_by (place_of line.line) line.args (pay.OnePath r.found.path))
+      (SetCreds (exec_done creds (marks_of target) false))
   runs_by line creds table target bounding r =
       let path = r.found.path in
       let admitted : is_refused creds (marks_of target) (flags_at table path).no_suid ≡ false =
@@ -114,7 +123,8 @@ module _ (launch : Launch) (l : IsLaunched launch) (o : Offers launch) where
     pub path : Path
     pub makes : Makes launch creds table (d.Execve path) call (SetCreds (exec_done creds (marks_of target) false))
 
-  pub runs : (creds : Creds) (table : Table) (target : Row) → creds.bounding ≡ launch.creds.bounding → Runnable launch table target → Ran creds table target
+  pub runs : (creds : Creds) (table : Table) (target : Row) → creds.bounding ≡ launch.creds.bounding → Runnable launch table target
+      → Ran creds table target
   runs creds table target bounding r =
       let line = some_line launch l (ForPath ToExec) o.execs in
       record { call = first_by (place_of line.line) line.args (pay.OnePath r.found.path); path = r.found.path; makes = runs_by line creds table target bounding r }

@@ -16,7 +16,8 @@ use Rattle.launcher.specs.kernel_laws.Denied.{HasGid}
 use Rattle.launcher.specs.kernel_model.kern_files.Executing.{marks_of}
 use Rattle.launcher.specs.kernel_laws.declared.question_types.kind.CallKind.TheVariants.{TakesUid, TakesGid}
 use Rattle.launcher.specs.kernel_laws.declared.question_types.power.Power.{Power}
-use Rattle.launcher.specs.kernel_laws.declared.question_types.power.Power.TheVariants.{None as Nowise, Unmount as Unmounting, Mount as Mounting}
+use Rattle.launcher.specs.kernel_laws.declared.question_types.power.Power.TheVariants.{None as Nowise, Unmount as Unmounting}
+use Rattle.launcher.specs.kernel_laws.declared.question_types.power.Power.TheVariants.{Mount as Mounting}
 use Rattle.launcher.specs.kernel_laws.Launched.{Launch, IsLaunched, lets}
 use Rattle.launcher.specs.kern_mounts.Split.{Table}
 use Rattle.launcher.proofs.KernelLaws.Bound.{any_listed}
@@ -58,7 +59,8 @@ module _ (launch : Launch) (l : IsLaunched launch) (o : Offers launch) where
   pub without_calls : (spares : Bool) → Powered spares Nowise
   without_calls spares = record { calls = []; creds = launch.creds; way = here; basis = record { bounding = refl; inheritable = refl; mark = refl }; at_hand = inl refl; no_uid = λ e. tt; no_gid = tt }
 
-  pub from_gained : (spares : Bool) (power : Power) → power_of launch ≡ power → Gained launch l o spares launch.creds launch.table launch.table 21 → Powered spares power
+  pub from_gained : (spares : Bool) (power : Power) → power_of launch ≡ power
+      → Gained launch l o spares launch.creds launch.table launch.table 21 → Powered spares power
   from_gained spares power e g = record { calls = g.calls; creds = g.creds; way = g.way; basis = g.basis; at_hand = inr (g.holds, e); no_uid = g.no_uid; no_gid = g.no_gid }
 
   pub powered : (power : Power) → power_of launch ≡ power → Powered false power
@@ -76,7 +78,8 @@ module _ (launch : Launch) (l : IsLaunched launch) (o : Offers launch) where
     no_uid : spares ≡ true → Avoids launch TakesUid calls
     no_gid : Avoids launch TakesGid calls
 
-  ran_row : (spares : Bool) (power : Power) → Powered spares power → (at : ℕ) (target : Row) → slice_get launch.site.rows at ≡ Some target → can_run launch power target ≡ true → RanRow spares target
+  ran_row : (spares : Bool) (power : Power) → Powered spares power → (at : ℕ) (target : Row) → slice_get launch.site.rows at ≡ Some target
+      → can_run launch power target ≡ true → RanRow spares target
   ran_row spares power p at target listed c =
       let x = exposed_runs launch l o power p.creds target (known_at launch.site o.site at target listed) p.at_hand c in
       let ran = runs launch l o p.creds x.now target p.basis.bounding x.runnable in
@@ -87,8 +90,10 @@ module _ (launch : Launch) (l : IsLaunched launch) (o : Offers launch) where
         now = x.now;
         way = way_join p.way (way_join x.way (by_creds ran.call ran.makes here));
         basis = p.basis;
-        no_uid = λ e. avoid_join launch TakesUid p.calls (x.calls ++ run) (p.no_uid e) (avoid_join launch TakesUid x.calls run x.no_uid (avoid_one launch p.creds x.now _ ran.call _ ran.makes TakesUid refl, tt));
-        no_gid = avoid_join launch TakesGid p.calls (x.calls ++ run) p.no_gid (avoid_join launch TakesGid x.calls run x.no_gid (avoid_one launch p.creds x.now _ ran.call _ ran.makes TakesGid refl, tt));
+        no_uid = λ e. avoid_join launch TakesUid p.calls (x.calls ++ run) (p.no_uid e)
+            (avoid_join launch TakesUid x.calls run x.no_uid (avoid_one launch p.creds x.now _ ran.call _ ran.makes TakesUid refl, tt));
+        no_gid = avoid_join launch TakesGid p.calls (x.calls ++ run) p.no_gid
+            (avoid_join launch TakesGid x.calls run x.no_gid (avoid_one launch p.creds x.now _ ran.call _ ran.makes TakesGid refl, tt));
       }
 
   -- a way of the launched process to credentials with a property, without a call that takes a uid, or a gid
@@ -102,48 +107,61 @@ module _ (launch : Launch) (l : IsLaunched launch) (o : Offers launch) where
     pub no_gid : gids ≡ true → Avoids launch TakesGid calls
 
   at_start : (uids gids : Bool) (P : Creds → Type 0) → P launch.creds → Taken uids gids P
-  at_start uids gids P h = record { calls = []; creds = launch.creds; now = launch.table; way = here; has = h; no_uid = λ e. tt; no_gid = λ e. tt }
+  at_start uids gids P h = record
+      { calls = []; creds = launch.creds; now = launch.table; way = here; has = h; no_uid = λ e. tt; no_gid = λ e. tt }
 
-  after_ran : (uids gids : Bool) (target : Row) (r : RanRow uids target) (P : Creds → Type 0) → P (exec_done r.creds (marks_of target) false) → Taken uids gids P
+  after_ran : (uids gids : Bool) (target : Row) (r : RanRow uids target) (P : Creds → Type 0)
+      → P (exec_done r.creds (marks_of target) false) → Taken uids gids P
   after_ran uids gids target r P h = record { calls = r.calls; creds = exec_done r.creds (marks_of target) false; now = r.now; way = r.way; has = h; no_uid = r.no_uid; no_gid = λ e. r.no_gid }
 
   -- the ids of the launch, and those of the rows that are run
   module _ (uids gids : Bool) (power : Power) (p : Powered uids power) (id : ℕ) where
-    owned : launch.creds.no_new_privs ≡ false → list_any (owned_by launch power id) launch.site.rows ≡ true → Taken uids gids (λ creds. creds.uids.effective ≡ id)
+    owned : launch.creds.no_new_privs ≡ false → list_any (owned_by launch power id) launch.site.rows ≡ true
+        → Taken uids gids (λ creds. creds.uids.effective ≡ id)
     owned free h =
         let x = any_listed (owned_by launch power id) launch.site.rows h in
         let both = and_parts (can_run launch power x.1) (is_owner id x.1.setuid) x.3 in
         let r = ran_row uids power p x.0 x.1 x.2 both.0 in
-        after_ran uids gids x.1 r (λ creds. creds.uids.effective ≡ id) (gains.uid_after r.creds (marks_of x.1) (r.basis.mark ∙ free) ∙ owner_is id x.1.setuid r.creds.uids.effective both.1)
+        after_ran uids gids x.1 r (λ creds. creds.uids.effective ≡ id)
+        (gains.uid_after r.creds (marks_of x.1) (r.basis.mark ∙ free) ∙ owner_is id x.1.setuid r.creds.uids.effective both.1)
 
-    pub uid_without : (eqb id launch.creds.uids.effective || (not launch.creds.no_new_privs && list_any (owned_by launch power id) launch.site.rows)) ≡ true → Taken uids gids (λ creds. creds.uids.effective ≡ id)
-    uid_without h = elim (or_cases (eqb id launch.creds.uids.effective) (not launch.creds.no_new_privs && list_any (owned_by launch power id) launch.site.rows) h) [
-      | inl same ↦ at_start uids gids (λ creds. creds.uids.effective ≡ id) (sym (eqb-true id launch.creds.uids.effective same))
-      | inr rows ↦ (let both = and_parts (not launch.creds.no_new_privs) (list_any (owned_by launch power id) launch.site.rows) rows in owned (not-true launch.creds.no_new_privs both.0) both.1)
-    ]
+    pub uid_without : (eqb id launch.creds.uids.effective ||
+        (not launch.creds.no_new_privs && list_any (owned_by launch power id) launch.site.rows)) ≡ true
+        → Taken uids gids (λ creds. creds.uids.effective ≡ id)
+    uid_without h = elim (or_cases (eqb id launch.creds.uids.effective)
+        (not launch.creds.no_new_privs && list_any (owned_by launch power id) launch.site.rows) h) [
+          | inl same ↦ at_start uids gids (λ creds. creds.uids.effective ≡ id) (sym (eqb-true id launch.creds.uids.effective same))
+          | inr rows ↦ (let both = and_parts (not launch.creds.no_new_privs) (list_any (owned_by launch power id) launch.site.rows) rows in owned (not-true launch.creds.no_new_privs both.0) both.1)
+        ]
 
-    grouped : launch.creds.no_new_privs ≡ false → list_any (grouped_by launch power id) launch.site.rows ≡ true → Taken uids gids (HasGid id)
+    grouped : launch.creds.no_new_privs ≡ false → list_any (grouped_by launch power id) launch.site.rows ≡ true
+        → Taken uids gids (HasGid id)
     grouped free h =
         let x = any_listed (grouped_by launch power id) launch.site.rows h in
         let both = and_parts (can_run launch power x.1) (is_owner id x.1.setgid) x.3 in
         let r = ran_row uids power p x.0 x.1 x.2 both.0 in
-        after_ran uids gids x.1 r (HasGid id) (inl (gains.gid_after r.creds (marks_of x.1) (r.basis.mark ∙ free) ∙ owner_is id x.1.setgid r.creds.gids.effective both.1))
+        after_ran uids gids x.1 r (HasGid id)
+        (inl (gains.gid_after r.creds (marks_of x.1) (r.basis.mark ∙ free) ∙ owner_is id x.1.setgid r.creds.gids.effective both.1))
 
-    own_gid : (eqb id launch.creds.gids.effective || list_any (λ group. eqb id group) launch.creds.groups) ≡ true → Taken uids gids (HasGid id)
+    own_gid : (eqb id launch.creds.gids.effective || list_any (λ group. eqb id group) launch.creds.groups) ≡ true
+        → Taken uids gids (HasGid id)
     own_gid h = elim (or_cases (eqb id launch.creds.gids.effective) (list_any (λ group. eqb id group) launch.creds.groups) h) [
       | inl same ↦ at_start uids gids (HasGid id) (inl (sym (eqb-true id launch.creds.gids.effective same)))
       | inr among ↦ at_start uids gids (HasGid id) (inr (other_way id launch.creds.groups among))
     ]
 
-    pub gid_without : ((eqb id launch.creds.gids.effective || list_any (λ group. eqb id group) launch.creds.groups) || (not launch.creds.no_new_privs && list_any (grouped_by launch power id) launch.site.rows)) ≡ true → Taken uids gids (HasGid id)
-    gid_without h = elim (or_cases (eqb id launch.creds.gids.effective || list_any (λ group. eqb id group) launch.creds.groups) (not launch.creds.no_new_privs && list_any (grouped_by launch power id) launch.site.rows) h) [
-      | inl own ↦ own_gid own
-      | inr rows ↦ (let both = and_parts (not launch.creds.no_new_privs) (list_any (grouped_by launch power id) launch.site.rows) rows in grouped (not-true launch.creds.no_new_privs both.0) both.1)
-    ]
+    pub gid_without : ((eqb id launch.creds.gids.effective || list_any (λ group. eqb id group) launch.creds.groups) ||
+        (not launch.creds.no_new_privs && list_any (grouped_by launch power id) launch.site.rows)) ≡ true → Taken uids gids (HasGid id)
+    gid_without h = elim (or_cases (eqb id launch.creds.gids.effective || list_any (λ group. eqb id group) launch.creds.groups)
+        (not launch.creds.no_new_privs && list_any (grouped_by launch power id) launch.site.rows) h) [
+          | inl own ↦ own_gid own
+          | inr rows ↦ (let both = and_parts (not launch.creds.no_new_privs) (list_any (grouped_by launch power id) launch.site.rows) rows in grouped (not-true launch.creds.no_new_privs both.0) both.1)
+        ]
 
   -- and by the capability that takes any
   module _ (id : ℕ) (small : id ≤ 4294967294) where
-    by_uid : has (caps_at launch (power_of launch)) 7 ≡ true → lets launch TakesUid ≡ true → Taken false false (λ creds. creds.uids.effective ≡ id)
+    by_uid : has (caps_at launch (power_of launch)) 7 ≡ true → lets launch TakesUid ≡ true
+        → Taken false false (λ creds. creds.uids.effective ≡ id)
     by_uid h s =
         let x = attained launch l o 7 h in
         let g = x.1 in
@@ -161,10 +179,12 @@ module _ (launch : Launch) (l : IsLaunched launch) (o : Offers launch) where
         }
 
     pub uid_taken : (ceiling launch).uid id ≡ true → Taken false false (λ creds. creds.uids.effective ≡ id)
-    uid_taken h = elim (or_cases (any_uid launch (caps_at launch (power_of launch))) (eqb id launch.creds.uids.effective || (not launch.creds.no_new_privs && list_any (owned_by launch (power_of launch) id) launch.site.rows)) h) [
-      | inl any ↦ (let both = and_parts (has (caps_at launch (power_of launch)) 7) (lets launch TakesUid) any in by_uid both.0 both.1)
-      | inr more ↦ uid_without false false (power_of launch) (powered (power_of launch) refl) id more
-    ]
+    uid_taken h = elim (or_cases (any_uid launch (caps_at launch (power_of launch)))
+        (eqb id launch.creds.uids.effective ||
+        (not launch.creds.no_new_privs && list_any (owned_by launch (power_of launch) id) launch.site.rows)) h) [
+          | inl any ↦ (let both = and_parts (has (caps_at launch (power_of launch)) 7) (lets launch TakesUid) any in by_uid both.0 both.1)
+          | inr more ↦ uid_without false false (power_of launch) (powered (power_of launch) refl) id more
+        ]
 
     by_gid : has (caps_at launch (power_of launch)) 6 ≡ true → lets launch TakesGid ≡ true → Taken false false (HasGid id)
     by_gid h s =
@@ -184,7 +204,9 @@ module _ (launch : Launch) (l : IsLaunched launch) (o : Offers launch) where
         }
 
     pub gid_taken : (ceiling launch).gid id ≡ true → Taken false false (HasGid id)
-    gid_taken h = elim (or_cases (any_gid launch (caps_at launch (power_of launch))) ((eqb id launch.creds.gids.effective || list_any (λ group. eqb id group) launch.creds.groups) || (not launch.creds.no_new_privs && list_any (grouped_by launch (power_of launch) id) launch.site.rows)) h) [
-      | inl any ↦ (let both = and_parts (has (caps_at launch (power_of launch)) 6) (lets launch TakesGid) any in by_gid both.0 both.1)
-      | inr more ↦ gid_without false false (power_of launch) (powered (power_of launch) refl) id more
-    ]
+    gid_taken h = elim (or_cases (any_gid launch (caps_at launch (power_of launch)))
+        ((eqb id launch.creds.gids.effective || list_any (λ group. eqb id group) launch.creds.groups) ||
+        (not launch.creds.no_new_privs && list_any (grouped_by launch (power_of launch) id) launch.site.rows)) h) [
+          | inl any ↦ (let both = and_parts (has (caps_at launch (power_of launch)) 6) (lets launch TakesGid) any in by_gid both.0 both.1)
+          | inr more ↦ gid_without false false (power_of launch) (powered (power_of launch) refl) id more
+        ]

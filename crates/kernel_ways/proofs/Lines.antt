@@ -1,5 +1,6 @@
 -- A line of the table whose call passes with the words that ask for a kind first.
-use Rattle.std.proofs.Common.{◌≡◌, ℕ, Bool, true, List, [], ◌∷◌, Option, Some, None, refl, ap, ◌∙◌, subst, sym, ◌++◌, zero, suc, arith, ◌<◌, inl, inr, ◌⊎◌}
+use Rattle.std.proofs.Common.{◌≡◌, ℕ, Bool, true, List, [], ◌∷◌, Option, Some, None, refl, ap, ◌∙◌, subst, sym, ◌++◌, zero, suc, arith, ◌<◌}
+use Rattle.std.proofs.Common.{inl, inr, ◌⊎◌}
 use Rattle.std.specs.Prelude.{slice_get, get_or, option_and_then, ◌^◌, All}
 use Rattle.std.specs.List.{list_any}
 use Rattle.std.specs.Option.{option_map_or, option_to_list}
@@ -46,7 +47,8 @@ pub choice_of : {launch : Launch} {kind : CallKind} → (line : Line launch kind
 choice_of {launch} {kind} line = of_words kind line.own line.args line.are
 
 -- numbers of lines have 32 bits
-pub low_number : (lines : List CallLine) → All IsInRange lines → (at : ℕ) (line : CallLine) → slice_get lines at ≡ Some line → line.number < 2 ^ 32
+pub low_number : (lines : List CallLine) → All IsInRange lines → (at : ℕ) (line : CallLine) → slice_get lines at ≡ Some line
+    → line.number < 2 ^ 32
 low_number lines h at line e =
     let inside = slice_get_within lines at line e in
     let own = slice_get-get_or lines at line inside in
@@ -59,7 +61,8 @@ pass_is decision.Pass e = refl
 pass_is (decision.Errno errno) e = cc
 pass_is decision.Kill e = cc
 
-pub any_at : (p : CallLine → Bool) (lines : List CallLine) → list_any p lines ≡ true → (at : ℕ) × (line : CallLine) × (slice_get lines at ≡ Some line) × (p line ≡ true)
+pub any_at : (p : CallLine → Bool) (lines : List CallLine) → list_any p lines ≡ true
+    → (at : ℕ) × (line : CallLine) × (slice_get lines at ≡ Some line) × (p line ≡ true)
 any_at p [] e = cc
 any_at p (line ∷ lines) e = elim (or_cases (p line) (list_any p lines) e) [
   | inl here ↦ (0, line, refl, here)
@@ -72,20 +75,24 @@ pub record OfAbi (table : calls.Table) (line : CallLine) : Type 0 where
   pub listed : slice_get (calls.calls_in table line.abi) at ≡ Some line
   pub low : line.abi < 2 ^ 8
 
-parts_at : (front back : List CallLine) (at : ℕ) (line : CallLine) → slice_get (front ++ back) at ≡ Some line → (slice_get front at ≡ Some line) ⊎ ((n : ℕ) × (slice_get back n ≡ Some line))
+parts_at : (front back : List CallLine) (at : ℕ) (line : CallLine) → slice_get (front ++ back) at ≡ Some line
+    → (slice_get front at ≡ Some line) ⊎ ((n : ℕ) × (slice_get back n ≡ Some line))
 parts_at [] back at line e = inr (at, e)
 parts_at (first ∷ front) back zero line e = inl e
 parts_at (first ∷ front) back (suc at) line e = by (parts_at front back at line e)
   where
-    by : (slice_get front at ≡ Some line) ⊎ ((n : ℕ) × (slice_get back n ≡ Some line)) → (slice_get (first ∷ front) (suc at) ≡ Some line) ⊎ ((n : ℕ) × (slice_get back n ≡ Some line))
+    by : (slice_get front at ≡ Some line) ⊎ ((n : ℕ) × (slice_get back n ≡ Some line))
+        → (slice_get (first ∷ front) (suc at) ≡ Some line) ⊎ ((n : ℕ) × (slice_get back n ≡ Some line))
     by (inl here) = inl here
     by (inr there) = inr there
 
-second_are : (second : Option calls.Abi) → calls.second_calls second ≡ option_map_or (λ found. found.calls) (slice_get (option_to_list second) 0) []
+second_are : (second : Option calls.Abi) → calls.second_calls second
+    ≡ option_map_or (λ found. found.calls) (slice_get (option_to_list second) 0) []
 second_are None = refl
 second_are (Some second) = refl
 
-pub of_abi : (launch : Launch) → IsLaunched launch → (at : ℕ) (line : CallLine) → slice_get (calls.every_call launch.calls) at ≡ Some line → OfAbi launch.calls line
+pub of_abi : (launch : Launch) → IsLaunched launch → (at : ℕ) (line : CallLine) → slice_get (calls.every_call launch.calls) at ≡ Some line
+    → OfAbi launch.calls line
 of_abi launch l at line listed = elim (parts_at launch.calls.calls (calls.second_calls launch.calls.second) at line listed) [
   | inl here ↦ (
       let own : line.abi ≡ 0 = slice_all (λ line. line.abi ≡ 0) launch.calls.calls at line (l.calls_of_abi 0) here in
@@ -101,15 +108,21 @@ unfolding rule_of
 one_rule line other name cap' = ap (λ n. rule_by (known_call n) line.cap) name ∙ ap (rule_by (known_call other.name)) cap'
 
 -- a name has one rule
-pub same_rule : (launch : Launch) → IsLaunched launch → (place at : ℕ) (line other : CallLine) → slice_get (calls.every_call launch.calls) place ≡ Some line → slice_get (calls.every_call launch.calls) at ≡ Some other → line.name ≡ other.name → rule_of line ≡ rule_of other
+pub same_rule : (launch : Launch) → IsLaunched launch → (place at : ℕ) (line other : CallLine)
+    → slice_get (calls.every_call launch.calls) place ≡ Some line → slice_get (calls.every_call launch.calls) at ≡ Some other
+    → line.name ≡ other.name → rule_of line ≡ rule_of other
 same_rule launch l place at line other listed there name =
     let caps = slice_all (λ one. All (λ other. one.name ≡ other.name → one.cap ≡ other.cap) (calls.every_call launch.calls)) (calls.every_call launch.calls) place line l.one_cap listed in
-    one_rule line other name (slice_all (λ other. line.name ≡ other.name → line.cap ≡ other.cap) (calls.every_call launch.calls) at other caps there name)
+    one_rule line other name (slice_all (λ other. line.name ≡ other.name → line.cap ≡ other.cap)
+    (calls.every_call launch.calls) at other caps there name)
 
-pub line_at : (launch : Launch) → IsLaunched launch → (kind : CallKind) (at : ℕ) (line : CallLine) → slice_get (calls.every_call launch.calls) at ≡ Some line → lets_line launch kind line ≡ true → (x : Line launch kind) × (x.line ≡ line)
+pub line_at : (launch : Launch) → IsLaunched launch → (kind : CallKind) (at : ℕ) (line : CallLine)
+    → slice_get (calls.every_call launch.calls) at ≡ Some line → lets_line launch kind line ≡ true
+    → (x : Line launch kind) × (x.line ≡ line)
 line_at launch l kind at line listed e = by (rule_of line) refl e
   where
-    by_words : (own : Rule) → rule_of line ≡ Some own → (w : Option (List ℕ)) → words kind own ≡ w → lets_words launch line.abi line.number w ≡ true → (x : Line launch kind) × (x.line ≡ line)
+    by_words : (own : Rule) → rule_of line ≡ Some own → (w : Option (List ℕ)) → words kind own ≡ w
+        → lets_words launch line.abi line.number w ≡ true → (x : Line launch kind) × (x.line ≡ line)
     by_words own is None are e = cc
     by_words own is (Some args) are e =
         let there = of_abi launch l at line listed in
@@ -117,7 +130,8 @@ line_at launch l kind at line listed e = by (rule_of line) refl e
         let found : numbered line.number lines ≡ Some line = at_position lines line.number there.at line (l.calls_once line.abi there.at line there.listed) there.listed in
         (record { line = line; number = record { abi = there.low; number = low_number lines (l.calls_in_range line.abi) there.at line there.listed }; own = own; is = is; at = ap (option_and_then rule_of) found ∙ is; args = args; are = are; through = pass_is (decision_on launch.stack (data_at launch line.abi line.number args)) e }, refl)
 
-    by : (r : Option Rule) → rule_of line ≡ r → lets_rule launch kind line.abi line.number r ≡ true → (x : Line launch kind) × (x.line ≡ line)
+    by : (r : Option Rule) → rule_of line ≡ r → lets_rule launch kind line.abi line.number r ≡ true
+        → (x : Line launch kind) × (x.line ≡ line)
     by None is e = cc
     by (Some own) is e = by_words own is (words kind own) refl e
 
@@ -134,7 +148,8 @@ IsWord n = n < 2 ^ 32
 pub six : (a b c d : ℕ) → IsWord a → IsWord b → IsWord c → IsWord d → AreWords (a ∷ b ∷ c ∷ d ∷ 0 ∷ 0 ∷ [])
 six a b c d ha hb hc hd = record {
   count = refl;
-  each = All-from_recursion (λ arg. arg < 2 ^ 64) (a ∷ b ∷ c ∷ d ∷ 0 ∷ 0 ∷ []) (omega (arith, ha), (omega (arith, hb), (omega (arith, hc), (omega (arith, hd), (omega arith, (omega arith, tt))))));
+  each = All-from_recursion (λ arg. arg < 2 ^ 64) (a ∷ b ∷ c ∷ d ∷ 0 ∷ 0 ∷ [])
+      (omega (arith, ha), (omega (arith, hb), (omega (arith, hc), (omega (arith, hd), (omega arith, (omega arith, tt))))));
 }
 
 pub zeros : AreWords no_words
@@ -156,8 +171,11 @@ flag_words space = six (flag_of space) 0 0 0 (by space) (omega arith) (omega ari
 abbrev pub first_by : CallAt → List ℕ → Payload → Call
 first_by nr args payload = record { pid = 1; abi = nr.abi; nr = nr.nr; args = args; payload = payload }
 
-pub make : (launch : Launch) (creds : Creds) (table : Table) (nr : CallAt) (own : Rule) (args : List ℕ) (payload : Payload) (doing : Doing) (effect : Effect) → IsCallAt nr → AreWords args → FitsPayload payload
-    → rule_there launch nr ≡ Some own → doing_by own args payload ≡ Some doing → passes_at launch nr args → effect_on (host_at launch) (caller_at launch creds table) table doing ≡ effect → Makes launch creds table doing (first_by nr args payload) effect
+pub make : (launch : Launch) (creds : Creds) (table : Table) (nr : CallAt) (own : Rule) (args : List ℕ) (payload : Payload)
+    (doing : Doing) (effect : Effect) → IsCallAt nr → AreWords args → FitsPayload payload
+    → rule_there launch nr ≡ Some own → doing_by own args payload ≡ Some doing → passes_at launch nr args
+    → effect_on (host_at launch) (caller_at launch creds table) table doing ≡ effect
+    → Makes launch creds table doing (first_by nr args payload) effect
 make launch creds table nr own args payload doing effect n w p at is t e = record {
   fit = record { pid = omega arith; abi = n.abi; nr = n.number; count = w.count; args = w.each; payload = p };
   first = refl;

@@ -54,8 +54,10 @@ is_free kind = false
 
 module _ (launch : Launch) (creds : Creds) (table : Table) where
   -- a call without a payload, by its number and its words
-  bare_call : (p : Doing → Bool) (nr : CallAt) (own : Rule) (args : List ℕ) (doing : Doing) (effect : Effect) → IsCallAt nr → AreWords args → rule_there launch nr ≡ Some own → passes_at launch nr args
-      → d.doing_by own args pay.Nothing ≡ Some doing → effect_on (host_at launch) (caller_at launch creds table) table doing ≡ effect → IsDoable effect → p doing ≡ true → Performed launch creds table p (first_by nr args pay.Nothing)
+  bare_call : (p : Doing → Bool) (nr : CallAt) (own : Rule) (args : List ℕ) (doing : Doing) (effect : Effect) → IsCallAt nr
+      → AreWords args → rule_there launch nr ≡ Some own → passes_at launch nr args
+      → d.doing_by own args pay.Nothing ≡ Some doing → effect_on (host_at launch) (caller_at launch creds table) table doing ≡ effect
+      → IsDoable effect → p doing ≡ true → Performed launch creds table p (first_by nr args pay.Nothing)
   bare_call p nr own args doing effect n w at t is e h such = record {
     doing = doing;
     effect = effect;
@@ -64,17 +66,29 @@ module _ (launch : Launch) (creds : Creds) (table : Table) where
     such = such;
   }
 
-  free_by : {kind : CallKind} {own : Rule} {args : List ℕ} → (nr : CallAt) → IsCallAt nr → rule_there launch nr ≡ Some own → passes_at launch nr args → is_free kind ≡ true → choices.Choice kind own args → Performed launch creds table (k.asks kind) (first_by nr args pay.Nothing)
-  free_by nr n at t h choices.maps = bare_call (k.asks kinds.MapsWx) nr (rule.Known known.Map) (one_word 2 6) (d.Map 6) (f.Answer 0) n (six 0 0 6 0 (omega arith) (omega arith) (omega arith) (omega arith)) at t refl refl tt refl
-  free_by nr n at t h choices.protects = bare_call (k.asks kinds.ProtectsX) nr (rule.Known known.Protect) (one_word 2 4) (d.Protect 4) (f.Answer 0) n (six 0 0 4 0 (omega arith) (omega arith) (omega arith) (omega arith)) at t refl refl tt refl
-  free_by nr n at t h choices.attaches = bare_call (k.asks kinds.AttachesX) nr (rule.Known known.Attach) (one_word 2 0x8000) (d.Attach 0x8000) (f.Answer 0) n (six 0 0 0x8000 0 (omega arith) (omega arith) (omega arith) (omega arith)) at t refl refl tt refl
-  free_by nr n at t h choices.schedules = bare_call (k.asks kinds.SchedulesRealtime) nr (rule.Known known.Schedule) (one_word 1 1) (d.Schedule 1) (f.Answer 0) n (six 0 1 0 0 (omega arith) (omega arith) (omega arith) (omega arith)) at t refl refl tt refl
-  free_by nr n at t h choices.personality = bare_call (k.asks kinds.TakesPersonality) nr (rule.Known known.Personality) (one_word 0 8) (d.Personality 8) (f.Answer 0) n (six 8 0 0 0 (omega arith) (omega arith) (omega arith) (omega arith)) at t refl refl tt refl
-  free_by nr n at t h (choices.mode argument.Second) = bare_call (k.asks kinds.SetsMode) nr (rule.Known (known.SetMode argument.Second)) (one_word 1 0x800) (d.SetMode 0x800) (f.Answer 0) n (six 0 0x800 0 0 (omega arith) (omega arith) (omega arith) (omega arith)) at t refl refl tt refl
-  free_by nr n at t h (choices.mode argument.Third) = bare_call (k.asks kinds.SetsMode) nr (rule.Known (known.SetMode argument.Third)) (one_word 2 0x800) (d.SetMode 0x800) (f.Answer 0) n (six 0 0 0x800 0 (omega arith) (omega arith) (omega arith) (omega arith)) at t refl refl tt refl
+  free_by : {kind : CallKind} {own : Rule} {args : List ℕ} → (nr : CallAt) → IsCallAt nr → rule_there launch nr ≡ Some own
+      → passes_at launch nr args → is_free kind ≡ true → choices.Choice kind own args
+      → Performed launch creds table (k.asks kind) (first_by nr args pay.Nothing)
+  free_by nr n at t h choices.maps = bare_call (k.asks kinds.MapsWx) nr (rule.Known known.Map) (one_word 2 6) (d.Map 6) (f.Answer 0) n
+      (six 0 0 6 0 (omega arith) (omega arith) (omega arith) (omega arith)) at t refl refl tt refl
+  free_by nr n at t h choices.protects = bare_call (k.asks kinds.ProtectsX) nr (rule.Known known.Protect) (one_word 2 4) (d.Protect 4)
+      (f.Answer 0) n (six 0 0 4 0 (omega arith) (omega arith) (omega arith) (omega arith)) at t refl refl tt refl
+  free_by nr n at t h choices.attaches = bare_call (k.asks kinds.AttachesX) nr (rule.Known known.Attach) (one_word 2 0x8000)
+      (d.Attach 0x8000) (f.Answer 0) n (six 0 0 0x8000 0 (omega arith) (omega arith) (omega arith) (omega arith)) at t refl refl tt refl
+  free_by nr n at t h choices.schedules = bare_call (k.asks kinds.SchedulesRealtime) nr (rule.Known known.Schedule) (one_word 1 1)
+      (d.Schedule 1) (f.Answer 0) n (six 0 1 0 0 (omega arith) (omega arith) (omega arith) (omega arith)) at t refl refl tt refl
+  free_by nr n at t h choices.personality = bare_call (k.asks kinds.TakesPersonality) nr (rule.Known known.Personality) (one_word 0 8)
+      (d.Personality 8) (f.Answer 0) n (six 8 0 0 0 (omega arith) (omega arith) (omega arith) (omega arith)) at t refl refl tt refl
+  free_by nr n at t h (choices.mode argument.Second) = bare_call (k.asks kinds.SetsMode) nr (rule.Known (known.SetMode argument.Second))
+      (one_word 1 0x800) (d.SetMode 0x800) (f.Answer 0) n (six 0 0x800 0 0 (omega arith) (omega arith) (omega arith) (omega arith)) at t
+      refl refl tt refl
+  free_by nr n at t h (choices.mode argument.Third) = bare_call (k.asks kinds.SetsMode) nr (rule.Known (known.SetMode argument.Third))
+      (one_word 2 0x800) (d.SetMode 0x800) (f.Answer 0) n (six 0 0 0x800 0 (omega arith) (omega arith) (omega arith) (omega arith)) at t
+      refl refl tt refl
   free_by nr n at t h choice = cc
 
-  pub free : (kind : CallKind) → is_free kind ≡ true → (line : Line launch kind) → Performed launch creds table (k.asks kind) (first_by (place_of line.line) line.args pay.Nothing)
+  pub free : (kind : CallKind) → is_free kind ≡ true → (line : Line launch kind)
+      → Performed launch creds table (k.asks kind) (first_by (place_of line.line) line.args pay.Nothing)
   free kind h line = free_by (place_of line.line) line.number line.at line.through h (choice_of line)
 
   -- a plain call, with its capability
@@ -82,65 +96,90 @@ module _ (launch : Launch) (creds : Creds) (table : Table) where
   can_for (Some (rule.Plain number)) = CapAtHand creds number
   can_for _ = Unit {0}
 
-  rule_by : {own : Rule} {args : List ℕ} → (line : CallLine) → rule_of line ≡ Some own → choices.Choice kinds.PlainCall own args → (number : Option ℕ) × (rule_of line ≡ Some (rule.Plain number))
+  rule_by : {own : Rule} {args : List ℕ} → (line : CallLine) → rule_of line ≡ Some own → choices.Choice kinds.PlainCall own args
+      → (number : Option ℕ) × (rule_of line ≡ Some (rule.Plain number))
   rule_by line is (choices.plain number) = (number, is)
 
   pub plain_rule : (line : Line launch kinds.PlainCall) → (number : Option ℕ) × (rule_of line.line ≡ Some (rule.Plain number))
   plain_rule line = rule_by line.line line.is (choice_of line)
 
-  plain_by : {own : Rule} {args : List ℕ} → (line : CallLine) → IsCallAt (place_of line) → rule_of line ≡ Some own → rule_there launch (place_of line) ≡ Some own → passes_at launch (place_of line) args → choices.Choice kinds.PlainCall own args → can_for (rule_of line) → Performed launch creds table asks_plain (first_by (place_of line) args pay.Nothing)
+  plain_by : {own : Rule} {args : List ℕ} → (line : CallLine) → IsCallAt (place_of line) → rule_of line ≡ Some own
+      → rule_there launch (place_of line) ≡ Some own → passes_at launch (place_of line) args → choices.Choice kinds.PlainCall own args
+      → can_for (rule_of line) → Performed launch creds table asks_plain (first_by (place_of line) args pay.Nothing)
   plain_by line n is at t (choices.plain number) can =
       let has' : CapAtHand creds number = subst can_for is can in
       record {
         doing = d.Plain number;
         effect = f.Answer 0;
-        makes = make launch creds table (place_of line) (rule.Plain number) no_words pay.Nothing (d.Plain number) (f.Answer 0) n zeros tt at refl t (cap_lets creds number (f.Answer 0) has');
+        makes = make launch creds table (place_of line) (rule.Plain number) no_words pay.Nothing (d.Plain number)
+            (f.Answer 0) n zeros tt at refl t (cap_lets creds number (f.Answer 0) has');
         doable = tt;
         such = refl;
       }
 
-  pub plain : (line : Line launch kinds.PlainCall) → can_for (rule_of line.line) → Performed launch creds table asks_plain (first_by (place_of line.line) line.args pay.Nothing)
+  pub plain : (line : Line launch kinds.PlainCall) → can_for (rule_of line.line)
+      → Performed launch creds table asks_plain (first_by (place_of line.line) line.args pay.Nothing)
   plain line can = plain_by line.line line.number line.is line.at line.through (choice_of line) can
 
   -- a socket of a family
   low : (n : ℕ) → n < 2 ^ 32 → n % 2 ^ 32 ≡ n
   low n h = omega (arith, h)
 
-  socket_by : {own : Rule} {args : List ℕ} → (nr : CallAt) → IsCallAt nr → rule_there launch nr ≡ Some own → passes_at launch nr args → (family : CallLine) → family.number < 2 ^ 32 → choices.Choice (kinds.ForFamily family.number) own args
-      → numbered family.number launch.calls.families ≡ Some family → CapAtHand creds family.cap → (p : Doing → Bool) → p (d.Socket family.number) ≡ true → p (d.Socketcall 1 family.number) ≡ true → Performed launch creds table p (first_by nr args (family_payload own family.number))
+  socket_by : {own : Rule} {args : List ℕ} → (nr : CallAt) → IsCallAt nr → rule_there launch nr ≡ Some own → passes_at launch nr args
+      → (family : CallLine) → family.number < 2 ^ 32 → choices.Choice (kinds.ForFamily family.number) own args
+      → numbered family.number launch.calls.families ≡ Some family → CapAtHand creds family.cap → (p : Doing → Bool)
+      → p (d.Socket family.number) ≡ true → p (d.Socketcall 1 family.number) ≡ true
+      → Performed launch creds table p (first_by nr args (family_payload own family.number))
   socket_by nr n at t family small (choices.socket _) found can p such through =
       let word : family.number % 2 ^ 32 ≡ family.number = low family.number small in
-      bare_call p nr (rule.Known known.Socket) (family.number ∷ 0 ∷ 0 ∷ 0 ∷ 0 ∷ 0 ∷ []) (d.Socket family.number) (f.Answer 3) n (six family.number 0 0 0 small (omega arith) (omega arith) (omega arith)) at t
+      bare_call p nr (rule.Known known.Socket) (family.number ∷ 0 ∷ 0 ∷ 0 ∷ 0 ∷ 0 ∷ []) (d.Socket family.number) (f.Answer 3) n
+      (six family.number 0 0 0 small (omega arith) (omega arith) (omega arith)) at t
       (ap (λ w. Some (d.Socket w)) word)
       (ap (socket_effect false creds) found ∙ cap_lets creds family.cap (f.Answer 3) can) tt such
   socket_by nr n at t family small (choices.socketcall _) found can p such through = record {
     doing = d.Socketcall 1 family.number;
     effect = f.Answer 3;
     makes =
-        make launch creds table nr (rule.Known known.Socketcall) (one_word 0 1) (pay.Family family.number) (d.Socketcall 1 family.number) (f.Answer 3) n (six 1 0 0 0 (omega arith) (omega arith) (omega arith) (omega arith)) small at refl t
+        make launch creds table nr (rule.Known known.Socketcall) (one_word 0 1) (pay.Family family.number) (d.Socketcall 1 family.number)
+        (f.Answer 3) n (six 1 0 0 0 (omega arith) (omega arith) (omega arith) (omega arith)) small at refl t
         (ap (socket_effect false creds) found ∙ cap_lets creds family.cap (f.Answer 3) can);
     doable = tt;
     such = through;
   }
 
-  pub socket : (family : CallLine) → family.number < 2 ^ 32 → (line : Line launch (kinds.ForFamily family.number)) → numbered family.number launch.calls.families ≡ Some family → CapAtHand creds family.cap → (p : Doing → Bool)
-      → p (d.Socket family.number) ≡ true → p (d.Socketcall 1 family.number) ≡ true → Performed launch creds table p (first_by (place_of line.line) line.args (family_payload line.own family.number))
-  socket family small line found can p such through = socket_by (place_of line.line) line.number line.at line.through family small (choice_of line) found can p such through
+  pub socket : (family : CallLine) → family.number < 2 ^ 32 → (line : Line launch (kinds.ForFamily family.number))
+      → numbered family.number launch.calls.families ≡ Some family → CapAtHand creds family.cap → (p : Doing → Bool)
+      → p (d.Socket family.number) ≡ true → p (d.Socketcall 1 family.number) ≡ true
+      → Performed launch creds table p (first_by (place_of line.line) line.args (family_payload line.own family.number))
+  socket family small line found can p such through = socket_by (place_of line.line) line.number line.at line.through family small
+      (choice_of line) found can p such through
 
   -- a namespace of its own
   module _ (admin : has creds.effective 21 ≡ true) where
     admits : (effect : Effect) → cond (has creds.effective 21) effect (f.Refuse eperm) ≡ effect
     admits effect = ap (λ b. cond b effect (f.Refuse eperm)) admin
 
-    unshared : (space : NamespaceType) (effect : Effect) (nr : CallAt) → IsCallAt nr → rule_there launch nr ≡ Some (rule.Known known.Unshare) → passes_at launch nr (one_word 0 (flag_of space)) → d.doing_by (rule.Known known.Unshare) (one_word 0 (flag_of space)) pay.Nothing ≡ Some (d.Unshare (flag_of space))
-        → effect_on (host_at launch) (caller_at launch creds table) table (d.Unshare (flag_of space)) ≡ effect → IsDoable effect → asks_space space (d.Unshare (flag_of space)) ≡ true → Performed launch creds table (asks_space space) (first_by nr (one_word 0 (flag_of space)) pay.Nothing)
-    unshared space effect nr n at t is e h such = bare_call (asks_space space) nr (rule.Known known.Unshare) (one_word 0 (flag_of space)) (d.Unshare (flag_of space)) effect n (flag_words space) at t is e h such
+    unshared : (space : NamespaceType) (effect : Effect) (nr : CallAt) → IsCallAt nr
+        → rule_there launch nr ≡ Some (rule.Known known.Unshare) → passes_at launch nr (one_word 0 (flag_of space))
+        → d.doing_by (rule.Known known.Unshare) (one_word 0 (flag_of space)) pay.Nothing ≡ Some (d.Unshare (flag_of space))
+        → effect_on (host_at launch) (caller_at launch creds table) table (d.Unshare (flag_of space)) ≡ effect → IsDoable effect
+        → asks_space space (d.Unshare (flag_of space)) ≡ true
+        → Performed launch creds table (asks_space space) (first_by nr (one_word 0 (flag_of space)) pay.Nothing)
+    unshared space effect nr n at t is e h such = bare_call (asks_space space) nr (rule.Known known.Unshare) (one_word 0 (flag_of space))
+        (d.Unshare (flag_of space)) effect n (flag_words space) at t is e h such
 
-    cloned : (space : NamespaceType) (effect : Effect) (nr : CallAt) → IsCallAt nr → rule_there launch nr ≡ Some (rule.Known known.Clone) → passes_at launch nr (one_word 0 (flag_of space)) → d.doing_by (rule.Known known.Clone) (one_word 0 (flag_of space)) pay.Nothing ≡ Some (d.Clone (flag_of space))
-        → effect_on (host_at launch) (caller_at launch creds table) table (d.Clone (flag_of space)) ≡ effect → IsDoable effect → asks_space space (d.Clone (flag_of space)) ≡ true → Performed launch creds table (asks_space space) (first_by nr (one_word 0 (flag_of space)) pay.Nothing)
-    cloned space effect nr n at t is e h such = bare_call (asks_space space) nr (rule.Known known.Clone) (one_word 0 (flag_of space)) (d.Clone (flag_of space)) effect n (flag_words space) at t is e h such
+    cloned : (space : NamespaceType) (effect : Effect) (nr : CallAt) → IsCallAt nr → rule_there launch nr ≡ Some (rule.Known known.Clone)
+        → passes_at launch nr (one_word 0 (flag_of space)) → d.doing_by (rule.Known known.Clone) (one_word 0 (flag_of space)) pay.Nothing
+        ≡ Some (d.Clone (flag_of space))
+        → effect_on (host_at launch) (caller_at launch creds table) table (d.Clone (flag_of space)) ≡ effect → IsDoable effect
+        → asks_space space (d.Clone (flag_of space)) ≡ true
+        → Performed launch creds table (asks_space space) (first_by nr (one_word 0 (flag_of space)) pay.Nothing)
+    cloned space effect nr n at t is e h such = bare_call (asks_space space) nr (rule.Known known.Clone) (one_word 0 (flag_of space))
+        (d.Clone (flag_of space)) effect n (flag_words space) at t is e h such
 
-    unshare_by : (space : NamespaceType) → is_user space ≡ false → (nr : CallAt) → IsCallAt nr → rule_there launch nr ≡ Some (rule.Known known.Unshare) → passes_at launch nr (one_word 0 (flag_of space)) → Performed launch creds table (asks_space space) (first_by nr (one_word 0 (flag_of space)) pay.Nothing)
+    unshare_by : (space : NamespaceType) → is_user space ≡ false → (nr : CallAt) → IsCallAt nr
+        → rule_there launch nr ≡ Some (rule.Known known.Unshare) → passes_at launch nr (one_word 0 (flag_of space))
+        → Performed launch creds table (asks_space space) (first_by nr (one_word 0 (flag_of space)) pay.Nothing)
     unshare_by namespace.Cgroup u nr n at t = unshared namespace.Cgroup (f.Answer 0) nr n at t refl (admits (f.Answer 0)) tt refl
     unshare_by namespace.Ipc u nr n at t = unshared namespace.Ipc (f.Answer 0) nr n at t refl (admits (f.Answer 0)) tt refl
     unshare_by namespace.Net u nr n at t = unshared namespace.Net (f.Answer 0) nr n at t refl (admits (f.Answer 0)) tt refl
@@ -149,7 +188,9 @@ module _ (launch : Launch) (creds : Creds) (table : Table) where
     unshare_by namespace.User u nr n at t = cc
     unshare_by namespace.Uts u nr n at t = unshared namespace.Uts (f.Answer 0) nr n at t refl (admits (f.Answer 0)) tt refl
 
-    clone_by : (space : NamespaceType) → is_user space ≡ false → (nr : CallAt) → IsCallAt nr → rule_there launch nr ≡ Some (rule.Known known.Clone) → passes_at launch nr (one_word 0 (flag_of space)) → Performed launch creds table (asks_space space) (first_by nr (one_word 0 (flag_of space)) pay.Nothing)
+    clone_by : (space : NamespaceType) → is_user space ≡ false → (nr : CallAt) → IsCallAt nr
+        → rule_there launch nr ≡ Some (rule.Known known.Clone) → passes_at launch nr (one_word 0 (flag_of space))
+        → Performed launch creds table (asks_space space) (first_by nr (one_word 0 (flag_of space)) pay.Nothing)
     clone_by namespace.Cgroup u nr n at t = cloned namespace.Cgroup (f.Child false) nr n at t refl (admits (f.Child false)) tt refl
     clone_by namespace.Ipc u nr n at t = cloned namespace.Ipc (f.Child false) nr n at t refl (admits (f.Child false)) tt refl
     clone_by namespace.Net u nr n at t = cloned namespace.Net (f.Child false) nr n at t refl (admits (f.Child false)) tt refl
@@ -158,9 +199,12 @@ module _ (launch : Launch) (creds : Creds) (table : Table) where
     clone_by namespace.User u nr n at t = cc
     clone_by namespace.Uts u nr n at t = cloned namespace.Uts (f.Child false) nr n at t refl (admits (f.Child false)) tt refl
 
-    space_by : {own : Rule} {args : List ℕ} → (space : NamespaceType) → is_user space ≡ false → (nr : CallAt) → IsCallAt nr → rule_there launch nr ≡ Some own → passes_at launch nr args → choices.Choice (kinds.ForNamespace space) own args → Performed launch creds table (asks_space space) (first_by nr args pay.Nothing)
+    space_by : {own : Rule} {args : List ℕ} → (space : NamespaceType) → is_user space ≡ false → (nr : CallAt) → IsCallAt nr
+        → rule_there launch nr ≡ Some own → passes_at launch nr args → choices.Choice (kinds.ForNamespace space) own args
+        → Performed launch creds table (asks_space space) (first_by nr args pay.Nothing)
     space_by space u nr n at t (choices.unshare _) = unshare_by space u nr n at t
     space_by space u nr n at t (choices.clone _) = clone_by space u nr n at t
 
-    pub own_space : (space : NamespaceType) → is_user space ≡ false → (line : Line launch (kinds.ForNamespace space)) → Performed launch creds table (asks_space space) (first_by (place_of line.line) line.args pay.Nothing)
+    pub own_space : (space : NamespaceType) → is_user space ≡ false → (line : Line launch (kinds.ForNamespace space))
+        → Performed launch creds table (asks_space space) (first_by (place_of line.line) line.args pay.Nothing)
     own_space space u line = space_by space u (place_of line.line) line.number line.at line.through (choice_of line)

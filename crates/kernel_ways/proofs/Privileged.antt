@@ -1,5 +1,6 @@
 -- Calls that change mount tables, ids and capability sets.
-use Rattle.std.proofs.Common.{◌≡◌, map, ℕ, Bool, true, false, List, [], ◌∷◌, Some, Result, Ok, Err, refl, ap, ◌∙◌, cond, arith, ◌<◌, ◌≤◌, inl, inr, eqb}
+use Rattle.std.proofs.Common.{◌≡◌, map, ℕ, Bool, true, false, List, [], ◌∷◌, Some, Result, Ok, Err, refl, ap, ◌∙◌, cond, arith, ◌<◌, ◌≤◌}
+use Rattle.std.proofs.Common.{inl, inr, eqb}
 use Rattle.std.specs.Prelude.{◌^◌, ◌%◌}
 use Rattle.std.proofs.lemmas.Bool.{eq-eqb, or_left}
 use Rattle.std.proofs.lemmas.Bool.Decides.{nat_tests}
@@ -60,19 +61,23 @@ module _ (launch : Launch) (o : Offers launch) (creds : Creds) (table : Table) w
     pub makes : Makes launch creds table doing call (SetCreds now)
 
   -- other words of a call that no filter looks at
-  pub other : (nr : CallAt) (own : Rule) (args : List ℕ) → IsCallAt nr → AreWords args → rule_there launch nr ≡ Some own → is_unlooked own ≡ true → passes_at launch nr no_words → passes_at launch nr args
+  pub other : (nr : CallAt) (own : Rule) (args : List ℕ) → IsCallAt nr → AreWords args → rule_there launch nr ≡ Some own
+      → is_unlooked own ≡ true → passes_at launch nr no_words → passes_at launch nr args
   other nr own args n w at u t = o.alike nr own no_words args n zeros w at u t
 
   module _ (admin : has creds.effective 21 ≡ true) where
-    umount_by : {own : Rule} {args : List ℕ} → (nr : CallAt) → IsCallAt nr → rule_there launch nr ≡ Some own → passes_at launch nr args → choices.Choice k.RemovesMounts own args
+    umount_by : {own : Rule} {args : List ℕ} → (nr : CallAt) → IsCallAt nr → rule_there launch nr ≡ Some own → passes_at launch nr args
+        → choices.Choice k.RemovesMounts own args
         → (path : Path) → IsPath path → (detach : Bool) (now : Table) → after_umount table path detach ≡ Ok now → TableCall now
     umount_by nr n at t choices.unmounts path fit true now e =
         let w = six 0 2 0 0 (omega arith) (omega arith) (omega arith) (omega arith) in
         record {
           call = first_by nr (0 ∷ 2 ∷ 0 ∷ 0 ∷ 0 ∷ 0 ∷ []) (pay.OnePath path);
           doing = d.Umount path 2;
-          makes = make launch creds table nr (rule.Known known.Umount) (0 ∷ 2 ∷ 0 ∷ 0 ∷ 0 ∷ 0 ∷ []) (pay.OnePath path) (d.Umount path 2) (SetTable (map plain now)) n w fit at refl (other nr (rule.Known known.Umount) (0 ∷ 2 ∷ 0 ∷ 0 ∷ 0 ∷ 0 ∷ []) n w at refl t)
-              (ap (λ b. cond b (table_effect (plain_answer (after_umount table path true))) (f.Refuse 1)) admin ∙ ap (λ answer. table_effect (plain_answer answer)) e);
+          makes = make launch creds table nr (rule.Known known.Umount) (0 ∷ 2 ∷ 0 ∷ 0 ∷ 0 ∷ 0 ∷ []) (pay.OnePath path) (d.Umount path 2)
+              (SetTable (map plain now)) n w fit at refl (other nr (rule.Known known.Umount) (0 ∷ 2 ∷ 0 ∷ 0 ∷ 0 ∷ 0 ∷ []) n w at refl t)
+              (ap (λ b. cond b (table_effect (plain_answer (after_umount table path true))) (f.Refuse 1)) admin
+              ∙ ap (λ answer. table_effect (plain_answer answer)) e);
           no_uid = refl;
           no_gid = refl;
         }
@@ -80,43 +85,56 @@ module _ (launch : Launch) (o : Offers launch) (creds : Creds) (table : Table) w
         record {
           call = first_by nr no_words (pay.OnePath path);
           doing = d.Umount path 0;
-          makes = make launch creds table nr (rule.Known known.Umount) no_words (pay.OnePath path) (d.Umount path 0) (SetTable (map plain now)) n zeros fit at refl t
-              (ap (λ b. cond b (table_effect (plain_answer (after_umount table path false))) (f.Refuse 1)) admin ∙ ap (λ answer. table_effect (plain_answer answer)) e);
+          makes = make launch creds table nr (rule.Known known.Umount) no_words (pay.OnePath path) (d.Umount path 0)
+              (SetTable (map plain now)) n zeros fit at refl t
+              (ap (λ b. cond b (table_effect (plain_answer (after_umount table path false))) (f.Refuse 1)) admin
+              ∙ ap (λ answer. table_effect (plain_answer answer)) e);
           no_uid = refl;
           no_gid = refl;
         }
 
-    pub umount_call : Line launch k.RemovesMounts → (path : Path) → IsPath path → (detach : Bool) (now : Table) → after_umount table path detach ≡ Ok now → TableCall now
+    pub umount_call : Line launch k.RemovesMounts → (path : Path) → IsPath path → (detach : Bool) (now : Table)
+        → after_umount table path detach ≡ Ok now → TableCall now
     umount_call line = umount_by (place_of line.line) line.number line.at line.through (choice_of line)
 
-    mount_by : {own : Rule} {args : List ℕ} → (nr : CallAt) → IsCallAt nr → rule_there launch nr ≡ Some own → passes_at launch nr args → choices.Choice k.ChangesMounts own args
-        → (source target : Path) → IsPath source → IsPath target → (flags : ℕ) → flags < 2 ^ 32 → (now : Table) → after_mount (row_at launch.site.rows) table source target flags ≡ Ok now → TableCall now
+    mount_by : {own : Rule} {args : List ℕ} → (nr : CallAt) → IsCallAt nr → rule_there launch nr ≡ Some own → passes_at launch nr args
+        → choices.Choice k.ChangesMounts own args
+        → (source target : Path) → IsPath source → IsPath target → (flags : ℕ) → flags < 2 ^ 32 → (now : Table)
+        → after_mount (row_at launch.site.rows) table source target flags ≡ Ok now → TableCall now
     mount_by nr n at t choices.mounts source target s g flags small now e =
         let w = six 0 0 0 flags (omega arith) (omega arith) (omega arith) small in
         record {
           call = first_by nr (0 ∷ 0 ∷ 0 ∷ flags ∷ 0 ∷ 0 ∷ []) (pay.TwoPaths source target);
           doing = d.Mount source target flags;
-          makes = make launch creds table nr (rule.Known known.Mount) (0 ∷ 0 ∷ 0 ∷ flags ∷ 0 ∷ 0 ∷ []) (pay.TwoPaths source target) (d.Mount source target flags) (SetTable (map plain now)) n w (s, g) at (ap (λ w. Some (d.Mount source target w)) (low flags small))
+          makes = make launch creds table nr (rule.Known known.Mount) (0 ∷ 0 ∷ 0 ∷ flags ∷ 0 ∷ 0 ∷ []) (pay.TwoPaths source target)
+              (d.Mount source target flags) (SetTable (map plain now)) n w (s, g) at
+              (ap (λ w. Some (d.Mount source target w)) (low flags small))
               (other nr (rule.Known known.Mount) (0 ∷ 0 ∷ 0 ∷ flags ∷ 0 ∷ 0 ∷ []) n w at refl t)
-              (ap (λ b. cond b (table_effect (plain_answer (after_mount (row_at launch.site.rows) table source target flags))) (f.Refuse 1)) admin ∙ ap (λ answer. table_effect (plain_answer answer)) e);
+              (ap (λ b. cond b (table_effect (plain_answer (after_mount (row_at launch.site.rows) table source target flags)))
+              (f.Refuse 1)) admin ∙ ap (λ answer. table_effect (plain_answer answer)) e);
           no_uid = refl;
           no_gid = refl;
         }
 
-    pub mount_call : Line launch k.ChangesMounts → (source target : Path) → IsPath source → IsPath target → (flags : ℕ) → flags < 2 ^ 32 → (now : Table) → after_mount (row_at launch.site.rows) table source target flags ≡ Ok now → TableCall now
+    pub mount_call : Line launch k.ChangesMounts → (source target : Path) → IsPath source → IsPath target → (flags : ℕ) → flags < 2 ^ 32
+        → (now : Table) → after_mount (row_at launch.site.rows) table source target flags ≡ Ok now → TableCall now
     mount_call line = mount_by (place_of line.line) line.number line.at line.through (choice_of line)
 
-  capset_by : {own : Rule} {args : List ℕ} → (nr : CallAt) → IsCallAt nr → rule_there launch nr ≡ Some own → passes_at launch nr args → choices.Choice k.SetsCaps own args
-      → (p e i : ℕ) → p < 2 ^ 41 → e < 2 ^ 41 → i < 2 ^ 41 → may_capset creds p e i ≡ true → CredsCall true (with_sets creds p e i) (sets_call nr p e i)
+  capset_by : {own : Rule} {args : List ℕ} → (nr : CallAt) → IsCallAt nr → rule_there launch nr ≡ Some own → passes_at launch nr args
+      → choices.Choice k.SetsCaps own args
+      → (p e i : ℕ) → p < 2 ^ 41 → e < 2 ^ 41 → i < 2 ^ 41 → may_capset creds p e i ≡ true
+      → CredsCall true (with_sets creds p e i) (sets_call nr p e i)
   capset_by nr n at t choices.capset p e i hp he hi may = record {
     doing = d.Capset p e i;
-    makes = make launch creds table nr (rule.Known known.Capset) no_words (pay.Sets p e i) (d.Capset p e i) (SetCreds (with_sets creds p e i)) n zeros (hp, he, hi) at refl t
+    makes = make launch creds table nr (rule.Known known.Capset) no_words (pay.Sets p e i) (d.Capset p e i)
+        (SetCreds (with_sets creds p e i)) n zeros (hp, he, hi) at refl t
         (ap (λ b. creds_effect (cond {A = Result Creds ℕ} b (Ok (with_sets creds p e i)) (Err 1))) may);
     no_uid = λ e. refl;
     no_gid = refl;
   }
 
-  pub capset_call : (line : Line launch k.SetsCaps) (p e i : ℕ) → p < 2 ^ 41 → e < 2 ^ 41 → i < 2 ^ 41 → may_capset creds p e i ≡ true → CredsCall true (with_sets creds p e i) (sets_call (place_of line.line) p e i)
+  pub capset_call : (line : Line launch k.SetsCaps) (p e i : ℕ) → p < 2 ^ 41 → e < 2 ^ 41 → i < 2 ^ 41 → may_capset creds p e i ≡ true
+      → CredsCall true (with_sets creds p e i) (sets_call (place_of line.line) p e i)
   capset_call line = capset_by (place_of line.line) line.number line.at line.through (choice_of line)
 
   -- all three ids by the capability
@@ -124,12 +142,15 @@ module _ (launch : Launch) (o : Offers launch) (creds : Creds) (table : Table) w
     word : id < 2 ^ 32
     word = omega (arith, small)
 
-    uid_by : {own : Rule} {args : List ℕ} → (nr : CallAt) → IsCallAt nr → rule_there launch nr ≡ Some own → passes_at launch nr args → choices.Choice k.TakesUid own args → has creds.effective 7 ≡ true → CredsCall false (with_uids creds (all_of id)) (id_call nr own id)
+    uid_by : {own : Rule} {args : List ℕ} → (nr : CallAt) → IsCallAt nr → rule_there launch nr ≡ Some own → passes_at launch nr args
+        → choices.Choice k.TakesUid own args → has creds.effective 7 ≡ true
+        → CredsCall false (with_uids creds (all_of id)) (id_call nr own id)
     uid_by nr n at t choices.setuid h =
         let w = six id 0 0 0 word (omega arith) (omega arith) (omega arith) in
         record {
           doing = d.Setuid id;
-          makes = make launch creds table nr (rule.Known known.Setuid) (id ∷ 0 ∷ 0 ∷ 0 ∷ 0 ∷ 0 ∷ []) pay.Nothing (d.Setuid id) (SetCreds (with_uids creds (all_of id))) n w tt at (ap (λ w. Some (d.Setuid w)) (low id word))
+          makes = make launch creds table nr (rule.Known known.Setuid) (id ∷ 0 ∷ 0 ∷ 0 ∷ 0 ∷ 0 ∷ []) pay.Nothing (d.Setuid id)
+              (SetCreds (with_uids creds (all_of id))) n w tt at (ap (λ w. Some (d.Setuid w)) (low id word))
               (other nr (rule.Known known.Setuid) (id ∷ 0 ∷ 0 ∷ 0 ∷ 0 ∷ 0 ∷ []) n w at refl t) (rw (not_none id small, h) refl);
           no_uid = λ e. cc;
           no_gid = refl;
@@ -138,13 +159,15 @@ module _ (launch : Launch) (o : Offers launch) (creds : Creds) (table : Table) w
         let w = six id id id 0 word word word (omega arith) in
         record {
           doing = d.Setresuid id id id;
-          makes = make launch creds table nr (rule.Known known.Setresuid) (id ∷ id ∷ id ∷ 0 ∷ 0 ∷ 0 ∷ []) pay.Nothing (d.Setresuid id id id) (SetCreds (with_uids creds (all_of id))) n w tt at (ap (λ w. Some (d.Setresuid w w w)) (low id word))
+          makes = make launch creds table nr (rule.Known known.Setresuid) (id ∷ id ∷ id ∷ 0 ∷ 0 ∷ 0 ∷ []) pay.Nothing
+              (d.Setresuid id id id) (SetCreds (with_uids creds (all_of id))) n w tt at (ap (λ w. Some (d.Setresuid w w w)) (low id word))
               (other nr (rule.Known known.Setresuid) (id ∷ id ∷ id ∷ 0 ∷ 0 ∷ 0 ∷ []) n w at refl t) (rw (not_none id small, h) refl);
           no_uid = λ e. cc;
           no_gid = refl;
         }
 
-    pub uid_call : (line : Line launch k.TakesUid) → has creds.effective 7 ≡ true → CredsCall false (with_uids creds (all_of id)) (id_call (place_of line.line) line.own id)
+    pub uid_call : (line : Line launch k.TakesUid) → has creds.effective 7 ≡ true
+        → CredsCall false (with_uids creds (all_of id)) (id_call (place_of line.line) line.own id)
     uid_call line = uid_by (place_of line.line) line.number line.at line.through (choice_of line)
 
     pub record GidCall (call : Call) : Type 0 where
@@ -152,14 +175,16 @@ module _ (launch : Launch) (o : Offers launch) (creds : Creds) (table : Table) w
       pub change : GroupCall now call
       pub has_gid : HasGid id now
 
-    gid_by : {own : Rule} {args : List ℕ} → (nr : CallAt) → IsCallAt nr → rule_there launch nr ≡ Some own → passes_at launch nr args → choices.Choice k.TakesGid own args → has creds.effective 6 ≡ true → GidCall (id_call nr own id)
+    gid_by : {own : Rule} {args : List ℕ} → (nr : CallAt) → IsCallAt nr → rule_there launch nr ≡ Some own → passes_at launch nr args
+        → choices.Choice k.TakesGid own args → has creds.effective 6 ≡ true → GidCall (id_call nr own id)
     gid_by nr n at t choices.setgid h =
         let w = six id 0 0 0 word (omega arith) (omega arith) (omega arith) in
         record {
           now = record creds { gids = all_of id };
           change = record {
             doing = d.Setgid id;
-            makes = make launch creds table nr (rule.Known known.Setgid) (id ∷ 0 ∷ 0 ∷ 0 ∷ 0 ∷ 0 ∷ []) pay.Nothing (d.Setgid id) (SetCreds (record creds { gids = all_of id })) n w tt at (ap (λ w. Some (d.Setgid w)) (low id word))
+            makes = make launch creds table nr (rule.Known known.Setgid) (id ∷ 0 ∷ 0 ∷ 0 ∷ 0 ∷ 0 ∷ []) pay.Nothing (d.Setgid id)
+                (SetCreds (record creds { gids = all_of id })) n w tt at (ap (λ w. Some (d.Setgid w)) (low id word))
                 (other nr (rule.Known known.Setgid) (id ∷ 0 ∷ 0 ∷ 0 ∷ 0 ∷ 0 ∷ []) n w at refl t) (rw (not_none id small, h) refl);
           };
           has_gid = inl refl;
@@ -170,7 +195,9 @@ module _ (launch : Launch) (o : Offers launch) (creds : Creds) (table : Table) w
           now = record creds { gids = all_of id };
           change = record {
             doing = d.Setresgid id id id;
-            makes = make launch creds table nr (rule.Known known.Setresgid) (id ∷ id ∷ id ∷ 0 ∷ 0 ∷ 0 ∷ []) pay.Nothing (d.Setresgid id id id) (SetCreds (record creds { gids = all_of id })) n w tt at (ap (λ w. Some (d.Setresgid w w w)) (low id word))
+            makes = make launch creds table nr (rule.Known known.Setresgid) (id ∷ id ∷ id ∷ 0 ∷ 0 ∷ 0 ∷ []) pay.Nothing
+                (d.Setresgid id id id) (SetCreds (record creds { gids = all_of id })) n w tt at
+                (ap (λ w. Some (d.Setresgid w w w)) (low id word))
                 (other nr (rule.Known known.Setresgid) (id ∷ id ∷ id ∷ 0 ∷ 0 ∷ 0 ∷ []) n w at refl t) (rw (not_none id small, h) refl);
           };
           has_gid = inl refl;
@@ -180,7 +207,8 @@ module _ (launch : Launch) (o : Offers launch) (creds : Creds) (table : Table) w
           now = record creds { groups = id ∷ [] };
           change = record {
             doing = d.Setgroups (id ∷ []);
-            makes = make launch creds table nr (rule.Known known.Setgroups) no_words (pay.Ids (id ∷ [])) (d.Setgroups (id ∷ [])) (SetCreds (record creds { groups = id ∷ [] })) n zeros (word, tt) at refl t (rw h refl);
+            makes = make launch creds table nr (rule.Known known.Setgroups) no_words (pay.Ids (id ∷ [])) (d.Setgroups (id ∷ []))
+                (SetCreds (record creds { groups = id ∷ [] })) n zeros (word, tt) at refl t (rw h refl);
           };
           has_gid = inr (or_left (eqb id id) false (eq-eqb id id refl));
         }

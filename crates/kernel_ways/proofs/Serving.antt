@@ -1,5 +1,6 @@
 -- The last step of a launch runs the program; and with what the launch keeps, the launched world is served.
-use Rattle.std.proofs.Common.{◌≡◌, map, ℕ, Bool, true, false, cond, codes, List, [], ◌∷◌, ◌++◌, Option, Some, Result, Ok, Err, refl, ap, ◌∙◌, sym, subst, ◌<◌, arith, eqb, append-nil}
+use Rattle.std.proofs.Common.{◌≡◌, map, ℕ, Bool, true, false, cond, codes, List, [], ◌∷◌, ◌++◌, Option, Some, Result, Ok, Err, refl, ap}
+use Rattle.std.proofs.Common.{◌∙◌, sym, subst, ◌<◌, arith, eqb, append-nil}
 use Rattle.std.specs.Prelude.{◌^◌, ◌&&◌, not, All, length}
 use Rattle.std.specs.List.{AllByRecursion}
 use Rattle.std.proofs.lemmas.List.Elements.{recursion_from_All}
@@ -58,7 +59,8 @@ use Rattle.launcher.specs.kernel_laws.Reach.{fits}
 use Rattle.launcher.proofs.KernelLaws.Filters.{has_rule, found_number, lets_through}
 use Rattle.launcher.proofs.KernelLaws.Reach.{leads}
 use Rattle.launcher.proofs.KernelLaws.ReachLaws.{reach_of_the_table}
-use Rattle.launcher.specs.Launch.{Wanted, Launched, launch, PrivilegedProgram, number_of, first_call, launch_from, launch_steps, program_steps, is_privileged_row}
+use Rattle.launcher.specs.Launch.{Wanted, Launched, launch, PrivilegedProgram, number_of, first_call, launch_from, launch_steps}
+use Rattle.launcher.specs.Launch.{program_steps, is_privileged_row}
 use Rattle.launcher.specs.LaunchedWorlds.{IsMeant}
 use Rattle.launcher.specs.Launches.{HasLaunchCalls, AreRead}
 use Rattle.launcher.proofs.HostRoot.{BeginsAtHostRoot, begins_at_host}
@@ -84,7 +86,8 @@ use Rattle.launcher.proofs.TwoAbis.{archs_differ}
 
 module _ (table : calls.Table) (site : Site) where
   -- ---- an execve that is done
-  passed : (world : World) (call : Call) (process : Process) (own : Decision) → IsDone (decided world call process own).0 → own ≡ decision.Pass
+  passed : (world : World) (call : Call) (process : Process) (own : Decision) → IsDone (decided world call process own).0
+      → own ≡ decision.Pass
   passed world call process decision.Pass done = refl
   passed world call process (decision.Errno errno) done = absurd done
   passed world call process decision.Kill done = absurd done
@@ -110,12 +113,15 @@ module _ (table : calls.Table) (site : Site) where
     after_of flags own = exec_done creds (marks_of own) flags.no_suid
 
     abbrev program_by : Flags → Row → Bool → Bool → Effect
-    program_by flags own b c = creds_effect (executed creds (cond (not b) (Err eacces) (cond c (Err eacces) (Ok (record { file = marks_of own; no_suid = flags.no_suid })))))
+    program_by flags own b c =
+        creds_effect (executed creds
+        (cond (not b) (Err eacces) (cond c (Err eacces) (Ok (record { file = marks_of own; no_suid = flags.no_suid })))))
 
     abbrev creds_by : Flags → Row → Bool → Effect
     creds_by flags own b = creds_effect (cond {A = Result Creds ℕ} b (Err eperm) (Ok (after_of flags own)))
 
-    not_refused : (flags : Flags) (own : Row) (b : Bool) → is_refused creds (marks_of own) flags.no_suid ≡ b → is_exe own.kind ≡ true → flags.no_exec ≡ false → IsDone (applied own_world 1 own_process (creds_by flags own b)).0 → Ran flags (row own)
+    not_refused : (flags : Flags) (own : Row) (b : Bool) → is_refused creds (marks_of own) flags.no_suid ≡ b → is_exe own.kind ≡ true
+        → flags.no_exec ≡ false → IsDone (applied own_world 1 own_process (creds_by flags own b)).0 → Ran flags (row own)
     not_refused flags own true g e h done = absurd done
     not_refused flags own false g e h done = record {
       program = own;
@@ -127,12 +133,14 @@ module _ (table : calls.Table) (site : Site) where
       bounding = refl;
     }
 
-    ran : (flags : Flags) (found : Found Row) → IsDone (applied own_world 1 own_process (creds_effect (exec_answer creds flags found))).0 → Ran flags found
+    ran : (flags : Flags) (found : Found Row) → IsDone (applied own_world 1 own_process (creds_effect (exec_answer creds flags found))).0
+        → Ran flags found
     ran flags empty_directory done = absurd done
     ran flags (nothing errno) done = absurd done
     ran flags (row own) done = by (is_exe own.kind) refl flags.no_exec refl done
       where
-        by : (b : Bool) → is_exe own.kind ≡ b → (c : Bool) → flags.no_exec ≡ c → IsDone (applied own_world 1 own_process (program_by flags own b c)).0 → Ran flags (row own)
+        by : (b : Bool) → is_exe own.kind ≡ b → (c : Bool) → flags.no_exec ≡ c
+            → IsDone (applied own_world 1 own_process (program_by flags own b c)).0 → Ran flags (row own)
         by false e c h done = absurd done
         by true e true h done = absurd done
         by true e false h done = not_refused flags own (is_refused creds (marks_of own) flags.no_suid) refl e h done
@@ -148,14 +156,16 @@ module _ (table : calls.Table) (site : Site) where
     pub record Ends (Q : Creds → Type 0) (stack : List (List Insn)) (last : World) : Type 0 where
       pub before : Creds
       pub ready : Q before
-      pub through : decision_on stack (data_at (launched_with before stack) 0 (number_of table.calls (codes "execve")) no_words) ≡ decision.Pass
+      pub through : decision_on stack (data_at (launched_with before stack) 0 (number_of table.calls (codes "execve")) no_words)
+          ≡ decision.Pass
       pub namespace : ℕ
       pub tables : List MountList
       pub own : of_number tables namespace ≡ Some (map plain plan)
       pub ran : Ran before stack namespace tables (flags_at plan program) (finds (row_at site.rows) plan program)
       pub is : launch_of last ≡ launched_with ran.after stack
 
-    ends : (Q : Creds → Type 0) (stack : List (List Insn)) (world last : World) → At table site Q stack plan world → Leads world (program_steps table.calls program) last → Ends Q stack last
+    ends : (Q : Creds → Type 0) (stack : List (List Insn)) (world last : World) → At table site Q stack plan world
+        → Leads world (program_steps table.calls program) last → Ends Q stack last
     ends Q stack world last at l =
         let own : World = solo table site at.creds stack at.namespace at.tables in
         let process : Process = only table site at.creds stack at.namespace in
@@ -186,7 +196,8 @@ module _ (table : calls.Table) (site : Site) where
       pub read : AreRead wanted.programs stack
       pub ends : Ends calls' plan wanted.program (IsReady wanted.uid wanted.ambient) stack last
 
-    launches : (last : World) → BeginsAtHostRoot plan → wanted.uid < no_id → Leads (start_world table site) (launch_steps table.calls wanted plan) last → Launches last
+    launches : (last : World) → BeginsAtHostRoot plan → wanted.uid < no_id
+        → Leads (start_world table site) (launch_steps table.calls wanted plan) last → Launches last
     launches last begins small l =
         let before = before_program table site calls' wanted plan last begins small l in
         let filters = before.filters in
@@ -194,7 +205,8 @@ module _ (table : calls.Table) (site : Site) where
 
 -- ---- numbers
 -- what is found by its number has what all lines have
-found_all : (P : CallLine → Type 0) (lines : List CallLine) (nr : ℕ) (line : CallLine) → AllByRecursion P lines → numbered nr lines ≡ Some line → P line
+found_all : (P : CallLine → Type 0) (lines : List CallLine) (nr : ℕ) (line : CallLine) → AllByRecursion P lines
+    → numbered nr lines ≡ Some line → P line
 found_all P [] nr line each e = cc
 found_all P (first ∷ lines) nr line each e = by (eqb first.number nr) e (found_all P lines nr line each.1)
   where
@@ -220,7 +232,8 @@ small_set set h =
 -- ---- the facts
 module _ (launch : Launch) (l : IsLaunched launch) (whole : IsWhole launch.calls) (site : IsSite launch.site) (can : CanBeMounted (site_host launch.site) launch.table) where
   -- execve with the words 0 passes, so some line lets it
-  execs : (nr : ℕ) → rule_at launch.calls.calls nr ≡ Some (Known known.Execve) → passes launch 0 nr no_words → lets launch (ForPath ToExec) ≡ true
+  execs : (nr : ℕ) → rule_at launch.calls.calls nr ≡ Some (Known known.Execve) → passes launch 0 nr no_words
+      → lets launch (ForPath ToExec) ≡ true
   execs nr at through =
       let call : Call = record { pid = 1; abi = 0; nr = nr; args = no_words; payload = OnePath [] } in
       let small = small_number launch.calls.calls nr (Known known.Execve) (l.calls_in_range 0) at in
@@ -230,7 +243,9 @@ module _ (launch : Launch) (l : IsLaunched launch) (whole : IsWhole launch.calls
       (lets_through launch l).kinds [] call (d.Execve []) fit through' asks (ForPath ToExec) refl
 
   -- a path that finds a program finds it by a path that can be named
-  has_program : (path : Path) (program : Row) → finds (row_at launch.site.rows) launch.table path ≡ row program → is_exe program.kind ≡ true → (flags_at launch.table path).no_exec ≡ false → is_privileged (marks_of program) ≡ false → HasProgram launch
+  has_program : (path : Path) (program : Row) → finds (row_at launch.site.rows) launch.table path ≡ row program
+      → is_exe program.kind ≡ true → (flags_at launch.table path).no_exec ≡ false → is_privileged (marks_of program) ≡ false
+      → HasProgram launch
   has_program path program found exe leave plain =
       let allowed : fits ToExec (flags_at launch.table path) ≡ true = ap not leave in
       let lead = leads launch.site.rows launch.table path program ToExec found allowed in
@@ -240,11 +255,13 @@ module _ (launch : Launch) (l : IsLaunched launch) (whole : IsWhole launch.calls
       record { program = program; found = subst (λ (t : Table). FindsRow (row_at launch.site.rows) t ToExec program) f.1 f.2; exe = exe; plain = plain }
 
 -- programs that were read from bytes that decide as filters do
-read_means : (settings : FilterSettings) (table : calls.Table) (programs : List (List ℕ)) (stack : List (List Insn)) → AreRead programs stack → AllByRecursion (IsMeant settings table) programs → AllByRecursion (Means settings table) stack
+read_means : (settings : FilterSettings) (table : calls.Table) (programs : List (List ℕ)) (stack : List (List Insn))
+    → AreRead programs stack → AllByRecursion (IsMeant settings table) programs → AllByRecursion (Means settings table) stack
 read_means settings table [] [] read each = tt
 read_means settings table [] (code ∷ stack) read each = absurd read
 read_means settings table (bytes ∷ programs) [] read each = absurd read
-read_means settings table (bytes ∷ programs) (code ∷ stack) read each = (each.0 code read.0, read_means settings table programs stack read.1 each.1)
+read_means settings table (bytes ∷ programs) (code ∷ stack) read each =
+    (each.0 code read.0, read_means settings table programs stack read.1 each.1)
 
 -- the facts of the world that a launch leaves
 record Facts (launch : Launch) (path : Path) (last : World) : Type 0 where
@@ -260,7 +277,8 @@ record Facts (launch : Launch) (path : Path) (last : World) : Type 0 where
 
 module _ (settings : FilterSettings) (table : calls.Table) (site : Site) (wanted : Wanted) (plan : Table) (last : World) (steps : ℕ) (whole : IsWhole table) (arch : HasWordArchs table) (is : IsSite site) (refusing : AreRefusing settings) (can : CanBeMounted (site_host site) plan) (small : wanted.uid < no_id) (meant : AllByRecursion (IsMeant settings table) wanted.programs) (e : launch table site wanted plan ≡ Launched last steps) where
   facts_by : (b : Bool) → is_privileged_row (finds (row_at site.rows) plan wanted.program) ≡ b
-      → cond b (PrivilegedProgram wanted.program) (launch_from (start_world table site) (launch_steps table.calls wanted plan) 0) ≡ Launched last steps → (own : Launch) × Facts own wanted.program last
+      → cond b (PrivilegedProgram wanted.program) (launch_from (start_world table site) (launch_steps table.calls wanted plan) 0)
+      ≡ Launched last steps → (own : Launch) × Facts own wanted.program last
   facts_by true priv e' = cc
   facts_by false unmarked e' =
       let calls' = launch_calls table whole in
@@ -279,8 +297,10 @@ module _ (settings : FilterSettings) (table : calls.Table) (site : Site) (wanted
         program = has_program own launched whole is can wanted.program ran'.program ran'.is ran'.exe ran'.leave plain;
         execs = execs own launched whole is can (number_of table.calls (codes "execve")) calls'.execve x.ends.through;
         bounding = small_set ran'.after.bounding bounded;
-        inheritable = small_set ran'.after.inheritable (within_through ran'.after.inheritable ran'.after.bounding all launched.inheritable_bounding bounded);
-        alike = settings_pass_alike own settings arch (archs_differ table whole.sound) (read_means settings table wanted.programs x.stack x.read meant) launched.plain;
+        inheritable = small_set ran'.after.inheritable
+            (within_through ran'.after.inheritable ran'.after.bounding all launched.inheritable_bounding bounded);
+        alike = settings_pass_alike own settings arch (archs_differ table whole.sound)
+            (read_means settings table wanted.programs x.stack x.read meant) launched.plain;
       } in
       let few = few_tables table calls' wanted site plan last l in
       (own, record { launched = world; few = omega (arith, few); offers = subst Offers (sym x.ends.is) offers; is = x.ends.is; program = ran'.program; found = ran'.is; exe = ran'.exe; leave = ran'.leave; plain = plain })

@@ -10,7 +10,8 @@ use Rattle.launcher.specs.kernel_model.Effects.{Effect}
 use Rattle.launcher.specs.kernel_model.Runs.{moment_at, IsDone}
 use Rattle.launcher.specs.kernel_model.Step.{step}
 use Rattle.launcher.specs.kernel_model.World.{World}
-use Rattle.launcher.specs.kernel_laws.Denied.{Performs, Reaches, Holds, HasGid, asks_family, asks_space, asks_map, asks_protect, asks_attach, asks_realtime, asks_personality, asks_mode}
+use Rattle.launcher.specs.kernel_laws.Denied.{Performs, Reaches, Holds, HasGid, asks_family, asks_space, asks_map, asks_protect}
+use Rattle.launcher.specs.kernel_laws.Denied.{asks_attach, asks_realtime, asks_personality, asks_mode}
 use Rattle.launcher.specs.kernel_laws.Launched.{Launch}
 use Rattle.launcher.specs.kernel_laws.declared.question_types.question.Question.{Question}
 use Rattle.launcher.specs.kernel_laws.declared.question_types.question.Question.TheVariants as asking
@@ -21,16 +22,22 @@ use Rattle.kernel_ways.proofs.Solo.{way_runs, shows_last, shows_held}
 
 module _ (launch : Launch) (creds : Creds) (table : Table) (world : World) (solo : IsSolo launch creds table world) where
   -- the families stay those of the launch
-  family_reached : (place : ℕ) (doing : Doing) (call : Call) (effect : Effect) → Makes launch creds table doing call effect → asks_family launch.calls.families place doing ≡ true → IsDone (step world call).0 → Reaches (asking.Socket place) (moment_at world call)
+  family_reached : (place : ℕ) (doing : Doing) (call : Call) (effect : Effect) → Makes launch creds table doing call effect
+      → asks_family launch.calls.families place doing ≡ true → IsDone (step world call).0
+      → Reaches (asking.Socket place) (moment_at world call)
   family_reached place doing call effect m such done =
       let P : calls.Table → Type 0 = λ t. Performs (asks_family t.families place) (moment_at world call) in
-      subst P (sym (ap (λ (w : World). w.calls) solo.is)) (performs launch creds table world solo (asks_family launch.calls.families place) doing call effect m such done)
+      subst P (sym (ap (λ (w : World). w.calls) solo.is))
+      (performs launch creds table world solo (asks_family launch.calls.families place) doing call effect m such done)
 
-  pub reached : (question : Question) (doing : Doing) (call : Call) (effect : Effect) → Makes launch creds table doing call effect → Answers launch table question call doing → IsDone (step world call).0 → Reaches question (moment_at world call)
-  reached (asking.Path wish place) doing call effect m a done = reaches_row launch creds table world solo wish place a.1 a.3 doing call effect m a.0 a.2 a.4 done
+  pub reached : (question : Question) (doing : Doing) (call : Call) (effect : Effect) → Makes launch creds table doing call effect
+      → Answers launch table question call doing → IsDone (step world call).0 → Reaches question (moment_at world call)
+  reached (asking.Path wish place) doing call effect m a done =
+      reaches_row launch creds table world solo wish place a.1 a.3 doing call effect m a.0 a.2 a.4 done
   reached (asking.Call place) doing call effect m a done = reaches_call launch creds table world solo place a.0 a.1 a.2 call a.3 a.4 done
   reached (asking.Socket place) doing call effect m a done = family_reached place doing call effect m a done
-  reached (asking.Namespace space) doing call effect m a done = performs launch creds table world solo (asks_space space) doing call effect m a done
+  reached (asking.Namespace space) doing call effect m a done =
+      performs launch creds table world solo (asks_space space) doing call effect m a done
   reached asking.MapWx doing call effect m a done = performs launch creds table world solo asks_map doing call effect m a done
   reached asking.ProtectX doing call effect m a done = performs launch creds table world solo asks_protect doing call effect m a done
   reached asking.ShmX doing call effect m a done = performs launch creds table world solo asks_attach doing call effect m a done
@@ -42,17 +49,20 @@ module _ (launch : Launch) (creds : Creds) (table : Table) (world : World) (solo
   reached (asking.Gid id) doing call effect m a done = absurd a
 
   pub held : (question : Question) → HaveAsked question creds → Holds question world
-  held (asking.Cap number) h = holds launch creds table world solo (λ process. (has process.creds.effective number ≡ true) × (process.user ≡ 1)) (h, refl)
+  held (asking.Cap number) h = holds launch creds table world solo
+      (λ process. (has process.creds.effective number ≡ true) × (process.user ≡ 1)) (h, refl)
   held (asking.Uid id) h = holds launch creds table world solo (λ process. process.creds.uids.effective ≡ id) h
   held (asking.Gid id) h = holds launch creds table world solo (λ process. HasGid id process.creds) h
   held question h = absurd h
 
 pub calls_show : CallsShow
 calls_show launch from to table now world calls question doing last effect solo way m doable a =
-    shows_last way world solo question doing last effect m doable (λ after own done. reached launch to now after own question doing last effect m a done)
+    shows_last way world solo question doing last effect m doable
+    (λ after own done. reached launch to now after own question doing last effect m a done)
 
 pub creds_show : CredsShow
-creds_show launch from to table now world calls question solo way h = shows_held way world solo question (λ after own. held launch to now after own question h)
+creds_show launch from to table now world calls question solo way h =
+    shows_held way world solo question (λ after own. held launch to now after own question h)
 
 pub ways_are_done : WaysAreDone
 ways_are_done launch from to table now world calls solo way = let w = way_runs way world solo in record { fit = w.fit; done = w.done; solo = w.solo }

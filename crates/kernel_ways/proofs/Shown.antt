@@ -1,5 +1,6 @@
 -- What the ceiling leaves open is shown by a list of calls.
-use Rattle.std.proofs.Common.{◌≡◌, ℕ, Bool, true, false, List, [], ◌∷◌, ◌++◌, Option, Some, None, refl, ap, ◌∙◌, sym, subst, arith, inl, inr, zero, suc}
+use Rattle.std.proofs.Common.{◌≡◌, ℕ, Bool, true, false, List, [], ◌∷◌, ◌++◌, Option, Some, None, refl, ap, ◌∙◌, sym, subst, arith, inl}
+use Rattle.std.proofs.Common.{inr, zero, suc}
 use Rattle.std.specs.Prelude.{slice_get, not, nat_lt, ◌&&◌, ◌||◌}
 use Rattle.std.proofs.lemmas.Slice.Eq.{bytes_eq-Decides}
 use Rattle.std.proofs.lemmas.Bool.{and_parts, or_cases, not-true, eq-eqb}
@@ -13,7 +14,8 @@ use Rattle.launcher.specs.site_table.Table.{IsRowOf, row_at}
 use Rattle.launcher.specs.kern_creds.declared.creds.Creds.{Creds}
 use Rattle.launcher.specs.kern_creds.Exec.{exec_done, is_refused}
 use Rattle.launcher.specs.kern_mounts.Finds.{row, finds}
-use Rattle.launcher.specs.kernel_laws.Bound.{is_barred, is_to_exec, is_mounting, is_user, can_reach, can_have_cap, can_have_for, if_listed, caps_at, power_of, ceiling, is_open, is_call_open}
+use Rattle.launcher.specs.kernel_laws.Bound.{is_barred, is_to_exec, is_mounting, is_user, can_reach, can_have_cap, can_have_for, if_listed}
+use Rattle.launcher.specs.kernel_laws.Bound.{caps_at, power_of, ceiling, is_open, is_call_open}
 use Rattle.launcher.specs.kernel_model.declared.kernel_calls.call.Call.{Call}
 use Rattle.launcher.specs.kernel_model.kernel_calls.Calls.{IsPath}
 use Rattle.launcher.specs.kernel_laws.Denied.{asks_space, asks_family, is_family}
@@ -26,11 +28,13 @@ use Rattle.launcher.specs.kernel_model.kern_files.Executing.{marks_of}
 use Rattle.launcher.specs.kernel_laws.Kinds as k
 use Rattle.launcher.specs.kernel_laws.declared.question_types.kind.CallKind.{CallKind}
 use Rattle.launcher.specs.kernel_laws.declared.question_types.wish.Wish.{Wish}
-use Rattle.launcher.specs.kernel_laws.declared.question_types.wish.Wish.TheVariants.{See as ToSee, Read as ToRead, Write as ToWrite, Exec as ToExec}
+use Rattle.launcher.specs.kernel_laws.declared.question_types.wish.Wish.TheVariants.{See as ToSee, Read as ToRead, Write as ToWrite}
+use Rattle.launcher.specs.kernel_laws.declared.question_types.wish.Wish.TheVariants.{Exec as ToExec}
 use Rattle.launcher.specs.filter_settings.declared.filter_rules.namespace_types.NamespaceType.{NamespaceType}
 use Rattle.launcher.specs.kernel_laws.declared.question_types.question.Question.{Question}
 use Rattle.launcher.specs.kernel_laws.declared.question_types.power.Power.{Power}
-use Rattle.launcher.specs.kernel_laws.declared.question_types.power.Power.TheVariants.{None as Nowise, Unmount as Unmounting, Mount as Mounting}
+use Rattle.launcher.specs.kernel_laws.declared.question_types.power.Power.TheVariants.{None as Nowise, Unmount as Unmounting}
+use Rattle.launcher.specs.kernel_laws.declared.question_types.power.Power.TheVariants.{Mount as Mounting}
 use Rattle.launcher.specs.kernel_laws.declared.question_types.kind.CallKind.TheVariants as kinds
 use Rattle.launcher.specs.filter_settings.declared.filter_rules.namespace_types.NamespaceType.TheVariants as namespace
 use Rattle.launcher.specs.kernel_laws.declared.question_types.question.Question.TheVariants as asking
@@ -76,13 +80,17 @@ at_place P (y ∷ xs) (suc at) x all e = at_place P xs at x all.1 e
 
 module _ (world : World) (launch : Launch) (l : IsLaunched launch) (o : Offers launch) (s : IsSolo launch launch.creds launch.table world) where
   -- ---- rows
-  by_path : (wish : Wish) (place : ℕ) (target : Row) → slice_get launch.site.rows place ≡ Some target → {calls : List Call} → (creds : Creds) (now : Table) → Way launch launch.creds launch.table calls creds now
-      → (path : Path) → finds (row_at launch.site.rows) now path ≡ row target → {call : Call} → PathCall launch creds now wish path call → IsShown world (asking.Path wish place)
+  by_path : (wish : Wish) (place : ℕ) (target : Row) → slice_get launch.site.rows place ≡ Some target → {calls : List Call}
+      → (creds : Creds) (now : Table) → Way launch launch.creds launch.table calls creds now
+      → (path : Path) → finds (row_at launch.site.rows) now path ≡ row target → {call : Call} → PathCall launch creds now wish path call
+      → IsShown world (asking.Path wish place)
   by_path wish place target listed {calls = calls} creds now way path found {call = call} c =
       (calls ++ call ∷ [], calls_show launch launch.creds creds launch.table now world calls (asking.Path wish place) c.doing call c.effect s way c.makes c.doable (path, target, c.wanted, listed, found))
 
-  exec_call : (creds : Creds) (now : Table) (path : Path) → IsPath path → (target : Row) → finds (row_at launch.site.rows) now path ≡ row target → is_exe target.kind ≡ true → fits ToExec (flags_at now path) ≡ true
-      → is_refused creds (marks_of target) (flags_at now path).no_suid ≡ false → (line : Line launch (kinds.ForPath ToExec)) → PathCall launch creds now ToExec path (first_by (place_of line.line) line.args (pay.OnePath path))
+  exec_call : (creds : Creds) (now : Table) (path : Path) → IsPath path → (target : Row)
+      → finds (row_at launch.site.rows) now path ≡ row target → is_exe target.kind ≡ true → fits ToExec (flags_at now path) ≡ true
+      → is_refused creds (marks_of target) (flags_at now path).no_suid ≡ false → (line : Line launch (kinds.ForPath ToExec))
+      → PathCall launch creds now ToExec path (first_by (place_of line.line) line.args (pay.OnePath path))
   exec_call creds now path fit target found exe runs admitted line =
       let x = exec_path launch creds now path fit target found exe runs admitted line in
       record { doing = d.Execve path; effect = SetCreds (exec_done creds (marks_of target) (flags_at now path).no_suid); makes = x; doable = tt; wanted = refl }
@@ -115,24 +123,35 @@ module _ (world : World) (launch : Launch) (l : IsLaunched launch) (o : Offers l
 
     shown_see : lets launch (kinds.ForPath ToSee) ≡ true → Led ToSee → IsShown world (asking.Path ToSee place)
     shown_see passes x =
-        by_path ToSee place target listed x.creds x.now x.way x.found.path x.found.is_found (see_path launch x.creds x.now x.found.path x.found.can_be_named target x.found.is_found (some_line launch l (kinds.ForPath ToSee) passes))
+        by_path ToSee place target listed x.creds x.now x.way x.found.path x.found.is_found
+        (see_path launch x.creds x.now x.found.path x.found.can_be_named target x.found.is_found
+        (some_line launch l (kinds.ForPath ToSee) passes))
 
     shown_read : lets launch (kinds.ForPath ToRead) ≡ true → Led ToRead → IsShown world (asking.Path ToRead place)
     shown_read passes x =
-        by_path ToRead place target listed x.creds x.now x.way x.found.path x.found.is_found (read_path launch x.creds x.now x.found.path x.found.can_be_named target x.found.is_found (some_line launch l (kinds.ForPath ToRead) passes))
+        by_path ToRead place target listed x.creds x.now x.way x.found.path x.found.is_found
+        (read_path launch x.creds x.now x.found.path x.found.can_be_named target x.found.is_found
+        (some_line launch l (kinds.ForPath ToRead) passes))
 
-    shown_write : lets launch (kinds.ForPath ToWrite) ≡ true → is_dir target.kind ≡ false → Led ToWrite → IsShown world (asking.Path ToWrite place)
+    shown_write : lets launch (kinds.ForPath ToWrite) ≡ true → is_dir target.kind ≡ false → Led ToWrite
+        → IsShown world (asking.Path ToWrite place)
     shown_write passes file x =
-        by_path ToWrite place target listed x.creds x.now x.way x.found.path x.found.is_found (write_path launch x.creds x.now x.found.path x.found.can_be_named target x.found.is_found file x.found.is_allowed (some_line launch l (kinds.ForPath ToWrite) passes))
+        by_path ToWrite place target listed x.creds x.now x.way x.found.path x.found.is_found
+        (write_path launch x.creds x.now x.found.path x.found.can_be_named target x.found.is_found file x.found.is_allowed
+        (some_line launch l (kinds.ForPath ToWrite) passes))
 
-    shown_exec : lets launch (kinds.ForPath ToExec) ≡ true → is_exe target.kind ≡ true → is_barred launch target ≡ false → Led ToExec → IsShown world (asking.Path ToExec place)
+    shown_exec : lets launch (kinds.ForPath ToExec) ≡ true → is_exe target.kind ≡ true → is_barred launch target ≡ false → Led ToExec
+        → IsShown world (asking.Path ToExec place)
     shown_exec passes exe free x =
         let admitted : is_refused x.creds (marks_of target) (flags_at x.now x.found.path).no_suid ≡ false =
         ap (λ b. is_refused x.creds (marks_of target) b) x.suid ∙ ap (λ s. target.effective && not (within target.caps s)) x.basis.bounding ∙ free in
-        by_path ToExec place target listed x.creds x.now x.way x.found.path x.found.is_found (exec_call x.creds x.now x.found.path x.found.can_be_named target x.found.is_found exe x.found.is_allowed admitted (some_line launch l (kinds.ForPath ToExec) passes))
+        by_path ToExec place target listed x.creds x.now x.way x.found.path x.found.is_found
+        (exec_call x.creds x.now x.found.path x.found.can_be_named target x.found.is_found exe x.found.is_allowed admitted
+        (some_line launch l (kinds.ForPath ToExec) passes))
 
     -- a barred row is run where marks are not looked at
-    shown_unmarked : lets launch (kinds.ForPath ToExec) ≡ true → is_exe target.kind ≡ true → power_of launch ≡ Mounting → IsShown world (asking.Path ToExec place)
+    shown_unmarked : lets launch (kinds.ForPath ToExec) ≡ true → is_exe target.kind ≡ true → power_of launch ≡ Mounting
+        → IsShown world (asking.Path ToExec place)
     shown_unmarked passes exe e =
         let g = admin_gained launch l o Mounting e (λ x. cc) in
         let pass = mounts_pass (has (caps_at launch Nowise) 21) (lets launch kinds.ChangesMounts) (lets launch kinds.RemovesMounts) e in
@@ -141,10 +160,13 @@ module _ (world : World) (launch : Launch) (l : IsLaunched launch) (o : Offers l
         let path = proc ++ target.path in
         let allowed : fits ToExec (flags_at two.now path) ≡ true = ap (fits ToExec) below.flags_are in
         let admitted : is_refused g.creds (marks_of target) (flags_at two.now path).no_suid ≡ false = ap (λ f. is_refused g.creds (marks_of target) f.no_suid) below.flags_are in
-        by_path ToExec place target listed g.creds two.now (way_join g.way two.way) path below.is_found (exec_call g.creds two.now path below.can_be_named target below.is_found exe allowed admitted (some_line launch l (kinds.ForPath ToExec) passes))
+        by_path ToExec place target listed g.creds two.now (way_join g.way two.way) path below.is_found
+        (exec_call g.creds two.now path below.can_be_named target below.is_found exe allowed admitted
+        (some_line launch l (kinds.ForPath ToExec) passes))
 
     -- or in a user namespace of its own, where the bounding set is full
-    shown_inside : lets launch (kinds.ForPath ToExec) ≡ true → is_exe target.kind ≡ true → can_make_user launch ≡ true → Led ToExec → IsShown world (asking.Path ToExec place)
+    shown_inside : lets launch (kinds.ForPath ToExec) ≡ true → is_exe target.kind ≡ true → can_make_user launch ≡ true → Led ToExec
+        → IsShown world (asking.Path ToExec place)
     shown_inside passes exe user x =
         let both = and_parts (nat_lt 0 launch.site.user_namespaces) (lets launch (kinds.ForNamespace namespace.User)) user in
         let first = enters launch both.0 x.creds x.now (some_line launch l (kinds.ForNamespace namespace.User) both.1) in
@@ -152,19 +174,23 @@ module _ (world : World) (launch : Launch) (l : IsLaunched launch) (o : Offers l
         (_, calls_show_inside launch launch.creds x.creds launch.table x.now world x.calls (asking.Path ToExec place) first.pid _ _ (d.Execve x.found.path) _ s x.way first.makes.fit first.inside m tt (x.found.path, target, refl, listed, x.found.is_found))
 
     can_parts : (wish : Wish) → can_reach launch (power_of launch) wish target ≡ true
-        → (lets launch (kinds.ForPath wish) ≡ true) × (reaches (power_of launch) launch.table target.path wish ≡ true) × ((((is_to_exec wish && not (is_mounting (power_of launch))) && is_barred launch target) && not (can_make_user launch)) ≡ false)
+        → (lets launch (kinds.ForPath wish) ≡ true) × (reaches (power_of launch) launch.table target.path wish ≡ true) ×
+        ((((is_to_exec wish && not (is_mounting (power_of launch))) && is_barred launch target) && not (can_make_user launch)) ≡ false)
     can_parts wish e =
         let both = and_parts (lets launch (kinds.ForPath wish) && reaches (power_of launch) launch.table target.path wish) (not (((is_to_exec wish && not (is_mounting (power_of launch))) && is_barred launch target) && not (can_make_user launch))) e in
         let inner = and_parts (lets launch (kinds.ForPath wish)) (reaches (power_of launch) launch.table target.path wish) both.0 in
         (inner.0, inner.1, not-true (((is_to_exec wish && not (is_mounting (power_of launch))) && is_barred launch target) && not (can_make_user launch)) both.1)
 
-    pub shown_row : (wish : Wish) → IsFit launch.site (asking.Path wish place) → can_reach launch (power_of launch) wish target ≡ true → IsShown world (asking.Path wish place)
+    pub shown_row : (wish : Wish) → IsFit launch.site (asking.Path wish place) → can_reach launch (power_of launch) wish target ≡ true
+        → IsShown world (asking.Path wish place)
     shown_row ToSee fit e = let p = can_parts ToSee e in shown_see p.0 (led ToSee p.1)
     shown_row ToRead fit e = let p = can_parts ToRead e in shown_read p.0 (led ToRead p.1)
     shown_row ToWrite fit e = let p = can_parts ToWrite e in shown_write p.0 (fit target listed) (led ToWrite p.1)
     shown_row ToExec fit e = let p = can_parts ToExec e in by p.0 p.1 (is_barred launch target) refl (power_of launch) refl (can_make_user launch) refl p.2
       where
-        by : lets launch (kinds.ForPath ToExec) ≡ true → reaches (power_of launch) launch.table target.path ToExec ≡ true → (b : Bool) → is_barred launch target ≡ b → (power : Power) → power_of launch ≡ power → (make : Bool) → can_make_user launch ≡ make → ((not (is_mounting power) && b) && not make) ≡ false → IsShown world (asking.Path ToExec place)
+        by : lets launch (kinds.ForPath ToExec) ≡ true → reaches (power_of launch) launch.table target.path ToExec ≡ true → (b : Bool)
+            → is_barred launch target ≡ b → (power : Power) → power_of launch ≡ power → (make : Bool) → can_make_user launch ≡ make
+            → ((not (is_mounting power) && b) && not make) ≡ false → IsShown world (asking.Path ToExec place)
         by passes r false f power g make u e = shown_exec passes (fit target listed) f (led ToExec r)
         by passes r true f Mounting g make u e = shown_unmarked passes (fit target listed) g
         by passes r true f Unmounting g true u e = shown_inside passes (fit target listed) u (led ToExec r)
@@ -184,11 +210,15 @@ module _ (world : World) (launch : Launch) (l : IsLaunched launch) (o : Offers l
   having None e = record { calls = []; creds = launch.creds; now = launch.table; way = here; can = tt }
   having (Some number) e = let x = attained launch l o number e in let g = x.1 in record { calls = g.calls; creds = g.creds; now = x.0; way = g.way; can = g.holds }
 
-  by_performed : (question : Question) (p : Doing → Bool) {calls : List Call} (creds : Creds) (now : Table) → Way launch launch.creds launch.table calls creds now → {call : Call} → (x : Performed launch creds now p call) → Answers launch now question call x.doing → IsShown world question
+  by_performed : (question : Question) (p : Doing → Bool) {calls : List Call} (creds : Creds) (now : Table)
+      → Way launch launch.creds launch.table calls creds now → {call : Call} → (x : Performed launch creds now p call)
+      → Answers launch now question call x.doing → IsShown world question
   by_performed question p {calls = calls} creds now way {call = call} x a = (calls ++ call ∷ [], calls_show launch launch.creds creds launch.table now world calls question x.doing call x.effect s way x.makes x.doable a)
 
   -- what every process may ask for
-  shown_free : (question : Question) (kind : CallKind) → is_free kind ≡ true → ((call : Call) (x : Performed launch launch.creds launch.table (k.asks kind) call) → Answers launch launch.table question call x.doing) → lets launch kind ≡ true → IsShown world question
+  shown_free : (question : Question) (kind : CallKind) → is_free kind ≡ true
+      → ((call : Call) (x : Performed launch launch.creds launch.table (k.asks kind) call)
+      → Answers launch launch.table question call x.doing) → lets launch kind ≡ true → IsShown world question
   shown_free question kind h answers e = let x = performing.free launch launch.creds launch.table kind h (some_line launch l kind e) in by_performed question (k.asks kind) launch.creds launch.table here x (answers _ x)
 
   -- a user namespace itself
@@ -202,20 +232,24 @@ module _ (world : World) (launch : Launch) (l : IsLaunched launch) (o : Offers l
       (call ∷ [], record { fit = (first.makes.fit, tt); done = (done, tt); last = inl (performs launch launch.creds launch.table world s (asks_space namespace.User) first.doing call first.effect first.makes first.such done) })
 
   -- another one, in a user namespace of its own
-  shown_within : (space : NamespaceType) → is_user space ≡ false → lets launch (kinds.ForNamespace space) ≡ true → can_make_user launch ≡ true → IsShown world (asking.Namespace space)
+  shown_within : (space : NamespaceType) → is_user space ≡ false → lets launch (kinds.ForNamespace space) ≡ true
+      → can_make_user launch ≡ true → IsShown world (asking.Namespace space)
   shown_within space u e user =
       let both = and_parts (nat_lt 0 launch.site.user_namespaces) (lets launch (kinds.ForNamespace namespace.User)) user in
       let first = enters launch both.0 launch.creds launch.table (some_line launch l (kinds.ForNamespace namespace.User) both.1) in
       let x = own_space launch launch.creds launch.table first.pid first.small space u (some_line launch l (kinds.ForNamespace space) e) in
       (_, calls_show_inside launch launch.creds launch.creds launch.table launch.table world [] (asking.Namespace space) first.pid _ _ x.doing x.effect s here first.makes.fit first.inside x.makes x.doable x.such)
 
-  shown_space : (space : NamespaceType) → is_user space ≡ false → lets launch (kinds.ForNamespace space) ≡ true → has (ceiling launch).effective 21 ≡ true → IsShown world (asking.Namespace space)
+  shown_space : (space : NamespaceType) → is_user space ≡ false → lets launch (kinds.ForNamespace space) ≡ true
+      → has (ceiling launch).effective 21 ≡ true → IsShown world (asking.Namespace space)
   shown_space space u e h =
       let w = having (Some 21) h in
       let x = performing.own_space launch w.creds w.now w.can space u (some_line launch l (kinds.ForNamespace space) e) in
       by_performed (asking.Namespace space) (asks_space space) w.creds w.now w.way x x.such
 
-  shown_call : (place : ℕ) (line : CallLine) → slice_get (every_call launch.calls) place ≡ Some line → list_any (λ other. bytes_eq line.name other.name && lets_line launch kinds.PlainCall other) (every_call launch.calls) ≡ true → can_have_for (ceiling launch) (rule_of line) ≡ true → IsShown world (asking.Call place)
+  shown_call : (place : ℕ) (line : CallLine) → slice_get (every_call launch.calls) place ≡ Some line
+      → list_any (λ other. bytes_eq line.name other.name && lets_line launch kinds.PlainCall other) (every_call launch.calls) ≡ true
+      → can_have_for (ceiling launch) (rule_of line) ≡ true → IsShown world (asking.Call place)
   shown_call place line listed e h =
       let other = any_at (λ other. bytes_eq line.name other.name && lets_line launch kinds.PlainCall other) (every_call launch.calls) e in
       let such = and_parts (bytes_eq line.name other.1.name) (lets_line launch kinds.PlainCall other.1) other.3 in
@@ -232,7 +266,9 @@ module _ (world : World) (launch : Launch) (l : IsLaunched launch) (o : Offers l
       let called : numbered own.0.line.number (calls_in launch.calls own.0.line.abi) ≡ Some other.1 = ap (λ (c : CallLine). numbered c.number (calls_in launch.calls c.abi)) own.1 ∙ found in
       by_performed (asking.Call place) k.asks_plain w.creds w.now w.way x (line, listed, other.1, called, name)
 
-  shown_socket : (place : ℕ) (line : CallLine) → slice_get launch.calls.families place ≡ Some line → lets launch (kinds.ForFamily line.number) ≡ true → can_have_cap (ceiling launch) line.cap ≡ true → IsShown world (asking.Socket place)
+  shown_socket : (place : ℕ) (line : CallLine) → slice_get launch.calls.families place ≡ Some line
+      → lets launch (kinds.ForFamily line.number) ≡ true → can_have_cap (ceiling launch) line.cap ≡ true
+      → IsShown world (asking.Socket place)
   shown_socket place line listed e h =
       let w = having line.cap h in
       let found : numbered line.number launch.calls.families ≡ Some line = at_position launch.calls.families line.number place line (l.families_once place line listed) listed in
@@ -246,10 +282,13 @@ module _ (world : World) (launch : Launch) (l : IsLaunched launch) (o : Offers l
   listed_is p None e = cc
   listed_is p (Some x) e = (x, refl, e)
 
-  pub cap_shown : (number : ℕ) (end : Table) → Gained launch l o false launch.creds launch.table end number → IsShown world (asking.Cap number)
+  pub cap_shown : (number : ℕ) (end : Table) → Gained launch l o false launch.creds launch.table end number
+      → IsShown world (asking.Cap number)
   cap_shown number end g = (g.calls, creds_show launch launch.creds g.creds launch.table end world g.calls (asking.Cap number) s g.way g.holds)
 
-  other : (space : NamespaceType) → is_user space ≡ false → (lets launch (kinds.ForNamespace space) && (has (ceiling launch).effective 21 || can_make_user launch)) ≡ true → IsShown world (asking.Namespace space)
+  other : (space : NamespaceType) → is_user space ≡ false
+      → (lets launch (kinds.ForNamespace space) && (has (ceiling launch).effective 21 || can_make_user launch)) ≡ true
+      → IsShown world (asking.Namespace space)
   other space u e =
       let both = and_parts (lets launch (kinds.ForNamespace space)) (has (ceiling launch).effective 21 || can_make_user launch) e in
       elim (or_cases (has (ceiling launch).effective 21) (can_make_user launch) both.1) [

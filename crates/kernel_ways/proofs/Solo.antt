@@ -1,5 +1,6 @@
 -- What a way gives is shown by its calls.
-use Rattle.std.proofs.Common.{◌≡◌, ℕ, true, false, List, [], ◌∷◌, ◌++◌, Some, None, refl, ap, ◌∙◌, sym, subst, cond, length, eqb, zero, suc, inl, inr, map, Option}
+use Rattle.std.proofs.Common.{◌≡◌, ℕ, true, false, List, [], ◌∷◌, ◌++◌, Some, None, refl, ap, ◌∙◌, sym, subst, cond, length, eqb, zero, suc}
+use Rattle.std.proofs.Common.{inl, inr, map, Option}
 use Rattle.std.specs.Prelude.{slice_get, slice_set, nat_lt, ◌-◌}
 use Rattle.launcher.specs.kern_creds.declared.creds.Creds.{Creds}
 use Rattle.launcher.specs.kernel_model.declared.kernel_calls.call.Call.{Call}
@@ -13,7 +14,8 @@ use Rattle.launcher.specs.bpf_code.declared.decision.Decision.TheVariants.{Pass}
 use Rattle.std.specs.Option.{option_map_or}
 use Rattle.launcher.specs.kernel_model.kernel_calls.Doing as d
 use Rattle.launcher.specs.kernel_model.Effects as f
-use Rattle.launcher.specs.kernel_model.Effects.{Effect, Host, SetCreds, SetTable, effect_of, looks, creds_effect, table_effect, with_admin, Caller}
+use Rattle.launcher.specs.kernel_model.Effects.{Effect, Host, SetCreds, SetTable, effect_of, looks, creds_effect, table_effect, with_admin}
+use Rattle.launcher.specs.kernel_model.Effects.{Caller}
 use Rattle.launcher.specs.kernel_laws.Launched.{Launch, data_at}
 use Rattle.launcher.specs.bpf_code.declared.machine.Insn.{Insn}
 use Rattle.launcher.specs.kern_mounts.Mounts.{Mounts, plain, steps_of}
@@ -35,14 +37,21 @@ use Rattle.kernel_ways.specs.Ways.{effect_on, IsSolo, Way, here, by_creds, by_ta
 
 -- by the entries alone, of a table that is not locked and keeps nothing
 effect_by : (host : Host) (creds : Creds) (stack : List (List Insn)) (table : Table) (doing : Doing)
-    → effect_of host (record { creds = creds; stack = stack; table = map plain table; newer = false; owns = true }) doing ≡ effect_on host (record { creds = creds; stack = stack; table = map plain table; newer = false; owns = true }) table doing
+    → effect_of host (record { creds = creds; stack = stack; table = map plain table; newer = false; owns = true }) doing
+    ≡ effect_on host (record { creds = creds; stack = stack; table = map plain table; newer = false; owns = true }) table doing
 effect_by host creds stack table (d.See path) = ap (λ (t : Table). looks (see_answer 0 (finds host.rows t path))) (steps_plain table)
-effect_by host creds stack table (d.Open flags path) = ap (λ (t : Table). looks (open_answer flags (flags_at t path) (finds host.rows t path))) (steps_plain table)
-effect_by host creds stack table (d.Create path) = ap (λ (t : Table). looks (write_answer 3 (flags_at t path) (finds host.rows t path))) (steps_plain table)
-effect_by host creds stack table (d.Truncate path) = ap (λ (t : Table). looks (write_answer 0 (flags_at t path) (finds host.rows t path))) (steps_plain table)
-effect_by host creds stack table (d.Execve path) = ap (λ (t : Table). creds_effect (exec_answer creds (flags_at t path) (finds host.rows t path))) (steps_plain table)
-effect_by host creds stack table (d.Mount source target flags) = ap (λ answer. with_admin creds (table_effect answer)) (mount_entries host.rows table source target flags)
-effect_by host creds stack table (d.Umount path flags) = ap (λ answer. with_admin creds (table_effect answer)) (umount_answer_entries table path flags)
+effect_by host creds stack table (d.Open flags path) =
+    ap (λ (t : Table). looks (open_answer flags (flags_at t path) (finds host.rows t path))) (steps_plain table)
+effect_by host creds stack table (d.Create path) = ap (λ (t : Table). looks (write_answer 3 (flags_at t path) (finds host.rows t path)))
+    (steps_plain table)
+effect_by host creds stack table (d.Truncate path) = ap (λ (t : Table). looks (write_answer 0 (flags_at t path) (finds host.rows t path)))
+    (steps_plain table)
+effect_by host creds stack table (d.Execve path) =
+    ap (λ (t : Table). creds_effect (exec_answer creds (flags_at t path) (finds host.rows t path))) (steps_plain table)
+effect_by host creds stack table (d.Mount source target flags) =
+    ap (λ answer. with_admin creds (table_effect answer)) (mount_entries host.rows table source target flags)
+effect_by host creds stack table (d.Umount path flags) = ap (λ answer. with_admin creds (table_effect answer))
+    (umount_answer_entries table path flags)
 effect_by host creds stack table (d.SetMode mode) = refl
 effect_by host creds stack table (d.Map protection) = refl
 effect_by host creds stack table (d.Protect protection) = refl
@@ -66,7 +75,8 @@ effect_by host creds stack table (d.Prctl option value third) = refl
 effect_by host creds stack table (d.Seccomp operation flags bytes) = refl
 effect_by host creds stack table (d.Plain cap) = refl
 
-pub way_join : {launch : Launch} {a b c : Creds} {s t u : Table} {xs ys : List Call} → Way launch a s xs b t → Way launch b t ys c u → Way launch a s (xs ++ ys) c u
+pub way_join : {launch : Launch} {a b c : Creds} {s t u : Table} {xs ys : List Call} → Way launch a s xs b t → Way launch b t ys c u
+    → Way launch a s (xs ++ ys) c u
 way_join here q = q
 way_join (by_creds call m more) q = by_creds call m (way_join more q)
 way_join (by_table call m more) q = by_table call m (way_join more q)
@@ -77,7 +87,8 @@ put_length (z ∷ xs) zero y = refl
 put_length (z ∷ xs) (suc i) y = ap suc (put_length xs i y)
 
 -- a call that its ABI has, and whose data pass, is let through
-pub let_pass : (launch : Launch) (call : Call) (process : Process) (doing : Doing) → asked_of launch.calls call ≡ Does doing → decision_on process.stack (data_at launch call.abi call.nr call.args) ≡ Pass
+pub let_pass : (launch : Launch) (call : Call) (process : Process) (doing : Doing) → asked_of launch.calls call ≡ Does doing
+    → decision_on process.stack (data_at launch call.abi call.nr call.args) ≡ Pass
     → decision_by call process (abi_at launch.calls call.abi) ≡ Pass
 let_pass launch call process doing asks through = by (abi_at launch.calls call.abi) refl
   where
@@ -85,7 +96,8 @@ let_pass launch call process doing asks through = by (abi_at launch.calls call.a
     by None e = let none : asked_by (rule_at [] call.nr) call ≡ Does doing = ap (λ (o : Option Abi). asked_by (rule_at (option_map_or (λ found. found.calls) o []) call.nr) call) (sym e) ∙ asks in cc
     by (Some abi) e =
         ap (decision_by call process) e
-        ∙ ap (λ (o : Option Abi). decision_on process.stack (record { nr = call.nr; arch = option_map_or (λ found. found.arch) o 0; ip = 0; args = call.args })) (sym e) ∙ through
+        ∙ ap (λ (o : Option Abi). decision_on process.stack
+        (record { nr = call.nr; arch = option_map_or (λ found. found.arch) o 0; ip = 0; args = call.args })) (sym e) ∙ through
 
 module _ (launch : Launch) (creds : Creds) (table : Table) (namespace : ℕ) (tables : List Mounts) (owners : List ℕ) (numbered : eqb namespace 0 ≡ false) (own : slice_get tables (namespace - 1) ≡ Some (map plain table)) (home : slice_get owners (namespace - 1) ≡ Some 1) (few : nat_lt (length tables) most_namespaces ≡ true) (doing : Doing) (call : Call) (effect : Effect) (m : Makes launch creds table doing call effect) where
   abbrev own_world : World
@@ -108,8 +120,10 @@ module _ (launch : Launch) (creds : Creds) (table : Table) (namespace : ℕ) (ta
       ap (λ (pid : ℕ). step_by own_world call (if_alive (of_number (own_process ∷ []) pid))) m.first
       ∙ ap (decided own_world call own_process) (let_pass launch call own_process doing m.asks m.through)
       ∙ ap (answered own_world call.pid own_process) m.asks
-      ∙ ap (λ (pid : ℕ). applied own_world pid own_process (effect_of (host_at launch) (caller_with (mounts_of own_world namespace) (owner_of own_world namespace)) doing)) m.first
-      ∙ ap (λ (t : Mounts). applied own_world 1 own_process (effect_of (host_at launch) (caller_with t (owner_of own_world namespace)) doing)) mounts_are
+      ∙ ap (λ (pid : ℕ). applied own_world pid own_process
+      (effect_of (host_at launch) (caller_with (mounts_of own_world namespace) (owner_of own_world namespace)) doing)) m.first
+      ∙ ap (λ (t : Mounts). applied own_world 1 own_process
+      (effect_of (host_at launch) (caller_with t (owner_of own_world namespace)) doing)) mounts_are
       ∙ ap (λ (o : ℕ). applied own_world 1 own_process (effect_of (host_at launch) (caller_with (map plain table) o) doing)) owner_is
       ∙ ap (applied own_world 1 own_process) (effect_by (host_at launch) creds launch.stack table doing ∙ m.comes_to)
 
@@ -138,7 +152,8 @@ module _ (launch : Launch) (creds : Creds) (table : Table) (world : World) (s : 
       let is = ap (λ (w : World). (step w call).1) s.is ∙ ap (λ (r : Reply × World). r.1) (steps launch creds table s.namespace s.tables s.owners s.numbered s.own s.home s.few doing call (SetCreds now) m) in
       record { namespace = s.namespace; tables = s.tables; owners = s.owners; is = is; numbered = s.numbered; own = s.own; home = s.home; few = s.few }
 
-  pub solo_table : (now : Table) → Makes launch creds table doing call (SetTable (map plain now)) → IsSolo launch creds now (step world call).1
+  pub solo_table : (now : Table) → Makes launch creds table doing call (SetTable (map plain now))
+      → IsSolo launch creds now (step world call).1
   solo_table now m =
       let is = ap (λ (w : World). (step w call).1) s.is ∙ ap (λ (r : Reply × World). r.1) (steps launch creds table s.namespace s.tables s.owners s.numbered s.own s.home s.few doing call (SetTable (map plain now)) m) in
       record {
@@ -157,7 +172,8 @@ pub record WayRuns (launch : Launch) (creds : Creds) (table : Table) (world : Wo
   pub done : AllDone (moments world list)
   pub solo : IsSolo launch creds table (run world list)
 
-pub way_runs : {launch : Launch} {a b : Creds} {s t : Table} {list : List Call} → Way launch a s list b t → (world : World) → IsSolo launch a s world → WayRuns launch b t world list
+pub way_runs : {launch : Launch} {a b : Creds} {s t : Table} {list : List Call} → Way launch a s list b t → (world : World)
+    → IsSolo launch a s world → WayRuns launch b t world list
 way_runs here world s = record { fit = tt; done = tt; solo = s }
 way_runs {launch = launch} (by_creds call m more) world s =
     let rest = way_runs more _ (solo_creds launch _ _ world s _ call _ m) in
@@ -167,12 +183,14 @@ way_runs {launch = launch} (by_table call m more) world s =
     record { fit = (m.fit, rest.fit); done = (solo_done launch _ _ world s _ call _ m tt, rest.done); solo = rest.solo }
 
 -- ---- one call behind a way
-pub run_behind : (world : World) (xs : List Call) (call : Call) (P : Moment → Type 0) → P (moment_at (run world xs) call) → LastIs P (moments world (xs ++ call ∷ []))
+pub run_behind : (world : World) (xs : List Call) (call : Call) (P : Moment → Type 0) → P (moment_at (run world xs) call)
+    → LastIs P (moments world (xs ++ call ∷ []))
 run_behind world [] call P h = h
 run_behind world (x ∷ []) call P h = h
 run_behind world (x ∷ y ∷ xs) call P h = run_behind (step world x).1 (y ∷ xs) call P h
 
-pub done_behind : (world : World) (xs : List Call) (call : Call) → AllDone (moments world xs) → IsDone (step (run world xs) call).0 → AllDone (moments world (xs ++ call ∷ []))
+pub done_behind : (world : World) (xs : List Call) (call : Call) → AllDone (moments world xs) → IsDone (step (run world xs) call).0
+    → AllDone (moments world (xs ++ call ∷ []))
 done_behind world [] call h d = (d, tt)
 done_behind world (x ∷ xs) call h d = (h.0, done_behind (step world x).1 xs call h.1 d)
 
@@ -180,8 +198,11 @@ pub fit_behind : (xs : List Call) (call : Call) → AreCalls xs → IsCall call 
 fit_behind [] call h d = (d, tt)
 fit_behind (x ∷ xs) call h d = (h.0, fit_behind xs call h.1 d)
 
-pub shows_last : {launch : Launch} {a b : Creds} {s t : Table} {xs : List Call} → Way launch a s xs b t → (world : World) → IsSolo launch a s world → (question : Question) (doing : Doing) (call : Call) (effect : Effect) → Makes launch b t doing call effect → IsDoable effect
-    → ((now : World) → IsSolo launch b t now → IsDone (step now call).0 → Reaches question (moment_at now call)) → Shows world question (xs ++ call ∷ [])
+pub shows_last : {launch : Launch} {a b : Creds} {s t : Table} {xs : List Call} → Way launch a s xs b t → (world : World)
+    → IsSolo launch a s world → (question : Question) (doing : Doing) (call : Call) (effect : Effect) → Makes launch b t doing call effect
+    → IsDoable effect
+    → ((now : World) → IsSolo launch b t now → IsDone (step now call).0 → Reaches question (moment_at now call))
+    → Shows world question (xs ++ call ∷ [])
 shows_last {launch = launch} {b = b} {t = t} {xs = xs} way world s question doing call effect m d reached =
     let w = way_runs way world s in
     let own = solo_done launch b t (run world xs) w.solo doing call effect m d in
@@ -191,7 +212,9 @@ shows_last {launch = launch} {b = b} {t = t} {xs = xs} way world s question doin
       last = inl (run_behind world xs call (Reaches question) (reached (run world xs) w.solo own));
     }
 
-pub shows_held : {launch : Launch} {a b : Creds} {s t : Table} {xs : List Call} → Way launch a s xs b t → (world : World) → IsSolo launch a s world → (question : Question) → ((now : World) → IsSolo launch b t now → Holds question now) → Shows world question xs
+pub shows_held : {launch : Launch} {a b : Creds} {s t : Table} {xs : List Call} → Way launch a s xs b t → (world : World)
+    → IsSolo launch a s world → (question : Question) → ((now : World) → IsSolo launch b t now → Holds question now)
+    → Shows world question xs
 shows_held {xs = xs} way world s question held =
     let w = way_runs way world s in
     record { fit = w.fit; done = w.done; last = inr (held (run world xs) w.solo) }

@@ -27,11 +27,13 @@ any_stable : (launch : Launch) (power : Power) → IsStable launch power Any
 any_stable launch power = record { begins = λ table h. tt; copies = λ table h. tt; mounts = λ table now source target flags h e. tt; unmounts = λ table now path flags h e. tt }
 
 all_held : (world : World) → IsLaunchedWorld world → (uids gids : Bool) (list : List Call) → AreCalls list → AllSpare uids gids world list
-    → AreHeld (launch_of world) (power_using (launch_of world) uids) (bounds_by (launch_of world) uids gids (power_using (launch_of world) uids)) Any (run world list)
+    → AreHeld (launch_of world) (power_using (launch_of world) uids)
+    (bounds_by (launch_of world) uids gids (power_using (launch_of world) uids)) Any (run world list)
 all_held world s uids gids list fit spare =
     let launch = launch_of world in
     let power = power_using launch uids in
-    spared_run launch power (bounds_by launch uids gids power) Any (lets_through launch s.launched) (any_stable launch power) uids gids (is_closed launch uids gids s.launched) list world fit spare (start_held world s uids gids power Any)
+    spared_run launch power (bounds_by launch uids gids power) Any (lets_through launch s.launched) (any_stable launch power) uids gids
+    (is_closed launch uids gids s.launched) list world fit spare (start_held world s uids gids power Any)
 
 never : (number effective : ℕ) (rest : Bool) → (any_by false number effective || rest) ≡ true → rest ≡ true
 never number effective rest h = by (has effective number) h

@@ -17,7 +17,8 @@ use Rattle.launcher.specs.kernel_laws.Launched.{Launch, IsLaunched, lets, data_a
 use Rattle.launcher.specs.kern_mounts.Split.{Table}
 use Rattle.launcher.specs.kernel_laws.declared.question_types.kind.CallKind.TheVariants.{TakesUid, TakesGid, ChangesMounts, RemovesMounts}
 use Rattle.launcher.specs.kernel_laws.declared.question_types.power.Power.{Power}
-use Rattle.launcher.specs.kernel_laws.declared.question_types.power.Power.TheVariants.{None as Nowise, Unmount as Unmounting, Mount as Mounting}
+use Rattle.launcher.specs.kernel_laws.declared.question_types.power.Power.TheVariants.{None as Nowise, Unmount as Unmounting}
+use Rattle.launcher.specs.kernel_laws.declared.question_types.power.Power.TheVariants.{Mount as Mounting}
 use Rattle.launcher.specs.kernel_laws.declared.question_types.question.Question.TheVariants as asking
 use Rattle.launcher.specs.kernel_model.World.{World}
 use Rattle.launcher.proofs.KernelLaws.Filters.{lets_through}
@@ -34,7 +35,8 @@ use Rattle.kernel_ways.proofs.Solo.{solo_creds, solo_table}
 
 module _ (launch : Launch) (l : IsLaunched launch) (uids gids : Bool) where
   -- what passes may be used, where that is what may be used
-  lets_for : {creds : Creds} {table : Table} {own : Doing} {call : Call} {effect : Effect} → Makes launch creds table own call effect → (doing : Doing) → asked_of launch.calls call ≡ Does doing
+  lets_for : {creds : Creds} {table : Table} {own : Doing} {call : Call} {effect : Effect} → Makes launch creds table own call effect
+      → (doing : Doing) → asked_of launch.calls call ≡ Does doing
       → (asks TakesUid doing ≡ true → lets launch TakesUid ≡ true) × (asks TakesGid doing ≡ true → lets launch TakesGid ≡ true)
   lets_for {call = call} m doing e =
       let through : decision_on (launch.stack ++ []) (data_at launch call.abi call.nr call.args) ≡ decision.Pass = ap (λ (s : List (List Insn)). decision_on s (data_at launch call.abi call.nr call.args)) (append-nil launch.stack) ∙ m.through in
@@ -47,23 +49,27 @@ module _ (launch : Launch) (l : IsLaunched launch) (uids gids : Bool) where
   Gids list = (lets launch TakesGid ≡ gids) ⊎ Avoids launch TakesGid list
 
   abbrev One : Call → Type 0
-  One call = ((lets launch TakesUid ≡ uids) ⊎ AvoidsOne launch TakesUid call) × ((lets launch TakesGid ≡ gids) ⊎ AvoidsOne launch TakesGid call)
+  One call = ((lets launch TakesUid ≡ uids) ⊎ AvoidsOne launch TakesUid call) ×
+      ((lets launch TakesGid ≡ gids) ⊎ AvoidsOne launch TakesGid call)
 
   may : (kind lets' own : Bool) → (kind ≡ true → lets' ≡ true) → (lets' ≡ own) ⊎ (kind ≡ false) → kind ≡ true → own ≡ true
   may kind lets' own h (inl e) k = sym e ∙ h k
   may kind lets' own h (inr off) k = cc
 
-  spare_one : {creds : Creds} {table : Table} {own : Doing} {call : Call} {effect : Effect} → Makes launch creds table own call effect → One call → (world : World) → IsSolo launch creds table world → Spares uids gids world call
+  spare_one : {creds : Creds} {table : Table} {own : Doing} {call : Call} {effect : Effect} → Makes launch creds table own call effect
+      → One call → (world : World) → IsSolo launch creds table world → Spares uids gids world call
   spare_one {call = call} m one world s process doing lives first e =
       let same : asked_of launch.calls call ≡ Does doing = ap (λ (w : World). asked_of w.calls call) (sym s.is) ∙ e in
       let h = lets_for m doing same in
       ((λ k c. may (asks TakesUid doing) (lets launch TakesUid) uids h.0 (by_uid same one.0) k), (λ k c. may (asks TakesGid doing) (lets launch TakesGid) gids h.1 (by_gid same one.1) k))
     where
-      by_uid : asked_of launch.calls call ≡ Does doing → (lets launch TakesUid ≡ uids) ⊎ AvoidsOne launch TakesUid call → (lets launch TakesUid ≡ uids) ⊎ (asks TakesUid doing ≡ false)
+      by_uid : asked_of launch.calls call ≡ Does doing → (lets launch TakesUid ≡ uids) ⊎ AvoidsOne launch TakesUid call
+          → (lets launch TakesUid ≡ uids) ⊎ (asks TakesUid doing ≡ false)
       by_uid e (inl h) = inl h
       by_uid e (inr h) = inr (h doing e)
 
-      by_gid : asked_of launch.calls call ≡ Does doing → (lets launch TakesGid ≡ gids) ⊎ AvoidsOne launch TakesGid call → (lets launch TakesGid ≡ gids) ⊎ (asks TakesGid doing ≡ false)
+      by_gid : asked_of launch.calls call ≡ Does doing → (lets launch TakesGid ≡ gids) ⊎ AvoidsOne launch TakesGid call
+          → (lets launch TakesGid ≡ gids) ⊎ (asks TakesGid doing ≡ false)
       by_gid e (inl h) = inl h
       by_gid e (inr h) = inr (h doing e)
 
@@ -73,7 +79,8 @@ module _ (launch : Launch) (l : IsLaunched launch) (uids gids : Bool) where
   heads call list (inr u) (inl g) = ((inr u.0, inl g), inr u.1, inl g)
   heads call list (inr u) (inr g) = ((inr u.0, inr g.0), inr u.1, inr g.1)
 
-  pub way_spares : {a b : Creds} {s t : Table} {list : List Call} → Way launch a s list b t → Uids list → Gids list → (world : World) → IsSolo launch a s world → AllSpare uids gids world list
+  pub way_spares : {a b : Creds} {s t : Table} {list : List Call} → Way launch a s list b t → Uids list → Gids list → (world : World)
+      → IsSolo launch a s world → AllSpare uids gids world list
   way_spares here u g world s = tt
   way_spares (by_creds {rest = rest} call m more) u g world s =
       let h = heads call rest u g in
@@ -84,15 +91,19 @@ module _ (launch : Launch) (l : IsLaunched launch) (uids gids : Bool) where
 
 module _ (launch : Launch) (l : IsLaunched launch) (o : Offers launch) where
   -- what is had without root is had
-  before_caps : (number : ℕ) → has (caps_by launch false Nowise) number ≡ true → Gained launch l o true launch.creds launch.table launch.table number × (has (caps_at launch Nowise) number ≡ true)
+  before_caps : (number : ℕ) → has (caps_by launch false Nowise) number ≡ true
+      → Gained launch l o true launch.creds launch.table launch.table number × (has (caps_at launch Nowise) number ≡ true)
   before_caps number h = by launch.creds.no_new_privs refl h
     where
-      member : (b : Bool) → (has (caps_before launch Nowise) number ≡ true) ⊎ (has (when (b && false) launch.creds.bounding) number ≡ true) → has (caps_before launch Nowise) number ≡ true
+      member : (b : Bool) → (has (caps_before launch Nowise) number ≡ true) ⊎
+          (has (when (b && false) launch.creds.bounding) number ≡ true) → has (caps_before launch Nowise) number ≡ true
       member b (inl h) = h
       member true (inr h) = let off = has_none number in cc
       member false (inr h) = let off = has_none number in cc
 
-      by : (n : Bool) → launch.creds.no_new_privs ≡ n → has (cond n launch.creds.effective (union (caps_before launch Nowise) (when (has (caps_before launch Nowise) 7 && false) launch.creds.bounding))) number ≡ true
+      by : (n : Bool) → launch.creds.no_new_privs ≡ n
+          → has (cond n launch.creds.effective
+          (union (caps_before launch Nowise) (when (has (caps_before launch Nowise) 7 && false) launch.creds.bounding))) number ≡ true
           → Gained launch l o true launch.creds launch.table launch.table number × (has (caps_at launch Nowise) number ≡ true)
       by true e h = (at_launch launch l o true number h, ap (λ b. has (cond b launch.creds.effective (with_root launch (lets launch TakesUid) (caps_before launch Nowise))) number) e ∙ h)
       by false e h =

@@ -1,5 +1,6 @@
 -- The launched world has one process, and what that process reaches answers questions.
-use Rattle.std.proofs.Common.{◌≡◌, map, ℕ, Bool, true, false, List, [], ◌∷◌, Some, None, refl, ap, ◌∙◌, sym, subst, cond, length, eqb, arith}
+use Rattle.std.proofs.Common.{◌≡◌, map, ℕ, Bool, true, false, List, [], ◌∷◌, Some, None, refl, ap, ◌∙◌, sym, subst, cond, length, eqb}
+use Rattle.std.proofs.Common.{arith}
 use Rattle.std.specs.Prelude.{slice_get, ◌<◌, ◌-◌}
 use Rattle.std.proofs.lemmas.Bool.Decides.{nat_tests}
 use Rattle.launcher.specs.abs_path.Paths.{Path}
@@ -25,11 +26,14 @@ use Rattle.launcher.specs.kernel_model.declared.process.Process.{Process}
 use Rattle.launcher.specs.kernel_model.Step.{most_namespaces, step}
 use Rattle.kernel_ways.specs.Ways.{IsSolo, Makes, solo_world, solo_process}
 
-some_of : {X : Type 0} (tables : List X) (namespace : ℕ) (table : X) (b : Bool) → eqb namespace 0 ≡ b → cond b None (slice_get tables (namespace - 1)) ≡ Some table → (eqb namespace 0 ≡ false) × (slice_get tables (namespace - 1) ≡ Some table)
+some_of : {X : Type 0} (tables : List X) (namespace : ℕ) (table : X) (b : Bool) → eqb namespace 0 ≡ b
+    → cond b None (slice_get tables (namespace - 1)) ≡ Some table
+    → (eqb namespace 0 ≡ false) × (slice_get tables (namespace - 1) ≡ Some table)
 some_of tables namespace table true n e = cc
 some_of tables namespace table false n e = (n, e)
 
-pub starts_solo : (world : World) → IsLaunchedWorld world → length world.tables < most_namespaces → IsSolo (launch_of world) (launch_of world).creds (launch_of world).table world
+pub starts_solo : (world : World) → IsLaunchedWorld world → length world.tables < most_namespaces
+    → IsSolo (launch_of world) (launch_of world).creds (launch_of world).table world
 starts_solo world s few =
     let first = first_of world in
     let whole : first ≡ solo_process (launch_of world) first.creds first.namespace = ap (λ (b : Bool). record first { alive = b }) s.lives ∙ ap (λ (u : ℕ). record first { user = u; alive = true }) s.user in
@@ -40,7 +44,8 @@ starts_solo world s few =
       tables = world.tables;
       owners = world.owners;
       is = ap (λ (ps : List Process). record world { processes = ps }) (s.alone ∙ ap (λ (p : Process). p ∷ []) whole)
-          ∙ ap (λ (u : ℕ). record world { processes = solo_process (launch_of world) first.creds first.namespace ∷ []; users = u }) s.no_users;
+          ∙ ap (λ (u : ℕ). record world { processes = solo_process (launch_of world) first.creds first.namespace ∷ []; users = u })
+          s.no_users;
       home = home.1;
       numbered = both.0;
       own = both.1;
@@ -52,14 +57,17 @@ module _ (launch : Launch) (creds : Creds) (table : Table) (world : World) (s : 
   own_world = solo_world launch creds s.namespace s.tables s.owners
 
   table_is : table_of own_world s.namespace ≡ table
-  table_is = ap (λ b. steps_of (table_or (cond b None (slice_get s.tables (s.namespace - 1))))) s.numbered ∙ ap (λ o. steps_of (table_or o)) s.own ∙ steps_plain table
+  table_is = ap (λ b. steps_of (table_or (cond b None (slice_get s.tables (s.namespace - 1))))) s.numbered
+      ∙ ap (λ o. steps_of (table_or o)) s.own ∙ steps_plain table
 
   pub holds : (P : Process → Type 0) → P (solo_process launch creds s.namespace) → SomeLiving P world
   holds P h =
       let Q : World → Type 0 = λ w. SomeLiving P w in
       subst Q (sym s.is) (record { pid = 1; process = solo_process launch creds s.namespace; lives = refl; has = h })
 
-  pub reaches_row : (wish : Wish) (place : ℕ) (target : Row) → slice_get launch.site.rows place ≡ Some target → (doing : Doing) (call : Call) (effect : Effect) → Makes launch creds table doing call effect → (path : Path) → path_for wish doing ≡ Some path
+  pub reaches_row : (wish : Wish) (place : ℕ) (target : Row) → slice_get launch.site.rows place ≡ Some target
+      → (doing : Doing) (call : Call) (effect : Effect) → Makes launch creds table doing call effect → (path : Path)
+      → path_for wish doing ≡ Some path
       → finds (row_at launch.site.rows) table path ≡ row target → IsDone (step world call).0 → ReachesRow wish place (moment_at world call)
   reaches_row wish place target listed doing call effect m path wanted found =
       let Q : World → Type 0 = λ w. IsDone (step w call).0 → ReachesRow wish place (moment_at w call) in
@@ -76,12 +84,15 @@ module _ (launch : Launch) (creds : Creds) (table : Table) (world : World) (s : 
         found = ap (λ (t : Table). finds (row_at launch.site.rows) t path) table_is ∙ found;
       })
 
-  pub performs : (p : Doing → Bool) (doing : Doing) (call : Call) (effect : Effect) → Makes launch creds table doing call effect → p doing ≡ true → IsDone (step world call).0 → Performs p (moment_at world call)
+  pub performs : (p : Doing → Bool) (doing : Doing) (call : Call) (effect : Effect) → Makes launch creds table doing call effect
+      → p doing ≡ true → IsDone (step world call).0 → Performs p (moment_at world call)
   performs p doing call effect m such =
       let Q : World → Type 0 = λ w. IsDone (step w call).0 → Performs p (moment_at w call) in
       subst Q (sym s.is) (λ done. record { done = done; doing = doing; is = m.asks; such = such })
 
-  pub reaches_call : (place : ℕ) (line : CallLine) → slice_get (every_call launch.calls) place ≡ Some line → (called : CallLine) (call : Call) → numbered call.nr (calls_in launch.calls call.abi) ≡ Some called → line.name ≡ called.name → IsDone (step world call).0 → ReachesCall place (moment_at world call)
+  pub reaches_call : (place : ℕ) (line : CallLine) → slice_get (every_call launch.calls) place ≡ Some line
+      → (called : CallLine) (call : Call) → numbered call.nr (calls_in launch.calls call.abi) ≡ Some called → line.name ≡ called.name
+      → IsDone (step world call).0 → ReachesCall place (moment_at world call)
   reaches_call place line listed called call found same =
       let Q : World → Type 0 = λ w. IsDone (step w call).0 → ReachesCall place (moment_at w call) in
       subst Q (sym s.is) (λ done. record { done = done; line = line; listed = listed; called = called; found = found; same = same })

@@ -1,5 +1,6 @@
 -- What covers a path is unmounted entry by entry, the last first, and then the path belongs to the entry behind which they stood.
-use Rattle.std.proofs.Common.{◌≡◌, ℕ, zero, suc, Bool, true, false, List, [], ◌∷◌, ◌++◌, Option, Some, None, Result, Ok, refl, ap, ◌∙◌, sym, subst, cond, arith, ◌≤◌, ◌<◌, length, length-append, append_assoc, append-nil}
+use Rattle.std.proofs.Common.{◌≡◌, ℕ, zero, suc, Bool, true, false, List, [], ◌∷◌, ◌++◌, Option, Some, None, Result, Ok, refl, ap, ◌∙◌, sym}
+use Rattle.std.proofs.Common.{subst, cond, arith, ◌≤◌, ◌<◌, length, length-append, append_assoc, append-nil}
 use Rattle.std.specs.Prelude.{not, filter}
 use Rattle.launcher.specs.abs_path.Paths.{Path, is_root}
 use Rattle.launcher.specs.abs_path.Prefix.{is_prefix, rest_of}
@@ -20,7 +21,8 @@ use Rattle.kernel_ways.specs.Uncovering.{covering, Detaches, still, then_one}
 -- ---- what covers a path
 covering_none : (path : Path) (table : Table) → None_have (leads_to path) table → covering path table ≡ []
 covering_none path [] h = refl
-covering_none path (entry ∷ table) h = ap (λ (places : List Path). places ++ if_so (leads_to path entry) entry.place) (covering_none path table h.1) ∙ ap (λ b. if_so b entry.place) h.0
+covering_none path (entry ∷ table) h = ap (λ (places : List Path). places ++ if_so (leads_to path entry) entry.place)
+    (covering_none path table h.1) ∙ ap (λ b. if_so b entry.place) h.0
 
 covering_append : (path : Path) (one other : Table) → covering path (one ++ other) ≡ covering path other ++ covering path one
 covering_append path [] other = sym (append-nil (covering path other))
@@ -29,10 +31,12 @@ covering_append path (entry ∷ one) other =
     ∙ append_assoc (covering path other) (covering path one) (if_so (leads_to path entry) entry.place)
 
 -- the last that covers it comes first
-covering_last : (path : Path) (earlier : Table) (entry : MountStep) (later : Table) → leads_to path entry ≡ true → None_have (leads_to path) later → covering path (earlier ++ entry ∷ later) ≡ entry.place ∷ covering path earlier
+covering_last : (path : Path) (earlier : Table) (entry : MountStep) (later : Table) → leads_to path entry ≡ true
+    → None_have (leads_to path) later → covering path (earlier ++ entry ∷ later) ≡ entry.place ∷ covering path earlier
 covering_last path earlier entry later own none =
     covering_append path earlier (entry ∷ later)
-    ∙ ap (λ (places : List Path). (places ++ if_so (leads_to path entry) entry.place) ++ covering path earlier) (covering_none path later none)
+    ∙ ap (λ (places : List Path). (places ++ if_so (leads_to path entry) entry.place) ++ covering path earlier)
+    (covering_none path later none)
     ∙ ap (λ b. if_so b entry.place ++ covering path earlier) own
 
 filtered_none : (p q : MountStep → Bool) (table : Table) → None_have p table → None_have p (filter q table)
@@ -43,8 +47,10 @@ filtered_none p q (entry ∷ table) h = by (q entry) (filtered_none p q table h.
     by true more = (h.0, more)
     by false more = more
 
-covering_left : (path : Path) (earlier later : Table) → None_have (leads_to path) later → covering path (earlier ++ later) ≡ covering path earlier
-covering_left path earlier later none = covering_append path earlier later ∙ ap (λ (places : List Path). places ++ covering path earlier) (covering_none path later none)
+covering_left : (path : Path) (earlier later : Table) → None_have (leads_to path) later
+    → covering path (earlier ++ later) ≡ covering path earlier
+covering_left path earlier later none = covering_append path earlier later
+    ∙ ap (λ (places : List Path). places ++ covering path earlier) (covering_none path later none)
 
 -- ---- umount2 of the last
 not_root : (a b : Path) → is_prefix a b ≡ false → is_root a ≡ false
@@ -77,7 +83,9 @@ module _ (earlier : Table) (entry : MountStep) (rest : Path) where
     pub run : Detaches path (earlier ++ entry ∷ later) (covering path later) (earlier ++ entry ∷ left)
     pub clear : None_have (leads_to path) left
 
-  one_turn : (later : Table) → Apart entry.place later → ((left : Table) → length left < length later → Apart entry.place left → Uncovered left) → (o : Option Split) → split_last (leads_to path) later ≡ o → Uncovered later
+  one_turn : (later : Table) → Apart entry.place later
+      → ((left : Table) → length left < length later → Apart entry.place left → Uncovered left) → (o : Option Split)
+      → split_last (leads_to path) later ≡ o → Uncovered later
   one_turn later apart more None e =
       let none = split_none (leads_to path) later e in
       let P : List Path → Type 0 = λ places. Detaches path (earlier ++ entry ∷ later) places (earlier ++ entry ∷ later) in
@@ -98,7 +106,8 @@ module _ (earlier : Table) (entry : MountStep) (rest : Path) where
       let here : Split = record { earlier = earlier ++ entry ∷ split.earlier; entry = c; later = split.later } in
       let belongs : split_at path (earlier ++ entry ∷ later) ≡ Some here = ap (split_at path) whole ∙ split_is (leads_to path) (earlier ++ entry ∷ split.earlier) c split.later is.has is.last in
       let detached : after_umount (earlier ++ entry ∷ later) c.place true ≡ Ok (earlier ++ entry ∷ (split.earlier ++ kept)) =
-      ap (λ (t : Table). after_umount t c.place true) whole ∙ umounts_own (earlier ++ entry ∷ split.earlier) split.later c (not_root c.place entry.place off) last
+      ap (λ (t : Table). after_umount t c.place true) whole ∙ umounts_own (earlier ++ entry ∷ split.earlier) split.later c
+      (not_root c.place entry.place off) last
       ∙ ap answer (append_assoc earlier (entry ∷ split.earlier) kept) in
       let places : covering path later ≡ c.place ∷ covering path (split.earlier ++ kept) =
       ap (covering path) is.whole ∙ covering_last path split.earlier c split.later is.has is.last

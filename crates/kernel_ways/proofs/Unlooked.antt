@@ -45,7 +45,8 @@ use Rattle.launcher.proofs.KernelLaws.SettingsChoose.{at_line, at_other, is_ther
 
 module _ (line : CallLine) (rule : Rule) (is : rule_of line ≡ Some rule) (unlooked : is_unlooked rule ≡ true) where
   -- such a line has no name of another rule
-  no_name : (name : List ℕ) (own : Rule) → rule_of (with_name line name) ≡ Some own → is_unlooked own ≡ false → bytes_eq line.name name ≡ false
+  no_name : (name : List ℕ) (own : Rule) → rule_of (with_name line name) ≡ Some own → is_unlooked own ≡ false
+      → bytes_eq line.name name ≡ false
   no_name name own named off = by (bytes_eq line.name name) refl
     where
       by : (b : Bool) → bytes_eq line.name name ≡ b → b ≡ false
@@ -100,13 +101,18 @@ module _ (line : CallLine) (rule : Rule) (is : rule_of line ≡ Some rule) (unlo
   personality_free input = rw (no_name (codes "personality") (Known known.Personality) refl refl) refl
 
   -- what a filter does goes by the name
-  named_alike : (own : FilterName) (settings : FilterSettings) (table : calls.Table) (one other : CallData) → named_action own settings table line.name one ≡ named_action own settings table line.name other
-  named_alike filter.Families settings table one other = ap (λ b. unless_refused 97 b) (family_free settings.families one ∙ sym (family_free settings.families other))
-  named_alike filter.MemoryDenyWriteExecute settings table one other = ap (λ b. unless_refused 1 b) (mapping_free one ∙ sym (mapping_free other))
+  named_alike : (own : FilterName) (settings : FilterSettings) (table : calls.Table) (one other : CallData)
+      → named_action own settings table line.name one ≡ named_action own settings table line.name other
+  named_alike filter.Families settings table one other = ap (λ b. unless_refused 97 b)
+      (family_free settings.families one ∙ sym (family_free settings.families other))
+  named_alike filter.MemoryDenyWriteExecute settings table one other =
+      ap (λ b. unless_refused 1 b) (mapping_free one ∙ sym (mapping_free other))
   named_alike filter.Realtime settings table one other = ap (λ b. unless_refused 1 b) (policy_free one ∙ sym (policy_free other))
   named_alike filter.Suid settings table one other = ap (λ b. unless_refused 1 b) (mode_free one ∙ sym (mode_free other))
-  named_alike filter.Namespaces settings table one other = ap (λ b. unless_refused 1 b) (namespace_free settings.namespaces one ∙ sym (namespace_free settings.namespaces other))
-  named_alike filter.Personality settings table one other = ap (λ b. unless_refused 1 b) (personality_free one ∙ sym (personality_free other))
+  named_alike filter.Namespaces settings table one other = ap (λ b. unless_refused 1 b)
+      (namespace_free settings.namespaces one ∙ sym (namespace_free settings.namespaces other))
+  named_alike filter.Personality settings table one other = ap (λ b. unless_refused 1 b)
+      (personality_free one ∙ sym (personality_free other))
   named_alike filter.Archs settings table one other = refl
   named_alike filter.Hostname settings table one other = refl
   named_alike filter.Modules settings table one other = refl
@@ -120,29 +126,41 @@ settings_pass_alike launch settings arch differ each plain nr rule args other fe
     let one : IsCallData (data_at launch nr.abi nr.nr args) = record { nr = few.number; arch = arch nr.abi; ip = omega arith; count = fit.count; args = fit.each } in
     let two : IsCallData (data_at launch nr.abi nr.nr other) = record { nr = few.number; arch = arch nr.abi; ip = omega arith; count = fit'.count; args = fit'.each } in
     let h = has_rule (calls.calls_in launch.calls nr.abi) nr.nr rule at in
-    stack_passes launch.stack (data_at launch nr.abi nr.nr args) (data_at launch nr.abi nr.nr other) (plain (data_at launch nr.abi nr.nr args) one) (plain (data_at launch nr.abi nr.nr other) two) (all_of one two h launch.stack each) p
+    stack_passes launch.stack (data_at launch nr.abi nr.nr args) (data_at launch nr.abi nr.nr other)
+    (plain (data_at launch nr.abi nr.nr args) one) (plain (data_at launch nr.abi nr.nr other) two)
+    (all_of one two h launch.stack each) p
   where
-    own_line : IsCallData (data_at launch nr.abi nr.nr args) → IsCallData (data_at launch nr.abi nr.nr other) → HasRule (calls.calls_in launch.calls nr.abi) nr.nr rule → (code : List Insn) (m : Means settings launch.calls code) → nr.abi ≡ m.abi
-        → decision_of (answer_of code (data_at launch nr.abi nr.nr args)) ≡ decision.Pass → decision_of (answer_of code (data_at launch nr.abi nr.nr other)) ≡ decision.Pass
+    own_line : IsCallData (data_at launch nr.abi nr.nr args) → IsCallData (data_at launch nr.abi nr.nr other)
+        → HasRule (calls.calls_in launch.calls nr.abi) nr.nr rule → (code : List Insn) (m : Means settings launch.calls code)
+        → nr.abi ≡ m.abi
+        → decision_of (answer_of code (data_at launch nr.abi nr.nr args)) ≡ decision.Pass
+        → decision_of (answer_of code (data_at launch nr.abi nr.nr other)) ≡ decision.Pass
     own_line one two h code m same e =
         let before = m.answers (data_at launch nr.abi nr.nr args) one ∙ ap word_of (ap (λ own. wanted_action m.filter settings launch.calls own (data_at launch nr.abi nr.nr args)) (sym same) ∙ at_line settings launch m.filter nr.abi nr.nr args h.line h.found) in
         let after = m.answers (data_at launch nr.abi nr.nr other) two ∙ ap word_of (ap (λ own. wanted_action m.filter settings launch.calls own (data_at launch nr.abi nr.nr other)) (sym same) ∙ at_line settings launch m.filter nr.abi nr.nr other h.line h.found) in
         let alike = named_alike h.line rule h.is unlooked m.filter settings launch.calls (data_at launch nr.abi nr.nr args) (data_at launch nr.abi nr.nr other) in
         ap decision_of after ∙ ap (λ a. decision_of (word_of a)) (sym alike) ∙ ap decision_of (sym before) ∙ e
 
-    either : IsCallData (data_at launch nr.abi nr.nr args) → IsCallData (data_at launch nr.abi nr.nr other) → HasRule (calls.calls_in launch.calls nr.abi) nr.nr rule → (code : List Insn) (m : Means settings launch.calls code)
-        → (b : Bool) → eqb (calls.arch_of launch.calls nr.abi) (calls.arch_of launch.calls m.abi) ≡ b → decision_of (answer_of code (data_at launch nr.abi nr.nr args)) ≡ decision.Pass → decision_of (answer_of code (data_at launch nr.abi nr.nr other)) ≡ decision.Pass
+    either : IsCallData (data_at launch nr.abi nr.nr args) → IsCallData (data_at launch nr.abi nr.nr other)
+        → HasRule (calls.calls_in launch.calls nr.abi) nr.nr rule → (code : List Insn) (m : Means settings launch.calls code)
+        → (b : Bool) → eqb (calls.arch_of launch.calls nr.abi) (calls.arch_of launch.calls m.abi) ≡ b
+        → decision_of (answer_of code (data_at launch nr.abi nr.nr args)) ≡ decision.Pass
+        → decision_of (answer_of code (data_at launch nr.abi nr.nr other)) ≡ decision.Pass
     either one two h code m true same e =
         let own = is_there launch.calls nr.abi nr.nr h.line h.found (calls.abi_at launch.calls nr.abi) refl in
         let archs : own.0.arch ≡ m.found.arch = ap (λ (o : Option calls.Abi). option_map_or (λ found. found.arch) o 0) (sym own.1) ∙ eqb-true (calls.arch_of launch.calls nr.abi) (calls.arch_of launch.calls m.abi) same ∙ ap (λ (o : Option calls.Abi). option_map_or (λ found. found.arch) o 0) m.there in
-        own_line one two h code m (same_abi (calls.native launch.calls) launch.calls.second differ nr.abi m.abi own.0 m.found own.1 m.there archs) e
+        own_line one two h code m
+        (same_abi (calls.native launch.calls) launch.calls.second differ nr.abi m.abi own.0 m.found own.1 m.there archs) e
     either one two h code m false differs e =
         let before = m.answers (data_at launch nr.abi nr.nr args) one ∙ ap word_of (at_other settings launch m.filter m.abi nr.abi nr.nr args differs) in
         let after = m.answers (data_at launch nr.abi nr.nr other) two ∙ ap word_of (at_other settings launch m.filter m.abi nr.abi nr.nr other differs) in
         ap decision_of (after ∙ sym before) ∙ e
 
-    all_of : IsCallData (data_at launch nr.abi nr.nr args) → IsCallData (data_at launch nr.abi nr.nr other) → HasRule (calls.calls_in launch.calls nr.abi) nr.nr rule → (programs : List (List Insn)) → AllByRecursion (Means settings launch.calls) programs
-        → AllByRecursion (λ (code : List Insn). decision_of (answer_of code (data_at launch nr.abi nr.nr args)) ≡ decision.Pass → decision_of (answer_of code (data_at launch nr.abi nr.nr other)) ≡ decision.Pass) programs
+    all_of : IsCallData (data_at launch nr.abi nr.nr args) → IsCallData (data_at launch nr.abi nr.nr other)
+        → HasRule (calls.calls_in launch.calls nr.abi) nr.nr rule → (programs : List (List Insn))
+        → AllByRecursion (Means settings launch.calls) programs
+        → AllByRecursion (λ (code : List Insn). decision_of (answer_of code (data_at launch nr.abi nr.nr args)) ≡ decision.Pass
+        → decision_of (answer_of code (data_at launch nr.abi nr.nr other)) ≡ decision.Pass) programs
     all_of one two h [] each = tt
     all_of one two h (code ∷ programs) each = (
       λ e. either one two h code each.0 (eqb (calls.arch_of launch.calls nr.abi) (calls.arch_of launch.calls each.0.abi)) refl e,

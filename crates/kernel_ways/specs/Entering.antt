@@ -54,8 +54,10 @@ pub record MakesIn (launch : Launch) (creds : Creds) (table : Table) (pid : ℕ)
 
 -- a way, a call that makes a user namespace, and one more call in it
 abbrev pub CallsShowInside : Type 0
-CallsShowInside = (launch : Launch) (from to : Creds) (table now : Table) (world : World) (calls : List Call) (question : Question) (pid : ℕ) (user last : Call) (doing : Doing) (effect : Effect)
+CallsShowInside = (launch : Launch) (from to : Creds) (table now : Table) (world : World) (calls : List Call) (question : Question)
+    (pid : ℕ) (user last : Call) (doing : Doing) (effect : Effect)
     → IsSolo launch from table world → Way launch from table calls to now
-    → IsCall user → ((after : World) → IsSolo launch to now after → IsDone (step after user).0 × IsEntered launch (entered to) now pid (step after user).1)
+    → IsCall user → ((after : World) → IsSolo launch to now after
+    → IsDone (step after user).0 × IsEntered launch (entered to) now pid (step after user).1)
     → MakesIn launch (entered to) now pid doing last effect → IsDoable effect → Answers launch now question last doing
     → Shows world question ((calls ++ user ∷ []) ++ last ∷ [])

@@ -68,7 +68,8 @@ pub record MountsShowRows (launch : Launch) (creds : Creds) (nr : CallAt) (flags
 -- by any word of flags of 32 bits that remounts a single mount, MS_REMOUNT with MS_BIND
 abbrev pub TwoMountsShowRows : Type 0
 TwoMountsShowRows = (launch : Launch) (creds : Creds) (nr : CallAt) (flags : ℕ)
-    → IsLaunched launch → Offers launch → CanMount launch creds Mount nr → flags < 2 ^ 32 → has_all ms_remount_bind flags ≡ true → has_other_kind flags ≡ false
+    → IsLaunched launch → Offers launch → CanMount launch creds Mount nr → flags < 2 ^ 32 → has_all ms_remount_bind flags ≡ true
+    → has_other_kind flags ≡ false
     → MountsShowRows launch creds nr flags
 
 -- every call of the list is done, and then process 1 finds the row by this path
@@ -84,10 +85,12 @@ abbrev pub UnmountsShowRowAtOnce : Type 0
 UnmountsShowRowAtOnce = (world : World) (nr : CallAt) (target : Row) (wish : Wish) (at : ℕ)
     → IsServedWorld world → CanMount (launch_of world) (launch_of world).creds Umount nr → row_at world.site.rows target.path ≡ Some target
     → (shows : Shows (launch_of world).table target.path wish at)
-    → FindsAfter world (umount_calls nr (covering (shows.entry.place ++ shows.rest) shows.later)) (shows.entry.place ++ shows.rest) target wish
+    → FindsAfter world (umount_calls nr (covering (shows.entry.place ++ shows.rest) shows.later))
+    (shows.entry.place ++ shows.rest) target wish
 
 abbrev pub TwoMountsShowRowsAtOnce : Type 0
 TwoMountsShowRowsAtOnce = (world : World) (nr : CallAt) (flags : ℕ) (target : Row) (wish : Wish)
-    → IsServedWorld world → CanMount (launch_of world) (launch_of world).creds Mount nr → flags < 2 ^ 32 → has_all ms_remount_bind flags ≡ true → has_other_kind flags ≡ false
+    → IsServedWorld world → CanMount (launch_of world) (launch_of world).creds Mount nr → flags < 2 ^ 32
+    → has_all ms_remount_bind flags ≡ true → has_other_kind flags ≡ false
     → row_at world.site.rows target.path ≡ Some target → fits wish (flags_of flags) ≡ true
     → FindsAfter world (mount_calls nr flags) (proc ++ target.path) target wish

@@ -27,19 +27,23 @@ use Rattle.launcher.specs.Alike.{HasWordArchs}
 -- programs that decide as filters of settings let execve(2), mount(2), umount2(2), capset(2) and the calls that set ids through by
 -- their numbers alone
 abbrev pub SettingsPassAlike : Type 0
-SettingsPassAlike = (launch : Launch) (settings : FilterSettings) → ((abi : ℕ) → calls.arch_of launch.calls abi < 2 ^ 32) → IfSome launch.calls.second (λ second. second.arch == launch.calls.arch ≡ false) → AllByRecursion (Means settings launch.calls) launch.stack
+SettingsPassAlike = (launch : Launch) (settings : FilterSettings) → ((abi : ℕ) → calls.arch_of launch.calls abi < 2 ^ 32)
+    → IfSome launch.calls.second (λ second. second.arch == launch.calls.arch ≡ false)
+    → AllByRecursion (Means settings launch.calls) launch.stack
     → ((input : CallData) → IsCallData input → ArePlain (answers_of launch.stack input)) → PassesAlike launch
 
 -- the same premises as those under which a launch leaves a launched world, and a site that was read
 abbrev pub LaunchedIsServed : Type 0
-LaunchedIsServed = (settings : FilterSettings) (table : calls.Table) (site : Site) (wanted : Wanted) (plan : Table) (last : World) (steps : ℕ)
+LaunchedIsServed = (settings : FilterSettings) (table : calls.Table) (site : Site) (wanted : Wanted) (plan : Table) (last : World)
+    (steps : ℕ)
     → IsWhole table → HasWordArchs table → IsSite site → AreRefusing settings → CanBeMounted (host_of site) plan
     → wanted.uid < no_id → AllByRecursion (IsMeant settings table) wanted.programs
     → launch table site wanted plan ≡ Launched last steps → IsServedWorld last
 
 -- and the path that the settings give finds its program, with no mark, on a mount that runs programs
 abbrev pub LaunchedRunsProgram : Type 0
-LaunchedRunsProgram = (settings : FilterSettings) (table : calls.Table) (site : Site) (wanted : Wanted) (plan : Table) (last : World) (steps : ℕ)
+LaunchedRunsProgram = (settings : FilterSettings) (table : calls.Table) (site : Site) (wanted : Wanted) (plan : Table) (last : World)
+    (steps : ℕ)
     → IsWhole table → HasWordArchs table → IsSite site → AreRefusing settings → CanBeMounted (host_of site) plan
     → wanted.uid < no_id → AllByRecursion (IsMeant settings table) wanted.programs → IsPath wanted.program
     → launch table site wanted plan ≡ Launched last steps → RunsProgram (launch_of last) wanted.program

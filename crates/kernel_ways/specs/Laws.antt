@@ -45,7 +45,8 @@ abbrev pub IsShown : World → Question → Type 0
 IsShown world question = (list : List Call) × Shows world question list
 
 abbrev pub OpenIsShown : Type 0
-OpenIsShown = (world : World) (question : Question) → IsServedWorld world → IsFit world.site question → is_open (launch_of world) question ≡ true → IsShown world question
+OpenIsShown = (world : World) (question : Question) → IsServedWorld world → IsFit world.site question
+    → is_open (launch_of world) question ≡ true → IsShown world question
 
 -- open where some list shows the question and nowhere else, denied where no list reaches it and nowhere else
 pub record IsExact (world : World) (question : Question) : Type 0 where
@@ -55,7 +56,8 @@ pub record IsExact (world : World) (question : Question) : Type 0 where
   pub stays_denied : IsDenied world question → is_open (launch_of world) question ≡ false
 
 abbrev pub VerdictIsExact : Type 0
-VerdictIsExact = (world : World) (question : Question) → IsServedWorld world → IsAsked world.calls question → IsFit world.site question → IsExact world question
+VerdictIsExact = (world : World) (question : Question) → IsServedWorld world → IsAsked world.calls question → IsFit world.site question
+    → IsExact world question
 
 -- so it is of each question of the list
 abbrev pub QuestionsAreExact : Type 0
@@ -66,9 +68,12 @@ QuestionsAreExact = (world : World) → IsServedWorld world → AllByRecursion (
 pub record BoundsAreExact (world : World) : Type 0 where
   pub held : (number : ℕ) → has (ceiling (launch_of world)).effective number ≡ true → IsShown world (Cap number)
   pub withheld : (number : ℕ) → has (ceiling (launch_of world)).effective number ≡ false → IsDenied world (Cap number)
-  pub power : power_of (launch_of world) ≡ power_by (has (ceiling (launch_of world)).effective cap_sys_admin) (lets (launch_of world) ChangesMounts) (lets (launch_of world) RemovesMounts)
-  pub any_uid : any_uid (launch_of world) (ceiling (launch_of world)).effective ≡ true → (id : ℕ) → id ≤ greatest_id → IsShown world (Uid id)
-  pub any_gid : any_gid (launch_of world) (ceiling (launch_of world)).effective ≡ true → (id : ℕ) → id ≤ greatest_id → IsShown world (Gid id)
+  pub power : power_of (launch_of world) ≡ power_by (has (ceiling (launch_of world)).effective cap_sys_admin)
+      (lets (launch_of world) ChangesMounts) (lets (launch_of world) RemovesMounts)
+  pub any_uid : any_uid (launch_of world) (ceiling (launch_of world)).effective ≡ true → (id : ℕ) → id ≤ greatest_id
+      → IsShown world (Uid id)
+  pub any_gid : any_gid (launch_of world) (ceiling (launch_of world)).effective ≡ true → (id : ℕ) → id ≤ greatest_id
+      → IsShown world (Gid id)
 
 abbrev pub CeilingIsExact : Type 0
 CeilingIsExact = (world : World) → IsServedWorld world → BoundsAreExact world

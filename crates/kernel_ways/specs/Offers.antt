@@ -2,7 +2,8 @@
 -- and filters that do not look at the words of some calls. With these, what is open can be shown.
 use Rattle.std.specs.Prelude.{◌≡◌, ℕ, ◌<◌, ◌^◌, Bool, true, false, List, Some}
 use Rattle.launcher.specs.abs_path.Paths.{Path}
-use Rattle.launcher.specs.call_table.declared.call_names.rule.CallRule.TheVariants.{Execve, Mount, Umount, Setuid, Setgid, Setresuid, Setresgid, Setgroups, Capset}
+use Rattle.launcher.specs.call_table.declared.call_names.rule.CallRule.TheVariants.{Execve, Mount, Umount, Setuid, Setgid, Setresuid}
+use Rattle.launcher.specs.call_table.declared.call_names.rule.CallRule.TheVariants.{Setresgid, Setgroups, Capset}
 use Rattle.launcher.specs.call_table.Facts.{IsTable}
 use Rattle.launcher.specs.site_table.declared.row.Row.{Row}
 use Rattle.launcher.specs.site_table.Kinds.{is_exe}
@@ -35,7 +36,8 @@ is_unlooked rule = false
 
 -- what the filters let through with some words they let through with any
 abbrev pub PassesAlike : Launch → Type 0
-PassesAlike launch = (nr : CallAt) (rule : Rule) (args other : List ℕ) → IsCallAt nr → AreWords args → AreWords other → rule_there launch nr ≡ Some rule → is_unlooked rule ≡ true
+PassesAlike launch = (nr : CallAt) (rule : Rule) (args other : List ℕ) → IsCallAt nr → AreWords args → AreWords other
+    → rule_there launch nr ≡ Some rule → is_unlooked rule ≡ true
     → passes_at launch nr args → passes_at launch nr other
 
 -- the program that the launch ran: a row without set-id bits and capabilities, which a path of the launched table finds

@@ -17,10 +17,13 @@ use Rattle.launcher.specs.kernel_model.Effects.{Effect, Refuse, Answer, SetCreds
 use Rattle.launcher.specs.kernel_model.kernel_calls.Calls.{AreCalls}
 use Rattle.launcher.specs.kernel_model.Runs.{moments, run, AllDone}
 use Rattle.launcher.specs.kernel_model.World.{World}
-use Rattle.launcher.specs.kernel_laws.Denied.{path_for, asks_family, asks_space, asks_map, asks_protect, asks_attach, asks_realtime, asks_personality, asks_mode, HasGid, Shows}
+use Rattle.launcher.specs.kernel_laws.Denied.{path_for, asks_family, asks_space, asks_map, asks_protect, asks_attach, asks_realtime}
+use Rattle.launcher.specs.kernel_laws.Denied.{asks_personality, asks_mode, HasGid, Shows}
 use Rattle.launcher.specs.kernel_laws.Launched.{Launch, launch_of}
 use Rattle.launcher.specs.kernel_laws.declared.question_types.question.Question.{Question}
-use Rattle.launcher.specs.kernel_laws.declared.question_types.question.Question.TheVariants.{Path as ByPath, Call, Socket, Namespace as Ns, MapWx, ProtectX, ShmX, Realtime, Personality, SuidBit, Cap, Uid, Gid}
+use Rattle.launcher.specs.kernel_laws.declared.question_types.question.Question.TheVariants.{Path as ByPath, Call, Socket, Namespace as Ns}
+use Rattle.launcher.specs.kernel_laws.declared.question_types.question.Question.TheVariants.{MapWx, ProtectX, ShmX, Realtime, Personality}
+use Rattle.launcher.specs.kernel_laws.declared.question_types.question.Question.TheVariants.{SuidBit, Cap, Uid, Gid}
 use Rattle.kernel_ways.specs.Laws.{IsServedWorld}
 use Rattle.kernel_ways.specs.Ways.{Way, IsSolo, Makes}
 
@@ -42,8 +45,10 @@ IsDoable End = Unit {0}
 -- number is that of a call of the name at that place, or it asks for such a thing
 abbrev pub Answers : Launch → Table → Question → call.Call → Doing → Type 0
 Answers launch table (ByPath wish place) call doing =
-    (path : Path) × (target : Row) × (path_for wish doing ≡ Some path) × (slice_get launch.site.rows place ≡ Some target) × (finds (row_at launch.site.rows) table path ≡ row target)
-Answers launch table (Call place) call doing = (line : CallLine) × (slice_get (every_call launch.calls) place ≡ Some line) × (called : CallLine) × (numbered call.nr (calls_in launch.calls call.abi) ≡ Some called) × (line.name ≡ called.name)
+    (path : Path) × (target : Row) × (path_for wish doing ≡ Some path) × (slice_get launch.site.rows place ≡ Some target) ×
+    (finds (row_at launch.site.rows) table path ≡ row target)
+Answers launch table (Call place) call doing = (line : CallLine) × (slice_get (every_call launch.calls) place ≡ Some line) ×
+    (called : CallLine) × (numbered call.nr (calls_in launch.calls call.abi) ≡ Some called) × (line.name ≡ called.name)
 Answers launch table (Socket place) call doing = asks_family launch.calls.families place doing ≡ true
 Answers launch table (Ns space) call doing = asks_space space doing ≡ true
 Answers launch table MapWx call doing = asks_map doing ≡ true
@@ -65,8 +70,10 @@ HaveAsked question creds = ⊥
 
 -- a way and one more call
 abbrev pub CallsShow : Type 0
-CallsShow = (launch : Launch) (from to : Creds) (table now : Table) (world : World) (calls : List call.Call) (question : Question) (doing : Doing) (last : call.Call) (effect : Effect)
-    → IsSolo launch from table world → Way launch from table calls to now → Makes launch to now doing last effect → IsDoable effect → Answers launch now question last doing
+CallsShow = (launch : Launch) (from to : Creds) (table now : Table) (world : World) (calls : List call.Call) (question : Question)
+    (doing : Doing) (last : call.Call) (effect : Effect)
+    → IsSolo launch from table world → Way launch from table calls to now → Makes launch to now doing last effect → IsDoable effect
+    → Answers launch now question last doing
     → Shows world question (calls ++ last ∷ [])
 
 -- a way alone

@@ -16,7 +16,8 @@ use Rattle.kernel_ways.specs.Laws.{IsServedWorld}
 
 -- the uid of the launch, and the owner of each set-user-id program that can be run without the use of CAP_SETUID
 abbrev pub uids_of : Launch → ℕ → Bool
-uids_of launch id = id == launch.creds.uids.effective || (not launch.creds.no_new_privs && list_any (owned_by launch (power_using launch false) id) launch.site.rows)
+uids_of launch id = id == launch.creds.uids.effective ||
+    (not launch.creds.no_new_privs && list_any (owned_by launch (power_using launch false) id) launch.site.rows)
 
 -- the gid and the groups of the launch, and the group of each set-group-id program that can be run without the use of CAP_SETGID
 abbrev pub gids_of : Launch → ℕ → Bool
@@ -26,16 +27,20 @@ gids_of launch id =
 
 -- no other id is had after any list of calls that spares the capability; the other capability may be used
 pub record IdsAreBounded (world : World) : Type 0 where
-  pub uids : (id : ℕ) → uids_of (launch_of world) id ≡ false → (list : List Call) → AreCalls list → AllSpare false (lets (launch_of world) TakesGid) world list → ¬ Holds (Uid id) (run world list)
-  pub gids : (id : ℕ) → gids_of (launch_of world) id ≡ false → (list : List Call) → AreCalls list → AllSpare (lets (launch_of world) TakesUid) false world list → ¬ Holds (Gid id) (run world list)
+  pub uids : (id : ℕ) → uids_of (launch_of world) id ≡ false → (list : List Call) → AreCalls list
+      → AllSpare false (lets (launch_of world) TakesGid) world list → ¬ Holds (Uid id) (run world list)
+  pub gids : (id : ℕ) → gids_of (launch_of world) id ≡ false → (list : List Call) → AreCalls list
+      → AllSpare (lets (launch_of world) TakesUid) false world list → ¬ Holds (Gid id) (run world list)
 
 abbrev pub SparedIdsAreBounded : Type 0
 SparedIdsAreBounded = (world : World) → IsServedWorld world → IdsAreBounded world
 
 -- and each of these ids is shown by such a list
 pub record IdsAreReached (world : World) : Type 0 where
-  pub uids : (id : ℕ) → uids_of (launch_of world) id ≡ true → (list : List Call) × Shows world (Uid id) list × AllSpare false (lets (launch_of world) TakesGid) world list
-  pub gids : (id : ℕ) → gids_of (launch_of world) id ≡ true → (list : List Call) × Shows world (Gid id) list × AllSpare (lets (launch_of world) TakesUid) false world list
+  pub uids : (id : ℕ) → uids_of (launch_of world) id ≡ true → (list : List Call) × Shows world (Uid id) list × AllSpare false
+      (lets (launch_of world) TakesGid) world list
+  pub gids : (id : ℕ) → gids_of (launch_of world) id ≡ true → (list : List Call) × Shows world (Gid id) list × AllSpare
+      (lets (launch_of world) TakesUid) false world list
 
 abbrev pub SparedIdsAreReached : Type 0
 SparedIdsAreReached = (world : World) → IsServedWorld world → IdsAreReached world

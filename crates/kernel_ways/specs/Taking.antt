@@ -26,4 +26,5 @@ id_call nr rule id = record { pid = 1; abi = nr.abi; nr = nr.nr; args = id_words
 
 -- capset(2): the permitted, the effective and the inheritable set
 abbrev pub sets_call : CallAt → ℕ → ℕ → ℕ → Call
-sets_call nr permitted effective inheritable = record { pid = 1; abi = nr.abi; nr = nr.nr; args = no_words; payload = Sets permitted effective inheritable }
+sets_call nr permitted effective inheritable =
+    record { pid = 1; abi = nr.abi; nr = nr.nr; args = no_words; payload = Sets permitted effective inheritable }

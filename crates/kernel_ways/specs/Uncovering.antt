@@ -22,7 +22,8 @@ covering path (entry ∷ later) = covering path later ++ if_so (leads_to path en
 -- that the path then belongs to, the last whose place leads to it
 pub data Detaches (path : Path) : Table → List Path → Table → Type 0 where
   still : {table : Table} → Detaches path table [] table
-  then_one : {table next last : Table} {places : List Path} (split : Split) → split_at path table ≡ Some split → after_umount table split.entry.place true ≡ Ok next
+  then_one : {table next last : Table} {places : List Path} (split : Split) → split_at path table ≡ Some split
+      → after_umount table split.entry.place true ≡ Ok next
       → Detaches path next places last → Detaches path table (split.entry.place ∷ places) last
 
 -- umount2(2) by process 1 of each place, by its number in the table: the flags are argument 1

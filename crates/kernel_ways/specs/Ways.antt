@@ -17,7 +17,8 @@ use Rattle.launcher.specs.kernel_model.kernel_calls.Calls.{IsCall}
 use Rattle.launcher.specs.kernel_model.kernel_calls.Rules.{rule_at}
 use Rattle.launcher.specs.kernel_model.declared.kernel_calls.rule.Rule.{Rule}
 use Rattle.launcher.specs.kernel_model.kernel_calls.Doing.{Doing, See, Open, Create, Truncate, Execve, Mount, Umount, Does, asked_of}
-use Rattle.launcher.specs.kernel_model.Effects.{Effect, SetCreds, SetTable, Host, Caller, effect_of, looks, creds_effect, table_effect, with_admin}
+use Rattle.launcher.specs.kernel_model.Effects.{Effect, SetCreds, SetTable, Host, Caller, effect_of, looks, creds_effect, table_effect}
+use Rattle.launcher.specs.kernel_model.Effects.{with_admin}
 use Rattle.launcher.specs.kernel_model.Step.{most_namespaces}
 use Rattle.launcher.specs.kernel_model.World.{World}
 use Rattle.launcher.specs.kernel_model.declared.process.Process.{Process}
@@ -56,7 +57,8 @@ effect_on host caller table (Open flags path) = looks (open_answer flags (flags_
 effect_on host caller table (Create path) = looks (write_answer 3 (flags_at table path) (finds host.rows table path))
 effect_on host caller table (Truncate path) = looks (write_answer 0 (flags_at table path) (finds host.rows table path))
 effect_on host caller table (Execve path) = creds_effect (exec_answer caller.creds (flags_at table path) (finds host.rows table path))
-effect_on host caller table (Mount source target flags) = with_admin caller.creds (table_effect (plain_answer (after_mount host.rows table source target flags)))
+effect_on host caller table (Mount source target flags) = with_admin caller.creds
+    (table_effect (plain_answer (after_mount host.rows table source target flags)))
 effect_on host caller table (Umount path flags) = with_admin caller.creds (table_effect (plain_answer (umount_answer table path flags)))
 effect_on host caller table doing = effect_of host caller doing
 
@@ -89,7 +91,9 @@ pub record Makes (launch : Launch) (creds : Creds) (table : Table) (doing : Doin
 -- the calls lead from these credentials and this mount table to those
 pub data Way (launch : Launch) : Creds → Table → List Call → Creds → Table → Type 0 where
   here : {creds : Creds} {table : Table} → Way launch creds table [] creds table
-  by_creds : {creds now last : Creds} {table end : Table} {rest : List Call} {doing : Doing} (call : Call) → Makes launch creds table doing call (SetCreds now) →
+  by_creds : {creds now last : Creds} {table end : Table} {rest : List Call} {doing : Doing} (call : Call)
+      → Makes launch creds table doing call (SetCreds now) →
       Way launch now table rest last end → Way launch creds table (call ∷ rest) last end
-  by_table : {creds last : Creds} {table now end : Table} {rest : List Call} {doing : Doing} (call : Call) → Makes launch creds table doing call (SetTable (map plain now)) →
+  by_table : {creds last : Creds} {table now end : Table} {rest : List Call} {doing : Doing} (call : Call)
+      → Makes launch creds table doing call (SetTable (map plain now)) →
       Way launch creds now rest last end → Way launch creds table (call ∷ rest) last end

@@ -20,11 +20,13 @@ number_small lines name in_range = by (named name lines) refl
     by None is = omega arith
     by (Some line) is = let r = found_holds IsInRange (has_name name) lines line in_range is in let n = r.number in omega arith
 
-pub fits : (table : calls.Table) → IsWhole table → HasWordArchs table → (name : List ℕ) (one : ℕ) → one < 2 ^ 64 → IsCallData (record { nr = number_of table.calls name; arch = table.arch; ip = 0; args = one ∷ 0 ∷ 0 ∷ 0 ∷ 0 ∷ 0 ∷ [] })
+pub fits : (table : calls.Table) → IsWhole table → HasWordArchs table → (name : List ℕ) (one : ℕ) → one < 2 ^ 64
+    → IsCallData (record { nr = number_of table.calls name; arch = table.arch; ip = 0; args = one ∷ 0 ∷ 0 ∷ 0 ∷ 0 ∷ 0 ∷ [] })
 fits table whole arch name one small = record {
   nr = number_small table.calls name whole.sound.calls.in_range;
   arch = arch 0;
   ip = omega arith;
   count = refl;
-  args = All-from_recursion (λ arg. arg < 2 ^ 64) (one ∷ 0 ∷ 0 ∷ 0 ∷ 0 ∷ 0 ∷ []) (small, (omega arith, (omega arith, (omega arith, (omega arith, (omega arith, tt))))));
+  args = All-from_recursion (λ arg. arg < 2 ^ 64) (one ∷ 0 ∷ 0 ∷ 0 ∷ 0 ∷ 0 ∷ [])
+      (small, (omega arith, (omega arith, (omega arith, (omega arith, (omega arith, tt))))));
 }

@@ -15,7 +15,8 @@ done_on (Refused errno) count rest done = absurd done
 done_on Killed count rest done = absurd done
 
 -- the first of some steps is done
-pub step_done : (now after : World) (step : LaunchStep) (rest : List LaunchStep) (count number : ℕ) → StepsTo now step number (Ok tt) after → launch_from now (step ∷ rest) count ≡ launch_from after rest (count + 1)
+pub step_done : (now after : World) (step : LaunchStep) (rest : List LaunchStep) (count number : ℕ)
+    → StepsTo now step number (Ok tt) after → launch_from now (step ∷ rest) count ≡ launch_from after rest (count + 1)
 step_done now after step rest count number is =
     done_on (launch_step now step).0 (count + 1) (launch_from (launch_step now step).1 rest (count + 1)) is.0
     ∙ ap (λ (w : World). launch_from w rest (count + 1)) (sym is.1)

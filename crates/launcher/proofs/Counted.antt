@@ -14,7 +14,9 @@ use Rattle.kernel_laws.specs.Questions.{count_from, if_so}
 use Rattle.kernel_laws.specs.linux_numbers.Limits.{max_insns_per_path}
 use Rattle.launcher.specs.declared.filters.FilterProgram.{FilterProgram}
 use Rattle.launcher.specs.Answers.{AreProgramsOf, codes_of, given_bytes}
-use Rattle.launcher.specs.Launch.{Wanted, LaunchStep, makes, prctl_step, group_steps, drop_steps, inherit_steps, user_steps, raise_steps, left_steps, privilege_steps, identity_steps, filter_steps, program_steps, call_steps, set_mode_filter, capbset_drop, cap_ambient, ambient_raise}
+use Rattle.launcher.specs.Launch.{Wanted, LaunchStep, makes, prctl_step, group_steps, drop_steps, inherit_steps, user_steps, raise_steps}
+use Rattle.launcher.specs.Launch.{left_steps, privilege_steps, identity_steps, filter_steps, program_steps, call_steps, set_mode_filter}
+use Rattle.launcher.specs.Launch.{capbset_drop, cap_ambient, ambient_raise}
 
 counted : (from count : ℕ) → length (count_from from count) ≡ count
 counted from zero = refl
@@ -65,7 +67,8 @@ few_identity lines wanted =
     let four = behind (group_steps lines wanted ++ drop_steps lines wanted ++ inherit_steps lines wanted) (user_steps lines wanted) 44 2 three user in
     let five = behind (group_steps lines wanted ++ drop_steps lines wanted ++ inherit_steps lines wanted ++ user_steps lines wanted) (raise_steps lines wanted) 46 41 four raises in
     let six = behind (group_steps lines wanted ++ drop_steps lines wanted ++ inherit_steps lines wanted ++ user_steps lines wanted ++ raise_steps lines wanted) (left_steps lines wanted) 87 1 five left in
-    behind (group_steps lines wanted ++ drop_steps lines wanted ++ inherit_steps lines wanted ++ user_steps lines wanted ++ raise_steps lines wanted ++ left_steps lines wanted) (privilege_steps lines wanted) 88 1 six privileges
+    behind (group_steps lines wanted ++ drop_steps lines wanted ++ inherit_steps lines wanted ++ user_steps lines wanted ++ raise_steps
+    lines wanted ++ left_steps lines wanted) (privilege_steps lines wanted) 88 1 six privileges
 
 few_filters : (filters : List Filter) (made : List FilterProgram) → AreProgramsOf filters made → length made ≤ most_room filters
 few_filters [] [] are = omega arith
@@ -76,7 +79,8 @@ few_filters (filter ∷ filters) (one ∷ made) are =
     let sum = sum_by-cons (λ (f : Filter). most_insns f.rules + 4) filter filters in
     omega (arith, more, sum)
 
-pub few_calls : (lines : List CallLine) (wanted : Wanted) (filters : List Filter) (made : List FilterProgram) → AreProgramsOf filters made → most_room filters ≤ max_insns_per_path → wanted.programs ≡ given_bytes made
+pub few_calls : (lines : List CallLine) (wanted : Wanted) (filters : List Filter) (made : List FilterProgram) → AreProgramsOf filters made
+    → most_room filters ≤ max_insns_per_path → wanted.programs ≡ given_bytes made
     → length (call_steps lines wanted) ≤ 40000
 few_calls lines wanted filters made are room given =
     let own = few_identity lines wanted in

@@ -21,7 +21,8 @@ use Rattle.std.proofs.lemmas.List.Folds.{find_at}
 use Rattle.launcher.specs.Launches.{HasLaunchCalls}
 
 -- what the position finds, the number finds
-at_position : (calls : List CallLine) (nr place : ℕ) (line : CallLine) → place_numbered nr calls ≡ Some place → slice_get calls place ≡ Some line → numbered nr calls ≡ Some line
+at_position : (calls : List CallLine) (nr place : ℕ) (line : CallLine) → place_numbered nr calls ≡ Some place
+    → slice_get calls place ≡ Some line → numbered nr calls ≡ Some line
 at_position calls nr place line e g = find_at (has_number nr) calls ∙ ap (slice_get calls) (place_is (has_number nr) calls place e).0 ∙ g
 
 -- the first one with a property, and its place
@@ -53,14 +54,16 @@ abbrev with_name : CallLine → List ℕ → CallLine
 with_name line name = record { name = name; number = line.number; cap = line.cap; abi = line.abi }
 
 module _ (table : calls.Table) (whole : IsWhole table) where
-  follows : (name : List ℕ) (rule' : Rule) → lacks table.calls name ≡ false → ((line : CallLine) → rule_of (with_name line name) ≡ Some rule') → rule_at table.calls (number_of table.calls name) ≡ Some rule'
+  follows : (name : List ℕ) (rule' : Rule) → lacks table.calls name ≡ false
+      → ((line : CallLine) → rule_of (with_name line name) ≡ Some rule') → rule_at table.calls (number_of table.calls name) ≡ Some rule'
   follows name rule' has by_rule =
       let f = found_if (has_name name) table.calls (not-false (list_any (has_name name) table.calls) has) in
       let same : name ≡ f.one.name = (bytes_eq-Decides name f.one.name).0 f.holds in
       let P : List ℕ → Type 0 = λ n. rule_of (with_name f.one n) ≡ Some rule' in
       let is : rule_of f.one ≡ Some rule' = subst P same (by_rule f.one) in
       ap (λ (o : Option CallLine). rule_at table.calls (option_map_or (λ line. line.number) o 0)) f.found
-      ∙ ap (option_and_then rule_of) (at_position table.calls f.one.number f.place f.one (whole.sound.calls.once.by_number f.place f.one f.there) f.there)
+      ∙ ap (option_and_then rule_of)
+      (at_position table.calls f.one.number f.place f.one (whole.sound.calls.once.by_number f.place f.one f.there) f.there)
       ∙ is
 
   pub launch_calls : HasLaunchCalls table.calls

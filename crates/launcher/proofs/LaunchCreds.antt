@@ -1,10 +1,13 @@
 -- The credentials of a launch, step by step.
-use Rattle.std.proofs.Common.{◌≡◌, ℕ, Bool, true, false, cond, List, Option, Some, None, Result, Ok, Err, refl, ap, ◌∙◌, sym, subst, arith, rules, eqb}
+use Rattle.std.proofs.Common.{◌≡◌, ℕ, Bool, true, false, cond, List, Option, Some, None, Result, Ok, Err, refl, ap, ◌∙◌, sym, subst, arith}
+use Rattle.std.proofs.Common.{rules, eqb}
 use Rattle.std.specs.Prelude.{◌&&◌, ◌||◌, not, nat_lt}
 use Rattle.std.proofs.lemmas.Bool.{and_parts, not-false, eqb-true}
 use Rattle.std.proofs.lemmas.Bool.Decides.{nat_tests}
 use Rattle.exec_settings.specs.cap_sets.Sets.{has, none, all, single, union, cut, minus, within, IsWithin}
-use Rattle.exec_settings.proofs.Caps.Members.{has_single, within_self, within_both, none_within, within_through, cut_within_left, cut_within_right, within_cut, union_within, within_union_left, within_union_right, minus_within, single_within, IsWithin-from_within}
+use Rattle.exec_settings.proofs.Caps.Members.{has_single, within_self, within_both, none_within, within_through, cut_within_left}
+use Rattle.exec_settings.proofs.Caps.Members.{cut_within_right, within_cut, union_within, within_union_left, within_union_right}
+use Rattle.exec_settings.proofs.Caps.Members.{minus_within, single_within, IsWithin-from_within}
 use Rattle.kernel_laws.specs.kern_creds.declared.creds.Creds.{Creds}
 use Rattle.kernel_laws.specs.kern_creds.declared.ids.Ids.{Ids}
 use Rattle.kernel_laws.specs.kern_creds.declared.file.FileCreds.{FileCreds}
@@ -17,7 +20,8 @@ use Rattle.kernel_laws.specs.kern_creds.Setgroups.{after_setgroups}
 use Rattle.kernel_laws.specs.kern_creds.Capset.{after_capset, may_capset, with_sets}
 use Rattle.kernel_laws.specs.kern_creds.Prctl.{after_drop_bounding, after_raise, after_set_keepcaps, after_set_no_new_privs}
 use Rattle.launcher.specs.Launches.{IsLaunchedCreds}
-use Rattle.kernel_laws.specs.kern_creds.Exec.{is_privileged, is_set_id, owner_or, exec_ids, exec_uids, exec_ambient, exec_gains, exec_permitted, exec_effective, exec_done, honours, runs_as_root, is_refused, after_exec}
+use Rattle.kernel_laws.specs.kern_creds.Exec.{is_privileged, is_set_id, owner_or, exec_ids, exec_uids, exec_ambient, exec_gains}
+use Rattle.kernel_laws.specs.kern_creds.Exec.{exec_permitted, exec_effective, exec_done, honours, runs_as_root, is_refused, after_exec}
 
 -- the three gids are one
 pub record AreOne (ids : Ids) : Type 0 where
@@ -53,15 +57,18 @@ ok_is : (one now : Creds) → ◌≡◌ {A = Result Creds ℕ} (Ok one) (Ok now)
 ok_is one now e = cc
 
 -- what a rule with one refusal leaves
-by_if : (R : Creds → Type 0) (b : Bool) (errno : ℕ) (answer : Result Creds ℕ) (now : Creds) → cond b (Err errno) answer ≡ Ok now → (answer ≡ Ok now → R now) → R now
+by_if : (R : Creds → Type 0) (b : Bool) (errno : ℕ) (answer : Result Creds ℕ) (now : Creds) → cond b (Err errno) answer ≡ Ok now
+    → (answer ≡ Ok now → R now) → R now
 by_if R true errno answer now e to = cc
 by_if R false errno answer now e to = to e
 
-by_unless : (R : Creds → Type 0) (b : Bool) (errno : ℕ) (one now : Creds) → cond b (Ok one) (Err errno) ≡ Ok now → (b ≡ true → R one) → R now
+by_unless : (R : Creds → Type 0) (b : Bool) (errno : ℕ) (one now : Creds) → cond b (Ok one) (Err errno) ≡ Ok now → (b ≡ true → R one)
+    → R now
 by_unless R true errno one now e to = subst R (ok_is one now e) (to refl)
 by_unless R false errno one now e to = cc
 
-pub set_groups : (uid p e i : ℕ) (ids : List ℕ) (creds now : Creds) → Has uid p e i creds → after_setgroups creds ids ≡ Ok now → Has uid p e i now
+pub set_groups : (uid p e i : ℕ) (ids : List ℕ) (creds now : Creds) → Has uid p e i creds → after_setgroups creds ids ≡ Ok now
+    → Has uid p e i now
 set_groups uid p e i ids creds now h is =
     by_if (Has uid p e i) (not (has creds.effective 6)) 1 _ now is λ is.
     by_if (Has uid p e i) (nat_lt 65536 _) 22 (Ok (record creds { groups = ids })) now is λ is.
@@ -70,15 +77,18 @@ set_groups uid p e i ids creds now h is =
 kept_one : (ids : Ids) (id : ℕ) → AreOne ids → AreOne (kept_ids ids id id id)
 kept_one ids id one = record { real = ap (λ n. kept_id n id) one.real; saved = ap (λ n. kept_id n id) one.saved }
 
-pub set_gids : (uid p e i gid : ℕ) (creds now : Creds) → Has uid p e i creds → after_setresgid creds gid gid gid ≡ Ok now → Has uid p e i now
+pub set_gids : (uid p e i gid : ℕ) (creds now : Creds) → Has uid p e i creds → after_setresgid creds gid gid gid ≡ Ok now
+    → Has uid p e i now
 set_gids uid p e i gid creds now h is =
-    by_unless (Has uid p e i) (has creds.effective 6 || may_take_all creds.gids gid gid gid) 1 (record creds { gids = kept_ids creds.gids gid gid gid }) now is λ taken.
+    by_unless (Has uid p e i) (has creds.effective 6 || may_take_all creds.gids gid gid gid) 1
+    (record creds { gids = kept_ids creds.gids gid gid gid }) now is λ taken.
     let one = kept_one creds.gids gid h.gids in search rules
 
 pub drops : (uid p e cap : ℕ) (creds now : Creds) → Has uid p e none creds → after_drop_bounding creds cap ≡ Ok now → Has uid p e none now
 drops uid p e cap creds now h is =
     by_if (Has uid p e none) (nat_lt 40 cap) 22 _ now is λ is.
-    by_if (Has uid p e none) (not (has creds.effective 8)) 1 (Ok (record creds { bounding = minus creds.bounding (single cap) })) now is λ is.
+    by_if (Has uid p e none) (not (has creds.effective 8)) 1 (Ok (record creds { bounding = minus creds.bounding (single cap) })) now is
+    λ is.
     subst (Has uid p e none) (ok_is (record creds { bounding = minus creds.bounding (single cap) }) now is) (record {
       uids = h.uids;
       gids = h.gids;
@@ -98,10 +108,13 @@ none_or a b e = union_within a b b (subst (λ n. IsWithin n b) (sym e) (none_wit
 inherits : (creds : Creds) (p e i : ℕ) → may_capset creds p e i ≡ true → IsWithin i (union creds.inheritable creds.bounding)
 inherits creds p e i m =
     let parts = and_parts (within p creds.permitted && within e p) (within i (union creds.inheritable creds.bounding) && (has creds.effective 8 || within i (union creds.inheritable creds.permitted))) m in
-    IsWithin-from_within i (union creds.inheritable creds.bounding) (and_parts (within i (union creds.inheritable creds.bounding)) (has creds.effective 8 || within i (union creds.inheritable creds.permitted)) parts.1).0
+    IsWithin-from_within i (union creds.inheritable creds.bounding)
+    (and_parts (within i (union creds.inheritable creds.bounding))
+    (has creds.effective 8 || within i (union creds.inheritable creds.permitted)) parts.1).0
 
 -- the first capset
-pub set_all : (uid p e amb : ℕ) (creds now : Creds) → Has uid p e none creds → after_capset creds all all amb ≡ Ok now → Has uid all all amb now
+pub set_all : (uid p e amb : ℕ) (creds now : Creds) → Has uid p e none creds → after_capset creds all all amb ≡ Ok now
+    → Has uid all all amb now
 set_all uid p e amb creds now h is =
     by_unless (Has uid all all amb) (may_capset creds all all amb) 1 (with_sets creds all all amb) now is λ may.
     record {
@@ -112,11 +125,13 @@ set_all uid p e amb creds now h is =
       inheritable = refl;
       ambient_inheritable = cut_within_right creds.ambient (cut all amb) amb (cut_within_right all amb amb (within_self amb));
       ambient_permitted = cut_within_right creds.ambient (cut all amb) all (cut_within_left all amb all (within_self all));
-      inheritable_bounding = within_through amb (union creds.inheritable creds.bounding) creds.bounding (inherits creds all all amb may) (none_or creds.inheritable creds.bounding h.inheritable);
+      inheritable_bounding = within_through amb (union creds.inheritable creds.bounding) creds.bounding (inherits creds all all amb may)
+          (none_or creds.inheritable creds.bounding h.inheritable);
       bounding = h.bounding;
     }
 
-pub keeps_caps : (uid p e i : ℕ) (creds now : Creds) → Has uid p e i creds → ◌≡◌ {A = Result Creds ℕ} (Ok (after_set_keepcaps creds true)) (Ok now) → Has uid p e i now × (now.keepcaps ≡ true)
+pub keeps_caps : (uid p e i : ℕ) (creds now : Creds) → Has uid p e i creds
+    → ◌≡◌ {A = Result Creds ℕ} (Ok (after_set_keepcaps creds true)) (Ok now) → Has uid p e i now × (now.keepcaps ≡ true)
 keeps_caps uid p e i creds now h is =
     subst (λ (c : Creds). Has uid p e i c × (c.keepcaps ≡ true)) (ok_is (after_set_keepcaps creds true) now is) (search rules, refl)
 
@@ -124,9 +139,11 @@ keeps_caps uid p e i creds now h is =
 taken_uids : (uid : ℕ) → eqb uid no_id ≡ false → kept_ids (all_of 0) uid uid uid ≡ all_of uid
 taken_uids uid e = ap (λ b. record { real = cond b 0 uid; effective = cond b 0 uid; saved = cond b 0 uid }) e
 
-pub set_uid : (uid p e i : ℕ) → eqb uid no_id ≡ false → eqb uid 0 ≡ false → (creds now : Creds) → Has 0 p e i creds × (creds.keepcaps ≡ true) → after_setresuid creds uid uid uid ≡ Ok now → Has uid p none i now
+pub set_uid : (uid p e i : ℕ) → eqb uid no_id ≡ false → eqb uid 0 ≡ false → (creds now : Creds)
+    → Has 0 p e i creds × (creds.keepcaps ≡ true) → after_setresuid creds uid uid uid ≡ Ok now → Has uid p none i now
 set_uid uid p e i id other creds now (h, keep) is =
-    by_unless (Has uid p none i) (has creds.effective 7 || may_take_all creds.uids uid uid uid) 1 (with_uids creds (kept_ids creds.uids uid uid uid)) now is λ may.
+    by_unless (Has uid p none i) (has creds.effective 7 || may_take_all creds.uids uid uid uid) 1
+    (with_uids creds (kept_ids creds.uids uid uid uid)) now is λ may.
     let same : kept_ids creds.uids uid uid uid ≡ all_of uid = ap (λ (ids : Ids). kept_ids ids uid uid uid) h.uids ∙ taken_uids uid id in
     let root : (has_root creds.uids && not (has_root (all_of uid))) ≡ true = ap (λ (ids : Ids). has_root ids && not (has_root (all_of uid))) h.uids ∙ ap (λ b. not ((b || b) || b)) other in
     let was : eqb creds.uids.effective 0 ≡ true = ap (λ (ids : Ids). eqb ids.effective 0) h.uids in
@@ -153,15 +170,19 @@ pub record Raised (cap : ℕ) (was : Creds) (now : Creds) : Type 0 where
   pub grown : IsWithin was.ambient now.ambient
   pub own : has now.ambient cap ≡ true
 
-pub raises : (uid p e i cap : ℕ) (creds now : Creds) → Has uid p e i creds → after_raise creds cap ≡ Ok now → Has uid p e i now × Raised cap creds now
+pub raises : (uid p e i cap : ℕ) (creds now : Creds) → Has uid p e i creds → after_raise creds cap ≡ Ok now
+    → Has uid p e i now × Raised cap creds now
 raises uid p e i cap creds now h is =
-    by_if R' (nat_lt 40 cap) 22 (cond {A = Result Creds ℕ} (not (has creds.permitted cap && has creds.inheritable cap)) (Err 1) (Ok (record creds { ambient = union creds.ambient (single cap) }))) now is λ is.
+    by_if R' (nat_lt 40 cap) 22
+    (cond {A = Result Creds ℕ} (not (has creds.permitted cap && has creds.inheritable cap)) (Err 1)
+    (Ok (record creds { ambient = union creds.ambient (single cap) }))) now is λ is.
     by_both (has creds.permitted cap && has creds.inheritable cap) refl is
   where
     R' : Creds → Type 0
     R' c = Has uid p e i c × Raised cap creds c
 
-    by_both : (b : Bool) → (has creds.permitted cap && has creds.inheritable cap) ≡ b → cond {A = Result Creds ℕ} (not b) (Err 1) (Ok (record creds { ambient = union creds.ambient (single cap) })) ≡ Ok now → R' now
+    by_both : (b : Bool) → (has creds.permitted cap && has creds.inheritable cap) ≡ b
+        → cond {A = Result Creds ℕ} (not b) (Err 1) (Ok (record creds { ambient = union creds.ambient (single cap) })) ≡ Ok now → R' now
     by_both false may is = cc
     by_both true may is =
         let parts = and_parts (has creds.permitted cap) (has creds.inheritable cap) may in
@@ -173,8 +194,10 @@ raises uid p e i cap creds now h is =
             permitted = h.permitted;
             effective = h.effective;
             inheritable = h.inheritable;
-            ambient_inheritable = union_within creds.ambient (single cap) i h.ambient_inheritable (single_within cap i (ap (λ s. has s cap) (sym h.inheritable) ∙ parts.1));
-            ambient_permitted = union_within creds.ambient (single cap) p h.ambient_permitted (single_within cap p (ap (λ s. has s cap) (sym h.permitted) ∙ parts.0));
+            ambient_inheritable = union_within creds.ambient (single cap) i h.ambient_inheritable
+                (single_within cap i (ap (λ s. has s cap) (sym h.inheritable) ∙ parts.1));
+            ambient_permitted = union_within creds.ambient (single cap) p h.ambient_permitted
+                (single_within cap p (ap (λ s. has s cap) (sym h.permitted) ∙ parts.0));
             inheritable_bounding = h.inheritable_bounding;
             bounding = h.bounding;
           },
@@ -185,9 +208,11 @@ raises uid p e i cap creds now h is =
         )
 
 -- the last capset: it keeps what is ambient
-pub set_ambient : (uid p e amb : ℕ) (creds now : Creds) → Has uid p e amb creds × IsWithin amb creds.ambient → after_capset creds amb amb amb ≡ Ok now → Has uid amb amb amb now × IsWithin amb now.ambient
+pub set_ambient : (uid p e amb : ℕ) (creds now : Creds) → Has uid p e amb creds × IsWithin amb creds.ambient
+    → after_capset creds amb amb amb ≡ Ok now → Has uid amb amb amb now × IsWithin amb now.ambient
 set_ambient uid p e amb creds now (h, raised) is =
-    by_unless (λ (c : Creds). Has uid amb amb amb c × IsWithin amb c.ambient) (may_capset creds amb amb amb) 1 (with_sets creds amb amb amb) now is λ may. (
+    by_unless (λ (c : Creds). Has uid amb amb amb c × IsWithin amb c.ambient) (may_capset creds amb amb amb) 1
+    (with_sets creds amb amb amb) now is λ may. (
       record {
         uids = h.uids;
         gids = h.gids;
@@ -210,7 +235,8 @@ pub record IsReady (uid i : ℕ) (creds : Creds) : Type 0 where
   pub root : eqb uid 0 ≡ true → sets ≡ all
   pub raised : eqb uid 0 ≡ false → IsWithin i creds.ambient
 
-pub no_new_privs : (uid i : ℕ) (creds now : Creds) → IsReady uid i creds → ◌≡◌ {A = Result Creds ℕ} (Ok (after_set_no_new_privs creds)) (Ok now) → IsReady uid i now
+pub no_new_privs : (uid i : ℕ) (creds now : Creds) → IsReady uid i creds
+    → ◌≡◌ {A = Result Creds ℕ} (Ok (after_set_no_new_privs creds)) (Ok now) → IsReady uid i now
 no_new_privs uid i creds now r is =
     subst (IsReady uid i) (ok_is (after_set_no_new_privs creds) now is) (record { sets = r.sets; has = let h = r.has in search rules; inherits = r.inherits; root = r.root; raised = r.raised })
 
@@ -220,8 +246,10 @@ ready_root uid amb creds e h = record { sets = all; has = h; inherits = within_t
     differ : eqb uid 0 ≡ false → ⊥
     differ o = cc
 
-pub ready_user : (uid amb : ℕ) (creds : Creds) → eqb uid 0 ≡ false → Has uid amb amb amb creds × IsWithin amb creds.ambient → IsReady uid amb creds
-ready_user uid amb creds e (h, raised) = record { sets = amb; has = h; inherits = within_self amb; root = λ o. absurd (differ o); raised = λ _. raised }
+pub ready_user : (uid amb : ℕ) (creds : Creds) → eqb uid 0 ≡ false → Has uid amb amb amb creds × IsWithin amb creds.ambient
+    → IsReady uid amb creds
+ready_user uid amb creds e (h, raised) =
+    record { sets = amb; has = h; inherits = within_self amb; root = λ o. absurd (differ o); raised = λ _. raised }
   where
     differ : eqb uid 0 ≡ true → ⊥
     differ o = cc
@@ -245,8 +273,10 @@ unmarked file e =
     let ids = or_false (is_set_id file.setuid) (is_set_id file.setgid) parts.0 in
     record { setuid = no_owner file.setuid ids.0; setgid = no_owner file.setgid ids.1; caps = eqb-true file.caps none (not-false (eqb file.caps none) parts.1) }
 
-same_ids : (b : Bool) (ids : Ids) (owner : Option ℕ) → owner ≡ None → exec_ids b ids owner ≡ record { real = ids.real; effective = ids.effective; saved = ids.effective }
-same_ids true ids owner e = ap (λ (o : Option ℕ). record { real = ids.real; effective = owner_or o ids.effective; saved = owner_or o ids.effective }) e
+same_ids : (b : Bool) (ids : Ids) (owner : Option ℕ) → owner ≡ None
+    → exec_ids b ids owner ≡ record { real = ids.real; effective = ids.effective; saved = ids.effective }
+same_ids true ids owner e =
+    ap (λ (o : Option ℕ). record { real = ids.real; effective = owner_or o ids.effective; saved = owner_or o ids.effective }) e
 same_ids false ids owner e = refl
 
 and_false : (b : Bool) → (b && false) ≡ false
@@ -284,25 +314,36 @@ module _ (uid i : ℕ) (file : FileCreds) (nosuid : Bool) (creds : Creds) (r : I
   marks = unmarked file privileged
 
   uids_are : exec_uids creds file nosuid ≡ all_of uid
-  uids_are = same_ids (honours creds nosuid) creds.uids file.setuid marks.setuid ∙ ap (λ (ids : Ids). record { real = ids.real; effective = ids.effective; saved = ids.effective }) r.has.uids
+  uids_are = same_ids (honours creds nosuid) creds.uids file.setuid marks.setuid
+      ∙ ap (λ (ids : Ids). record { real = ids.real; effective = ids.effective; saved = ids.effective }) r.has.uids
 
-  gids_are : exec_ids (honours creds nosuid) creds.gids file.setgid ≡ record { real = creds.gids.real; effective = creds.gids.effective; saved = creds.gids.effective }
+  gids_are : exec_ids (honours creds nosuid) creds.gids file.setgid
+      ≡ record { real = creds.gids.real; effective = creds.gids.effective; saved = creds.gids.effective }
   gids_are = same_ids (honours creds nosuid) creds.gids file.setgid marks.setgid
 
   ambient_is : exec_ambient creds file nosuid ≡ creds.ambient
-  ambient_is = ap (λ b. cond (honours creds nosuid && b) none creds.ambient) privileged ∙ ap (λ b. cond b none creds.ambient) (and_false (honours creds nosuid))
+  ambient_is = ap (λ b. cond (honours creds nosuid && b) none creds.ambient) privileged
+      ∙ ap (λ b. cond b none creds.ambient) (and_false (honours creds nosuid))
 
   gains_are : exec_gains creds file nosuid ≡ cond (eqb uid 0 || eqb uid 0) (union creds.inheritable creds.bounding) creds.ambient
   gains_are =
-      ap (λ (ids : Ids). cond (runs_as_root ids) (union creds.inheritable creds.bounding) (cond (honours creds nosuid) (union (cut file.caps creds.bounding) (exec_ambient creds file nosuid)) (exec_ambient creds file nosuid))) uids_are
-      ∙ ap (λ a. cond (eqb uid 0 || eqb uid 0) (union creds.inheritable creds.bounding) (cond (honours creds nosuid) (union (cut file.caps creds.bounding) a) a)) ambient_is
-      ∙ ap (λ g. cond (eqb uid 0 || eqb uid 0) (union creds.inheritable creds.bounding) g) (gains_user (honours creds nosuid) creds.bounding file.caps creds.ambient marks.caps)
+      ap (λ (ids : Ids). cond (runs_as_root ids) (union creds.inheritable creds.bounding)
+      (cond (honours creds nosuid) (union (cut file.caps creds.bounding) (exec_ambient creds file nosuid))
+      (exec_ambient creds file nosuid))) uids_are
+      ∙ ap (λ a. cond (eqb uid 0 || eqb uid 0) (union creds.inheritable creds.bounding)
+      (cond (honours creds nosuid) (union (cut file.caps creds.bounding) a) a)) ambient_is
+      ∙ ap (λ g. cond (eqb uid 0 || eqb uid 0) (union creds.inheritable creds.bounding) g)
+      (gains_user (honours creds nosuid) creds.bounding file.caps creds.ambient marks.caps)
 
-  permitted_is : exec_permitted creds file nosuid ≡ cond creds.no_new_privs (cut (cond (eqb uid 0 || eqb uid 0) (union creds.inheritable creds.bounding) creds.ambient) creds.permitted) (cond (eqb uid 0 || eqb uid 0) (union creds.inheritable creds.bounding) creds.ambient)
+  permitted_is : exec_permitted creds file nosuid ≡ cond creds.no_new_privs
+      (cut (cond (eqb uid 0 || eqb uid 0) (union creds.inheritable creds.bounding) creds.ambient) creds.permitted)
+      (cond (eqb uid 0 || eqb uid 0) (union creds.inheritable creds.bounding) creds.ambient)
   permitted_is = ap (λ g. cond creds.no_new_privs (cut g creds.permitted) g) gains_are
 
-  effective_is : exec_effective creds file nosuid ≡ cond (eqb uid 0 || (honours creds nosuid && file.effective)) (exec_permitted creds file nosuid) creds.ambient
-  effective_is = ap (λ (ids : Ids). cond (eqb ids.effective 0 || (honours creds nosuid && file.effective)) (exec_permitted creds file nosuid) (exec_ambient creds file nosuid)) uids_are
+  effective_is : exec_effective creds file nosuid ≡ cond (eqb uid 0 || (honours creds nosuid && file.effective))
+      (exec_permitted creds file nosuid) creds.ambient
+  effective_is = ap (λ (ids : Ids). cond (eqb ids.effective 0 || (honours creds nosuid && file.effective))
+      (exec_permitted creds file nosuid) (exec_ambient creds file nosuid)) uids_are
       ∙ ap (λ a. cond (eqb uid 0 || (honours creds nosuid && file.effective)) (exec_permitted creds file nosuid) a) ambient_is
 
   ambient_i : IsWithin creds.ambient creds.inheritable
@@ -332,21 +373,32 @@ module _ (uid i : ℕ) (file : FileCreds) (nosuid : Bool) (creds : Creds) (r : I
       let own : exec_permitted creds file nosuid ≡ cond creds.no_new_privs (cut gained creds.permitted) gained = permitted_is ∙ ap (λ b. cond creds.no_new_privs (cut (cond (b || b) gained creds.ambient) creds.permitted) (cond (b || b) gained creds.ambient)) e in
       let full_root : creds.permitted ≡ all = r.has.permitted ∙ r.root e in
       record {
-        full = effective_is ∙ ap (λ b. cond (b || (honours creds nosuid && file.effective)) (exec_permitted creds file nosuid) creds.ambient) e;
-        ambient = subst (IsWithin creds.ambient) (sym own) (within_cond creds.no_new_privs creds.ambient gained creds.permitted (within_union_left creds.ambient creds.inheritable creds.bounding ambient_i) ambient_p);
-        inheritable = subst (IsWithin creds.inheritable) (sym own) (within_cond creds.no_new_privs creds.inheritable gained creds.permitted (within_union_left creds.inheritable creds.inheritable creds.bounding (within_self creds.inheritable)) inheritable_p);
-        root = λ _. subst (IsWithin creds.bounding) (sym own) (within_cond creds.no_new_privs creds.bounding gained creds.permitted (within_union_right creds.bounding creds.inheritable creds.bounding (within_self creds.bounding)) (subst (IsWithin creds.bounding) (sym full_root) r.has.bounding));
+        full = effective_is ∙ ap (λ b. cond (b || (honours creds nosuid && file.effective))
+            (exec_permitted creds file nosuid) creds.ambient) e;
+        ambient = subst (IsWithin creds.ambient) (sym own)
+            (within_cond creds.no_new_privs creds.ambient gained creds.permitted
+            (within_union_left creds.ambient creds.inheritable creds.bounding ambient_i) ambient_p);
+        inheritable = subst (IsWithin creds.inheritable) (sym own)
+            (within_cond creds.no_new_privs creds.inheritable gained creds.permitted
+            (within_union_left creds.inheritable creds.inheritable creds.bounding (within_self creds.inheritable)) inheritable_p);
+        root = λ _. subst (IsWithin creds.bounding) (sym own)
+            (within_cond creds.no_new_privs creds.bounding gained creds.permitted
+            (within_union_right creds.bounding creds.inheritable creds.bounding (within_self creds.bounding))
+            (subst (IsWithin creds.bounding) (sym full_root) r.has.bounding));
       }
 
   sets_user : eqb uid 0 ≡ false → Sets
   sets_user e =
       let own : exec_permitted creds file nosuid ≡ creds.ambient = permitted_is
-      ∙ ap (λ b. cond creds.no_new_privs (cut (cond (b || b) (union creds.inheritable creds.bounding) creds.ambient) creds.permitted) (cond (b || b) (union creds.inheritable creds.bounding) creds.ambient)) e
+      ∙ ap (λ b. cond creds.no_new_privs (cut (cond (b || b) (union creds.inheritable creds.bounding) creds.ambient) creds.permitted)
+      (cond (b || b) (union creds.inheritable creds.bounding) creds.ambient)) e
       ∙ cut_same creds.no_new_privs creds.ambient creds.permitted ambient_p in
       record {
-        full = effective_is ∙ either_same (eqb uid 0 || (honours creds nosuid && file.effective)) (exec_permitted creds file nosuid) creds.ambient (exec_permitted creds file nosuid) refl (sym own);
+        full = effective_is ∙ either_same (eqb uid 0 || (honours creds nosuid && file.effective))
+            (exec_permitted creds file nosuid) creds.ambient (exec_permitted creds file nosuid) refl (sym own);
         ambient = subst (IsWithin creds.ambient) (sym own) (within_self creds.ambient);
-        inheritable = subst (IsWithin creds.inheritable) (sym own) (subst (λ n. IsWithin n creds.ambient) (sym r.has.inheritable) (r.raised e));
+        inheritable = subst (IsWithin creds.inheritable) (sym own)
+            (subst (λ n. IsWithin n creds.ambient) (sym r.has.inheritable) (r.raised e));
         root = λ o. absurd (differ o);
       }
     where
@@ -371,8 +423,10 @@ module _ (uid i : ℕ) (file : FileCreds) (nosuid : Bool) (creds : Creds) (r : I
         ambient_permitted = subst (λ n. IsWithin n (exec_permitted creds file nosuid)) (sym ambient_is) s.ambient;
         inheritable_bounding = inheritable_b;
         inheritable_effective = subst (IsWithin creds.inheritable) (sym s.full) s.inheritable;
-        root = λ zero'. subst (IsWithin creds.bounding) (sym s.full) (s.root (ap (λ n. eqb n 0) (sym (ap (λ (ids : Ids). ids.effective) uids_are) ∙ zero')));
+        root = λ zero'. subst (IsWithin creds.bounding) (sym s.full)
+            (s.root (ap (λ n. eqb n 0) (sym (ap (λ (ids : Ids). ids.effective) uids_are) ∙ zero')));
       }
 
   pub executed : (now : Creds) → after_exec creds file nosuid ≡ Ok now → IsLaunchedCreds now
-  executed now is = by_if IsLaunchedCreds (is_refused creds file nosuid) 1 (Ok (exec_done creds file nosuid)) now is λ is. subst IsLaunchedCreds (ok_is (exec_done creds file nosuid) now is) launched_creds
+  executed now is = by_if IsLaunchedCreds (is_refused creds file nosuid) 1 (Ok (exec_done creds file nosuid)) now is
+      λ is. subst IsLaunchedCreds (ok_is (exec_done creds file nosuid) now is) launched_creds

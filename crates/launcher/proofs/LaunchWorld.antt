@@ -1,5 +1,6 @@
 -- A launch, part by part.
-use Rattle.std.proofs.Common.{◌≡◌, ℕ, Bool, true, false, cond, codes, List, [], ◌∷◌, ◌++◌, Ok, Err, refl, ap, ◌∙◌, sym, subst, length, arith, eqb}
+use Rattle.std.proofs.Common.{◌≡◌, ℕ, Bool, true, false, cond, codes, List, [], ◌∷◌, ◌++◌, Ok, Err, refl, ap, ◌∙◌, sym, subst, length}
+use Rattle.std.proofs.Common.{arith, eqb}
 use Rattle.std.specs.Prelude.{not, map, filter, ◌<◌, ◌^◌, ◌%◌, ◌&&◌}
 use Rattle.std.specs.List.{AllByRecursion}
 use Rattle.std.proofs.lemmas.Bool.{eqb-true}
@@ -7,7 +8,8 @@ use Rattle.std.proofs.lemmas.Bool.Decides.{nat_tests}
 use Rattle.exec_settings.specs.abs_path.Paths.{Path}
 use Rattle.kernel_laws.specs.bpf_code.declared.machine.Insn.{Insn}
 use Rattle.exec_settings.specs.cap_sets.Sets.{has, none, all, single, union, IsWithin}
-use Rattle.exec_settings.proofs.Caps.Members.{within_self, within_through, none_within, union_within, single_within, within_union_left, within_union_right, has_single}
+use Rattle.exec_settings.proofs.Caps.Members.{within_self, within_through, none_within, union_within, single_within, within_union_left}
+use Rattle.exec_settings.proofs.Caps.Members.{within_union_right, has_single}
 use Rattle.kernel_laws.specs.call_table.Table as calls
 use Rattle.exec_settings.specs.site_table.Table.{Site, row_at}
 use Rattle.exec_settings.specs.site_table.declared.row.Row.{Row}
@@ -30,7 +32,10 @@ use Rattle.kernel_laws.specs.kernel_model.kernel_calls.Doing as d
 use Rattle.kernel_laws.specs.kernel_model.Effects.{Effect, creds_effect}
 use Rattle.kernel_laws.specs.kernel_model.kern_files.Looking.{flags_at}
 use Rattle.kernel_laws.specs.kernel_model.kern_files.Executing.{marks_of, executed as executed_by, exec_answer}
-use Rattle.launcher.specs.Launch.{Wanted, LaunchStep, Launched, PrivilegedProgram, makes, first_call, prctl_step, capset_step, launch_step, launch_steps, launch_from, mount_steps, with_unshare, is_privileged_row, group_steps, drop_steps, inherit_steps, user_steps, raise_steps, left_steps, privilege_steps, identity_steps, filter_steps, program_steps, set_keepcaps, capbset_drop, set_no_new_privs, cap_ambient, ambient_raise, set_mode_filter}
+use Rattle.launcher.specs.Launch.{Wanted, LaunchStep, Launched, PrivilegedProgram, makes, first_call, prctl_step, capset_step, launch_step}
+use Rattle.launcher.specs.Launch.{launch_steps, launch_from, mount_steps, with_unshare, is_privileged_row, group_steps, drop_steps}
+use Rattle.launcher.specs.Launch.{inherit_steps, user_steps, raise_steps, left_steps, privilege_steps, identity_steps, filter_steps}
+use Rattle.launcher.specs.Launch.{program_steps, set_keepcaps, capbset_drop, set_no_new_privs, cap_ambient, ambient_raise, set_mode_filter}
 use Rattle.kernel_laws.specs.Launched.{launch_of}
 use Rattle.exec_settings.specs.site_table.Kinds.{is_exe}
 use Rattle.kernel_laws.specs.kern_mounts.Mounts.{Mounts as MountList, first_mounts, plain as plain_mount}
@@ -47,7 +52,8 @@ use Rattle.launcher.proofs.Leading.{Leads, launched_leads, leads_parts, leads_ma
 use Rattle.launcher.proofs.MountSteps.{plan_mounted}
 use Rattle.launcher.proofs.RaisedAll.{counted_small, filter_keeps, all_raised}
 use Rattle.launcher.proofs.Solo.{ones_number, ones_length, At, solo, only, weaker, makes_creds, makes_push, does, creds_done, own_table}
-use Rattle.launcher.proofs.LaunchCreds.{Has, starts, set_groups, set_gids, drops, set_all, keeps_caps, set_uid, Raised, raises, set_ambient, IsReady, no_new_privs, ready_root, ready_user, executed}
+use Rattle.launcher.proofs.LaunchCreds.{Has, starts, set_groups, set_gids, drops, set_all, keeps_caps, set_uid, Raised, raises, set_ambient}
+use Rattle.launcher.proofs.LaunchCreds.{IsReady, no_new_privs, ready_root, ready_user, executed}
 use Rattle.launcher.proofs.LaunchCalls.{launch_calls}
 use Rattle.kernel_laws.specs.linux_numbers.Errnos.{eacces}
 
@@ -57,45 +63,60 @@ module _ (table : calls.Table) (site : Site) (calls' : HasLaunchCalls table.call
 
   -- ---- the credentials
   module _ (stack : List (List Insn)) (plan : Table) where
-    groups_set : (ids : List ℕ) (world : World) → Here (Has 0 all all none) stack plan world → IsDone (launch_step world (makes table.calls (codes "setgroups") 0 0 0 (Ids ids))).0
+    groups_set : (ids : List ℕ) (world : World) → Here (Has 0 all all none) stack plan world
+        → IsDone (launch_step world (makes table.calls (codes "setgroups") 0 0 0 (Ids ids))).0
         → Here (Has 0 all all none) stack plan (launch_step world (makes table.calls (codes "setgroups") 0 0 0 (Ids ids))).1
     groups_set ids world at done =
-        makes_creds table site (Has 0 all all none) (Has 0 all all none) (codes "setgroups") 0 0 0 (Ids ids) (rule.Known known.Setgroups) (d.Setgroups ids) (λ c. after_setgroups c ids) calls'.setgroups refl (λ host creds stack mounts owns. refl)
+        makes_creds table site (Has 0 all all none) (Has 0 all all none) (codes "setgroups") 0 0 0 (Ids ids) (rule.Known known.Setgroups)
+        (d.Setgroups ids) (λ c. after_setgroups c ids) calls'.setgroups refl (λ host creds stack mounts owns. refl)
         (λ c now h is. set_groups 0 all all none ids c now h is) stack plan world at done
 
-    gids_set : (gid : ℕ) (world : World) → Here (Has 0 all all none) stack plan world → IsDone (launch_step world (makes table.calls (codes "setresgid") gid gid gid Nothing)).0
+    gids_set : (gid : ℕ) (world : World) → Here (Has 0 all all none) stack plan world
+        → IsDone (launch_step world (makes table.calls (codes "setresgid") gid gid gid Nothing)).0
         → Here (Has 0 all all none) stack plan (launch_step world (makes table.calls (codes "setresgid") gid gid gid Nothing)).1
     gids_set gid world at done =
         let g : ℕ = gid % 2 ^ 32 in
-        makes_creds table site (Has 0 all all none) (Has 0 all all none) (codes "setresgid") gid gid gid Nothing (rule.Known known.Setresgid) (d.Setresgid g g g) (λ c. after_setresgid c g g g) calls'.setresgid refl (λ host creds stack mounts owns. refl)
+        makes_creds table site (Has 0 all all none) (Has 0 all all none) (codes "setresgid") gid gid gid Nothing
+        (rule.Known known.Setresgid) (d.Setresgid g g g) (λ c. after_setresgid c g g g) calls'.setresgid refl
+        (λ host creds stack mounts owns. refl)
         (λ c now h is. set_gids 0 all all none g c now h is) stack plan world at done
 
-    dropped : (cap : ℕ) (world : World) → Here (Has 0 all all none) stack plan world → IsDone (launch_step world (prctl_step table.calls capbset_drop cap 0)).0
+    dropped : (cap : ℕ) (world : World) → Here (Has 0 all all none) stack plan world
+        → IsDone (launch_step world (prctl_step table.calls capbset_drop cap 0)).0
         → Here (Has 0 all all none) stack plan (launch_step world (prctl_step table.calls capbset_drop cap 0)).1
     dropped cap world at done =
-        makes_creds table site (Has 0 all all none) (Has 0 all all none) (codes "prctl") 24 cap 0 Nothing (rule.Known known.Prctl) (d.Prctl 24 (cap % 2 ^ 32) 0) (λ c. after_drop_bounding c (cap % 2 ^ 32)) calls'.prctl refl (λ host creds stack mounts owns. refl)
+        makes_creds table site (Has 0 all all none) (Has 0 all all none) (codes "prctl") 24 cap 0 Nothing (rule.Known known.Prctl)
+        (d.Prctl 24 (cap % 2 ^ 32) 0) (λ c. after_drop_bounding c (cap % 2 ^ 32)) calls'.prctl refl
+        (λ host creds stack mounts owns. refl)
         (λ c now h is. drops 0 all all (cap % 2 ^ 32) c now h is) stack plan world at done
 
-    all_set : (amb : ℕ) (world : World) → Here (Has 0 all all none) stack plan world → IsDone (launch_step world (capset_step table.calls all all amb)).0
+    all_set : (amb : ℕ) (world : World) → Here (Has 0 all all none) stack plan world
+        → IsDone (launch_step world (capset_step table.calls all all amb)).0
         → Here (Has 0 all all amb) stack plan (launch_step world (capset_step table.calls all all amb)).1
     all_set amb world at done =
-        makes_creds table site (Has 0 all all none) (Has 0 all all amb) (codes "capset") 0 0 0 (Sets all all amb) (rule.Known known.Capset) (d.Capset all all amb) (λ c. after_capset c all all amb) calls'.capset refl (λ host creds stack mounts owns. refl)
+        makes_creds table site (Has 0 all all none) (Has 0 all all amb) (codes "capset") 0 0 0 (Sets all all amb)
+        (rule.Known known.Capset) (d.Capset all all amb) (λ c. after_capset c all all amb) calls'.capset refl
+        (λ host creds stack mounts owns. refl)
         (λ c now h is. set_all 0 all all amb c now h is) stack plan world at done
 
     -- the capabilities of a list are made ambient
     raised_all : (uid p e i low : ℕ) (caps : List ℕ) (world last : World) → AllByRecursion (λ cap. cap < 2 ^ 32) caps
-        → Here (λ c. Has uid p e i c × IsWithin low c.ambient) stack plan world → Leads world (map (λ cap. prctl_step table.calls cap_ambient ambient_raise cap) caps) last
+        → Here (λ c. Has uid p e i c × IsWithin low c.ambient) stack plan world
+        → Leads world (map (λ cap. prctl_step table.calls cap_ambient ambient_raise cap) caps) last
         → Here (λ c. Has uid p e i c × IsWithin low c.ambient × AllByRecursion (λ cap. has c.ambient cap ≡ true) caps) stack plan last
-    raised_all uid p e i low [] world last small at l = subst (Here _ stack plan) l (weaker table site _ _ stack plan world (λ c h. (h.0, h.1, tt)) at)
+    raised_all uid p e i low [] world last small at l = subst (Here _ stack plan) l
+        (weaker table site _ _ stack plan world (λ c h. (h.0, h.1, tt)) at)
     raised_all uid p e i low (cap ∷ caps) world last small at l =
         let same : cap % 2 ^ 32 ≡ cap = omega arith in
         let own : ℕ = cap % 2 ^ 32 in
         let next = makes_creds table site (λ c. Has uid p e i c × IsWithin low c.ambient) (λ c. Has uid p e i c × IsWithin (union low (single own)) c.ambient) (codes "prctl") 47 2 cap Nothing (rule.Known known.Prctl) (d.Prctl 47 2 own) (λ c. after_raise c own) calls'.prctl refl (λ host creds stack mounts owns. refl)
         (λ c now h is. by c now h (raises uid p e i own c now h.0 is)) stack plan world at l.0 in
         weaker table site _ _ stack plan last (λ c h. (h.0, within_through low (union low (single own)) c.ambient (within_union_left low low (single own) (within_self low)) h.1, (ap (has c.ambient) (sym same) ∙ (h.1).each own (in_union own), h.2)))
-        (raised_all uid p e i (union low (single own)) caps (launch_step world (prctl_step table.calls cap_ambient ambient_raise cap)).1 last small.1 next l.1)
+        (raised_all uid p e i (union low (single own)) caps (launch_step world (prctl_step table.calls cap_ambient ambient_raise cap)).1
+        last small.1 next l.1)
       where
-        by : (c now : Creds) → Has uid p e i c × IsWithin low c.ambient → Has uid p e i now × Raised (cap % 2 ^ 32) c now → Has uid p e i now × IsWithin (union low (single (cap % 2 ^ 32))) now.ambient
+        by : (c now : Creds) → Has uid p e i c × IsWithin low c.ambient → Has uid p e i now × Raised (cap % 2 ^ 32) c now
+            → Has uid p e i now × IsWithin (union low (single (cap % 2 ^ 32))) now.ambient
         by c now h r = (r.0, union_within low (single (cap % 2 ^ 32)) now.ambient (within_through low c.ambient now.ambient h.1 (r.1).grown) (single_within (cap % 2 ^ 32) now.ambient (r.1).own))
 
         in_union : (own : ℕ) → has (union low (single own)) own ≡ true
@@ -110,17 +131,20 @@ module _ (table : calls.Table) (site : Site) (calls' : HasLaunchCalls table.call
       pub at : Here Q (own ++ codes') plan world
 
     pub filtered : (Q : Creds → Type 0) (programs : List (List ℕ)) (own : List (List Insn)) (world last : World) → Here Q own plan world
-        → Leads world (map (λ bytes. makes table.calls (codes "seccomp") set_mode_filter 0 0 (Code bytes)) programs) last → Filtered Q programs own last
+        → Leads world (map (λ bytes. makes table.calls (codes "seccomp") set_mode_filter 0 0 (Code bytes)) programs) last
+        → Filtered Q programs own last
     filtered Q [] own world last at l = record { codes' = []; read = tt; at = subst (λ (s : List (List Insn)). Here Q s plan last) (sym (append_none own)) (subst (Here Q own plan) l at) }
     filtered Q (bytes ∷ programs) own world last at l =
         let next = makes_push table site Q bytes calls'.seccomp own plan world at l.0 in
         let more = filtered Q programs (own ++ next.code ∷ []) (launch_step world (makes table.calls (codes "seccomp") set_mode_filter 0 0 (Code bytes))).1 last next.at l.1 in
         record { codes' = next.code ∷ more.codes'; read = (next.read, more.read); at = subst (λ (s : List (List Insn)). Here Q s plan last) (append_assoc own (next.code ∷ []) more.codes') more.at }
 
-    nothing_new : (b : Bool) (uid i : ℕ) (own : List (List Insn)) (world last : World) → Here (IsReady uid i) own plan world → Leads world (if_so b (prctl_step table.calls set_no_new_privs 1 0)) last → Here (IsReady uid i) own plan last
+    nothing_new : (b : Bool) (uid i : ℕ) (own : List (List Insn)) (world last : World) → Here (IsReady uid i) own plan world
+        → Leads world (if_so b (prctl_step table.calls set_no_new_privs 1 0)) last → Here (IsReady uid i) own plan last
     nothing_new true uid i own world last at l =
         subst (Here (IsReady uid i) own plan) l.1
-        (makes_creds table site (IsReady uid i) (IsReady uid i) (codes "prctl") 38 1 0 Nothing (rule.Known known.Prctl) (d.Prctl 38 1 0) (λ c. Ok (after_set_no_new_privs c)) calls'.prctl refl (λ host creds stack mounts owns. refl)
+        (makes_creds table site (IsReady uid i) (IsReady uid i) (codes "prctl") 38 1 0 Nothing (rule.Known known.Prctl) (d.Prctl 38 1 0)
+        (λ c. Ok (after_set_no_new_privs c)) calls'.prctl refl (λ host creds stack mounts owns. refl)
         (λ c now h is. no_new_privs uid i c now h is) own plan world at l.0)
     nothing_new false uid i own world last at l = subst (Here (IsReady uid i) own plan) l at
 
@@ -131,21 +155,29 @@ module _ (table : calls.Table) (site : Site) (calls' : HasLaunchCalls table.call
     pub plain : is_privileged file ≡ false
     pub is : effect ≡ creds_effect (after_exec creds file nosuid)
 
-  executes : (creds : Creds) (stack : List (List Insn)) (namespace : ℕ) (tables : List MountList) (flags : Flags) (found : Found Row) → is_privileged_row found ≡ false
-      → IsDone (applied (solo table site creds stack namespace tables) 1 (only table site creds stack namespace) (creds_effect (exec_answer creds flags found))).0 → Executes creds (creds_effect (exec_answer creds flags found))
+  executes : (creds : Creds) (stack : List (List Insn)) (namespace : ℕ) (tables : List MountList) (flags : Flags) (found : Found Row)
+      → is_privileged_row found ≡ false
+      → IsDone (applied (solo table site creds stack namespace tables) 1 (only table site creds stack namespace)
+      (creds_effect (exec_answer creds flags found))).0 → Executes creds (creds_effect (exec_answer creds flags found))
   executes creds stack namespace tables flags (row own) unmarked done = by (is_exe own.kind) flags.no_exec unmarked done
     where
       by : (b c : Bool) → (b && is_privileged (marks_of own)) ≡ false
-          → IsDone (applied (solo table site creds stack namespace tables) 1 (only table site creds stack namespace) (creds_effect (executed_by creds (cond (not b) (Err eacces) (cond c (Err eacces) (Ok (record { file = marks_of own; no_suid = flags.no_suid }))))))).0
-          → Executes creds (creds_effect (executed_by creds (cond (not b) (Err eacces) (cond c (Err eacces) (Ok (record { file = marks_of own; no_suid = flags.no_suid }))))))
+          → IsDone (applied (solo table site creds stack namespace tables) 1 (only table site creds stack namespace)
+          (creds_effect (executed_by creds
+          (cond (not b) (Err eacces) (cond c (Err eacces) (Ok (record { file = marks_of own; no_suid = flags.no_suid }))))))).0
+          → Executes creds (creds_effect
+          (executed_by creds (cond (not b) (Err eacces)
+          (cond c (Err eacces) (Ok (record { file = marks_of own; no_suid = flags.no_suid }))))))
       by false c unmarked done = absurd done
       by true true unmarked done = absurd done
       by true false unmarked done = record { file = marks_of own; nosuid = flags.no_suid; plain = unmarked; is = refl }
   executes creds stack namespace tables flags empty_directory unmarked done = absurd done
   executes creds stack namespace tables flags (nothing errno) unmarked done = absurd done
 
-  executed_here : (uid i : ℕ) (program : Path) (stack : List (List Insn)) (plan : Table) (world last : World) → is_privileged_row (finds (row_at site.rows) plan program) ≡ false
-      → Here (IsReady uid i) stack plan world → Leads world (makes table.calls (codes "execve") 0 0 0 (OnePath program) ∷ []) last → Here IsLaunchedCreds stack plan last
+  executed_here : (uid i : ℕ) (program : Path) (stack : List (List Insn)) (plan : Table) (world last : World)
+      → is_privileged_row (finds (row_at site.rows) plan program) ≡ false
+      → Here (IsReady uid i) stack plan world → Leads world (makes table.calls (codes "execve") 0 0 0 (OnePath program) ∷ []) last
+      → Here IsLaunchedCreds stack plan last
   executed_here uid i program stack plan world last unmarked at l =
       let own : World = solo table site at.creds stack at.namespace at.tables in
       let call : Call = first_call table.calls (codes "execve") (0 ∷ 0 ∷ 0 ∷ 0 ∷ 0 ∷ 0 ∷ []) (OnePath program) in
@@ -178,7 +210,8 @@ module _ (table : calls.Table) (site : Site) (calls' : HasLaunchCalls table.call
     caps_small = filter_keeps (λ n. n < 2 ^ 32) (has amb) (count_from 0 41) (counted_small 0 41 (omega arith))
 
     user_ready : (b : Bool) → eqb uid 0 ≡ b → (world one two last : World) → Here (Has 0 all all amb) [] plan world
-        → Leads world (cond b [] (prctl_step table.calls set_keepcaps 1 0 ∷ makes table.calls (codes "setresuid") uid uid uid Nothing ∷ [])) one
+        → Leads world (cond b [] (prctl_step table.calls set_keepcaps 1 0 ∷ makes table.calls
+        (codes "setresuid") uid uid uid Nothing ∷ [])) one
         → Leads one (map (λ cap. prctl_step table.calls cap_ambient ambient_raise cap) (filter (has amb) (count_from 0 41))) two
         → Leads two (cond b [] (capset_step table.calls amb amb amb ∷ [])) last
         → Here (IsReady uid amb) [] plan last
@@ -186,7 +219,10 @@ module _ (table : calls.Table) (site : Site) (calls' : HasLaunchCalls table.call
         let zero' : 0 ≡ uid = sym (eqb-true uid 0 is) in
         let before : Here (Has 0 all all amb) [] plan one = subst (Here (Has 0 all all amb) [] plan) l at in
         let raised = raised_all [] plan 0 all all amb none (filter (has amb) (count_from 0 41)) one two caps_small (weaker table site (Has 0 all all amb) (λ c. Has 0 all all amb c × IsWithin none c.ambient) [] plan one (λ c h. (h, none_within c.ambient)) before) m in
-        subst (Here (IsReady uid amb) [] plan) n (weaker table site (λ c. Has 0 all all amb c × IsWithin none c.ambient × AllByRecursion (λ cap. has c.ambient cap ≡ true) (filter (has amb) (count_from 0 41))) (IsReady uid amb) [] plan two (λ c h. ready_root uid amb c is (subst (λ (u : ℕ). Has u all all amb c) zero' h.0)) raised)
+        subst (Here (IsReady uid amb) [] plan) n
+        (weaker table site (λ c. Has 0 all all amb c × IsWithin none c.ambient × AllByRecursion (λ cap. has c.ambient cap ≡ true)
+        (filter (has amb) (count_from 0 41))) (IsReady uid amb) [] plan two
+        (λ c h. ready_root uid amb c is (subst (λ (u : ℕ). Has u all all amb c) zero' h.0)) raised)
     user_ready false is world one two last at l m n =
         let other : eqb (uid % 2 ^ 32) 0 ≡ false = ap (λ u. eqb u 0) low ∙ is in
         let taken : eqb (uid % 2 ^ 32) no_id ≡ false = grind (arith, nat_tests) in
@@ -204,10 +240,13 @@ module _ (table : calls.Table) (site : Site) (calls' : HasLaunchCalls table.call
         let done = makes_creds table site (λ c. Has u all none amb c × IsWithin amb c.ambient) (λ c. Has u amb amb amb c × IsWithin amb c.ambient) (codes "capset") 0 0 0 (Sets amb amb amb) (rule.Known known.Capset) (d.Capset amb amb amb) (λ c. after_capset c amb amb amb) calls'.capset refl (λ host creds stack mounts owns. refl)
         (λ c now h is'. set_ambient u all none amb c now h is') [] plan two held n.0 in
         let end : World = (launch_step two (capset_step table.calls amb amb amb)).1 in
-        subst (Here (IsReady uid amb) [] plan) n.1 (weaker table site (λ c. Has u amb amb amb c × IsWithin amb c.ambient) (IsReady uid amb) [] plan end (λ c h. ready_user uid amb c is (subst (λ (v : ℕ). Has v amb amb amb c) low h.0, h.1)) done)
+        subst (Here (IsReady uid amb) [] plan) n.1
+        (weaker table site (λ c. Has u amb amb amb c × IsWithin amb c.ambient) (IsReady uid amb) [] plan end
+        (λ c h. ready_user uid amb c is (subst (λ (v : ℕ). Has v amb amb amb c) low h.0, h.1)) done)
 
   pub ready_at : (wanted : Wanted) (plan : Table) (last : World) → BeginsAtHostRoot plan → wanted.uid < no_id
-      → Leads (start_world table site) (with_unshare table.calls (mount_steps plan) ++ identity_steps table.calls wanted) last → Here (IsReady wanted.uid wanted.ambient) [] plan last
+      → Leads (start_world table site) (with_unshare table.calls (mount_steps plan) ++ identity_steps table.calls wanted) last
+      → Here (IsReady wanted.uid wanted.ambient) [] plan last
   ready_at wanted plan last begins small l =
       let lines = table.calls in
       let start : Here (Has 0 all all none) [] mounts.start (start_world table site) = record { creds = creds.start; namespace = 1; tables = first_mounts ∷ []; as_asked = starts; is = refl; own = refl } in
@@ -234,7 +273,8 @@ module _ (table : calls.Table) (site : Site) (calls' : HasLaunchCalls table.call
     pub filters : Filtered [] plan (IsReady wanted.uid wanted.ambient) wanted.programs [] mid
     pub runs : Leads mid (program_steps table.calls wanted.program) last
 
-  pub before_program : (wanted : Wanted) (plan : Table) (last : World) → BeginsAtHostRoot plan → wanted.uid < no_id → Leads (start_world table site) (launch_steps table.calls wanted plan) last → BeforeProgram wanted plan last
+  pub before_program : (wanted : Wanted) (plan : Table) (last : World) → BeginsAtHostRoot plan → wanted.uid < no_id
+      → Leads (start_world table site) (launch_steps table.calls wanted plan) last → BeforeProgram wanted plan last
   before_program wanted plan last begins small l =
       let lines = table.calls in
       let mounting = with_unshare lines (mount_steps plan) in
@@ -246,14 +286,17 @@ module _ (table : calls.Table) (site : Site) (calls' : HasLaunchCalls table.call
       let ready = ready_at wanted plan push.mid begins small push.before in
       record { mid = exec.mid; filters = filtered [] plan (IsReady wanted.uid wanted.ambient) wanted.programs [] push.mid exec.mid ready push.after; runs = exec.after }
 
-  launched_at : (wanted : Wanted) (plan : Table) (last : World) → BeginsAtHostRoot plan → wanted.uid < no_id → is_privileged_row (finds (row_at site.rows) plan wanted.program) ≡ false
-      → Leads (start_world table site) (launch_steps table.calls wanted plan) last → Filtered [] plan IsLaunchedCreds wanted.programs [] last
+  launched_at : (wanted : Wanted) (plan : Table) (last : World) → BeginsAtHostRoot plan → wanted.uid < no_id
+      → is_privileged_row (finds (row_at site.rows) plan wanted.program) ≡ false
+      → Leads (start_world table site) (launch_steps table.calls wanted plan) last
+      → Filtered [] plan IsLaunchedCreds wanted.programs [] last
   launched_at wanted plan last begins small unmarked l =
       let before = before_program wanted plan last begins small l in
       let filters = before.filters in
       record { codes' = filters.codes'; read = filters.read; at = executed_here wanted.uid wanted.ambient wanted.program filters.codes' plan before.mid last unmarked filters.at before.runs }
 
-leaves : (table : calls.Table) (site : Site) (calls' : HasLaunchCalls table.calls) (wanted : Wanted) (plan : Table) (last : World) → Filtered table site calls' [] plan IsLaunchedCreds wanted.programs [] last → Leaves table site wanted plan last
+leaves : (table : calls.Table) (site : Site) (calls' : HasLaunchCalls table.calls) (wanted : Wanted) (plan : Table) (last : World)
+    → Filtered table site calls' [] plan IsLaunchedCreds wanted.programs [] last → Leaves table site wanted plan last
 leaves table site calls' wanted plan last f =
     let at = f.at in
     let same = own_table table site at.creds f.codes' at.namespace at.tables plan at.own in
@@ -261,21 +304,26 @@ leaves table site calls' wanted plan last f =
       creds = at.creds;
       stack = f.codes';
       namespace = at.namespace;
-      is = ap launch_of at.is ∙ ap (λ (t : Table). record { calls = table; site = site; creds = at.creds; stack = f.codes'; table = t }) same;
+      is = ap launch_of at.is ∙ ap (λ (t : Table). record { calls = table; site = site; creds = at.creds; stack = f.codes'; table = t })
+          same;
       alone = ap (λ (v : World). v.processes) at.is;
       own = ap (λ (v : World). of_number v.tables at.namespace) at.is ∙ at.own;
-      home = ap (λ (v : World). of_number v.owners at.namespace) at.is ∙ ones_number table site at.tables at.namespace (map plain_mount plan) at.own;
-      numbers = ap (λ (v : World). length v.owners) at.is ∙ ones_length table site at.tables ∙ sym (ap (λ (v : World). length v.tables) at.is);
+      home = ap (λ (v : World). of_number v.owners at.namespace) at.is
+          ∙ ones_number table site at.tables at.namespace (map plain_mount plan) at.own;
+      numbers = ap (λ (v : World). length v.owners) at.is ∙ ones_length table site at.tables
+          ∙ sym (ap (λ (v : World). length v.tables) at.is);
       no_users = ap (λ (v : World). v.users) at.is;
       as_launched = at.as_asked;
       read = f.read;
     }
 
 pub launch_leaves : LaunchLeaves
-launch_leaves table site wanted plan last steps whole can small e = by (is_privileged_row (finds (row_at site.rows) plan wanted.program)) refl e
+launch_leaves table site wanted plan last steps whole can small e =
+    by (is_privileged_row (finds (row_at site.rows) plan wanted.program)) refl e
   where
     by : (b : Bool) → is_privileged_row (finds (row_at site.rows) plan wanted.program) ≡ b
-        → cond b (PrivilegedProgram wanted.program) (launch_from (start_world table site) (launch_steps table.calls wanted plan) 0) ≡ Launched last steps
+        → cond b (PrivilegedProgram wanted.program) (launch_from (start_world table site) (launch_steps table.calls wanted plan) 0)
+        ≡ Launched last steps
         → Leaves table site wanted plan last × (steps ≡ length (launch_steps table.calls wanted plan))
     by true is e = cc
     by false is e =

@@ -1,5 +1,6 @@
 -- A launch by the programs of settings leaves what the judge stands on.
-use Rattle.std.proofs.Common.{◌≡◌, ℕ, Bool, true, false, cond, List, [], ◌∷◌, Option, Some, None, inl, inr, refl, ap, ◌∙◌, sym, subst, arith, map}
+use Rattle.std.proofs.Common.{◌≡◌, ℕ, Bool, true, false, cond, List, [], ◌∷◌, Option, Some, None, inl, inr, refl, ap, ◌∙◌, sym, subst}
+use Rattle.std.proofs.Common.{arith, map}
 use Rattle.std.specs.Prelude.{◌==◌, ◌≤◌, find, reverse, option_and_then, unwrap_or, IfSome}
 use mathlib.Core.List.{reverse_aux}
 use Rattle.std.specs.List.{AllByRecursion}
@@ -20,14 +21,18 @@ use Rattle.kernel_laws.specs.linux_numbers.Limits.{max_errno}
 use Rattle.exec_settings.specs.filter_settings.filter_rules.Actions.{unless_refused}
 use Rattle.exec_settings.specs.filter_settings.filter_rules.Refusing.{IsRefusing, HasRefusal, HasRefusals, AreRefusing}
 use Rattle.std.proofs.lemmas.List.Elements.{recursion_from_All}
-use Rattle.exec_settings.specs.filter_settings.filter_rules.Calls.{call_action, rest_action, listed_by, last_mention, if_adds, listed_action, unlisted_action}
+use Rattle.exec_settings.specs.filter_settings.filter_rules.Calls.{call_action, rest_action, listed_by, last_mention, if_adds}
+use Rattle.exec_settings.specs.filter_settings.filter_rules.Calls.{listed_action, unlisted_action}
 use Rattle.exec_settings.specs.filter_settings.filter_rules.Covers.{covers}
 use Rattle.exec_settings.specs.filter_settings.declared.filter_rules.mentions.CallList.{CallList}
 use Rattle.exec_settings.specs.filter_settings.declared.filter_rules.mentions.Mention.{Mention}
 use Rattle.exec_settings.specs.filter_settings.declared.filter_rules.mentions.Mode.{Mode}
 use Rattle.exec_settings.specs.filter_settings.declared.filter_rules.mentions.Mode.TheVariants.{Allow, Deny}
 use Rattle.exec_settings.specs.filter_settings.declared.filter_rules.names.FilterName.{FilterName}
-use Rattle.exec_settings.specs.filter_settings.declared.filter_rules.names.FilterName.TheVariants.{Families, MemoryDenyWriteExecute, Realtime, Suid, Namespaces, Hostname, Modules, Logs, Clock, Devices, Personality, Calls, Archs}
+use Rattle.exec_settings.specs.filter_settings.declared.filter_rules.names.FilterName.TheVariants.{Families, MemoryDenyWriteExecute}
+use Rattle.exec_settings.specs.filter_settings.declared.filter_rules.names.FilterName.TheVariants.{Realtime, Suid, Namespaces, Hostname}
+use Rattle.exec_settings.specs.filter_settings.declared.filter_rules.names.FilterName.TheVariants.{Modules, Logs, Clock, Devices}
+use Rattle.exec_settings.specs.filter_settings.declared.filter_rules.names.FilterName.TheVariants.{Personality, Calls, Archs}
 use Rattle.exec_settings.specs.filter_settings.declared.filter_rules.settings.FilterSettings.{FilterSettings}
 use Rattle.exec_settings.specs.filter_settings.filter_rules.Wanted.{named_action, unnamed_action, other_action, wanted_action}
 use Rattle.kernel_laws.specs.FirstChoice.{Means}
@@ -82,7 +87,8 @@ all_onto P (x ∷ xs) ys all' own = all_onto P xs (x ∷ ys) all'.1 (all'.0, own
 all_reverse : {X : Type 0} (P : X → Type 0) (xs : List X) → AllByRecursion P xs → AllByRecursion P (reverse xs)
 all_reverse P xs all' = all_onto P xs [] all' tt
 
-listed_plain : (default : Action) (mode : Mode) (listed : Option Mention) → IsRefusing default → IfSome listed HasRefusal → IsPlain (word_of (option_map_or (listed_action mode default) listed (unlisted_action mode default)))
+listed_plain : (default : Action) (mode : Mode) (listed : Option Mention) → IsRefusing default → IfSome listed HasRefusal
+    → IsPlain (word_of (option_map_or (listed_action mode default) listed (unlisted_action mode default)))
 listed_plain default Allow None d m = refusing_plain default d
 listed_plain default Deny None d m = allow_plain
 listed_plain default Allow (Some mention) d m = allow_plain
@@ -100,11 +106,14 @@ adding (Some mention) h = by mention.adds
     by true = h
     by false = tt
 
-calls_plain : (table : calls.Table) (list : Option CallList) (default : Action) (name : List ℕ) → IsRefusing default → HasRefusals list → IsPlain (word_of (call_action table list default name))
+calls_plain : (table : calls.Table) (list : Option CallList) (default : Action) (name : List ℕ) → IsRefusing default → HasRefusals list
+    → IsPlain (word_of (call_action table list default name))
 calls_plain table None default name d m = allow_plain
 calls_plain table (Some list) default name d m =
     listed_plain default list.mode (listed_by table list.mentions name) d
-    (adding (last_mention table list.mentions name) (found_has HasRefusal (λ mention. covers table mention.name name) (reverse list.mentions) (all_reverse HasRefusal list.mentions (recursion_from_All HasRefusal list.mentions m))))
+    (adding (last_mention table list.mentions name)
+    (found_has HasRefusal (λ mention. covers table mention.name name) (reverse list.mentions)
+    (all_reverse HasRefusal list.mentions (recursion_from_All HasRefusal list.mentions m))))
 
 rest_plain : (list : Option CallList) (default : Action) → IsRefusing default → IsPlain (word_of (rest_action list default))
 rest_plain None default d = allow_plain
@@ -152,24 +161,31 @@ module _ (settings : FilterSettings) (table : calls.Table) (a : AreRefusing sett
   wanted_plain : (filter : FilterName) (abi : ℕ) (input : CallData) → IsPlain (word_of (wanted_action filter settings table abi input))
   wanted_plain filter abi input = by (input.arch == calls.arch_of table abi) (numbered input.nr (calls.calls_in table abi))
     where
-      by : (b : Bool) (o : Option CallLine) → IsPlain (word_of (cond b (option_map_or (λ call. named_action filter settings table call.name input) o (unnamed_action filter settings)) (other_action table.second)))
+      by : (b : Bool) (o : Option CallLine)
+          → IsPlain (word_of (cond b
+          (option_map_or (λ call. named_action filter settings table call.name input) o (unnamed_action filter settings))
+          (other_action table.second)))
       by false o = other_plain table.second
       by true None = unnamed_plain filter
       by true (Some line) = named_plain filter line.name input
 
-  meant_plain : (stack : List (List Insn)) → AllByRecursion (Means settings table) stack → (input : CallData) → IsCallData input → ArePlain (answers_of stack input)
+  meant_plain : (stack : List (List Insn)) → AllByRecursion (Means settings table) stack → (input : CallData) → IsCallData input
+      → ArePlain (answers_of stack input)
   meant_plain [] each input fit = tt
   meant_plain (code ∷ stack) each input fit =
       let m : Means settings table code = each.0 in
       (subst IsPlain (sym (m.answers input fit)) (wanted_plain m.filter m.abi input), meant_plain stack each.1 input fit)
 
-  read_means : (programs : List (List ℕ)) (stack : List (List Insn)) → AreRead programs stack → AllByRecursion (IsMeant settings table) programs → AllByRecursion (Means settings table) stack
+  read_means : (programs : List (List ℕ)) (stack : List (List Insn)) → AreRead programs stack
+      → AllByRecursion (IsMeant settings table) programs → AllByRecursion (Means settings table) stack
   read_means [] [] read each = tt
   read_means [] (code ∷ stack) read each = absurd read
   read_means (bytes ∷ programs) [] read each = absurd read
   read_means (bytes ∷ programs) (code ∷ stack) read each = (each.0 code read.0, read_means programs stack read.1 each.1)
 
-first_of_alone : (table : calls.Table) (site : Site) (wanted : Wanted) (plan : Table) (last : World) (l : Leaves table site wanted plan last) → first_of last ≡ record { creds = l.creds; stack = l.stack; namespace = l.namespace; user = 1; alive = true }
+first_of_alone : (table : calls.Table) (site : Site) (wanted : Wanted) (plan : Table) (last : World)
+    (l : Leaves table site wanted plan last) → first_of last
+    ≡ record { creds = l.creds; stack = l.stack; namespace = l.namespace; user = 1; alive = true }
 first_of_alone table site wanted plan last l = ap (λ (ps : List Process). process_or (of_number ps 1)) l.alone
 
 begins : (plan : Table) → BeginsAtRoot plan → StartsAtRoot plan

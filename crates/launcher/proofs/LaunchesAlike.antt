@@ -1,5 +1,6 @@
 -- How a launch ends does not rest on which programs the filters are.
-use Rattle.std.proofs.Common.{◌≡◌, ℕ, suc, Bool, true, false, cond, codes, List, [], ◌∷◌, ◌++◌, Option, Some, ◌⊎◌, inl, inr, refl, ap, ◌∙◌, sym, subst, length, arith}
+use Rattle.std.proofs.Common.{◌≡◌, ℕ, suc, Bool, true, false, cond, codes, List, [], ◌∷◌, ◌++◌, Option, Some, ◌⊎◌, inl, inr, refl, ap, ◌∙◌}
+use Rattle.std.proofs.Common.{sym, subst, length, arith}
 use Rattle.std.specs.Prelude.{nat_le, ◌+◌, ◌<◌, ◌≤◌, ◌^◌, ◌||◌, not}
 use Rattle.std.proofs.lemmas.Bool.Decides.{nat_tests}
 use Rattle.std.proofs.lemmas.List.Sums.{sum_by-append, sum_by-cons}
@@ -24,7 +25,9 @@ use Rattle.kernel_laws.specs.kernel_model.kernel_calls.Doing as d
 use Rattle.kernel_laws.specs.kernel_model.kernel_calls.Doing.{Asked, Does, asked_of, asked_by}
 use Rattle.kernel_laws.specs.kernel_model.Effects as f
 use Rattle.kernel_laws.specs.kernel_model.Effects.{Effect, push_effect}
-use Rattle.launcher.specs.Launch.{LaunchStep, Ending, Launched, StepRefused, StepKilled, PrivilegedProgram, first_call, number_of, launch_step, launch_steps, launch_on, launch_from, is_privileged_row, mount_steps, with_unshare, identity_steps, filter_steps, program_steps}
+use Rattle.launcher.specs.Launch.{LaunchStep, Ending, Launched, StepRefused, StepKilled, PrivilegedProgram, first_call, number_of}
+use Rattle.launcher.specs.Launch.{launch_step, launch_steps, launch_on, launch_from, is_privileged_row, mount_steps, with_unshare}
+use Rattle.launcher.specs.Launch.{identity_steps, filter_steps, program_steps}
 use Rattle.kernel_laws.specs.kern_mounts.Mounts.{Mounts as MountList}
 use Rattle.kernel_laws.specs.kern_mounts.Split.{Table}
 use Rattle.kernel_laws.specs.kernel_model.Runs.{IsDone}
@@ -49,9 +52,12 @@ use Rattle.kernel_laws.specs.linux_numbers.Capabilities.{cap_sys_admin}
 
 -- a list of steps either stops, whatever follows it, or is done
 data Begun (world : World) (first : List LaunchStep) (count : ℕ) : Type 0 where
-  refuses : (at errno : ℕ) → ((then : List LaunchStep) → launch_from world (first ++ then) count ≡ StepRefused at errno) → Begun world first count
+  refuses : (at errno : ℕ) → ((then : List LaunchStep) → launch_from world (first ++ then) count ≡ StepRefused at errno)
+      → Begun world first count
   kills : (at : ℕ) → ((then : List LaunchStep) → launch_from world (first ++ then) count ≡ StepKilled at) → Begun world first count
-  goes : (mid : World) → Leads world first mid → ((then : List LaunchStep) → launch_from world (first ++ then) count ≡ launch_from mid then (count + length first)) → Begun world first count
+  goes : (mid : World) → Leads world first mid
+      → ((then : List LaunchStep) → launch_from world (first ++ then) count ≡ launch_from mid then (count + length first))
+      → Begun world first count
 
 begun : (world : World) (first : List LaunchStep) (count : ℕ) → Begun world first count
 begun world [] count = goes world refl (λ then. let same : count ≡ count + 0 = omega arith in ap (launch_from world then) same)
@@ -60,10 +66,13 @@ begun world (step' ∷ first) count = by (launch_step world step').0 refl (begun
     next : World
     next = (launch_step world step').1
 
-    at : (reply : Reply) → (launch_step world step').0 ≡ reply → (then : List LaunchStep) → launch_from world (step' ∷ first ++ then) count ≡ launch_on reply (count + 1) (launch_from (launch_step world step').1 (first ++ then) (count + 1))
+    at : (reply : Reply) → (launch_step world step').0 ≡ reply → (then : List LaunchStep)
+        → launch_from world (step' ∷ first ++ then) count ≡ launch_on reply (count + 1)
+        (launch_from (launch_step world step').1 (first ++ then) (count + 1))
     at reply is then = ap (λ (r : Reply). launch_on r (count + 1) (launch_from (launch_step world step').1 (first ++ then) (count + 1))) is
 
-    by : (reply : Reply) → (launch_step world step').0 ≡ reply → Begun (launch_step world step').1 first (count + 1) → Begun world (step' ∷ first) count
+    by : (reply : Reply) → (launch_step world step').0 ≡ reply → Begun (launch_step world step').1 first (count + 1)
+        → Begun world (step' ∷ first) count
     by (w.Refused errno) is more = refuses (count + 1) errno (λ then. at (w.Refused errno) is then)
     by w.Killed is more = kills (count + 1) (λ then. at w.Killed is then)
     by (w.Done value) is (refuses place errno stop) = refuses place errno (λ then. at (w.Done value) is then ∙ stop then)
@@ -71,13 +80,18 @@ begun world (step' ∷ first) count = by (launch_step world step').0 refl (begun
     by (w.Done value) is (goes mid done on) =
         goes mid (subst IsDone (sym is) tt, done) (λ then. let same : count + 1 + length first ≡ count + suc (length first) = omega arith in at (w.Done value) is then ∙ on then ∙ ap (launch_from mid then) same)
 
-same_end : (one one' other other' : List (List Insn)) (x y : Ending) → one ≡ one' → other ≡ other' → EndAlike one other x y → EndAlike one' other' x y
-same_end one one' other other' x y e e' h = subst (λ (s : List (List Insn)). EndAlike s other' x y) e (subst (λ (s : List (List Insn)). EndAlike one s x y) e' h)
+same_end : (one one' other other' : List (List Insn)) (x y : Ending) → one ≡ one' → other ≡ other' → EndAlike one other x y
+    → EndAlike one' other' x y
+same_end one one' other other' x y e e' h = subst (λ (s : List (List Insn)). EndAlike s other' x y) e
+    (subst (λ (s : List (List Insn)). EndAlike one s x y) e' h)
 
 same_ends : (one other : List (List Insn)) (x x' y y' : Ending) → x ≡ x' → y ≡ y' → EndAlike one other x' y' → EndAlike one other x y
-same_ends one other x x' y y' e e' h = subst (λ (z : Ending). EndAlike one other z y) (sym e) (subst (λ (z : Ending). EndAlike one other x' z) (sym e') h)
+same_ends one other x x' y y' e e' h = subst (λ (z : Ending). EndAlike one other z y) (sym e)
+    (subst (λ (z : Ending). EndAlike one other x' z) (sym e') h)
 
-pushed_alike : (one other : List (List Insn)) (code own : List Insn) → AnswerAlike one other → ((input : CallData) → IsCallData input → answer_of code input ≡ answer_of own input) → AnswerAlike (one ++ code ∷ []) (other ++ own ∷ [])
+pushed_alike : (one other : List (List Insn)) (code own : List Insn) → AnswerAlike one other
+    → ((input : CallData) → IsCallData input → answer_of code input ≡ answer_of own input)
+    → AnswerAlike (one ++ code ∷ []) (other ++ own ∷ [])
 pushed_alike [] [] code own alike same = (same, tt)
 pushed_alike [] (x ∷ other) code own alike same = absurd alike
 pushed_alike (x ∷ one) [] code own alike same = absurd alike
@@ -100,7 +114,8 @@ module _ (table : calls.Table) (site : Site) (whole : IsWhole table) (arch : Has
       killed : (x y : World) → StepsAlike one other (w.Killed, x) (w.Killed, y)
       pushes : StepsAlike one other (w.Done 0, with_stack one) (w.Done 0, with_stack other)
 
-    module _ (one other : List (List Insn)) (bytes bytes' : List ℕ) (code own : List Insn) (read : program_of bytes ≡ Some code) (read' : program_of bytes' ≡ Some own)
+    module _ (one other : List (List Insn)) (bytes bytes' : List ℕ) (code own : List Insn) (read : program_of bytes ≡ Some code)
+        (read' : program_of bytes' ≡ Some own)
         (room : room_of one + length code ≤ max_insns_per_path) (room' : room_of other + length own ≤ max_insns_per_path) where
       abbrev Out : Reply × World → Reply × World → Type 0
       Out x y = StepsAlike (one ++ code ∷ []) (other ++ own ∷ []) x y
@@ -118,15 +133,19 @@ module _ (table : calls.Table) (site : Site) (whole : IsWhole table) (arch : Has
       pushed_both : Out (at one (push_effect one (program_of bytes))) (at other (push_effect other (program_of bytes')))
       pushed_both =
           subst (λ (o : Option (List Insn)). Out (at one (push_effect one o)) (at other (push_effect other (program_of bytes')))) (sym read)
-          (subst (λ (o : Option (List Insn)). Out (at one (push_effect one (Some code))) (at other (push_effect other o))) (sym read') roomy)
+          (subst (λ (o : Option (List Insn)). Out (at one (push_effect one (Some code))) (at other (push_effect other o)))
+          (sym read') roomy)
 
-      may_both : (b : Bool) → Out (at one (cond (not b) (f.Refuse eacces) (push_effect one (program_of bytes)))) (at other (cond (not b) (f.Refuse eacces) (push_effect other (program_of bytes'))))
+      may_both : (b : Bool) → Out (at one (cond (not b) (f.Refuse eacces) (push_effect one (program_of bytes))))
+          (at other (cond (not b) (f.Refuse eacces) (push_effect other (program_of bytes'))))
       may_both true = pushed_both
       may_both false = refused 13 (with_stack one) (with_stack other)
 
-      decided_both : (c : Decision) → Out (decided (with_stack one) (call_of bytes) (only table site creds one namespace) c) (decided (with_stack other) (call_of bytes') (only table site creds other namespace) c)
+      decided_both : (c : Decision) → Out (decided (with_stack one) (call_of bytes) (only table site creds one namespace) c)
+          (decided (with_stack other) (call_of bytes') (only table site creds other namespace) c)
       decided_both decision.Pass =
-          subst (λ (o : Option Rule). Out (answered (with_stack one) 1 (only table site creds one namespace) (asked_by o (call_of bytes))) (answered (with_stack other) 1 (only table site creds other namespace) (asked_by o (call_of bytes')))) (sym calls'.seccomp)
+          subst (λ (o : Option Rule). Out (answered (with_stack one) 1 (only table site creds one namespace) (asked_by o (call_of bytes)))
+          (answered (with_stack other) 1 (only table site creds other namespace) (asked_by o (call_of bytes')))) (sym calls'.seccomp)
           (may_both (creds.no_new_privs || has creds.effective cap_sys_admin))
       decided_both (decision.Errno errno) = refused errno (with_stack one) (with_stack other)
       decided_both decision.Kill = killed _ _
@@ -135,55 +154,72 @@ module _ (table : calls.Table) (site : Site) (whole : IsWhole table) (arch : Has
       steps_alike alike =
           let input : CallData = record { nr = number_of table.calls (codes "seccomp"); arch = table.arch; ip = 0; args = 1 ∷ 0 ∷ 0 ∷ 0 ∷ 0 ∷ 0 ∷ [] } in
           let same : decision_on one input ≡ decision_on other input = ap (λ (ns : List ℕ). decision_by (deciding ns)) (same_answers one other input alike (fits table whole arch (codes "seccomp") 1 (omega arith))) in
-          subst (λ (c : Decision). Out (decided (with_stack one) (call_of bytes) (only table site creds one namespace) (decision_on one input)) (decided (with_stack other) (call_of bytes') (only table site creds other namespace) c)) same
+          subst (λ (c : Decision). Out
+          (decided (with_stack one) (call_of bytes) (only table site creds one namespace) (decision_on one input))
+          (decided (with_stack other) (call_of bytes') (only table site creds other namespace) c)) same
           (decided_both (decision_on one input))
 
     -- the program is executed
-    exec_alike : (program : Path) (one other : List (List Insn)) (count : ℕ) → AnswerAlike one other → EndAlike one other (launch_from (with_stack one) (program_steps table.calls program) count) (launch_from (with_stack other) (program_steps table.calls program) count)
+    exec_alike : (program : Path) (one other : List (List Insn)) (count : ℕ) → AnswerAlike one other
+        → EndAlike one other (launch_from (with_stack one) (program_steps table.calls program) count)
+        (launch_from (with_stack other) (program_steps table.calls program) count)
     exec_alike program one other count alike =
         let base : World = with_stack [] in
         let call : Call = first_call table.calls (codes "execve") (0 ∷ 0 ∷ 0 ∷ 0 ∷ 0 ∷ 0 ∷ []) (OnePath program) in
         let asks : asked_of table call ≡ Does (d.Execve program) = ap (λ (o : Option Rule). asked_by o call) calls'.execve in
         let whole' : (stack : List (List Insn)) → above stack base ≡ with_stack stack = λ stack. ap (λ (s : List (List Insn)). with_stack s) (append_none stack) in
         let stepped : (stack : List (List Insn)) → step (with_stack stack) call ≡ lifted stack (own_step stack base call) = λ stack. ap (λ (v : World). step v call) (sym (whole' stack)) ∙ step_above stack base call in
-        by call asks (own_step one base call) refl (own_alike one other base call alike (fits table whole arch (codes "execve") 0 (omega arith))) (stepped one) (stepped other)
+        by call asks (own_step one base call) refl
+        (own_alike one other base call alike (fits table whole arch (codes "execve") 0 (omega arith))) (stepped one) (stepped other)
       where
         E : Reply × World → Reply × World → Type 0
-        E x y = EndAlike one other (launch_on x.0 (count + 1) (Launched x.1 (count + 1))) (launch_on y.0 (count + 1) (Launched y.1 (count + 1)))
+        E x y = EndAlike one other (launch_on x.0 (count + 1) (Launched x.1 (count + 1)))
+            (launch_on y.0 (count + 1) (Launched y.1 (count + 1)))
 
         ends : (out : Reply × World) → E (lifted one out) (lifted other out)
         ends out = by_reply out.0
           where
-            by_reply : (r : Reply) → EndAlike one other (launch_on r (count + 1) (Launched (above one out.1) (count + 1))) (launch_on r (count + 1) (Launched (above other out.1) (count + 1)))
+            by_reply : (r : Reply) → EndAlike one other (launch_on r (count + 1) (Launched (above one out.1) (count + 1)))
+                (launch_on r (count + 1) (Launched (above other out.1) (count + 1)))
             by_reply (w.Done value) = (refl, out.1, refl, refl)
             by_reply (w.Refused errno) = (refl, refl)
             by_reply w.Killed = refl
 
-        other_doing : (operation flags : ℕ) (bytes : List ℕ) → ◌≡◌ {A = Asked} (Does (d.Execve program)) (Does (d.Seccomp operation flags bytes)) → ⊥
+        other_doing : (operation flags : ℕ) (bytes : List ℕ)
+            → ◌≡◌ {A = Asked} (Does (d.Execve program)) (Does (d.Seccomp operation flags bytes)) → ⊥
         other_doing operation flags bytes e = cc
 
         by : (call : Call) → asked_of table call ≡ Does (d.Execve program) → (out : Reply × World) → own_step one (with_stack []) call ≡ out
-            → (own_step one (with_stack []) call ≡ own_step other (with_stack []) call) ⊎ FullInOne table call (own_step one (with_stack []) call).0 (own_step other (with_stack []) call).0
-            → step (with_stack one) call ≡ lifted one (own_step one (with_stack []) call) → step (with_stack other) call ≡ lifted other (own_step other (with_stack []) call)
+            → (own_step one (with_stack []) call ≡ own_step other (with_stack []) call) ⊎ FullInOne table call
+            (own_step one (with_stack []) call).0 (own_step other (with_stack []) call).0
+            → step (with_stack one) call ≡ lifted one (own_step one (with_stack []) call)
+            → step (with_stack other) call ≡ lifted other (own_step other (with_stack []) call)
             → E (step (with_stack one) call) (step (with_stack other) call)
         by call asks out is (inr full) first second = absurd (other_doing full.operation full.flags full.bytes (sym asks ∙ full.asks))
         by call asks out is (inl same) first second =
             subst (λ (x : Reply × World). E x (step (with_stack other) call)) (sym first)
-            (subst (λ (y : Reply × World). E (lifted one (own_step one (with_stack []) call)) y) (sym (second ∙ ap (lifted other) (sym same))) (ends (own_step one (with_stack []) call)))
+            (subst (λ (y : Reply × World). E (lifted one (own_step one (with_stack []) call)) y)
+            (sym (second ∙ ap (lifted other) (sym same))) (ends (own_step one (with_stack []) call)))
 
     -- the filters
-    filters_alike : (program : Path) (programs programs' : List (List ℕ)) (codes' own' one other : List (List Insn)) (count : ℕ) → AreRead programs codes' → AreRead programs' own' → AnswerAlike codes' own' → AnswerAlike one other
+    filters_alike : (program : Path) (programs programs' : List (List ℕ)) (codes' own' one other : List (List Insn)) (count : ℕ)
+        → AreRead programs codes' → AreRead programs' own' → AnswerAlike codes' own' → AnswerAlike one other
         → room_of one + room_of codes' ≤ max_insns_per_path → room_of other + room_of own' ≤ max_insns_per_path
-        → EndAlike (one ++ codes') (other ++ own') (launch_from (with_stack one) (filter_steps table.calls programs ++ program_steps table.calls program) count) (launch_from (with_stack other) (filter_steps table.calls programs' ++ program_steps table.calls program) count)
+        → EndAlike (one ++ codes') (other ++ own')
+        (launch_from (with_stack one) (filter_steps table.calls programs ++ program_steps table.calls program) count)
+        (launch_from (with_stack other) (filter_steps table.calls programs' ++ program_steps table.calls program) count)
     filters_alike program [] [] [] [] one other count read read' same alike room room' =
-        same_end one (one ++ []) other (other ++ []) (launch_from (with_stack one) (program_steps table.calls program) count) (launch_from (with_stack other) (program_steps table.calls program) count) (sym (append_none one)) (sym (append_none other)) (exec_alike program one other count alike)
+        same_end one (one ++ []) other (other ++ []) (launch_from (with_stack one) (program_steps table.calls program) count)
+        (launch_from (with_stack other) (program_steps table.calls program) count) (sym (append_none one)) (sym (append_none other))
+        (exec_alike program one other count alike)
     filters_alike program [] (bytes ∷ programs') [] (own ∷ own') one other count read read' same alike room room' = absurd same
     filters_alike program (bytes ∷ programs) [] (code ∷ codes') [] one other count read read' same alike room room' = absurd same
     filters_alike program [] programs' (code ∷ codes') own' one other count read read' same alike room room' = absurd read
     filters_alike program programs [] codes' (own ∷ own') one other count read read' same alike room room' = absurd read'
     filters_alike program (bytes ∷ programs) programs' [] own' one other count read read' same alike room room' = absurd read
     filters_alike program programs (bytes ∷ programs') codes' [] one other count read read' same alike room room' = absurd read'
-    filters_alike program (bytes ∷ programs) (bytes' ∷ programs') (code ∷ codes') (own ∷ own') one other count read read' same alike room room' =
+    filters_alike program (bytes ∷ programs) (bytes' ∷ programs') (code ∷ codes')
+        (own ∷ own') one other count read read' same alike room room' =
         let F : List Insn → ℕ = λ code. length code + 4 in
         let a = sum_by-cons F code codes' in
         let a' = sum_by-cons F own own' in
@@ -194,7 +230,8 @@ module _ (table : calls.Table) (site : Site) (whole : IsWhole table) (arch : Has
         let fit : room_of one + length code ≤ max_insns_per_path = omega arith in
         let fit' : room_of other + length own ≤ max_insns_per_path = omega arith in
         let more = filters_alike program programs programs' codes' own' (one ++ code ∷ []) (other ++ own ∷ []) (count + 1) read.1 read'.1 same.1 (pushed_alike one other code own alike same.0) (omega arith) (omega arith) in
-        by (step (with_stack one) (call_of bytes)) (step (with_stack other) (call_of bytes')) (steps_alike one other bytes bytes' code own read.0 read'.0 fit fit' alike)
+        by (step (with_stack one) (call_of bytes)) (step (with_stack other) (call_of bytes'))
+        (steps_alike one other bytes bytes' code own read.0 read'.0 fit fit' alike)
         (same_end ((one ++ code ∷ []) ++ codes') (one ++ code ∷ codes') ((other ++ own ∷ []) ++ own') (other ++ own ∷ own')
         (launch_from (with_stack (one ++ code ∷ [])) (filter_steps table.calls programs ++ program_steps table.calls program) (count + 1))
         (launch_from (with_stack (other ++ own ∷ [])) (filter_steps table.calls programs' ++ program_steps table.calls program) (count + 1))
@@ -204,15 +241,22 @@ module _ (table : calls.Table) (site : Site) (whole : IsWhole table) (arch : Has
         rest world steps = launch_from world (steps ++ program_steps table.calls program) (count + 1)
 
         by : (x y : Reply × World) → StepsAlike (one ++ code ∷ []) (other ++ own ∷ []) x y
-            → EndAlike (one ++ code ∷ codes') (other ++ own ∷ own') (launch_from (with_stack (one ++ code ∷ [])) (filter_steps table.calls programs ++ program_steps table.calls program) (count + 1)) (launch_from (with_stack (other ++ own ∷ [])) (filter_steps table.calls programs' ++ program_steps table.calls program) (count + 1))
-            → EndAlike (one ++ code ∷ codes') (other ++ own ∷ own') (launch_on x.0 (count + 1) (launch_from x.1 (filter_steps table.calls programs ++ program_steps table.calls program) (count + 1)))
-            (launch_on y.0 (count + 1) (launch_from y.1 (filter_steps table.calls programs' ++ program_steps table.calls program) (count + 1)))
+            → EndAlike (one ++ code ∷ codes') (other ++ own ∷ own')
+            (launch_from (with_stack (one ++ code ∷ [])) (filter_steps table.calls programs ++ program_steps table.calls program)
+            (count + 1)) (launch_from (with_stack (other ++ own ∷ []))
+            (filter_steps table.calls programs' ++ program_steps table.calls program) (count + 1))
+            → EndAlike (one ++ code ∷ codes') (other ++ own ∷ own')
+            (launch_on x.0 (count + 1)
+            (launch_from x.1 (filter_steps table.calls programs ++ program_steps table.calls program) (count + 1)))
+            (launch_on y.0 (count + 1)
+            (launch_from y.1 (filter_steps table.calls programs' ++ program_steps table.calls program) (count + 1)))
         by x y (refused errno u v) more = (refl, refl)
         by x y (killed u v) more = refl
         by x y pushes more = more
 
 pub launches_alike : LaunchesAlike
-launches_alike table site wanted plan programs one other whole arch can small first second alike = by (is_privileged_row (finds (row_at site.rows) plan wanted.program))
+launches_alike table site wanted plan programs one other whole arch can small first second alike =
+    by (is_privileged_row (finds (row_at site.rows) plan wanted.program))
   where
     calls'' : HasLaunchCalls table.calls
     calls'' = launch_calls table whole
@@ -229,22 +273,36 @@ launches_alike table site wanted plan programs one other whole arch can small fi
     empty_room : (stack : List (List Insn)) → 0 + room_of stack ≤ max_insns_per_path → room_of [] + room_of stack ≤ max_insns_per_path
     empty_room stack h = h
 
-    by_begun : Begun (start_world table site) before 0 → EndAlike one other (launch_from (start_world table site) (before ++ after wanted.programs) 0) (launch_from (start_world table site) (before ++ after programs) 0)
-    by_begun (refuses place errno stop) = same_ends one other (from_start wanted.programs) (StepRefused place errno) (from_start programs) (StepRefused place errno) (stop (after wanted.programs)) (stop (after programs)) (refl, refl)
-    by_begun (kills place stop) = same_ends one other (from_start wanted.programs) (StepKilled place) (from_start programs) (StepKilled place) (stop (after wanted.programs)) (stop (after programs)) refl
+    by_begun : Begun (start_world table site) before 0 → EndAlike one other
+        (launch_from (start_world table site) (before ++ after wanted.programs) 0)
+        (launch_from (start_world table site) (before ++ after programs) 0)
+    by_begun (refuses place errno stop) = same_ends one other (from_start wanted.programs) (StepRefused place errno) (from_start programs)
+        (StepRefused place errno) (stop (after wanted.programs)) (stop (after programs)) (refl, refl)
+    by_begun (kills place stop) = same_ends one other (from_start wanted.programs) (StepKilled place) (from_start programs)
+        (StepKilled place) (stop (after wanted.programs)) (stop (after programs)) refl
     by_begun (goes mid done on) =
         let ready = ready_at table site (launch_calls table whole) wanted plan mid (begins_at_host (site_host site) plan can) small done in
         let there : (programs : List (List ℕ)) → Ending = λ programs. launch_from (solo table site ready.creds [] ready.namespace ready.tables) (after programs) (0 + length before) in
         let reached : (programs : List (List ℕ)) → from_start programs ≡ there programs = λ programs. on (after programs) ∙ ap (λ (v : World). launch_from v (after programs) (0 + length before)) ready.is in
         let r : 0 + room_of one ≤ max_insns_per_path = let h = first.room in omega arith in
         let r' : 0 + room_of other ≤ max_insns_per_path = let h = second.room in omega arith in
-        same_ends one other (from_start wanted.programs) (there wanted.programs) (from_start programs) (there programs) (reached wanted.programs) (reached programs)
-        (filters_alike table site whole arch ready.creds ready.namespace ready.tables wanted.program wanted.programs programs one other [] [] (0 + length before) first.read second.read alike tt (empty_room one r) (empty_room other r'))
+        same_ends one other (from_start wanted.programs) (there wanted.programs) (from_start programs) (there programs)
+        (reached wanted.programs) (reached programs)
+        (filters_alike table site whole arch ready.creds ready.namespace ready.tables wanted.program wanted.programs programs one other []
+        [] (0 + length before) first.read second.read alike tt (empty_room one r) (empty_room other r'))
 
-    joined : (programs : List (List ℕ)) → launch_from (start_world table site) (launch_steps table.calls (record wanted { programs = programs }) plan) 0 ≡ from_start programs
-    joined programs = ap (λ (steps : List LaunchStep). launch_from (start_world table site) steps 0) (append_split (with_unshare table.calls (mount_steps plan)) (identity_steps table.calls wanted) (filter_steps table.calls programs) (program_steps table.calls wanted.program))
+    joined : (programs : List (List ℕ)) → launch_from (start_world table site)
+        (launch_steps table.calls (record wanted { programs = programs }) plan) 0 ≡ from_start programs
+    joined programs = ap (λ (steps : List LaunchStep). launch_from (start_world table site) steps 0)
+        (append_split (with_unshare table.calls (mount_steps plan)) (identity_steps table.calls wanted)
+        (filter_steps table.calls programs) (program_steps table.calls wanted.program))
 
-    by : (b : Bool) → EndAlike one other (cond b (PrivilegedProgram wanted.program) (launch_from (start_world table site) (launch_steps table.calls wanted plan) 0))
-        (cond b (PrivilegedProgram wanted.program) (launch_from (start_world table site) (launch_steps table.calls (record wanted { programs = programs }) plan) 0))
+    by : (b : Bool) → EndAlike one other
+        (cond b (PrivilegedProgram wanted.program) (launch_from (start_world table site) (launch_steps table.calls wanted plan) 0))
+        (cond b (PrivilegedProgram wanted.program)
+        (launch_from (start_world table site) (launch_steps table.calls (record wanted { programs = programs }) plan) 0))
     by true = refl
-    by false = same_ends one other (launch_from (start_world table site) (launch_steps table.calls wanted plan) 0) (from_start wanted.programs) (launch_from (start_world table site) (launch_steps table.calls (record wanted { programs = programs }) plan) 0) (from_start programs) (joined wanted.programs) (joined programs) (by_begun (begun (start_world table site) before 0))
+    by false = same_ends one other (launch_from (start_world table site) (launch_steps table.calls wanted plan) 0)
+        (from_start wanted.programs)
+        (launch_from (start_world table site) (launch_steps table.calls (record wanted { programs = programs }) plan) 0)
+        (from_start programs) (joined wanted.programs) (joined programs) (by_begun (begun (start_world table site) before 0))

@@ -12,17 +12,22 @@ abbrev pub Leads : World → List LaunchStep → World → Type 0
 Leads world [] last = world ≡ last
 Leads world (step ∷ steps) last = IsDone (launch_step world step).0 × Leads (launch_step world step).1 steps last
 
-pub launched_leads : (world : World) (steps : List LaunchStep) (count : ℕ) (last : World) (all' : ℕ) → launch_from world steps count ≡ Launched last all' → Leads world steps last × (all' ≡ count + length steps)
+pub launched_leads : (world : World) (steps : List LaunchStep) (count : ℕ) (last : World) (all' : ℕ)
+    → launch_from world steps count ≡ Launched last all' → Leads world steps last × (all' ≡ count + length steps)
 launched_leads world [] count last all' e =
     let same : world ≡ last = cc in
     let counted : count ≡ all' = cc in
     (same, sym counted ∙ omega arith)
-launched_leads world (step ∷ steps) count last all' e = by (launch_step world step).0 refl e (launched_leads (launch_step world step).1 steps (count + 1) last all')
+launched_leads world (step ∷ steps) count last all' e = by (launch_step world step).0 refl e
+    (launched_leads (launch_step world step).1 steps (count + 1) last all')
   where
     next : World
     next = (launch_step world step).1
 
-    by : (reply : Reply) → (launch_step world step).0 ≡ reply → launch_on reply (count + 1) (launch_from next steps (count + 1)) ≡ Launched last all' → (launch_from next steps (count + 1) ≡ Launched last all' → Leads next steps last × (all' ≡ count + 1 + length steps)) → Leads world (step ∷ steps) last × (all' ≡ count + suc (length steps))
+    by : (reply : Reply) → (launch_step world step).0 ≡ reply
+        → launch_on reply (count + 1) (launch_from next steps (count + 1)) ≡ Launched last all'
+        → (launch_from next steps (count + 1) ≡ Launched last all' → Leads next steps last × (all' ≡ count + 1 + length steps))
+        → Leads world (step ∷ steps) last × (all' ≡ count + suc (length steps))
     by (w.Done value) is e rest =
         let more = rest e in
         ((subst IsDone (sym is) tt, more.0), more.1 ∙ omega arith)
@@ -34,14 +39,17 @@ pub record Middle (world : World) (first then : List LaunchStep) (last : World) 
   pub before : Leads world first mid
   pub after : Leads mid then last
 
-pub leads_parts : (world : World) (first then : List LaunchStep) (last : World) → Leads world (first ++ then) last → Middle world first then last
+pub leads_parts : (world : World) (first then : List LaunchStep) (last : World) → Leads world (first ++ then) last
+    → Middle world first then last
 leads_parts world [] then last l = record { mid = world; before = refl; after = l }
 leads_parts world (step ∷ first) then last l =
     let more = leads_parts (launch_step world step).1 first then last l.1 in
     record { mid = more.mid; before = (l.0, more.before); after = more.after }
 
 -- the same property kept by each step of one form
-pub leads_map : {X : Type 0} (P : World → Type 0) (f : X → LaunchStep) (xs : List X) (world last : World) → ((x : X) (world : World) → P world → IsDone (launch_step world (f x)).0 → P (launch_step world (f x)).1) → P world → Leads world (map f xs) last → P last
+pub leads_map : {X : Type 0} (P : World → Type 0) (f : X → LaunchStep) (xs : List X) (world last : World)
+    → ((x : X) (world : World) → P world → IsDone (launch_step world (f x)).0 → P (launch_step world (f x)).1) → P world
+    → Leads world (map f xs) last → P last
 leads_map P f [] world last keeps p l = subst P l p
 leads_map P f (x ∷ xs) world last keeps p l = leads_map P f xs (launch_step world (f x)).1 last keeps (keeps x world p l.0) l.1
 

@@ -18,7 +18,9 @@ use Rattle.launcher.specs.Alike.{AnswerAlike}
 use Rattle.launcher.specs.Matching.{AreMatching, MatchingLaws}
 
 pub means : (settings : FilterSettings) (table : calls.Table) (filters : List Filter) (stack : List (List Insn))
-    → AllByRecursion (HasWantedRules settings table) filters → AllByRecursion (λ one. (found : calls.Abi) × (calls.abi_at table one.abi ≡ Some found)) filters → AreMatching filters stack → AllByRecursion (Means settings table) stack
+    → AllByRecursion (HasWantedRules settings table) filters
+    → AllByRecursion (λ one. (found : calls.Abi) × (calls.abi_at table one.abi ≡ Some found)) filters → AreMatching filters stack
+    → AllByRecursion (Means settings table) stack
 means settings table [] [] wanted there m = tt
 means settings table [] (code ∷ stack) wanted there m = absurd m
 means settings table (one ∷ filters) [] wanted there m = tt
@@ -36,7 +38,8 @@ room (one ∷ filters) (code ∷ stack) m =
     let short = (m.0).short in
     omega arith
 
-pub alike : (filters : List Filter) (one other : List (List Insn)) → AreMatching filters one → AreMatching filters other → AnswerAlike one other
+pub alike : (filters : List Filter) (one other : List (List Insn)) → AreMatching filters one → AreMatching filters other
+    → AnswerAlike one other
 alike [] [] [] m n = tt
 alike [] [] (own ∷ other) m n = absurd n
 alike [] (code ∷ one) other m n = absurd m

@@ -26,7 +26,8 @@ module _ (table : calls.Table) (site : Site) (calls' : HasLaunchCalls table.call
 
   pushed : (Q : Creds → Type 0) (stack : List (List Insn)) (rest : Table) (own : Table) (world last : World) → AreBelowRoot rest
       → Here Q stack own world → Leads world (map Mounts rest) last → Here Q stack (own ++ rest) last
-  pushed Q stack [] own world last below at l = subst (λ (t : Table). Here Q stack t last) (sym (append_none own)) (subst (Here Q stack own) l at)
+  pushed Q stack [] own world last below at l = subst (λ (t : Table). Here Q stack t last) (sym (append_none own))
+      (subst (Here Q stack own) l at)
   pushed Q stack (entry ∷ rest) own world last below at l =
       let next = mounts_entry table site Q entry stack own world at in
       let grown : with_entry own entry ≡ own ++ entry ∷ [] = ap (λ b. cond b (with_first_flags entry.flags own) (own ++ entry ∷ [])) below.0 in
@@ -35,7 +36,8 @@ module _ (table : calls.Table) (site : Site) (calls' : HasLaunchCalls table.call
 
   first_mounted : (first : MountStep) → first.place ≡ [] → first.what ≡ Host [] → with_entry mounts.start first ≡ first ∷ []
   first_mounted first place what =
-      ap (λ (p : Path). cond (is_root p) (record { place = []; what = Host []; flags = first.flags } ∷ []) (mounts.start ++ first ∷ [])) place
+      ap (λ (p : Path). cond (is_root p) (record { place = []; what = Host []; flags = first.flags } ∷ []) (mounts.start ++ first ∷ []))
+      place
       ∙ ap (λ (p : Path). record { place = p; what = Host []; flags = first.flags } ∷ []) (sym place)
       ∙ ap (λ (h : _). record { place = first.place; what = h; flags = first.flags } ∷ []) (sym what)
 
@@ -54,21 +56,27 @@ module _ (table : calls.Table) (site : Site) (calls' : HasLaunchCalls table.call
       ∙ ap (λ (h : _). record { place = first.place; what = h; flags = mounts.no_flags } ∷ []) (sym what)
       ∙ ap (λ (f : Flags). record { place = first.place; what = first.what; flags = f } ∷ []) (sym (flags_none first.flags plain))
 
-  mounts_done : (Q : Creds → Type 0) (stack : List (List Insn)) (first : MountStep) (rest : Table) (world last : World) (b : Bool) → has_flags first.flags ≡ b
+  mounts_done : (Q : Creds → Type 0) (stack : List (List Insn)) (first : MountStep) (rest : Table) (world last : World) (b : Bool)
+      → has_flags first.flags ≡ b
       → (first.place ≡ []) × (first.what ≡ Host []) × AreBelowRoot rest
-      → Here Q stack mounts.start world → Leads world (with_unshare table.calls (if_so b (Mounts first) ++ map Mounts rest)) last → Here Q stack (first ∷ rest) last
+      → Here Q stack mounts.start world → Leads world (with_unshare table.calls (if_so b (Mounts first) ++ map Mounts rest)) last
+      → Here Q stack (first ∷ rest) last
   mounts_done Q stack first rest world last true flags (place, what, below) at l =
       let unshared = makes_unshare table site Q calls'.unshare stack mounts.start world at l.0 in
       let own : World = (launch_step world (makes table.calls (codes "unshare") new_mounts 0 0 Nothing)).1 in
       let next = mounts_entry table site Q first stack mounts.start own unshared in
-      pushed Q stack rest (first ∷ []) (launch_step own (Mounts first)).1 last below (subst (λ (t : Table). Here Q stack t (launch_step own (Mounts first)).1) (first_mounted first place what) next) l.1.1
+      pushed Q stack rest (first ∷ []) (launch_step own (Mounts first)).1 last below
+      (subst (λ (t : Table). Here Q stack t (launch_step own (Mounts first)).1) (first_mounted first place what) next) l.1.1
   mounts_done Q stack first [] world last false flags (place, what, below) at l =
       subst (Here Q stack (first ∷ [])) l (subst (λ (t : Table). Here Q stack t world) (first_plain first place what flags) at)
   mounts_done Q stack first (entry ∷ rest) world last false flags (place, what, below) at l =
       let unshared = makes_unshare table site Q calls'.unshare stack mounts.start world at l.0 in
       let own : World = (launch_step world (makes table.calls (codes "unshare") new_mounts 0 0 Nothing)).1 in
-      pushed Q stack (entry ∷ rest) (first ∷ []) own last below (subst (λ (t : Table). Here Q stack t own) (first_plain first place what flags) unshared) l.1
+      pushed Q stack (entry ∷ rest) (first ∷ []) own last below
+      (subst (λ (t : Table). Here Q stack t own) (first_plain first place what flags) unshared) l.1
 
-  pub plan_mounted : (Q : Creds → Type 0) (stack : List (List Insn)) (plan : Table) (world last : World) → BeginsAtHostRoot plan → Here Q stack mounts.start world → Leads world (with_unshare table.calls (mount_steps plan)) last → Here Q stack plan last
+  pub plan_mounted : (Q : Creds → Type 0) (stack : List (List Insn)) (plan : Table) (world last : World) → BeginsAtHostRoot plan
+      → Here Q stack mounts.start world → Leads world (with_unshare table.calls (mount_steps plan)) last → Here Q stack plan last
   plan_mounted Q stack [] world last begins at l = absurd begins
-  plan_mounted Q stack (first ∷ rest) world last begins at l = mounts_done Q stack first rest world last (has_flags first.flags) refl begins at l
+  plan_mounted Q stack (first ∷ rest) world last begins at l =
+      mounts_done Q stack first rest world last (has_flags first.flags) refl begins at l

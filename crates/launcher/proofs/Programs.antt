@@ -12,18 +12,21 @@ use Rattle.launcher.specs.Answers.{IsProgramOf, AreProgramsOf, codes_of, given_b
 use Rattle.launcher.specs.Launches.{AreRead}
 use Rattle.launcher.specs.Matching.{AreMatching}
 
-pushed : (filters : List Filter) (made : List FilterProgram) (filter : Filter) (one : FilterProgram) → AreProgramsOf filters made → IsProgramOf filter one → AreProgramsOf (filters ++ filter ∷ []) (made ++ one ∷ [])
+pushed : (filters : List Filter) (made : List FilterProgram) (filter : Filter) (one : FilterProgram) → AreProgramsOf filters made
+    → IsProgramOf filter one → AreProgramsOf (filters ++ filter ∷ []) (made ++ one ∷ [])
 pushed [] [] filter one are is = (is, tt)
 pushed [] (x ∷ made) filter one are is = absurd are
 pushed (f ∷ filters) [] filter one are is = absurd are
 pushed (f ∷ filters) (x ∷ made) filter one are is = (are.0, pushed filters made filter one are.1 is)
 
 -- one more program is made
-pub programs_more : (filters : List Filter) (i : ℕ) (filter : Filter) (made next : List FilterProgram) (one : FilterProgram) → i < length filters → filter ≡ get_or filters i filter
+pub programs_more : (filters : List Filter) (i : ℕ) (filter : Filter) (made next : List FilterProgram) (one : FilterProgram)
+    → i < length filters → filter ≡ get_or filters i filter
     → AreProgramsOf (take i filters) made → IsProgramOf filter one → next ≡ made ++ one ∷ [] → AreProgramsOf (take (i + 1) filters) next
 programs_more filters i filter made next one lt is are more after =
     let whole : take (i + 1) filters ≡ take i filters ++ filter ∷ [] = take_more filters i filter lt ∙ ap (λ (f : Filter). take i filters ++ f ∷ []) (sym is) in
-    subst (λ (fs : List Filter). AreProgramsOf fs next) (sym whole) (subst (AreProgramsOf (take i filters ++ filter ∷ [])) (sym after) (pushed (take i filters) made filter one are more))
+    subst (λ (fs : List Filter). AreProgramsOf fs next) (sym whole)
+    (subst (AreProgramsOf (take i filters ++ filter ∷ [])) (sym after) (pushed (take i filters) made filter one are more))
 
 -- they match their filters, and are what their bytes are read as
 pub they_match : (filters : List Filter) (made : List FilterProgram) → AreProgramsOf filters made → AreMatching filters (codes_of made)
@@ -35,7 +38,8 @@ they_match (filter ∷ filters) (one ∷ made) are = ((are.0).matches, they_matc
 read_back : (code : List Insn) → IsProgram code → program_of (bytes_of code) ≡ Some code
 read_back code is = (accepted_by_function (bytes_of code) code).1 is
 
-pub they_are_read : (filters : List Filter) (made : List FilterProgram) → AreProgramsOf filters made → AreRead (given_bytes made) (codes_of made)
+pub they_are_read : (filters : List Filter) (made : List FilterProgram) → AreProgramsOf filters made
+    → AreRead (given_bytes made) (codes_of made)
 they_are_read [] [] are = tt
 they_are_read [] (one ∷ made) are = absurd are
 they_are_read (filter ∷ filters) [] are = absurd are

@@ -26,21 +26,27 @@ counts : (k from count : ℕ) → from ≤ k → k < from + count → list_any (
 counts k from zero le lt = absurd (omega arith)
 counts k from (suc count) le lt = by (eqb from k) refl (counts k (from + 1) count)
   where
-    by : (b : Bool) → eqb from k ≡ b → (from + 1 ≤ k → k < from + 1 + count → list_any (λ n. eqb n k) (count_from (from + 1) count) ≡ true) → (b || list_any (λ n. eqb n k) (count_from (from + 1) count)) ≡ true
+    by : (b : Bool) → eqb from k ≡ b
+        → (from + 1 ≤ k → k < from + 1 + count → list_any (λ n. eqb n k) (count_from (from + 1) count) ≡ true)
+        → (b || list_any (λ n. eqb n k) (count_from (from + 1) count)) ≡ true
     by true is more = refl
     by false is more = more (grind (arith, nat_tests)) (omega arith)
 
-among : (P : ℕ → Type 0) (p : ℕ → Bool) (k : ℕ) (xs : List ℕ) → p k ≡ true → list_any (λ n. eqb n k) xs ≡ true → AllByRecursion P (filter p xs) → P k
+among : (P : ℕ → Type 0) (p : ℕ → Bool) (k : ℕ) (xs : List ℕ) → p k ≡ true → list_any (λ n. eqb n k) xs ≡ true
+    → AllByRecursion P (filter p xs) → P k
 among P p k [] own there all' = cc
 among P p k (x ∷ xs) own there all' = by (eqb x k) refl (p x) refl there all' (among P p k xs own)
   where
-    by : (b : Bool) → eqb x k ≡ b → (c : Bool) → p x ≡ c → (b || list_any (λ n. eqb n k) xs) ≡ true → AllByRecursion P (cond c (x ∷ filter p xs) (filter p xs)) → (list_any (λ n. eqb n k) xs ≡ true → AllByRecursion P (filter p xs) → P k) → P k
+    by : (b : Bool) → eqb x k ≡ b → (c : Bool) → p x ≡ c → (b || list_any (λ n. eqb n k) xs) ≡ true
+        → AllByRecursion P (cond c (x ∷ filter p xs) (filter p xs))
+        → (list_any (λ n. eqb n k) xs ≡ true → AllByRecursion P (filter p xs) → P k) → P k
     by true is true holds there all' more = let same : x ≡ k = eqb-true x k is in subst P same all'.0
     by true is false holds there all' more = let same : x ≡ k = eqb-true x k is in let other : p k ≡ false = ap p (sym same) ∙ holds in absurd (clash (p k) own other)
     by false is true holds there all' more = more there all'.1
     by false is false holds there all' more = more there all'
 
-pub all_raised : (amb : ℕ) (creds : Creds) → IsWithin amb all → AllByRecursion (λ cap. has creds.ambient cap ≡ true) (filter (has amb) (count_from 0 41)) → IsWithin amb creds.ambient
+pub all_raised : (amb : ℕ) (creds : Creds) → IsWithin amb all
+    → AllByRecursion (λ cap. has creds.ambient cap ≡ true) (filter (has amb) (count_from 0 41)) → IsWithin amb creds.ambient
 all_raised amb creds within_all raised = record {
   each = λ k h.
       let top : nat_le k 40 ≡ true = sym (has_all k) ∙ within_all.each k h in

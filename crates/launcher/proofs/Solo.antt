@@ -1,5 +1,6 @@
 -- A world with one process, and what a call of it that is done leaves.
-use Rattle.std.proofs.Common.{◌≡◌, ℕ, zero, suc, Bool, true, false, cond, codes, List, [], ◌∷◌, ◌++◌, Option, Some, None, Result, Ok, Err, refl, ap, ◌∙◌, subst, length, sym, map, eqb}
+use Rattle.std.proofs.Common.{◌≡◌, ℕ, zero, suc, Bool, true, false, cond, codes, List, [], ◌∷◌, ◌++◌, Option, Some, None, Result, Ok, Err}
+use Rattle.std.proofs.Common.{refl, ap, ◌∙◌, subst, length, sym, map, eqb}
 use Rattle.std.specs.Prelude.{slice_get, slice_set, nat_lt, nat_le, ◌-◌, ◌+◌, ◌||◌, not}
 use Rattle.kernel_laws.specs.bpf_code.declared.machine.Insn.{Insn}
 use Rattle.kernel_laws.specs.bpf_code.declared.decision.Decision.{Decision}
@@ -58,7 +59,8 @@ step_plain table entry = by (is_root entry.place)
     first [] = refl
     first (own ∷ table) = refl
 
-    by : (b : Bool) → cond b (with_root_flags entry.flags (map plain table)) (map plain table ++ plain entry ∷ []) ≡ map plain (cond b (with_first_flags entry.flags table) (table ++ entry ∷ []))
+    by : (b : Bool) → cond b (with_root_flags entry.flags (map plain table)) (map plain table ++ plain entry ∷ [])
+        ≡ map plain (cond b (with_first_flags entry.flags table) (table ++ entry ∷ []))
     by true = first table
     by false = sym (map-append plain table (entry ∷ []))
 
@@ -71,7 +73,8 @@ module _ (table : calls.Table) (site : Site) where
   ones tables = map (λ mounts. 1) tables
 
   abbrev pub solo : Creds → List (List Insn) → ℕ → List MountList → World
-  solo creds stack namespace tables = record { calls = table; site = site; processes = only creds stack namespace ∷ []; tables = tables; owners = ones tables; users = 0 }
+  solo creds stack namespace tables =
+      record { calls = table; site = site; processes = only creds stack namespace ∷ []; tables = tables; owners = ones tables; users = 0 }
 
   ones_push : (xs : List MountList) (t : MountList) → ones (xs ++ t ∷ []) ≡ ones xs ++ 1 ∷ []
   ones_push [] t = refl
@@ -87,7 +90,8 @@ module _ (table : calls.Table) (site : Site) where
   ones_get (x ∷ xs) zero t e = refl
   ones_get (x ∷ xs) (suc i) t e = ones_get xs i t e
 
-  pub ones_number : (xs : List MountList) (namespace : ℕ) (t : MountList) → of_number xs namespace ≡ Some t → of_number (ones xs) namespace ≡ Some 1
+  pub ones_number : (xs : List MountList) (namespace : ℕ) (t : MountList) → of_number xs namespace ≡ Some t
+      → of_number (ones xs) namespace ≡ Some 1
   ones_number xs namespace t e = let at = number_get xs namespace t e in get_number (ones xs) namespace 1 at.0 (ones_get xs (namespace - 1) t at.1)
 
   pub ones_length : (xs : List MountList) → length (ones xs) ≡ length xs
@@ -103,11 +107,13 @@ module _ (table : calls.Table) (site : Site) where
     pub is : world ≡ solo creds stack namespace tables
     pub own : of_number tables namespace ≡ Some (map plain mounts)
 
-  pub weaker : (Q R : Creds → Type 0) (stack : List (List Insn)) (mounts : Table) (world : World) → ((creds : Creds) → Q creds → R creds) → At Q stack mounts world → At R stack mounts world
+  pub weaker : (Q R : Creds → Type 0) (stack : List (List Insn)) (mounts : Table) (world : World) → ((creds : Creds) → Q creds → R creds)
+      → At Q stack mounts world → At R stack mounts world
   weaker Q R stack mounts world to at = record { creds = at.creds; namespace = at.namespace; tables = at.tables; as_asked = to at.creds at.as_asked; is = at.is; own = at.own }
 
   -- a call that is done was let through
-  let_through : (world : World) (call : Call) (process : Process) (decision' : Decision) → IsDone (decided world call process decision').0 → decided world call process decision' ≡ answered world call.pid process (asked_of world.calls call)
+  let_through : (world : World) (call : Call) (process : Process) (decision' : Decision) → IsDone (decided world call process decision').0
+      → decided world call process decision' ≡ answered world call.pid process (asked_of world.calls call)
   let_through world call process decision.Pass done = refl
   let_through world call process (decision.Errno errno) done = absurd done
   let_through world call process decision.Kill done = absurd done
@@ -119,9 +125,11 @@ module _ (table : calls.Table) (site : Site) where
     abbrev process : Process
     process = only creds stack namespace
 
-    pub does : (nr : ℕ) (args : List ℕ) (payload : Payload) (rule' : Rule) (doing : Doing) → rule_at table.calls nr ≡ Some rule' → doing_by rule' args payload ≡ Some doing
+    pub does : (nr : ℕ) (args : List ℕ) (payload : Payload) (rule' : Rule) (doing : Doing) → rule_at table.calls nr ≡ Some rule'
+        → doing_by rule' args payload ≡ Some doing
         → IsDone (step world (record { pid = 1; abi = 0; nr = nr; args = args; payload = payload })).0
-        → step world (record { pid = 1; abi = 0; nr = nr; args = args; payload = payload }) ≡ applied world 1 process (effect_of (host_of world) (caller_of world process) doing)
+        → step world (record { pid = 1; abi = 0; nr = nr; args = args; payload = payload })
+        ≡ applied world 1 process (effect_of (host_of world) (caller_of world process) doing)
     does nr args payload rule' doing by_rule is done =
         let call : Call = record { pid = 1; abi = 0; nr = nr; args = args; payload = payload } in
         let_through world call process (decision_on stack (data_of world call)) done
@@ -140,11 +148,16 @@ module _ (table : calls.Table) (site : Site) where
     own_table mounts own = ap (λ (t : MountList). steps_of t) (own_mounts mounts own) ∙ steps_plain mounts
 
   -- a call of the launch that changes credentials
-  pub makes_creds : (Q R : Creds → Type 0) (name : List ℕ) (one two three : ℕ) (payload : Payload) (rule' : Rule) (doing : Doing) (answer : Creds → Result Creds ℕ)
-      → rule_at table.calls (number_of table.calls name) ≡ Some rule' → doing_by rule' (one ∷ two ∷ three ∷ 0 ∷ 0 ∷ 0 ∷ []) payload ≡ Some doing
-      → ((host : Host) (creds : Creds) (stack : List (List Insn)) (mounts : MountList) (owns : Bool) → effect_of host (record { creds = creds; stack = stack; table = mounts; newer = false; owns = owns }) doing ≡ creds_effect (answer creds))
+  pub makes_creds : (Q R : Creds → Type 0) (name : List ℕ) (one two three : ℕ) (payload : Payload) (rule' : Rule) (doing : Doing)
+      (answer : Creds → Result Creds ℕ)
+      → rule_at table.calls (number_of table.calls name) ≡ Some rule'
+      → doing_by rule' (one ∷ two ∷ three ∷ 0 ∷ 0 ∷ 0 ∷ []) payload ≡ Some doing
+      → ((host : Host) (creds : Creds) (stack : List (List Insn)) (mounts : MountList) (owns : Bool)
+      → effect_of host (record { creds = creds; stack = stack; table = mounts; newer = false; owns = owns }) doing
+      ≡ creds_effect (answer creds))
       → ((creds now : Creds) → Q creds → answer creds ≡ Ok now → R now)
-      → (stack : List (List Insn)) (mounts : Table) (world' : World) → At Q stack mounts world' → IsDone (launch_step world' (makes table.calls name one two three payload)).0
+      → (stack : List (List Insn)) (mounts : Table) (world' : World) → At Q stack mounts world'
+      → IsDone (launch_step world' (makes table.calls name one two three payload)).0
       → At R stack mounts (launch_step world' (makes table.calls name one two three payload)).1
   makes_creds Q R name one two three payload rule' doing answer by_rule is effect to stack mounts world' at done =
       let own : World = solo at.creds stack at.namespace at.tables in
@@ -165,22 +178,32 @@ module _ (table : calls.Table) (site : Site) where
   -- a program that is pushed
   push_done : (creds : Creds) (stack : List (List Insn)) (namespace : ℕ) (tables : List MountList) (read : Option (List Insn))
       → IsDone (applied (solo creds stack namespace tables) 1 (only creds stack namespace) (push_effect stack read)).0
-      → (code : List Insn) × (read ≡ Some code) × ((applied (solo creds stack namespace tables) 1 (only creds stack namespace) (push_effect stack read)).1 ≡ solo creds (stack ++ code ∷ []) namespace tables)
+      → (code : List Insn) × (read ≡ Some code) ×
+      ((applied (solo creds stack namespace tables) 1 (only creds stack namespace) (push_effect stack read)).1
+      ≡ solo creds (stack ++ code ∷ []) namespace tables)
   push_done creds stack namespace tables None done = absurd done
   push_done creds stack namespace tables (Some code) done = by (nat_le (room_of stack + length code) max_insns_per_path) done
     where
-      by : (b : Bool) → IsDone (applied (solo creds stack namespace tables) 1 (only creds stack namespace) (cond b (f.Push code) (f.Refuse enomem))).0
-          → (c : List Insn) × (Some code ≡ Some c) × ((applied (solo creds stack namespace tables) 1 (only creds stack namespace) (cond b (f.Push code) (f.Refuse enomem))).1 ≡ solo creds (stack ++ c ∷ []) namespace tables)
+      by : (b : Bool) → IsDone (applied (solo creds stack namespace tables) 1 (only creds stack namespace)
+          (cond b (f.Push code) (f.Refuse enomem))).0
+          → (c : List Insn) × (Some code ≡ Some c) ×
+          ((applied (solo creds stack namespace tables) 1 (only creds stack namespace) (cond b (f.Push code) (f.Refuse enomem))).1
+          ≡ solo creds (stack ++ c ∷ []) namespace tables)
       by true done = (code, refl, refl)
       by false done = absurd done
 
   seccomp_done : (creds : Creds) (stack : List (List Insn)) (namespace : ℕ) (tables : List MountList) (bytes : List ℕ)
       → IsDone (applied (solo creds stack namespace tables) 1 (only creds stack namespace) (seccomp_effect creds stack 1 0 bytes)).0
-      → (code : List Insn) × (program_of bytes ≡ Some code) × ((applied (solo creds stack namespace tables) 1 (only creds stack namespace) (seccomp_effect creds stack 1 0 bytes)).1 ≡ solo creds (stack ++ code ∷ []) namespace tables)
+      → (code : List Insn) × (program_of bytes ≡ Some code) ×
+      ((applied (solo creds stack namespace tables) 1 (only creds stack namespace) (seccomp_effect creds stack 1 0 bytes)).1
+      ≡ solo creds (stack ++ code ∷ []) namespace tables)
   seccomp_done creds stack namespace tables bytes done = by (creds.no_new_privs || has creds.effective cap_sys_admin) done
     where
-      by : (b : Bool) → IsDone (applied (solo creds stack namespace tables) 1 (only creds stack namespace) (cond (not b) (f.Refuse eacces) (push_effect stack (program_of bytes)))).0
-          → (code : List Insn) × (program_of bytes ≡ Some code) × ((applied (solo creds stack namespace tables) 1 (only creds stack namespace) (cond (not b) (f.Refuse eacces) (push_effect stack (program_of bytes)))).1 ≡ solo creds (stack ++ code ∷ []) namespace tables)
+      by : (b : Bool) → IsDone (applied (solo creds stack namespace tables) 1 (only creds stack namespace)
+          (cond (not b) (f.Refuse eacces) (push_effect stack (program_of bytes)))).0
+          → (code : List Insn) × (program_of bytes ≡ Some code) ×
+          ((applied (solo creds stack namespace tables) 1 (only creds stack namespace)
+          (cond (not b) (f.Refuse eacces) (push_effect stack (program_of bytes)))).1 ≡ solo creds (stack ++ code ∷ []) namespace tables)
       by true done = push_done creds stack namespace tables (program_of bytes) done
       by false done = absurd done
 
@@ -192,8 +215,10 @@ module _ (table : calls.Table) (site : Site) where
   abbrev pub seccomp_call : List ℕ → LaunchStep
   seccomp_call bytes = makes table.calls (codes "seccomp") 1 0 0 (Code bytes)
 
-  pub makes_push : (Q : Creds → Type 0) (bytes : List ℕ) → rule_at table.calls (number_of table.calls (codes "seccomp")) ≡ Some (rule.Known known.Seccomp)
-      → (stack : List (List Insn)) (mounts : Table) (world' : World) → At Q stack mounts world' → IsDone (launch_step world' (seccomp_call bytes)).0
+  pub makes_push : (Q : Creds → Type 0) (bytes : List ℕ) → rule_at table.calls (number_of table.calls (codes "seccomp"))
+      ≡ Some (rule.Known known.Seccomp)
+      → (stack : List (List Insn)) (mounts : Table) (world' : World) → At Q stack mounts world'
+      → IsDone (launch_step world' (seccomp_call bytes)).0
       → Pushed Q stack mounts bytes (launch_step world' (seccomp_call bytes)).1
   makes_push Q bytes by_rule stack mounts world' at done =
       let own : World = solo at.creds stack at.namespace at.tables in
@@ -220,7 +245,8 @@ module _ (table : calls.Table) (site : Site) where
   get_set (x ∷ xs) zero y z e = refl
   get_set (x ∷ xs) (suc i) y z e = get_set xs i y z e
 
-  pub mounts_entry : (Q : Creds → Type 0) (entry : MountStep) (stack : List (List Insn)) (mounts : Table) (world' : World) → At Q stack mounts world'
+  pub mounts_entry : (Q : Creds → Type 0) (entry : MountStep) (stack : List (List Insn)) (mounts : Table) (world' : World)
+      → At Q stack mounts world'
       → At Q stack (with_entry mounts entry) (launch_step world' (Mounts entry)).1
   mounts_entry Q entry stack mounts world' at =
       let made = number_get at.tables at.namespace (map plain mounts) at.own in
@@ -231,33 +257,45 @@ module _ (table : calls.Table) (site : Site) where
         tables = slice_set at.tables (at.namespace - 1) next;
         as_asked = at.as_asked;
         is = ap (λ (v : World). (launch_step v (Mounts entry)).1) at.is
-            ∙ ap (λ (t : MountList). record (solo at.creds stack at.namespace at.tables) { tables = slice_set at.tables (at.namespace - 1) (with_step t entry) }) (own_mounts at.creds stack at.namespace at.tables mounts at.own)
-            ∙ ap (λ (t : MountList). record (solo at.creds stack at.namespace at.tables) { tables = slice_set at.tables (at.namespace - 1) t }) (step_plain mounts entry)
-            ∙ ap (λ (os : List ℕ). record (solo at.creds stack at.namespace at.tables) { tables = slice_set at.tables (at.namespace - 1) next; owners = os }) (sym (ones_set at.tables (at.namespace - 1) next));
-        own = ap (λ (b : Bool). cond b None (slice_get (slice_set at.tables (at.namespace - 1) next) (at.namespace - 1))) made.0 ∙ get_set at.tables (at.namespace - 1) next (map plain mounts) made.1;
+            ∙ ap (λ (t : MountList). record (solo at.creds stack at.namespace at.tables)
+            { tables = slice_set at.tables (at.namespace - 1) (with_step t entry) })
+            (own_mounts at.creds stack at.namespace at.tables mounts at.own)
+            ∙ ap (λ (t : MountList). record (solo at.creds stack at.namespace at.tables)
+            { tables = slice_set at.tables (at.namespace - 1) t }) (step_plain mounts entry)
+            ∙ ap (λ (os : List ℕ). record (solo at.creds stack at.namespace at.tables)
+            { tables = slice_set at.tables (at.namespace - 1) next; owners = os }) (sym (ones_set at.tables (at.namespace - 1) next));
+        own = ap (λ (b : Bool). cond b None (slice_get (slice_set at.tables (at.namespace - 1) next) (at.namespace - 1))) made.0
+            ∙ get_set at.tables (at.namespace - 1) next (map plain mounts) made.1;
       }
 
   -- a namespace of its own
   abbrev unshared : Creds → List (List Insn) → ℕ → List MountList → Effect → Type 0
   unshared creds stack namespace tables effect =
       IsDone (applied (solo creds stack namespace tables) 1 (only creds stack namespace) effect).0
-      → (applied (solo creds stack namespace tables) 1 (only creds stack namespace) effect).1 ≡ solo creds stack (length tables + 1) (tables ++ mounts_of (solo creds stack namespace tables) namespace ∷ [])
+      → (applied (solo creds stack namespace tables) 1 (only creds stack namespace) effect).1
+      ≡ solo creds stack (length tables + 1) (tables ++ mounts_of (solo creds stack namespace tables) namespace ∷ [])
 
   abbrev after_with : Creds → List (List Insn) → ℕ → List MountList → ℕ → List ℕ → World
   after_with creds stack namespace tables owner owners = record { calls = table; site = site; processes = only creds stack (length tables + 1) ∷ []; tables = tables ++ copied (not (eqb owner 1)) (mounts_of (solo creds stack namespace tables) namespace) ∷ []; owners = owners; users = 0 }
 
-  own_done : (creds : Creds) (stack : List (List Insn)) (namespace : ℕ) (tables : List MountList) → owner_of (solo creds stack namespace tables) namespace ≡ 1 → unshared creds stack namespace tables f.OwnTable
+  own_done : (creds : Creds) (stack : List (List Insn)) (namespace : ℕ) (tables : List MountList)
+      → owner_of (solo creds stack namespace tables) namespace ≡ 1 → unshared creds stack namespace tables f.OwnTable
   own_done creds stack namespace tables home done = by (nat_lt (length tables) 64) done
     where
-      is_after : after_with creds stack namespace tables (owner_of (solo creds stack namespace tables) namespace) (ones tables ++ 1 ∷ []) ≡ solo creds stack (length tables + 1) (tables ++ mounts_of (solo creds stack namespace tables) namespace ∷ [])
-      is_after = ap (λ (o : ℕ). after_with creds stack namespace tables o (ones tables ++ 1 ∷ [])) home ∙ ap (after_with creds stack namespace tables 1) (sym (ones_push tables (mounts_of (solo creds stack namespace tables) namespace)))
+      is_after : after_with creds stack namespace tables (owner_of (solo creds stack namespace tables) namespace) (ones tables ++ 1 ∷ [])
+          ≡ solo creds stack (length tables + 1) (tables ++ mounts_of (solo creds stack namespace tables) namespace ∷ [])
+      is_after = ap (λ (o : ℕ). after_with creds stack namespace tables o (ones tables ++ 1 ∷ [])) home
+          ∙ ap (after_with creds stack namespace tables 1)
+          (sym (ones_push tables (mounts_of (solo creds stack namespace tables) namespace)))
 
       by : (b : Bool) → IsDone (cond {A = Reply × World} b (w.Done 0, after_with creds stack namespace tables (owner_of (solo creds stack namespace tables) namespace) (ones tables ++ 1 ∷ [])) (w.Refused enospc, solo creds stack namespace tables)).0
           → (cond {A = Reply × World} b (w.Done 0, after_with creds stack namespace tables (owner_of (solo creds stack namespace tables) namespace) (ones tables ++ 1 ∷ [])) (w.Refused enospc, solo creds stack namespace tables)).1 ≡ solo creds stack (length tables + 1) (tables ++ mounts_of (solo creds stack namespace tables) namespace ∷ [])
       by true done = is_after
       by false done = absurd done
 
-  admin_done : (creds : Creds) (stack : List (List Insn)) (namespace : ℕ) (tables : List MountList) → owner_of (solo creds stack namespace tables) namespace ≡ 1 → (b : Bool) → unshared creds stack namespace tables (cond b f.OwnTable (f.Refuse eperm))
+  admin_done : (creds : Creds) (stack : List (List Insn)) (namespace : ℕ) (tables : List MountList)
+      → owner_of (solo creds stack namespace tables) namespace ≡ 1 → (b : Bool)
+      → unshared creds stack namespace tables (cond b f.OwnTable (f.Refuse eperm))
   admin_done creds stack namespace tables home true done = own_done creds stack namespace tables home done
   admin_done creds stack namespace tables home false done = absurd done
 
@@ -280,6 +318,8 @@ module _ (table : calls.Table) (site : Site) where
         tables = at.tables ++ map plain mounts ∷ [];
         as_asked = at.as_asked;
         is = ap (λ (v : World). (step v call).1) at.is ∙ ap (λ (out : Reply × World). out.1) stepped ∙ after
-            ∙ ap (λ (t : MountList). solo at.creds stack (length at.tables + 1) (at.tables ++ t ∷ [])) (own_mounts at.creds stack at.namespace at.tables mounts at.own);
-        own = ap (λ (b : Bool). cond b None (slice_get (at.tables ++ map plain mounts ∷ []) (length at.tables + 1 - 1))) (not_first (length at.tables)) ∙ push_last at.tables (map plain mounts);
+            ∙ ap (λ (t : MountList). solo at.creds stack (length at.tables + 1) (at.tables ++ t ∷ []))
+            (own_mounts at.creds stack at.namespace at.tables mounts at.own);
+        own = ap (λ (b : Bool). cond b None (slice_get (at.tables ++ map plain mounts ∷ []) (length at.tables + 1 - 1)))
+            (not_first (length at.tables)) ∙ push_last at.tables (map plain mounts);
       }

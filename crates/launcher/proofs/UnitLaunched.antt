@@ -32,19 +32,23 @@ same_code : (one other : List Insn) → ◌≡◌ {A = Option (List Insn)} (Some
 same_code one other e = cc
 
 -- bytes that are read as programs of the settings mean them
-meant : (settings : FilterSettings) (table : calls.Table) (programs : List (List ℕ)) (stack : List (List Insn)) → AreRead programs stack → AllByRecursion (Means settings table) stack → AllByRecursion (IsMeant settings table) programs
+meant : (settings : FilterSettings) (table : calls.Table) (programs : List (List ℕ)) (stack : List (List Insn)) → AreRead programs stack
+    → AllByRecursion (Means settings table) stack → AllByRecursion (IsMeant settings table) programs
 meant settings table [] [] read each = tt
 meant settings table [] (code ∷ stack) read each = absurd read
 meant settings table (bytes ∷ programs) [] read each = absurd read
 meant settings table (bytes ∷ programs) (code ∷ stack) read each =
     ((λ own is. subst (Means settings table) (same_code code own (sym read.0 ∙ is)) each.0), meant settings table programs stack read.1 each.1)
 
-pub unit_launched : (unit : Resolved) (table : calls.Table) (site : Site) (settings : Settings) (plan : Table) (service : Service) → IsWhole table → HasWordArchs table → CanBeMounted (host_of site) plan → CanBeLaunched settings
+pub unit_launched : (unit : Resolved) (table : calls.Table) (site : Site) (settings : Settings) (plan : Table) (service : Service)
+    → IsWhole table → HasWordArchs table → CanBeMounted (host_of site) plan → CanBeLaunched settings
     → AreSettings unit table site settings → LaunchesTo table site settings plan service → IsLaunchedWorld service.world
 unit_launched unit table site settings plan service whole arch can fit are l =
     let own = unit_filters unit table in
     let filters = are.filters_as_wanted in
     let wanted = recursion_from_All (HasWantedRules own table) settings.filters.items filters.do_as_wanted in
     let each = means own table settings.filters.items (codes_of service.filters) wanted (filters_there own table settings.filters.items filters.exactly_those_on) (they_match settings.filters.items service.filters l.filters) in
-    launched_is_world own table site (wanted_of settings (given_bytes service.filters)) plan service.world service.steps whole arch filters.refuse_by_numbers can fit.uid
-    (meant own table (given_bytes service.filters) (codes_of service.filters) (they_are_read settings.filters.items service.filters l.filters) each) l.ends
+    launched_is_world own table site (wanted_of settings (given_bytes service.filters)) plan service.world service.steps whole arch
+    filters.refuse_by_numbers can fit.uid
+    (meant own table (given_bytes service.filters) (codes_of service.filters)
+    (they_are_read settings.filters.items service.filters l.filters) each) l.ends

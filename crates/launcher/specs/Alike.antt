@@ -27,7 +27,8 @@ HasWordArchs table = (abi : ℕ) → arch_of table abi < 2 ^ 32
 -- the programs of the one list answer as those of the other, one by one
 abbrev pub AnswerAlike : List (List Insn) → List (List Insn) → Type 0
 AnswerAlike [] [] = Unit {0}
-AnswerAlike (code ∷ one) (own ∷ other) = ((input : CallData) → IsCallData input → answer_of code input ≡ answer_of own input) × AnswerAlike one other
+AnswerAlike (code ∷ one) (own ∷ other) = ((input : CallData) → IsCallData input → answer_of code input ≡ answer_of own input) ×
+    AnswerAlike one other
 AnswerAlike one other = ⊥
 
 -- a process with these programs below its own
@@ -44,7 +45,8 @@ pub record IsFullInOne (one other : World) (call : Call) : Type 0 where
   pub flags : ℕ
   pub bytes : List ℕ
   pub asks : asked_of one.calls call ≡ Does (Seccomp operation flags bytes)
-  pub replies : (((step one call).0 ≡ Refused enomem) × ((step other call).0 ≡ Done 0)) ⊎ (((step one call).0 ≡ Done 0) × ((step other call).0 ≡ Refused enomem))
+  pub replies : (((step one call).0 ≡ Refused enomem) × ((step other call).0 ≡ Done 0)) ⊎
+      (((step one call).0 ≡ Done 0) × ((step other call).0 ≡ Refused enomem))
 
 -- the replies are the same, up to such a call
 abbrev pub SameReplies : World → World → List Call → Type 0
@@ -53,7 +55,8 @@ SameReplies one other (call ∷ calls) =
     (((step one call).0 ≡ (step other call).0) × SameReplies (step one call).1 (step other call).1 calls) ⊎ IsFullInOne one other call
 
 abbrev pub AlikeReplies : Type 0
-AlikeReplies = (one other : List (List Insn)) (world : World) (calls : List Call) → AnswerAlike one other → HasWordArchs world.calls → AreCalls calls → SameReplies (above one world) (above other world) calls
+AlikeReplies = (one other : List (List Insn)) (world : World) (calls : List Call) → AnswerAlike one other → HasWordArchs world.calls
+    → AreCalls calls → SameReplies (above one world) (above other world) calls
 
 -- a living process asks to push a program above its own programs and those of the launch, and may
 pub record Pushes (programs : List (List Insn)) (world : World) (call : Call) (process : Process) (code : List Insn) : Type 0 where
@@ -66,21 +69,26 @@ pub record Pushes (programs : List (List Insn)) (world : World) (call : Call) (p
 
 -- where its own programs alone have no room, there is none
 abbrev pub FullByOwn : Type 0
-FullByOwn = (programs : List (List Insn)) (world : World) (call : Call) (process : Process) (code : List Insn) → Pushes programs world call process code
+FullByOwn = (programs : List (List Insn)) (world : World) (call : Call) (process : Process) (code : List Insn)
+    → Pushes programs world call process code
     → max_insns_per_path < room_of process.stack + length code → (step (above programs world) call).0 ≡ Refused enomem
 
 -- where there is room with the most that the programs of the launch may take, there is room
 abbrev pub RoomByBounds : Type 0
-RoomByBounds = (programs : List (List Insn)) (most : ℕ) (world : World) (call : Call) (process : Process) (code : List Insn) → Pushes programs world call process code
-    → room_of programs ≤ most → most + room_of process.stack + length code ≤ max_insns_per_path → (step (above programs world) call).0 ≡ Done 0
+RoomByBounds = (programs : List (List Insn)) (most : ℕ) (world : World) (call : Call) (process : Process) (code : List Insn)
+    → Pushes programs world call process code
+    → room_of programs ≤ most → most + room_of process.stack + length code ≤ max_insns_per_path
+    → (step (above programs world) call).0 ≡ Done 0
 
 -- the same said of the worlds: after each reply they differ in the programs of the launch alone, so what the service itself
 -- pushed is one list in both
 abbrev pub AlikeRun : List (List Insn) → List (List Insn) → World → List Call → Type 0
 AlikeRun one other base [] = Unit {0}
 AlikeRun one other base (call ∷ calls) =
-    ((reply : Reply) × (next : World) × (step (above one base) call ≡ (reply, above one next)) × (step (above other base) call ≡ (reply, above other next)) × AlikeRun one other next calls)
+    ((reply : Reply) × (next : World) × (step (above one base) call ≡ (reply, above one next)) ×
+    (step (above other base) call ≡ (reply, above other next)) × AlikeRun one other next calls)
     ⊎ IsFullInOne (above one base) (above other base) call
 
 abbrev pub AlikeRuns : Type 0
-AlikeRuns = (one other : List (List Insn)) (base : World) (calls : List Call) → AnswerAlike one other → HasWordArchs base.calls → AreCalls calls → AlikeRun one other base calls
+AlikeRuns = (one other : List (List Insn)) (base : World) (calls : List Call) → AnswerAlike one other → HasWordArchs base.calls
+    → AreCalls calls → AlikeRun one other base calls

@@ -73,7 +73,8 @@ pub record EndsWithAll (table : calls.Table) (site : Site) (settings : Settings)
 -- the answer and the launch are alike; whether the program is privileged does not rest on any programs
 abbrev pub EndsAs : calls.Table → Site → Settings → Table → Result Service LaunchError → Type 0
 EndsAs table site settings plan (Ok service) = LaunchesTo table site settings plan service
-EndsAs table site settings plan (Err (error.PrivilegedProgram path)) = (programs : List (List ℕ)) → launch_with table site settings plan programs ≡ PrivilegedProgram path
+EndsAs table site settings plan (Err (error.PrivilegedProgram path)) = (programs : List (List ℕ))
+    → launch_with table site settings plan programs ≡ PrivilegedProgram path
 EndsAs table site settings plan (Err (error.Refused step errno)) = EndsWithAll table site settings plan (StepRefused step errno)
 EndsAs table site settings plan (Err (error.Killed step)) = EndsWithAll table site settings plan (StepKilled step)
 EndsAs table site settings plan (Err error.Memory) = ⊤

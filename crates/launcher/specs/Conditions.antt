@@ -19,4 +19,5 @@ pub record CanBeLaunched (settings : Settings) : Type 0 where
 
 -- each answer of `settings` can be launched
 abbrev pub SettingsCanBeLaunched : Type 0
-SettingsCanBeLaunched = (unit : Resolved) (table : Table) (site : Site) (made : Settings) → IsSite site → AreSettings unit table site made → CanBeLaunched made
+SettingsCanBeLaunched = (unit : Resolved) (table : Table) (site : Site) (made : Settings) → IsSite site → AreSettings unit table site made
+    → CanBeLaunched made

@@ -39,7 +39,8 @@ RepliesTo reply number (Err error.Memory) = ⊥
 -- whatever steps follow these, the launch goes on with them in this world, or has ended before them
 abbrev pub Begins : World → List LaunchStep → Result ℕ LaunchError → World → Type 0
 Begins world first (Ok count) after = (rest : List LaunchStep) → launch_from world (first ++ rest) 0 ≡ launch_from after rest count
-Begins world first (Err (error.Refused step errno)) after = (rest : List LaunchStep) → launch_from world (first ++ rest) 0 ≡ StepRefused step errno
+Begins world first (Err (error.Refused step errno)) after = (rest : List LaunchStep)
+    → launch_from world (first ++ rest) 0 ≡ StepRefused step errno
 Begins world first (Err (error.Killed step)) after = (rest : List LaunchStep) → launch_from world (first ++ rest) 0 ≡ StepKilled step
 Begins world first (Err (error.PrivilegedProgram path)) after = ⊥
 Begins world first (Err error.Memory) after = ⊤

@@ -105,7 +105,8 @@ group_steps lines wanted =
 
 -- each capability that is not in the bounding set is dropped from it, ascending
 abbrev pub drop_steps : List CallLine → Wanted → List LaunchStep
-drop_steps lines wanted = map (λ cap. prctl_step lines capbset_drop cap 0) (filter (λ cap. not (has wanted.bounding cap)) (count_from 0 (cap_last_cap + 1)))
+drop_steps lines wanted = map (λ cap. prctl_step lines capbset_drop cap 0)
+    (filter (λ cap. not (has wanted.bounding cap)) (count_from 0 (cap_last_cap + 1)))
 
 -- the ambient set becomes inheritable, with all else that the first process has
 abbrev pub inherit_steps : List CallLine → Wanted → List LaunchStep
@@ -121,7 +122,8 @@ user_steps lines wanted =
 
 -- each capability of the ambient set is raised, ascending
 abbrev pub raise_steps : List CallLine → Wanted → List LaunchStep
-raise_steps lines wanted = map (λ cap. prctl_step lines cap_ambient ambient_raise cap) (filter (has wanted.ambient) (count_from 0 (cap_last_cap + 1)))
+raise_steps lines wanted = map (λ cap. prctl_step lines cap_ambient ambient_raise cap)
+    (filter (has wanted.ambient) (count_from 0 (cap_last_cap + 1)))
 
 -- another user keeps the ambient set alone
 abbrev pub left_steps : List CallLine → Wanted → List LaunchStep

@@ -23,7 +23,8 @@ abbrev pub IsMeant : FilterSettings → calls.Table → List ℕ → Type 0
 IsMeant settings table bytes = (code : List Insn) → program_of bytes ≡ Some code → Means settings table code
 
 abbrev pub LaunchedIsWorld : Type 0
-LaunchedIsWorld = (settings : FilterSettings) (table : calls.Table) (site : Site) (wanted : Wanted) (plan : Table) (last : World) (steps : ℕ)
+LaunchedIsWorld = (settings : FilterSettings) (table : calls.Table) (site : Site) (wanted : Wanted) (plan : Table) (last : World)
+    (steps : ℕ)
     → IsWhole table → HasWordArchs table → AreRefusing settings → CanBeMounted (host_of site) plan
     → wanted.uid < no_id → AllByRecursion (IsMeant settings table) wanted.programs
     → launch table site wanted plan ≡ Launched last steps → IsLaunchedWorld last

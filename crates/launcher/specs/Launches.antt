@@ -2,7 +2,8 @@
 use Rattle.std.specs.Prelude.{◌≡◌, ℕ, ◌<◌, codes, true, List, [], ◌∷◌, length, Some, map}
 use Rattle.kernel_laws.specs.bpf_code.declared.machine.Insn.{Insn}
 use Rattle.kernel_laws.specs.bpf_code.ProgramOf.{program_of}
-use Rattle.kernel_laws.specs.call_table.declared.call_names.rule.CallRule.TheVariants.{Unshare, Setgroups, Setresgid, Prctl, Capset, Setresuid, Seccomp, Execve}
+use Rattle.kernel_laws.specs.call_table.declared.call_names.rule.CallRule.TheVariants.{Unshare, Setgroups, Setresgid, Prctl, Capset}
+use Rattle.kernel_laws.specs.call_table.declared.call_names.rule.CallRule.TheVariants.{Setresuid, Seccomp, Execve}
 use Rattle.kernel_laws.specs.call_table.declared.listed.CallLine.{CallLine}
 use Rattle.kernel_laws.specs.call_table.Facts.{IsWhole}
 use Rattle.kernel_laws.specs.call_table.Table as calls
@@ -71,4 +72,5 @@ pub record Leaves (table : calls.Table) (site : Site) (wanted : Wanted) (plan : 
 abbrev pub LaunchLeaves : Type 0
 LaunchLeaves = (table : calls.Table) (site : Site) (wanted : Wanted) (plan : Table) (last : World) (steps : ℕ)
     → IsWhole table → CanBeMounted (host_of site) plan → wanted.uid < no_id
-    → launch table site wanted plan ≡ Launched last steps → Leaves table site wanted plan last × (steps ≡ length (launch_steps table.calls wanted plan))
+    → launch table site wanted plan ≡ Launched last steps → Leaves table site wanted plan last ×
+    (steps ≡ length (launch_steps table.calls wanted plan))

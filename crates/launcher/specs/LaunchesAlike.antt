@@ -16,7 +16,8 @@ use Rattle.launcher.specs.Launches.{AreRead}
 
 -- both launch after as many steps, and the worlds differ in the programs alone; or both are refused alike
 abbrev pub EndAlike : List (List Insn) → List (List Insn) → Ending → Ending → Type 0
-EndAlike one other (Launched world count) (Launched world' count') = (count ≡ count') × (base : World) × (world ≡ above one base) × (world' ≡ above other base)
+EndAlike one other (Launched world count) (Launched world' count') =
+    (count ≡ count') × (base : World) × (world ≡ above one base) × (world' ≡ above other base)
 EndAlike one other (StepRefused count errno) (StepRefused count' errno') = (count ≡ count') × (errno ≡ errno')
 EndAlike one other (StepKilled count) (StepKilled count') = count ≡ count'
 EndAlike one other (PrivilegedProgram path) (PrivilegedProgram path') = path ≡ path'
@@ -29,7 +30,8 @@ pub record AreInstalled (programs : List (List ℕ)) (stack : List (List Insn)) 
 
 -- launches by programs that answer alike end alike
 abbrev pub LaunchesAlike : Type 0
-LaunchesAlike = (table : calls.Table) (site : Site) (wanted : Wanted) (plan : Table) (programs : List (List ℕ)) (one other : List (List Insn))
+LaunchesAlike = (table : calls.Table) (site : Site) (wanted : Wanted) (plan : Table) (programs : List (List ℕ))
+    (one other : List (List Insn))
     → IsWhole table → HasWordArchs table → CanBeMounted (host_of site) plan → wanted.uid < no_id
     → AreInstalled wanted.programs one → AreInstalled programs other → AnswerAlike one other
     → EndAlike one other (launch table site wanted plan) (launch table site (record wanted { programs = programs }) plan)

@@ -29,6 +29,9 @@ AreMatching filters stack = ⊥
 -- what matches means what the settings say, takes no more room than it may, and all lists that match answer alike
 pub record MatchingLaws : Type 0 where
   pub means : (settings : FilterSettings) (table : calls.Table) (filters : List Filter) (stack : List (List Insn))
-      → AllByRecursion (HasWantedRules settings table) filters → AllByRecursion (λ one. (found : calls.Abi) × (calls.abi_at table one.abi ≡ Some found)) filters → AreMatching filters stack → AllByRecursion (Means settings table) stack
+      → AllByRecursion (HasWantedRules settings table) filters
+      → AllByRecursion (λ one. (found : calls.Abi) × (calls.abi_at table one.abi ≡ Some found)) filters → AreMatching filters stack
+      → AllByRecursion (Means settings table) stack
   pub room : (filters : List Filter) (stack : List (List Insn)) → AreMatching filters stack → room_of stack ≤ most_room filters
-  pub alike : (filters : List Filter) (one other : List (List Insn)) → AreMatching filters one → AreMatching filters other → AnswerAlike one other
+  pub alike : (filters : List Filter) (one other : List (List Insn)) → AreMatching filters one → AreMatching filters other
+      → AnswerAlike one other

@@ -147,5 +147,6 @@ errnos =
     (codes "ENODEV", enodev) ∷ (codes "ENOTDIR", enotdir) ∷ (codes "EISDIR", eisdir) ∷ (codes "EINVAL", einval) ∷
     (codes "ENFILE", enfile) ∷ (codes "EMFILE", emfile) ∷ (codes "ENOTTY", enotty) ∷ (codes "EFBIG", efbig) ∷
     (codes "ENOSPC", enospc) ∷ (codes "EROFS", erofs) ∷ (codes "EPIPE", epipe) ∷ (codes "ERANGE", erange) ∷
-    (codes "ENAMETOOLONG", enametoolong) ∷ (codes "ENOSYS", enosys) ∷ (codes "EOPNOTSUPP", eopnotsupp) ∷ (codes "EAFNOSUPPORT", eafnosupport) ∷
+    (codes "ENAMETOOLONG", enametoolong) ∷ (codes "ENOSYS", enosys) ∷ (codes "EOPNOTSUPP", eopnotsupp) ∷
+    (codes "EAFNOSUPPORT", eafnosupport) ∷
     (codes "ETIMEDOUT", etimedout) ∷ (codes "ECONNREFUSED", econnrefused) ∷ []

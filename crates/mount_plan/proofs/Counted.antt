@@ -1,5 +1,6 @@
 -- A plan has at most one entry more than there are mentions.
-use Rattle.std.proofs.Common.{◌≡◌, ◌⊎◌, inl, inr, ◌+◌, ◌≤◌, Bool, true, false, cond, List, [], ◌∷◌, map, length, Ok, refl, sym, ◌∙◌, subst, arith}
+use Rattle.std.proofs.Common.{◌≡◌, ◌⊎◌, inl, inr, ◌+◌, ◌≤◌, Bool, true, false, cond, List, [], ◌∷◌, map, length, Ok, refl, sym, ◌∙◌, subst}
+use Rattle.std.proofs.Common.{arith}
 use Rattle.std.specs.List.{AllByRecursion}
 use Rattle.std.proofs.lemmas.Bool.{false≢true}
 use Rattle.path_settings.specs.abs_path.Paths.{Path, is_normal}
@@ -17,7 +18,8 @@ placed_length : (path : Path) (paths : List Path) → length (placed path paths)
 placed_length path [] = omega arith
 placed_length path (first ∷ paths) = by (is_before path first) (is_before first path) (placed_length path paths)
   where
-    by : (b c : Bool) → length (placed path paths) ≤ length paths + 1 → length (cond b (path ∷ first ∷ paths) (cond c (first ∷ placed path paths) (first ∷ paths))) ≤ length (first ∷ paths) + 1
+    by : (b c : Bool) → length (placed path paths) ≤ length paths + 1
+        → length (cond b (path ∷ first ∷ paths) (cond c (first ∷ placed path paths) (first ∷ paths))) ≤ length (first ∷ paths) + 1
     by true c h = omega arith
     by false true h = omega arith
     by false false h = omega arith
@@ -33,10 +35,12 @@ IsOneOf (first ∷ paths) path = (first ≡ path) ⊎ IsOneOf paths path
 
 each_one_of : (paths : List Path) → AllByRecursion (IsOneOf paths) paths
 each_one_of [] = tt
-each_one_of (first ∷ paths) = (inl refl, all_weaker (IsOneOf paths) (IsOneOf (first ∷ paths)) paths (λ path one. inr one) (each_one_of paths))
+each_one_of (first ∷ paths) =
+    (inl refl, all_weaker (IsOneOf paths) (IsOneOf (first ∷ paths)) paths (λ path one. inr one) (each_one_of paths))
 
 -- paths that come after the first are among the rest
-among_rest : (first : Path) (rest paths : List Path) → AllByRecursion (IsOneOf (first ∷ rest)) paths → AllByRecursion (λ path. is_before first path ≡ true) paths → AllByRecursion (IsOneOf rest) paths
+among_rest : (first : Path) (rest paths : List Path) → AllByRecursion (IsOneOf (first ∷ rest)) paths
+    → AllByRecursion (λ path. is_before first path ≡ true) paths → AllByRecursion (IsOneOf rest) paths
 among_rest first rest [] h after = tt
 among_rest first rest (path ∷ paths) h after = (
   elim h.0 [
@@ -54,7 +58,8 @@ has_of P (first ∷ paths) path h one = elim one [
 ]
 
 -- of two lists in byte order, one that has all of the other is as long
-as_long : (paths some : List Path) → AreAscending some → AreAscending paths → AllByRecursion (IsOneOf paths) some → length some ≤ length paths
+as_long : (paths some : List Path) → AreAscending some → AreAscending paths → AllByRecursion (IsOneOf paths) some
+    → length some ≤ length paths
 as_long [] [] up down h = omega arith
 as_long [] (path ∷ some) up down h = absurd h.0
 as_long (first ∷ paths) [] up down h = omega arith
@@ -74,14 +79,16 @@ paths_length : (mentions : List Mention) → length (paths_of mentions) ≡ leng
 paths_length [] = refl
 paths_length (mention ∷ mentions) = let rest = paths_length mentions in omega arith
 
-pub one_more : (row_at : Host) (mentions kept : List Mention) → AreNormal mentions → kept_of row_at mentions ≡ Ok kept → length (table_of row_at kept) ≤ length mentions + 1
+pub one_more : (row_at : Host) (mentions kept : List Mention) → AreNormal mentions → kept_of row_at mentions ≡ Ok kept
+    → length (table_of row_at kept) ≤ length mentions + 1
 one_more row_at mentions kept normal e =
     let all : List Path = in_byte_order ([] ∷ paths_of mentions) in
     let each = in_byte_order_was (IsOneOf all) ([] ∷ paths_of mentions) (refl, all_mapped (λ mention. mention.path) (λ path. is_normal path ≡ true) mentions normal) (each_one_of all) in
     let own = in_byte_order_is (IsOneOf all) ([] ∷ paths_of kept) (
       each.0,
       all_mapped (λ mention. mention.path) (IsOneOf all) kept
-          (kept_is (λ mention. IsOneOf all mention.path) row_at mentions kept (mapped_all (λ mention. mention.path) (IsOneOf all) mentions each.1) e),
+          (kept_is (λ mention. IsOneOf all mention.path) row_at mentions kept
+          (mapped_all (λ mention. mention.path) (IsOneOf all) mentions each.1) e),
     ) in
     let fewer = as_long all (places_of kept) (in_byte_order_ascending ([] ∷ paths_of kept)) (in_byte_order_ascending ([] ∷ paths_of mentions)) own in
     let few = with_placed_length [] ([] ∷ paths_of mentions) in

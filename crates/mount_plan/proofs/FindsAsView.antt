@@ -19,18 +19,21 @@ use Rattle.mount_plan.specs.Plan.{what_of, flags_of, step_at}
 use Rattle.mount_plan.specs.AsView.{shown_by, Agrees}
 
 -- a mount shows below its place what stands there, carried on
-shown_behind : (object : Object) (is_dir : Bool) (place path : Path) → shown_by (what_of object is_dir) place path ≡ object_behind object (rest_of place path)
+shown_behind : (object : Object) (is_dir : Bool) (place path : Path)
+    → shown_by (what_of object is_dir) place path ≡ object_behind object (rest_of place path)
 shown_behind (on_host source) is_dir place path = refl
 shown_behind empty is_dir place path = refl
 shown_behind hidden is_dir place path = refl
 
-flags_behind : (object : Object) (rest : Path) (read_only no_exec : Bool) → flags_of (object_behind object rest) read_only no_exec ≡ flags_of object read_only no_exec
+flags_behind : (object : Object) (rest : Path) (read_only no_exec : Bool)
+    → flags_of (object_behind object rest) read_only no_exec ≡ flags_of object read_only no_exec
 flags_behind (on_host source) rest read_only no_exec = refl
 flags_behind empty rest read_only no_exec = refl
 flags_behind hidden rest read_only no_exec = refl
 
 -- an entry with the view of its own place has the view of a path at which the same mentions decide
-agrees_below : (kept : List Mention) (is_dir : Path → Bool) (place path : Path) → HasNoneBetween kept place path → Agrees kept path (step_at kept is_dir place)
+agrees_below : (kept : List Mention) (is_dir : Path → Bool) (place path : Path) → HasNoneBetween kept place path
+    → Agrees kept path (step_at kept is_dir place)
 agrees_below kept is_dir place path h = record {
   origin = shown_behind (object_at kept place) (is_dir place) place path ∙ sym (same_object kept place path h);
   flags = sym (ap (λ object. flags_of object (is_read_only kept path) (is_no_exec kept path)) (same_object kept place path h)
@@ -40,20 +43,25 @@ agrees_below kept is_dir place path h = record {
 }
 
 -- each kept path is a place, so no kept mention stands between the longest place and the path
-none_between : (kept : List Mention) (places : List Path) (place path : Path) → AllByRecursion (λ mention. Contains places mention.path) kept →
-    AllByRecursion (λ other. is_prefix other path ≡ true → is_prefix other place ≡ true) places → is_prefix place path ≡ true → HasNoneBetween kept place path
+none_between : (kept : List Mention) (places : List Path) (place path : Path)
+    → AllByRecursion (λ mention. Contains places mention.path) kept →
+    AllByRecursion (λ other. is_prefix other path ≡ true → is_prefix other place ≡ true) places → is_prefix place path ≡ true
+    → HasNoneBetween kept place path
 none_between kept places place path has longest leads = record {
   leads = leads;
-  none_between = all_weaker (λ mention. Contains places mention.path) (λ mention. is_prefix mention.path path ≡ true → is_prefix mention.path place ≡ true) kept
+  none_between = all_weaker (λ mention. Contains places mention.path)
+      (λ mention. is_prefix mention.path path ≡ true → is_prefix mention.path place ≡ true) kept
       (λ mention among. All-contains (λ other. is_prefix other path ≡ true → is_prefix other place ≡ true) places mention.path
       (All-from_recursion (λ other. is_prefix other path ≡ true → is_prefix other place ≡ true) places longest) among) has;
 }
 
-pub places_again : (kept : List Mention) (is_dir : Path → Bool) (places : List Path) → map (λ step. step.place) (map (step_at kept is_dir) places) ≡ places
+pub places_again : (kept : List Mention) (is_dir : Path → Bool) (places : List Path)
+    → map (λ step. step.place) (map (step_at kept is_dir) places) ≡ places
 places_again kept is_dir [] = refl
 places_again kept is_dir (place ∷ places) = ap (λ more. place ∷ more) (places_again kept is_dir places)
 
-each_own : (kept : List Mention) (is_dir : Path → Bool) (places : List Path) → AllByRecursion (λ step. step_at kept is_dir step.place ≡ step) (map (step_at kept is_dir) places)
+each_own : (kept : List Mention) (is_dir : Path → Bool) (places : List Path)
+    → AllByRecursion (λ step. step_at kept is_dir step.place ≡ step) (map (step_at kept is_dir) places)
 each_own kept is_dir [] = tt
 each_own kept is_dir (place ∷ places) = (refl, each_own kept is_dir places)
 
@@ -65,8 +73,10 @@ pub record EntryOf (kept : List Mention) (is_dir : Path → Bool) (table : List 
   pub own : step_at kept is_dir step.place ≡ step
   pub leads : is_prefix step.place path ≡ true
 
-pub finds_entry : (kept : List Mention) (is_dir : Path → Bool) (places : List Path) → StartsAtRoot (map (step_at kept is_dir) places) → AreAscending places →
-    AllByRecursion (λ mention. Contains places mention.path) kept → (path : Path) → EntryOf kept is_dir (map (step_at kept is_dir) places) path
+pub finds_entry : (kept : List Mention) (is_dir : Path → Bool) (places : List Path) → StartsAtRoot (map (step_at kept is_dir) places)
+    → AreAscending places →
+    AllByRecursion (λ mention. Contains places mention.path) kept → (path : Path)
+    → EntryOf kept is_dir (map (step_at kept is_dir) places) path
 finds_entry kept is_dir places root up has path =
     let table : List MountStep = map (step_at kept is_dir) places in
     let found = has_entry table path root in
@@ -78,7 +88,8 @@ finds_entry kept is_dir places root up has path =
     record {
       step = step;
       belongs = found.1;
-      agrees = subst (Agrees kept path) own (agrees_below kept is_dir step.place path (none_between kept places step.place path has over leads));
+      agrees = subst (Agrees kept path) own
+          (agrees_below kept is_dir step.place path (none_between kept places step.place path has over leads));
       own = own;
       leads = leads;
     }

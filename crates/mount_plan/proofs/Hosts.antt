@@ -21,7 +21,8 @@ tail_in_text (part ∷ path) = omega arith
 pub short_rows : (site : Site) → IsSite site → AreShortRows (host_of site)
 short_rows site holds path is_dir' e = by (row_at site.rows path) refl e
   where
-    by : (o : Option Row) → row_at site.rows path ≡ o → option_map is_dir (option_map (λ row. row.kind) o) ≡ Some is_dir' → length (tail_of path) ≤ 512
+    by : (o : Option Row) → row_at site.rows path ≡ o → option_map is_dir (option_map (λ row. row.kind) o) ≡ Some is_dir'
+        → length (tail_of path) ≤ 512
     by None found e = absurd (cc)
     by (Some row) found e =
         let own = find_is (IsRowOf site.rows) (λ row. is_same row.path path) site.rows row holds.each_row found in

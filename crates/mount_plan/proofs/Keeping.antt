@@ -1,5 +1,6 @@
 -- How the steps of the code add up to what is kept.
-use Rattle.std.proofs.Common.{◌≡◌, ℕ, suc, ◌+◌, ◌<◌, Bool, true, List, [], ◌∷◌, ◌++◌, map, filter, length, get_or, drop, drop-cons, add-one, Some, None, Result, Ok, Err, refl, sym, ap, ◌∙◌, Bor}
+use Rattle.std.proofs.Common.{◌≡◌, ℕ, suc, ◌+◌, ◌<◌, Bool, true, List, [], ◌∷◌, ◌++◌, map, filter, length, get_or, drop, drop-cons, add-one}
+use Rattle.std.proofs.Common.{Some, None, Result, Ok, Err, refl, sym, ap, ◌∙◌, Bor}
 use Rattle.std.specs.Prelude.{◌||◌, not}
 use Rattle.std.specs.List.{list_any, filter_map, enumerate_from}
 use Rattle.std.proofs.lemmas.Bool.{and_parts}
@@ -10,7 +11,8 @@ use Rattle.path_settings.specs.declared.mentions.Mention.{Mention}
 use Rattle.path_settings.specs.Mentions.{is_origin}
 use Rattle.path_settings.specs.view_map.View.{above, longest}
 use Rattle.path_settings.specs.declared.view_map.rules.Beneath.{Beneath}
-use Rattle.path_settings.specs.view_map.Kept.{Host, Refusal, missing, wrong_kind, is_kept, puts, refusal_of, refusals, unless_refused, kept_among, kept_at, goes_on, kept_from}
+use Rattle.path_settings.specs.view_map.Kept.{Host, Refusal, missing, wrong_kind, is_kept, puts, refusal_of, refusals, unless_refused}
+use Rattle.path_settings.specs.view_map.Kept.{kept_among, kept_at, goes_on, kept_from}
 use Rattle.path_settings.proofs.ViewMapLists.{filter_is, all_weaker, all_trivial}
 use Rattle.path_settings.proofs.Deciding.{longest_is}
 use Rattle.mount_plan.specs.declared.error.PlanError.{PlanError}
@@ -26,34 +28,43 @@ any_lent test [] = refl
 any_lent test (x ∷ xs) = ap (λ b. test x.now || b) (any_lent test xs)
 
 -- the longest mention above a path leads to it
-pub above_leads : (kept : List Mention) (path : Path) (one : ℕ × Mention) → longest is_origin (above path kept) ≡ Some one → is_prefix one.1.path path ≡ true
+pub above_leads : (kept : List Mention) (path : Path) (one : ℕ × Mention) → longest is_origin (above path kept) ≡ Some one
+    → is_prefix one.1.path path ≡ true
 above_leads kept path one e = longest_is (λ found. is_prefix found.1.path path ≡ true) is_origin (above path kept) one
-    (filter_is (λ found. is_below path found.1.path) (λ found. is_origin found.1.kind ≡ true → is_prefix found.1.path path ≡ true) (enumerate_from 0 kept)
-    (all_weaker (λ found. Unit {0}) (λ found. is_below path found.1.path ≡ true → is_origin found.1.kind ≡ true → is_prefix found.1.path path ≡ true) (enumerate_from 0 kept)
-    (λ found _ over says. (and_parts (is_prefix found.1.path path) (not (is_same found.1.path path)) over).0) (all_trivial (enumerate_from 0 kept)))) e
+    (filter_is (λ found. is_below path found.1.path) (λ found. is_origin found.1.kind ≡ true → is_prefix found.1.path path ≡ true)
+    (enumerate_from 0 kept)
+    (all_weaker (λ found. Unit {0}) (λ found. is_below path found.1.path ≡ true → is_origin found.1.kind ≡ true
+    → is_prefix found.1.path path ≡ true) (enumerate_from 0 kept)
+    (λ found _ over says. (and_parts (is_prefix found.1.path path) (not (is_same found.1.path path)) over).0)
+    (all_trivial (enumerate_from 0 kept)))) e
 
 -- the refusals of one part of the mentions at a path
 abbrev pub refusals_of : Host → Beneath → Bool → Part → List Mention → List Refusal
 refusals_of row_at here put part mentions =
-    filter_map (λ mention. refusal_of mention (fate_beside row_at here put mention)) (filter (λ mention. is_asked part mention.kind) mentions)
+    filter_map (λ mention. refusal_of mention (fate_beside row_at here put mention))
+    (filter (λ mention. is_asked part mention.kind) mentions)
 
 -- those of all are those of the two parts
 both_parts : (row_at : Host) (here : Beneath) (mentions : List Mention) →
-    refusals row_at here mentions ≡ refusals_of row_at here (list_any (puts row_at here) mentions) Origins mentions ++ refusals_of row_at here (list_any (puts row_at here) mentions) Flags mentions
+    refusals row_at here mentions ≡ refusals_of row_at here (list_any (puts row_at here) mentions) Origins mentions ++ refusals_of row_at
+    here (list_any (puts row_at here) mentions) Flags mentions
 both_parts row_at here mentions =
     filter_map-append (λ mention. refusal_of mention (fate_beside row_at here (list_any (puts row_at here) mentions) mention))
     (filter (λ mention. is_origin mention.kind) mentions) (filter (λ mention. not (is_origin mention.kind)) mentions)
 
-first_part : (refused more : List Refusal) (refusal : Refusal) (found : List Mention) → first_of refused ≡ Some refusal → unless_refused (refused ++ more) found ≡ Err refusal
+first_part : (refused more : List Refusal) (refusal : Refusal) (found : List Mention) → first_of refused ≡ Some refusal
+    → unless_refused (refused ++ more) found ≡ Err refusal
 first_part [] more refusal found e = absurd (cc)
 first_part (first ∷ refused) more refusal found e = let same : first ≡ refusal = cc in ap Err same
 
-second_part : (none refused : List Refusal) (refusal : Refusal) (found : List Mention) → first_of none ≡ None → first_of refused ≡ Some refusal → unless_refused (none ++ refused) found ≡ Err refusal
+second_part : (none refused : List Refusal) (refusal : Refusal) (found : List Mention) → first_of none ≡ None
+    → first_of refused ≡ Some refusal → unless_refused (none ++ refused) found ≡ Err refusal
 second_part [] [] refusal found h e = absurd (cc)
 second_part [] (first ∷ refused) refusal found h e = let same : first ≡ refusal = cc in ap Err same
 second_part (first ∷ none) refused refusal found h e = absurd (cc)
 
-no_part : (none refused : List Refusal) (found : List Mention) → first_of none ≡ None → first_of refused ≡ None → unless_refused (none ++ refused) found ≡ Ok found
+no_part : (none refused : List Refusal) (found : List Mention) → first_of none ≡ None → first_of refused ≡ None
+    → unless_refused (none ++ refused) found ≡ Ok found
 no_part [] [] found h e = refl
 no_part [] (first ∷ refused) found h e = absurd (cc)
 no_part (first ∷ none) refused found h e = absurd (cc)
@@ -61,42 +72,65 @@ no_part (first ∷ none) refused found h e = absurd (cc)
 -- what is kept among the mentions at a path, by the refusals of the two parts
 abbrev among_by : Host → Beneath → List Mention → Bool → Result (List Mention) Refusal
 among_by row_at here mentions put =
-    unless_refused (refusals_of row_at here put Origins mentions ++ refusals_of row_at here put Flags mentions) (filter (λ mention. is_kept (fate_beside row_at here put mention)) mentions)
+    unless_refused (refusals_of row_at here put Origins mentions ++ refusals_of row_at here put Flags mentions)
+    (filter (λ mention. is_kept (fate_beside row_at here put mention)) mentions)
 
-among_is : (row_at : Host) (here : Beneath) (mentions : List Mention) (put : Bool) → put ≡ list_any (puts row_at here) mentions → kept_among row_at here mentions ≡ among_by row_at here mentions put
+among_is : (row_at : Host) (here : Beneath) (mentions : List Mention) (put : Bool) → put ≡ list_any (puts row_at here) mentions
+    → kept_among row_at here mentions ≡ among_by row_at here mentions put
 among_is row_at here mentions put e =
-    ap (λ refused. unless_refused refused (filter (λ mention. is_kept (fate_beside row_at here (list_any (puts row_at here) mentions) mention)) mentions)) (both_parts row_at here mentions)
+    ap (λ refused. unless_refused refused
+    (filter (λ mention. is_kept (fate_beside row_at here (list_any (puts row_at here) mentions) mention)) mentions))
+    (both_parts row_at here mentions)
     ∙ ap (among_by row_at here mentions) (sym e)
 
-pub origin_refused : (row_at : Host) (here : Beneath) (mentions old : List Mention) (put : Bool) (error : PlanError) → put ≡ list_any (puts row_at here) mentions →
-    Refuses (first_of (refusals_of row_at here put Origins mentions)) (Err error) → AddsKept (kept_among row_at here mentions) old old (Err error)
+pub origin_refused : (row_at : Host) (here : Beneath) (mentions old : List Mention) (put : Bool) (error : PlanError)
+    → put ≡ list_any (puts row_at here) mentions →
+    Refuses (first_of (refusals_of row_at here put Origins mentions)) (Err error)
+    → AddsKept (kept_among row_at here mentions) old old (Err error)
 origin_refused row_at here mentions old put Memory same h = tt
-origin_refused row_at here mentions old put (Missing path) same h = among_is row_at here mentions put same ∙ first_part (refusals_of row_at here put Origins mentions) (refusals_of row_at here put Flags mentions) (missing path) _ h
-origin_refused row_at here mentions old put (Kind path) same h = among_is row_at here mentions put same ∙ first_part (refusals_of row_at here put Origins mentions) (refusals_of row_at here put Flags mentions) (wrong_kind path) _ h
+origin_refused row_at here mentions old put (Missing path) same h = among_is row_at here mentions put same
+    ∙ first_part (refusals_of row_at here put Origins mentions) (refusals_of row_at here put Flags mentions) (missing path) _ h
+origin_refused row_at here mentions old put (Kind path) same h = among_is row_at here mentions put same
+    ∙ first_part (refusals_of row_at here put Origins mentions) (refusals_of row_at here put Flags mentions) (wrong_kind path) _ h
 
-pub flag_refused : (row_at : Host) (here : Beneath) (mentions old : List Mention) (put : Bool) (error : PlanError) → put ≡ list_any (puts row_at here) mentions →
-    first_of (refusals_of row_at here put Origins mentions) ≡ None → Refuses (first_of (refusals_of row_at here put Flags mentions)) (Err error) → AddsKept (kept_among row_at here mentions) old old (Err error)
+pub flag_refused : (row_at : Host) (here : Beneath) (mentions old : List Mention) (put : Bool) (error : PlanError)
+    → put ≡ list_any (puts row_at here) mentions →
+    first_of (refusals_of row_at here put Origins mentions) ≡ None
+    → Refuses (first_of (refusals_of row_at here put Flags mentions)) (Err error)
+    → AddsKept (kept_among row_at here mentions) old old (Err error)
 flag_refused row_at here mentions old put Memory same none h = tt
-flag_refused row_at here mentions old put (Missing path) same none h = among_is row_at here mentions put same ∙ second_part (refusals_of row_at here put Origins mentions) (refusals_of row_at here put Flags mentions) (missing path) _ none h
-flag_refused row_at here mentions old put (Kind path) same none h = among_is row_at here mentions put same ∙ second_part (refusals_of row_at here put Origins mentions) (refusals_of row_at here put Flags mentions) (wrong_kind path) _ none h
+flag_refused row_at here mentions old put (Missing path) same none h = among_is row_at here mentions put same
+    ∙ second_part (refusals_of row_at here put Origins mentions) (refusals_of row_at here put Flags mentions) (missing path) _ none h
+flag_refused row_at here mentions old put (Kind path) same none h = among_is row_at here mentions put same
+    ∙ second_part (refusals_of row_at here put Origins mentions) (refusals_of row_at here put Flags mentions) (wrong_kind path) _ none h
 
-pub none_refused : (row_at : Host) (here : Beneath) (mentions old new : List Mention) (put : Bool) → put ≡ list_any (puts row_at here) mentions →
+pub none_refused : (row_at : Host) (here : Beneath) (mentions old new : List Mention) (put : Bool)
+    → put ≡ list_any (puts row_at here) mentions →
     first_of (refusals_of row_at here put Origins mentions) ≡ None → first_of (refusals_of row_at here put Flags mentions) ≡ None →
-    new ≡ old ++ filter (λ mention. is_kept (fate_beside row_at here put mention)) mentions → (more : List Mention) × (kept_among row_at here mentions ≡ Ok more) × (new ≡ old ++ more)
+    new ≡ old ++ filter (λ mention. is_kept (fate_beside row_at here put mention)) mentions
+    → (more : List Mention) × (kept_among row_at here mentions ≡ Ok more) × (new ≡ old ++ more)
 none_refused row_at here mentions old new put same none neither e = (
   filter (λ mention. is_kept (fate_beside row_at here put mention)) mentions,
-  among_is row_at here mentions put same ∙ no_part (refusals_of row_at here put Origins mentions) (refusals_of row_at here put Flags mentions) _ none neither,
+  among_is row_at here mentions put same ∙ no_part (refusals_of row_at here put Origins mentions)
+      (refusals_of row_at here put Flags mentions) _ none neither,
   e,
 )
 
-pub from_refused : (row_at : Host) (mentions old new : List Mention) (path : Path) (paths : List Path) (error : PlanError) → AddsKept (kept_at row_at mentions old path) old new (Err error) → Keeps (kept_from row_at mentions (path ∷ paths) old) (Err error)
+pub from_refused : (row_at : Host) (mentions old new : List Mention) (path : Path) (paths : List Path) (error : PlanError)
+    → AddsKept (kept_at row_at mentions old path) old new (Err error) → Keeps (kept_from row_at mentions (path ∷ paths) old) (Err error)
 from_refused row_at mentions old new path paths Memory h = tt
-from_refused row_at mentions old new path paths (Missing told) h = ap (λ r. goes_on r (λ more. kept_from row_at mentions paths (old ++ more))) h
-from_refused row_at mentions old new path paths (Kind told) h = ap (λ r. goes_on r (λ more. kept_from row_at mentions paths (old ++ more))) h
+from_refused row_at mentions old new path paths (Missing told) h =
+    ap (λ r. goes_on r (λ more. kept_from row_at mentions paths (old ++ more))) h
+from_refused row_at mentions old new path paths (Kind told) h =
+    ap (λ r. goes_on r (λ more. kept_from row_at mentions paths (old ++ more))) h
 
-pub from_goes : (row_at : Host) (mentions old new : List Mention) (path : Path) (paths : List Path) → (more : List Mention) × (kept_at row_at mentions old path ≡ Ok more) × (new ≡ old ++ more) →
+pub from_goes : (row_at : Host) (mentions old new : List Mention) (path : Path) (paths : List Path)
+    → (more : List Mention) × (kept_at row_at mentions old path ≡ Ok more) × (new ≡ old ++ more) →
     kept_from row_at mentions (path ∷ paths) old ≡ kept_from row_at mentions paths new
-from_goes row_at mentions old new path paths h = ap (λ r. goes_on r (λ more. kept_from row_at mentions paths (old ++ more))) h.1 ∙ ap (kept_from row_at mentions paths) (sym h.2)
+from_goes row_at mentions old new path paths h = ap (λ r. goes_on r (λ more. kept_from row_at mentions paths (old ++ more))) h.1
+    ∙ ap (kept_from row_at mentions paths) (sym h.2)
 
-pub drop_item : (paths : List Path) (i : ℕ) (path : Path) → i < length paths → path ≡ get_or paths i path → drop i paths ≡ path ∷ drop (i + 1) paths
-drop_item paths i path lt e = drop-cons paths i path lt ∙ ap (λ p. p ∷ drop (suc i) paths) (sym e) ∙ ap (λ n. path ∷ drop n paths) (sym (add-one i))
+pub drop_item : (paths : List Path) (i : ℕ) (path : Path) → i < length paths → path ≡ get_or paths i path
+    → drop i paths ≡ path ∷ drop (i + 1) paths
+drop_item paths i path lt e = drop-cons paths i path lt ∙ ap (λ p. p ∷ drop (suc i) paths) (sym e)
+    ∙ ap (λ n. path ∷ drop n paths) (sym (add-one i))

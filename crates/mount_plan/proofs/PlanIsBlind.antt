@@ -46,7 +46,8 @@ below_last (own ∷ (next ∷ one)) [] part = by (bytes_eq own part)
     by false = refl
 below_last (own ∷ one) (other ∷ path) part = by (bytes_eq own other) (below_last one path part)
   where
-    by : (b : Bool) → is_below (path ++ part ∷ []) one ≡ is_prefix one path → ((b && is_prefix one (path ++ part ∷ [])) && not (b && is_same one (path ++ part ∷ []))) ≡ (b && is_prefix one path)
+    by : (b : Bool) → is_below (path ++ part ∷ []) one ≡ is_prefix one path
+        → ((b && is_prefix one (path ++ part ∷ [])) && not (b && is_same one (path ++ part ∷ []))) ≡ (b && is_prefix one path)
     by true more = more
     by false more = refl
 
@@ -86,15 +87,19 @@ module _ (folder : Path) (row_at : Host) (kept : List Mention) (normal : AllByRe
       let found = table_finds row_at kept normal path in
       by found.0 found.0.what refl found.1 (found.2.origin ∙ shows)
     where
-      by : (step : MountStep) (what' : What) → step.what ≡ what' → entry_of (table_of row_at kept) path ≡ Some step → shown_by step.what step.place path ≡ on_host own → is_prefix folder own ≡ false
+      by : (step : MountStep) (what' : What) → step.what ≡ what' → entry_of (table_of row_at kept) path ≡ Some step
+          → shown_by step.what step.place path ≡ on_host own → is_prefix folder own ≡ false
       by step (what.Host source) is belongs shown =
           let place : on_host (source ++ rest_of step.place path) ≡ on_host own = sym (ap (λ (w : What). shown_by w step.place path) is) ∙ shown in
           let same : source ++ rest_of step.place path ≡ own = cc in
-          nothing path own (ap (option_and_then (λ (s : MountStep). host_place_by s.what s.place path)) belongs ∙ ap (λ (w : What). host_place_by w step.place path) is ∙ ap (λ (p : Path). Some p) same)
+          nothing path own (ap (option_and_then (λ (s : MountStep). host_place_by s.what s.place path)) belongs
+          ∙ ap (λ (w : What). host_place_by w step.place path) is ∙ ap (λ (p : Path). Some p) same)
       by step what.Empty is belongs shown = absurd (empty_differs own (sym (ap (λ (w : What). shown_by w step.place path) is) ∙ shown))
-      by step (what.Hidden directory) is belongs shown = absurd (hidden_differs own (sym (ap (λ (w : What). shown_by w step.place path) is) ∙ shown))
+      by step (what.Hidden directory) is belongs shown = absurd
+          (hidden_differs own (sym (ap (λ (w : What). shown_by w step.place path) is) ∙ shown))
 
-  behind : (front : Path) (part : List ℕ) (object : Object) → object_at kept front ≡ object → AllByRecursion (IsOutside folder) (place_of (object_behind object (rest_of front (front ++ part ∷ []))))
+  behind : (front : Path) (part : List ℕ) (object : Object) → object_at kept front ≡ object
+      → AllByRecursion (IsOutside folder) (place_of (object_behind object (rest_of front (front ++ part ∷ []))))
   behind front part (on_host own) is =
       let out : is_below (own ++ part ∷ []) folder ≡ false = below_last folder own part ∙ not_below front own is in
       (ap (λ (rest : Path). is_below (own ++ rest) folder) (rest_last front part) ∙ out, tt)
@@ -109,7 +114,8 @@ module _ (folder : Path) (row_at : Host) (kept : List Mention) (normal : AllByRe
   asked_outside : (path : Path) → LastOf path → AllByRecursion (IsOutside folder) (beneath_place kept path)
   asked_outside _ no_part =
       let none : above [] kept ≡ [] = filter_none (λ one. is_below [] one.1.path) (enumerate_from 0 kept) (all_enumerated (λ mention. is_below [] mention.path ≡ false) 0 kept (none_above_root kept)) in
-      subst (λ found. AllByRecursion (IsOutside folder) (place_of (object_from (longest is_origin found) []))) (sym none) (root_not_below folder, tt)
+      subst (λ found. AllByRecursion (IsOutside folder) (place_of (object_from (longest is_origin found) []))) (sym none)
+      (root_not_below folder, tt)
   asked_outside _ (a_part front part) =
       let path : Path = front ++ part ∷ [] in
       let same : above path kept ≡ leading_to front kept =
@@ -119,15 +125,18 @@ module _ (folder : Path) (row_at : Host) (kept : List Mention) (normal : AllByRe
       subst (λ found. AllByRecursion (IsOutside folder) (place_of (object_from (longest is_origin found) path))) (sym same)
       (subst (λ (o : Object). AllByRecursion (IsOutside folder) (place_of o)) carried (behind front part (object_at kept front) refl))
     where
-      each : (front : Path) (part : List ℕ) (mentions : List Mention) → AllByRecursion (λ mention. is_below (front ++ part ∷ []) mention.path ≡ is_prefix mention.path front) mentions
+      each : (front : Path) (part : List ℕ) (mentions : List Mention)
+          → AllByRecursion (λ mention. is_below (front ++ part ∷ []) mention.path ≡ is_prefix mention.path front) mentions
       each front part [] = tt
       each front part (mention ∷ mentions) = (below_last mention.path front part, each front part mentions)
 
   places_outside : (places : List Path) → AllByRecursion (IsOutside folder) (beneath_places kept places)
   places_outside [] = tt
-  places_outside (place ∷ places) = all_appended (IsOutside folder) (beneath_place kept place) (beneath_places kept places) (asked_outside place (last_part place)) (places_outside places)
+  places_outside (place ∷ places) = all_appended (IsOutside folder) (beneath_place kept place) (beneath_places kept places)
+      (asked_outside place (last_part place)) (places_outside places)
 
-same_there : (folder : Path) (row_at other : Host) → AgreeButBelow folder row_at other → (paths : List Path) → AllByRecursion (IsOutside folder) paths → AreSame row_at other paths
+same_there : (folder : Path) (row_at other : Host) → AgreeButBelow folder row_at other → (paths : List Path)
+    → AllByRecursion (IsOutside folder) paths → AreSame row_at other paths
 same_there folder row_at other agree [] out = tt
 same_there folder row_at other agree (path ∷ paths) out = (agree path out.0, same_there folder row_at other agree paths out.1)
 

@@ -33,7 +33,8 @@ AreNormal mentions = AllByRecursion (λ mention. is_normal mention.path ≡ true
 pub kept_places : (kept : List Mention) → AreNormal kept → AllByRecursion (λ mention. Contains (places_of kept) mention.path) kept
 kept_places kept normal =
     mapped_all (λ mention. mention.path) (Contains (places_of kept)) kept
-    (in_byte_order_was (Contains (places_of kept)) ([] ∷ paths_of kept) (refl, all_mapped (λ mention. mention.path) (λ path. is_normal path ≡ true) kept normal)
+    (in_byte_order_was (Contains (places_of kept)) ([] ∷ paths_of kept)
+    (refl, all_mapped (λ mention. mention.path) (λ path. is_normal path ≡ true) kept normal)
     (recursion_from_All (Contains (places_of kept)) (places_of kept) (All-contains_itself (places_of kept)))).1
 
 -- the first place is the root
@@ -42,15 +43,18 @@ starts_at_root row_at kept =
     let first = root_first (paths_of kept) in
     subst (λ (places : List Path). StartsAtRoot (map (step_at kept (hides_dir_at row_at kept)) places)) (sym first.1) refl
 
-pub table_entry : (row_at : Host) (kept : List Mention) → AreNormal kept → (path : Path) → EntryOf kept (hides_dir_at row_at kept) (table_of row_at kept) path
+pub table_entry : (row_at : Host) (kept : List Mention) → AreNormal kept → (path : Path)
+    → EntryOf kept (hides_dir_at row_at kept) (table_of row_at kept) path
 table_entry row_at kept normal path =
-    finds_entry kept (hides_dir_at row_at kept) (places_of kept) (starts_at_root row_at kept) (in_byte_order_ascending ([] ∷ paths_of kept)) (kept_places kept normal) path
+    finds_entry kept (hides_dir_at row_at kept) (places_of kept) (starts_at_root row_at kept)
+    (in_byte_order_ascending ([] ∷ paths_of kept)) (kept_places kept normal) path
 
 pub table_finds : (row_at : Host) (kept : List Mention) → AreNormal kept → FindsAsView kept (table_of row_at kept)
 table_finds row_at kept normal path = let entry = table_entry row_at kept normal path in (entry.step, entry.belongs, entry.agrees)
 
 pub table_ascends : (row_at : Host) (kept : List Mention) → AreAscending (map (λ step. step.place) (table_of row_at kept))
-table_ascends row_at kept = subst AreAscending (sym (places_again kept (hides_dir_at row_at kept) (places_of kept))) (in_byte_order_ascending ([] ∷ paths_of kept))
+table_ascends row_at kept = subst AreAscending (sym (places_again kept (hides_dir_at row_at kept) (places_of kept)))
+    (in_byte_order_ascending ([] ∷ paths_of kept))
 
 -- no mention says what stands at the root
 abbrev pub LeaveTheRoot : List Mention → Type 0
@@ -72,7 +76,8 @@ pub root_on_host : (kept : List Mention) → LeaveTheRoot kept → object_at kep
 root_on_host kept free = ap (λ o. object_from o []) (longest_none is_origin (leading_to [] kept)
     (filter_is (λ one. is_prefix one.1.path []) (λ one. is_origin one.1.kind ≡ false) (enumerate_from 0 kept)
     (all_enumerated (λ mention. is_prefix mention.path [] ≡ true → is_origin mention.kind ≡ false) 0 kept
-    (all_weaker (λ mention. mention.path ≡ [] → is_origin mention.kind ≡ false) (λ mention. is_prefix mention.path [] ≡ true → is_origin mention.kind ≡ false) kept
+    (all_weaker (λ mention. mention.path ≡ [] → is_origin mention.kind ≡ false)
+    (λ mention. is_prefix mention.path [] ≡ true → is_origin mention.kind ≡ false) kept
     (λ mention h leads. h (under_root mention.path leads)) free))))
 
 pub begins_at_root : (row_at : Host) (kept : List Mention) → LeaveTheRoot kept → BeginsAtRoot (table_of row_at kept)
@@ -82,7 +87,8 @@ begins_at_root row_at kept free =
     (refl, ap (λ object. what_of object (hides_dir_at row_at kept [])) (root_on_host kept free))
 
 -- each place is the root or the path of a mention
-pub places_mentioned : (row_at : Host) (mentions kept : List Mention) → kept_of row_at mentions ≡ Ok kept → HasPlacesOf mentions (table_of row_at kept)
+pub places_mentioned : (row_at : Host) (mentions kept : List Mention) → kept_of row_at mentions ≡ Ok kept
+    → HasPlacesOf mentions (table_of row_at kept)
 places_mentioned row_at mentions kept e =
     let IsOne : Path → Type 0 = λ place. (place ≡ []) ⊎ Contains (paths_of mentions) place in
     all_mapped (step_at kept (hides_dir_at row_at kept)) (λ step. IsOne step.place) (places_of kept)
@@ -100,7 +106,8 @@ places_mentioned row_at mentions kept e =
 pub hidden_plain : (row_at : Host) (kept : List Mention) → AllByRecursion IsPlainIfHidden (table_of row_at kept)
 hidden_plain row_at kept = each (places_of kept)
   where
-    by : (kept : List Mention) (place : Path) (is_dir read_only no_exec : Bool) (object : Object) → IsPlainIfHidden (record { place = place; what = what_of object is_dir; flags = flags_of object read_only no_exec })
+    by : (kept : List Mention) (place : Path) (is_dir read_only no_exec : Bool) (object : Object)
+        → IsPlainIfHidden (record { place = place; what = what_of object is_dir; flags = flags_of object read_only no_exec })
     by kept place is_dir read_only no_exec (on_host path) = tt
     by kept place is_dir read_only no_exec empty = tt
     by kept place is_dir read_only no_exec hidden = refl
@@ -123,12 +130,14 @@ keep_user_ids row_at kept = each (places_of kept)
     each (place ∷ places) = (by (object_at kept place) _ _, each places)
 
 -- each place is a normal path, and as short as the mentions' paths
-pub short_places_of : (row_at : Host) (mentions kept : List Mention) → AreNormal mentions → AllByRecursion (λ mention. length (text_of mention.path) ≤ 250) mentions → kept_of row_at mentions ≡ Ok kept →
+pub short_places_of : (row_at : Host) (mentions kept : List Mention) → AreNormal mentions
+    → AllByRecursion (λ mention. length (text_of mention.path) ≤ 250) mentions → kept_of row_at mentions ≡ Ok kept →
     AllByRecursion HasShortPlace (table_of row_at kept)
 short_places_of row_at mentions kept normal short e =
     let IsPlace : Path → Type 0 = λ place. (is_normal place ≡ true) × (length (text_of place) ≤ 250) in
     all_mapped (step_at kept (hides_dir_at row_at kept)) HasShortPlace (places_of kept)
-    (all_weaker IsPlace (λ place. HasShortPlace (step_at kept (hides_dir_at row_at kept) place)) (places_of kept) (λ place fits. record { normal = fits.0; short = fits.1 })
+    (all_weaker IsPlace (λ place. HasShortPlace (step_at kept (hides_dir_at row_at kept) place)) (places_of kept)
+    (λ place fits. record { normal = fits.0; short = fits.1 })
     (in_byte_order_is IsPlace ([] ∷ paths_of kept) (
       (refl, omega arith),
       all_mapped (λ mention. mention.path) IsPlace kept
@@ -137,6 +146,7 @@ short_places_of row_at mentions kept normal short e =
           (kept_is (λ mention. length (text_of mention.path) ≤ 250) row_at mentions kept short e)),
     )))
   where
-    all_both : {X : Type 0} (P Q : X → Type 0) (xs : List X) → AllByRecursion P xs → AllByRecursion Q xs → AllByRecursion (λ x. P x × Q x) xs
+    all_both : {X : Type 0} (P Q : X → Type 0) (xs : List X) → AllByRecursion P xs → AllByRecursion Q xs
+        → AllByRecursion (λ x. P x × Q x) xs
     all_both P Q [] h g = tt
     all_both P Q (x ∷ xs) h g = ((h.0, g.0), all_both P Q xs h.1 g.1)

@@ -15,7 +15,8 @@ use Rattle.mount_plan.specs.Plan.{places_of, step_at, what_of, flags_of, hides_d
 use Rattle.mount_plan.specs.Resting.{PlanRestsOnItsPlaces}
 
 module _ (row_at other : Host) where
-  steps_same : (kept : List Mention) (places : List Path) → AreSame row_at other (beneath_places kept places) → map (step_at kept (hides_dir_at other kept)) places ≡ map (step_at kept (hides_dir_at row_at kept)) places
+  steps_same : (kept : List Mention) (places : List Path) → AreSame row_at other (beneath_places kept places)
+      → map (step_at kept (hides_dir_at other kept)) places ≡ map (step_at kept (hides_dir_at row_at kept)) places
   steps_same kept [] same = refl
   steps_same kept (place ∷ places) same =
       let parts = all_parts (λ p. other p ≡ row_at p) (beneath_place kept place) (beneath_places kept places) same in

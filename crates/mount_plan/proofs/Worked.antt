@@ -59,7 +59,8 @@ read_only_on_a_tie : planned (says srv Ro ∷ says srv Rw ∷ says srv_a NoExec 
 read_only_on_a_tie = refl
 
 -- a read-write path below a hidden one stays hidden
-not_reopened : planned (says srv_a Rw ∷ says srv Hide ∷ []) ≡ Ok (step [] (what.Host []) no_flags ∷ step srv (what.Hidden true) no_flags ∷ [])
+not_reopened : planned (says srv_a Rw ∷ says srv Hide ∷ []) ≡ Ok
+    (step [] (what.Host []) no_flags ∷ step srv (what.Hidden true) no_flags ∷ [])
 not_reopened = refl
 
 -- a hidden file, and what is hidden below an empty file system is a directory

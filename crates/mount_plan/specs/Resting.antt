@@ -13,7 +13,8 @@ use Rattle.mount_plan.specs.Plan.{table_of, places_of}
 
 -- the plan of kept mentions rests on what stands beneath its places alone
 abbrev pub PlanRestsOnItsPlaces : Type 0
-PlanRestsOnItsPlaces = (row_at other : Host) (kept : List Mention) → AreSame row_at other (beneath_places kept (places_of kept)) → table_of other kept ≡ table_of row_at kept
+PlanRestsOnItsPlaces = (row_at other : Host) (kept : List Mention) → AreSame row_at other (beneath_places kept (places_of kept))
+    → table_of other kept ≡ table_of row_at kept
 
 -- both have the same but strictly below the folder
 abbrev pub AgreeButBelow : Path → Host → Host → Type 0
@@ -25,6 +26,7 @@ ShowsNothingOf table folder = (path place : Path) → host_place table path ≡ 
 
 -- what a plan does not show of a host does not change it
 abbrev pub PlanIsBlind : Type 0
-PlanIsBlind = (folder : Path) (row_at other : Host) (mentions kept : List Mention) → AllByRecursion (λ mention. is_normal mention.path ≡ true) mentions → kept_of row_at mentions ≡ Ok kept
+PlanIsBlind = (folder : Path) (row_at other : Host) (mentions kept : List Mention)
+    → AllByRecursion (λ mention. is_normal mention.path ≡ true) mentions → kept_of row_at mentions ≡ Ok kept
     → AreSameSources row_at other mentions → AgreeButBelow folder row_at other → ShowsNothingOf (table_of row_at kept) folder
     → (kept_of other mentions ≡ Ok kept) × (table_of other kept ≡ table_of row_at kept)

@@ -6,7 +6,9 @@ use Rattle.std.specs.Option.{option_map}
 use Rattle.std.proofs.lemmas.List.Folds.{list_all-append}
 use Rattle.path_settings.specs.abs_path.Paths.{Path}
 use Rattle.path_settings.specs.declared.keys.PathKey.{PathKey}
-use Rattle.path_settings.specs.declared.keys.PathKey.TheVariants.{ReadWritePaths, ReadOnlyPaths, InaccessiblePaths, ExecPaths, NoExecPaths, BindPaths, BindReadOnlyPaths, TemporaryFileSystem, StateDirectory, RuntimeDirectory, CacheDirectory, LogsDirectory}
+use Rattle.path_settings.specs.declared.keys.PathKey.TheVariants.{ReadWritePaths, ReadOnlyPaths, InaccessiblePaths, ExecPaths, NoExecPaths}
+use Rattle.path_settings.specs.declared.keys.PathKey.TheVariants.{BindPaths, BindReadOnlyPaths, TemporaryFileSystem, StateDirectory}
+use Rattle.path_settings.specs.declared.keys.PathKey.TheVariants.{RuntimeDirectory, CacheDirectory, LogsDirectory}
 use Rattle.path_settings.specs.declared.mentions.Kind.{Kind}
 use Rattle.path_settings.specs.declared.mentions.Kind.TheVariants.{Ro, Rw, Exec, NoExec}
 use Rattle.path_settings.specs.declared.mentions.Mention.{Mention}
@@ -39,7 +41,8 @@ any_fits key None among = refl
 any_fits key (Some mention) among = ap (λ v. not (is_origin mention.kind) || v) among ∙ or_true (not (is_origin mention.kind))
 
 -- a kind that does not say what stands there fits each key
-use_fits : (key : PathKey) (kind : Kind) (optional : Bool) (path : Option Path) → is_origin kind ≡ false → fits key (option_map (λ place. record { path = place; kind = kind; optional = optional }) path) ≡ true
+use_fits : (key : PathKey) (kind : Kind) (optional : Bool) (path : Option Path) → is_origin kind ≡ false
+    → fits key (option_map (λ place. record { path = place; kind = kind; optional = optional }) path) ≡ true
 use_fits key kind optional None plain = refl
 use_fits key kind optional (Some path) plain = ap (λ v. not v || list_any (is_key key) root_keys) plain
 
@@ -48,7 +51,9 @@ path_fits key kind word plain = use_fits key kind (is_marked word) (setting_path
 
 folder_fits : (key : PathKey) (folder name : List ℕ) → fits key (folder_mention folder name) ≡ true
 folder_fits key folder name =
-    elim (is_relative name) as (λ v. fits key (cond v (option_map (λ path. record { path = path; kind = Rw; optional = true }) (setting_path (text_below folder name))) None) ≡ true) [
+    elim (is_relative name) as
+    (λ v. fits key (cond v
+    (option_map (λ path. record { path = path; kind = Rw; optional = true }) (setting_path (text_below folder name))) None) ≡ true) [
       | true ↦ use_fits key Rw true (setting_path (text_below folder name)) refl
       | false ↦ refl
     ]
@@ -68,19 +73,28 @@ mention_fits CacheDirectory word = folder_fits CacheDirectory (codes "/var/cache
 mention_fits LogsDirectory word = folder_fits LogsDirectory (codes "/var/log") word
 
 -- what holds of each mention that a word of a key is holds of all that is written
-one_holds : (q : PathKey → Mention → Bool) (key : PathKey) (mention : Option Mention) (rest : List WrittenPath) → ((m : Mention) → mention ≡ Some m → q key m ≡ true) → list_all (λ path. q path.key path.mention) rest ≡ true → list_all (λ path. q path.key path.mention) (cons_option (option_map (λ m. record { key = key; mention = m }) mention) rest) ≡ true
+one_holds : (q : PathKey → Mention → Bool) (key : PathKey) (mention : Option Mention) (rest : List WrittenPath)
+    → ((m : Mention) → mention ≡ Some m → q key m ≡ true) → list_all (λ path. q path.key path.mention) rest ≡ true
+    → list_all (λ path. q path.key path.mention) (cons_option (option_map (λ m. record { key = key; mention = m }) mention) rest) ≡ true
 one_holds q key None rest h all = all
 one_holds q key (Some mention) rest h all = ap (λ v. v && list_all (λ path. q path.key path.mention) rest) (h mention refl) ∙ all
 
-words_hold : (q : PathKey → Mention → Bool) → ((key : PathKey) (word : List ℕ) (mention : Mention) → mention_of key word ≡ Some mention → q key mention ≡ true) → (key : PathKey) (words : List (List ℕ)) → list_all (λ path. q path.key path.mention) (paths_in key words) ≡ true
+words_hold : (q : PathKey → Mention → Bool)
+    → ((key : PathKey) (word : List ℕ) (mention : Mention) → mention_of key word ≡ Some mention → q key mention ≡ true)
+    → (key : PathKey) (words : List (List ℕ)) → list_all (λ path. q path.key path.mention) (paths_in key words) ≡ true
 words_hold q h key [] = refl
-words_hold q h key (word ∷ words) = one_holds q key (mention_of key word) (paths_in key words) (λ mention e. h key word mention e) (words_hold q h key words)
+words_hold q h key (word ∷ words) = one_holds q key (mention_of key word) (paths_in key words) (λ mention e. h key word mention e)
+    (words_hold q h key words)
 
-in_force_hold : (q : PathKey → Mention → Bool) → ((key : PathKey) (word : List ℕ) (mention : Mention) → mention_of key word ≡ Some mention → q key mention ≡ true) → (reset : Bool) (one : Assigned) → list_all (λ path. q path.key path.mention) (cond reset [] (gives one)) ≡ true
+in_force_hold : (q : PathKey → Mention → Bool)
+    → ((key : PathKey) (word : List ℕ) (mention : Mention) → mention_of key word ≡ Some mention → q key mention ≡ true)
+    → (reset : Bool) (one : Assigned) → list_all (λ path. q path.key path.mention) (cond reset [] (gives one)) ≡ true
 in_force_hold q h true one = refl
 in_force_hold q h false one = words_hold q h one.key (unwrap_or (split one.value.text) [])
 
-all_hold : (q : PathKey → Mention → Bool) → ((key : PathKey) (word : List ℕ) (mention : Mention) → mention_of key word ≡ Some mention → q key mention ≡ true) → (values : List Assigned) → list_all (λ path. q path.key path.mention) (written values) ≡ true
+all_hold : (q : PathKey → Mention → Bool)
+    → ((key : PathKey) (word : List ℕ) (mention : Mention) → mention_of key word ≡ Some mention → q key mention ≡ true)
+    → (values : List Assigned) → list_all (λ path. q path.key path.mention) (written values) ≡ true
 all_hold q h [] = refl
 all_hold q h (one ∷ later) =
     list_all-append (λ path. q path.key path.mention) (cond (is_reset_by later one.key) [] (gives one)) (written later)
@@ -90,6 +104,7 @@ all_hold q h (one ∷ later) =
 -- so written paths are as their keys say, and short
 pub written_are_read : (values : List Assigned) → AreRead (written values)
 written_are_read values = record {
-  as_their_keys = all_hold (λ key mention. is_as_its_key (record { key = key; mention = mention })) (λ key word mention e. ap (fits key) (sym e) ∙ mention_fits key word) values;
+  as_their_keys = all_hold (λ key mention. is_as_its_key (record { key = key; mention = mention }))
+      (λ key word mention e. ap (fits key) (sym e) ∙ mention_fits key word) values;
   short = all_hold (λ key mention. is_short mention) (λ key word mention e. mention_short key word mention e) values;
 }

@@ -2,14 +2,17 @@
 use Rattle.std.proofs.Common.{◌≡◌, ℕ, suc, ◌+◌, ◌≤◌, Bool, true, false, cond, List, [], ◌∷◌, ◌++◌, length, lit≤, arith, length-append}
 use Rattle.std.specs.Prelude.{filter}
 use Rattle.path_settings.specs.declared.keys.PathKey.{PathKey}
-use Rattle.path_settings.specs.declared.keys.PathKey.TheVariants.{ReadWritePaths, ReadOnlyPaths, InaccessiblePaths, ExecPaths, NoExecPaths, BindPaths, BindReadOnlyPaths, TemporaryFileSystem, StateDirectory, RuntimeDirectory, CacheDirectory, LogsDirectory}
+use Rattle.path_settings.specs.declared.keys.PathKey.TheVariants.{ReadWritePaths, ReadOnlyPaths, InaccessiblePaths, ExecPaths, NoExecPaths}
+use Rattle.path_settings.specs.declared.keys.PathKey.TheVariants.{BindPaths, BindReadOnlyPaths, TemporaryFileSystem, StateDirectory}
+use Rattle.path_settings.specs.declared.keys.PathKey.TheVariants.{RuntimeDirectory, CacheDirectory, LogsDirectory}
 use Rattle.path_settings.specs.declared.mentions.Mention.{Mention}
 use Rattle.site_table.specs.Table.{Site}
 use Rattle.mount_settings.specs.declared.written.WrittenPath.{WrittenPath}
 use Rattle.mount_settings.specs.declared.protections.SystemProtection.{SystemProtection}
 use Rattle.mount_settings.specs.declared.protections.SystemProtection.TheVariants.{No, Yes, Full, Strict}
 use Rattle.mount_settings.specs.declared.protections.HomeProtection.{HomeProtection}
-use Rattle.mount_settings.specs.declared.protections.HomeProtection.TheVariants.{No as HomeNo, Yes as HomeYes, ReadOnly as HomeReadOnly, Tmpfs}
+use Rattle.mount_settings.specs.declared.protections.HomeProtection.TheVariants.{No as HomeNo, Yes as HomeYes, ReadOnly as HomeReadOnly}
+use Rattle.mount_settings.specs.declared.protections.HomeProtection.TheVariants.{Tmpfs}
 use Rattle.mount_settings.specs.declared.protections.Protections.{Protections}
 use Rattle.mount_settings.specs.declared.protections.Switches.{Switches}
 use Rattle.mount_settings.specs.Written.{of_key}
@@ -61,12 +64,16 @@ filter_few : (p : Mention → Bool) (xs : List Mention) → length (filter p xs)
 filter_few p [] = lit≤ tt
 filter_few p (x ∷ xs) =
     let h = filter_few p xs in
-    elim (p x) as (λ v. length (cond v (x ∷ filter p xs) (filter p xs)) ≤ length (x ∷ xs)) [ true ↦ omega (arith, h) | false ↦ omega (arith, h) ]
+    elim (p x) as (λ v. length (cond v (x ∷ filter p xs) (filter p xs)) ≤ length (x ∷ xs))
+    [ true ↦ omega (arith, h) | false ↦ omega (arith, h) ]
 
 abbrev parts : List WrittenPath → ℕ
-parts paths = length (as_written paths) + (length (of_key StateDirectory paths) + (length (of_key RuntimeDirectory paths) + (length (of_key CacheDirectory paths) + length (of_key LogsDirectory paths))))
+parts paths = length (as_written paths) +
+    (length (of_key StateDirectory paths) +
+    (length (of_key RuntimeDirectory paths) + (length (of_key CacheDirectory paths) + length (of_key LogsDirectory paths))))
 
-one_part : (key : PathKey) (mention : Mention) (paths : List WrittenPath) → parts paths ≤ length paths → parts (record { key = key; mention = mention } ∷ paths) ≤ suc (length paths)
+one_part : (key : PathKey) (mention : Mention) (paths : List WrittenPath) → parts paths ≤ length paths
+    → parts (record { key = key; mention = mention } ∷ paths) ≤ suc (length paths)
 one_part ReadWritePaths mention paths h = omega (arith, h)
 one_part ReadOnlyPaths mention paths h = omega (arith, h)
 one_part InaccessiblePaths mention paths h = omega (arith, h)
@@ -85,7 +92,8 @@ all_parts : (paths : List WrittenPath) → parts paths ≤ length paths
 all_parts [] = lit≤ tt
 all_parts (path ∷ paths) = one_part path.key path.mention paths (all_parts paths)
 
-asked_few : (switches : Switches) (protections : Protections) (paths : List WrittenPath) → length (as_written paths) + length (asked switches protections paths) ≤ length paths + 31
+asked_few : (switches : Switches) (protections : Protections) (paths : List WrittenPath)
+    → length (as_written paths) + length (asked switches protections paths) ≤ length paths + 31
 asked_few switches protections paths =
     let files = four (by_system protections.protect_system) (by_home protections.protect_home) (by_tmp protections.private_tmp) (by_devices switches.private_devices) in
     let kernel = four (by_tunables protections.protect_kernel_tunables) (by_modules switches.protect_kernel_modules) (by_logs switches.protect_kernel_logs) (by_control_groups protections.protect_control_groups) in
@@ -95,11 +103,13 @@ asked_few switches protections paths =
     omega (arith, files, kernel, folders, both, rest, all_parts paths, system_few protections.protect_system, home_few protections.protect_home, tmp_few protections.private_tmp, devices_few switches.private_devices, tunables_few protections.protect_kernel_tunables, modules_few switches.protect_kernel_modules, logs_few switches.protect_kernel_logs, control_groups_few protections.protect_control_groups)
 
 -- at most 31 more than are written
-pub counted : (site : Site) (switches : Switches) (protections : Protections) (paths : List WrittenPath) → length (mentions_of site switches protections paths) ≤ length paths + 31
+pub counted : (site : Site) (switches : Switches) (protections : Protections) (paths : List WrittenPath)
+    → length (mentions_of site switches protections paths) ≤ length paths + 31
 unfolding mentions_of implied
 counted site switches protections paths =
     omega (arith, length-append (as_written paths) (filter (stands site) (asked switches protections paths)), filter_few (stands site) (asked switches protections paths), asked_few switches protections paths)
 
 -- 128 that are written and 31 that are implied
-pub few_mentions : (site : Site) (switches : Switches) (protections : Protections) (paths : List WrittenPath) → length paths ≤ 128 → length (mentions_of site switches protections paths) ≤ 160
+pub few_mentions : (site : Site) (switches : Switches) (protections : Protections) (paths : List WrittenPath) → length paths ≤ 128
+    → length (mentions_of site switches protections paths) ≤ 160
 few_mentions site switches protections paths few = let most = counted site switches protections paths in omega (arith, few, most)

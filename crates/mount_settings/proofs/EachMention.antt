@@ -12,7 +12,8 @@ use Rattle.mount_settings.specs.declared.written.WrittenPath.{WrittenPath}
 use Rattle.mount_settings.specs.declared.protections.SystemProtection.{SystemProtection}
 use Rattle.mount_settings.specs.declared.protections.SystemProtection.TheVariants.{No, Yes, Full, Strict}
 use Rattle.mount_settings.specs.declared.protections.HomeProtection.{HomeProtection}
-use Rattle.mount_settings.specs.declared.protections.HomeProtection.TheVariants.{No as HomeNo, Yes as HomeYes, ReadOnly as HomeReadOnly, Tmpfs}
+use Rattle.mount_settings.specs.declared.protections.HomeProtection.TheVariants.{No as HomeNo, Yes as HomeYes, ReadOnly as HomeReadOnly}
+use Rattle.mount_settings.specs.declared.protections.HomeProtection.TheVariants.{Tmpfs}
 use Rattle.mount_settings.specs.declared.protections.Protections.{Protections}
 use Rattle.mount_settings.specs.declared.protections.Switches.{Switches}
 use Rattle.mount_settings.specs.Assigned.{is_key}
@@ -55,7 +56,8 @@ of_home q of HomeReadOnly = of_group q 4 groups of
 of_home q of Tmpfs = of_group q 5 groups of
 
 -- a switch brings nothing where it is off
-of_switch : (q : Mention → Bool) (by : Bool → List Mention) → list_all q (by false) ≡ true → list_all q (by true) ≡ true → (on : Bool) → list_all q (by on) ≡ true
+of_switch : (q : Mention → Bool) (by : Bool → List Mention) → list_all q (by false) ≡ true → list_all q (by true) ≡ true → (on : Bool)
+    → list_all q (by on) ≡ true
 of_switch q by off on true = on
 of_switch q by off on false = off
 
@@ -71,12 +73,16 @@ of_picked p q (x ∷ xs) all =
 of_two : (q : Mention → Bool) (xs ys : List Mention) → list_all q xs ≡ true → list_all q ys ≡ true → list_all q (xs ++ ys) ≡ true
 of_two q xs ys one other = list_all-append q xs ys ∙ ap (λ v. v && list_all q ys) one ∙ other
 
-of_four : (q : Mention → Bool) (one two three four : List Mention) → list_all q one ≡ true → list_all q two ≡ true → list_all q three ≡ true → list_all q four ≡ true → list_all q (joined (one ∷ two ∷ three ∷ four ∷ [])) ≡ true
+of_four : (q : Mention → Bool) (one two three four : List Mention) → list_all q one ≡ true → list_all q two ≡ true
+    → list_all q three ≡ true → list_all q four ≡ true → list_all q (joined (one ∷ two ∷ three ∷ four ∷ [])) ≡ true
 of_four q one two three four a b c d =
-    of_two q one (two ++ (three ++ (four ++ []))) a (of_two q two (three ++ (four ++ [])) b (of_two q three (four ++ []) c (of_two q four [] d refl)))
+    of_two q one (two ++ (three ++ (four ++ []))) a
+    (of_two q two (three ++ (four ++ [])) b (of_two q three (four ++ []) c (of_two q four [] d refl)))
 
 -- of all that is implied, where it holds of folders
-pub of_implied : (q : Mention → Bool) → OfTable q → (site : Site) (switches : Switches) (protections : Protections) (paths : List WrittenPath) → ((key : PathKey) → is_implied key ≡ true → list_all q (of_key key paths) ≡ true) → list_all q (implied site switches protections paths) ≡ true
+pub of_implied : (q : Mention → Bool) → OfTable q → (site : Site) (switches : Switches) (protections : Protections)
+    (paths : List WrittenPath) → ((key : PathKey) → is_implied key ≡ true → list_all q (of_key key paths) ≡ true)
+    → list_all q (implied site switches protections paths) ≡ true
 unfolding implied
 of_implied q of site switches protections paths folders =
     let files = of_four q (by_system protections.protect_system) (by_home protections.protect_home) (by_tmp protections.private_tmp) (by_devices switches.private_devices)
@@ -90,11 +96,14 @@ of_implied q of site switches protections paths folders =
     (of_two q (joined (by_kernel switches protections)) (joined (by_folders paths)) kernel of_folders))
 
 -- of some of the written paths
-of_some : (q : Mention → Bool) (p : WrittenPath → Bool) (paths : List WrittenPath) → list_all (λ path. q path.mention) paths ≡ true → list_all q (map (λ path. path.mention) (filter p paths)) ≡ true
-of_some q p paths all = list_all-map q (λ (path : WrittenPath). path.mention) (filter p paths) ∙ of_picked p (λ path. q path.mention) paths all
+of_some : (q : Mention → Bool) (p : WrittenPath → Bool) (paths : List WrittenPath) → list_all (λ path. q path.mention) paths ≡ true
+    → list_all q (map (λ path. path.mention) (filter p paths)) ≡ true
+of_some q p paths all = list_all-map q (λ (path : WrittenPath). path.mention) (filter p paths)
+    ∙ of_picked p (λ path. q path.mention) paths all
 
 -- of all mentions, where it holds of all written paths
-pub of_all : (q : Mention → Bool) → OfTable q → (site : Site) (switches : Switches) (protections : Protections) (paths : List WrittenPath) → list_all (λ path. q path.mention) paths ≡ true → list_all q (mentions_of site switches protections paths) ≡ true
+pub of_all : (q : Mention → Bool) → OfTable q → (site : Site) (switches : Switches) (protections : Protections) (paths : List WrittenPath)
+    → list_all (λ path. q path.mention) paths ≡ true → list_all q (mentions_of site switches protections paths) ≡ true
 unfolding mentions_of
 of_all q of site switches protections paths all =
     of_two q (as_written paths) (implied site switches protections paths)

@@ -19,7 +19,8 @@ use Rattle.mount_settings.proofs.KeyByKey.{words_in_force}
 abbrev are_optional : List Mention → Bool
 are_optional mentions = list_all (λ mention. mention.optional) mentions
 
-word_optional : (key : PathKey) (word : List ℕ) (rest : List Mention) → is_implied key ≡ true → are_optional rest ≡ true → are_optional (cons_option (mention_of key word) rest) ≡ true
+word_optional : (key : PathKey) (word : List ℕ) (rest : List Mention) → is_implied key ≡ true → are_optional rest ≡ true
+    → are_optional (cons_option (mention_of key word) rest) ≡ true
 word_optional key word rest implies all =
     (elim (mention_of key word) as (λ o. mention_of key word ≡ o → are_optional (cons_option o rest) ≡ true) [
       | None ↦ λ e. all
@@ -28,12 +29,14 @@ word_optional key word rest implies all =
 
 words_optional : (key : PathKey) (words : List (List ℕ)) → is_implied key ≡ true → are_optional (filter_map (mention_of key) words) ≡ true
 words_optional key [] implies = refl
-words_optional key (word ∷ words) implies = word_optional key word (filter_map (mention_of key) words) implies (words_optional key words implies)
+words_optional key (word ∷ words) implies = word_optional key word (filter_map (mention_of key) words) implies
+    (words_optional key words implies)
 
 folders_optional : (unit : Resolved) (key : PathKey) → is_implied key ≡ true → are_optional (of_key key (unit_written unit)) ≡ true
 folders_optional unit key implies = ap are_optional (words_in_force unit key) ∙ words_optional key _ implies
 
-pub implied_are_optional : (site : Site) (switches : Switches) (protections : Protections) (unit : Resolved) → are_optional (implied site switches protections (unit_written unit)) ≡ true
+pub implied_are_optional : (site : Site) (switches : Switches) (protections : Protections) (unit : Resolved)
+    → are_optional (implied site switches protections (unit_written unit)) ≡ true
 implied_are_optional site switches protections unit =
     of_implied (λ mention. mention.optional) refl site switches protections (unit_written unit) (folders_optional unit)
 
@@ -46,6 +49,7 @@ filter_all p (x ∷ xs) =
       | false ↦ λ is. rest
     ]) refl
 
-pub implied_have_rows : (site : Site) (switches : Switches) (protections : Protections) (unit : Resolved) → list_all (stands site) (implied site switches protections (unit_written unit)) ≡ true
+pub implied_have_rows : (site : Site) (switches : Switches) (protections : Protections) (unit : Resolved)
+    → list_all (stands site) (implied site switches protections (unit_written unit)) ≡ true
 unfolding implied
 implied_have_rows site switches protections unit = filter_all (stands site) (asked switches protections (unit_written unit))

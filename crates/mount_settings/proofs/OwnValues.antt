@@ -29,7 +29,8 @@ own_given : (key : PathKey) (value : Option Value) → own key (option_map (λ v
 own_given key None = refl
 own_given key (Some value) = ap (λ b. cond b (Some value) None) (is_itself key)
 
-other_given : (key other : PathKey) (value : Option Value) → is_key other key ≡ false → own key (option_map (λ v. record { key = other; value = v }) value) ≡ None
+other_given : (key other : PathKey) (value : Option Value) → is_key other key ≡ false
+    → own key (option_map (λ v. record { key = other; value = v }) value) ≡ None
 other_given key other None e = refl
 other_given key other (Some value) e = ap (λ b. cond b (Some value) None) e
 
@@ -37,33 +38,48 @@ true≡false : true ≡ false → ⊥
 true≡false e = let bad : ⊥ = cc in bad
 
 -- a key of another name is another key
-not_same : (key other : PathKey) (name : List ℕ) → bytes_eq (name_of other) name ≡ true → bytes_eq name (name_of key) ≡ false → is_key other key ≡ false
+not_same : (key other : PathKey) (name : List ℕ) → bytes_eq (name_of other) name ≡ true → bytes_eq name (name_of key) ≡ false
+    → is_key other key ≡ false
 not_same key other name is not =
     (elim (is_key other key) as (λ b. is_key other key ≡ b → b ≡ false) [
-      | true ↦ λ same. absurd (true≡false (sym ((bytes_eq-Decides name (name_of key)).1 (sym ((bytes_eq-Decides (name_of other) name).0 is) ∙ same_name other key same)) ∙ not))
+      | true ↦ λ same. absurd (true≡false
+          (sym ((bytes_eq-Decides name (name_of key)).1 (sym ((bytes_eq-Decides (name_of other) name).0 is) ∙ same_name other key same))
+          ∙ not))
       | false ↦ λ e. refl
     ]) refl
 
 -- of an assignment of the service
 own_assigned : (name : Name) (one : Place × Assignment) (key : PathKey) → own key (assigned_by name one) ≡ given_by name (name_of key) one
 own_assigned name one key =
-    (elim (bytes_eq one.1.key (name_of key)) as (λ b. bytes_eq one.1.key (name_of key) ≡ b → own key (option_and_then (given_to name one) (find (λ other. bytes_eq (name_of other) one.1.key) path_keys)) ≡ cond b (expanded_at name one) None) [
+    (elim (bytes_eq one.1.key (name_of key)) as (λ b. bytes_eq one.1.key (name_of key) ≡ b
+    → own key (option_and_then (given_to name one) (find (λ other. bytes_eq (name_of other) one.1.key) path_keys))
+    ≡ cond b (expanded_at name one) None) [
       | true ↦ λ is.
-          ap (λ text. own key (option_and_then (given_to name one) (find (λ other. bytes_eq (name_of other) text) path_keys))) ((bytes_eq-Decides one.1.key (name_of key)).0 is)
+          ap (λ text. own key (option_and_then (given_to name one) (find (λ other. bytes_eq (name_of other) text) path_keys)))
+          ((bytes_eq-Decides one.1.key (name_of key)).0 is)
           ∙ ap (λ found. own key (option_and_then (given_to name one) found)) (found_by_name key)
           ∙ own_given key (expanded_at name one)
       | false ↦ λ not.
-          (elim (find (λ other. bytes_eq (name_of other) one.1.key) path_keys) as (λ found. find (λ other. bytes_eq (name_of other) one.1.key) path_keys ≡ found → own key (option_and_then (given_to name one) found) ≡ None) [
+          (elim (find (λ other. bytes_eq (name_of other) one.1.key) path_keys) as
+          (λ found. find (λ other. bytes_eq (name_of other) one.1.key) path_keys ≡ found
+          → own key (option_and_then (given_to name one) found) ≡ None) [
             | None ↦ λ e. refl
-            | Some other ↦ λ e. other_given key other (expanded_at name one) (not_same key other one.1.key (found_passes (λ each. bytes_eq (name_of each) one.1.key) path_keys other e) not)
+            | Some other ↦ λ e. other_given key other (expanded_at name one)
+                (not_same key other one.1.key (found_passes (λ each. bytes_eq (name_of each) one.1.key) path_keys other e) not)
           ]) refl
     ]) refl
 
-one_own : (key : PathKey) (one : Option Assigned) (rest : List Assigned) → values_to key (cons_option one rest) ≡ cons_option (own key one) (values_to key rest)
+one_own : (key : PathKey) (one : Option Assigned) (rest : List Assigned)
+    → values_to key (cons_option one rest) ≡ cons_option (own key one) (values_to key rest)
 one_own key None rest = refl
-one_own key (Some one) rest = elim (is_key one.key key) as (λ b. map (λ (other : Assigned). other.value) (cond b (one ∷ filter (λ other. is_key other.key key) rest) (filter (λ other. is_key other.key key) rest)) ≡ cons_option (cond b (Some one.value) None) (values_to key rest)) [ true ↦ refl | false ↦ refl ]
+one_own key (Some one) rest =
+    elim (is_key one.key key) as
+    (λ b. map (λ (other : Assigned). other.value)
+    (cond b (one ∷ filter (λ other. is_key other.key key) rest) (filter (λ other. is_key other.key key) rest))
+    ≡ cons_option (cond b (Some one.value) None) (values_to key rest)) [ true ↦ refl | false ↦ refl ]
 
-own_over : (name : Name) (key : PathKey) (ones : List (Place × Assignment)) → values_to key (filter_map (assigned_by name) ones) ≡ filter_map (given_by name (name_of key)) ones
+own_over : (name : Name) (key : PathKey) (ones : List (Place × Assignment))
+    → values_to key (filter_map (assigned_by name) ones) ≡ filter_map (given_by name (name_of key)) ones
 own_over name key [] = refl
 own_over name key (one ∷ ones) =
     one_own key (assigned_by name one) (filter_map (assigned_by name) ones)

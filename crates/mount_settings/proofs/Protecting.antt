@@ -2,7 +2,9 @@
 use Rattle.std.proofs.Common.{◌≡◌, List, ◌++◌, ap, ◌∙◌}
 use Rattle.mount_settings.specs.declared.protections.Protections.{Protections}
 
-pub same_protections : (one other : Protections) → one.protect_system ≡ other.protect_system → one.protect_home ≡ other.protect_home → one.private_tmp ≡ other.private_tmp → one.protect_kernel_tunables ≡ other.protect_kernel_tunables → one.protect_control_groups ≡ other.protect_control_groups → one ≡ other
+pub same_protections : (one other : Protections) → one.protect_system ≡ other.protect_system → one.protect_home ≡ other.protect_home
+    → one.private_tmp ≡ other.private_tmp → one.protect_kernel_tunables ≡ other.protect_kernel_tunables
+    → one.protect_control_groups ≡ other.protect_control_groups → one ≡ other
 same_protections one other system home tmp tunables groups =
     ap (λ v. record one { protect_system = v }) system
     ∙ ap (λ v. record one { protect_system = other.protect_system; protect_home = v }) home

@@ -4,7 +4,9 @@ use Rattle.std.specs.Prelude.{find}
 use Rattle.std.specs.Str.{bytes_eq}
 use Rattle.std.proofs.lemmas.Slice.Eq.{bytes_eq-Decides}
 use Rattle.path_settings.specs.declared.keys.PathKey.{PathKey}
-use Rattle.path_settings.specs.declared.keys.PathKey.TheVariants.{ReadWritePaths, ReadOnlyPaths, InaccessiblePaths, ExecPaths, NoExecPaths, BindPaths, BindReadOnlyPaths, TemporaryFileSystem, StateDirectory, RuntimeDirectory, CacheDirectory, LogsDirectory}
+use Rattle.path_settings.specs.declared.keys.PathKey.TheVariants.{ReadWritePaths, ReadOnlyPaths, InaccessiblePaths, ExecPaths, NoExecPaths}
+use Rattle.path_settings.specs.declared.keys.PathKey.TheVariants.{BindPaths, BindReadOnlyPaths, TemporaryFileSystem, StateDirectory}
+use Rattle.path_settings.specs.declared.keys.PathKey.TheVariants.{RuntimeDirectory, CacheDirectory, LogsDirectory}
 use Rattle.path_settings.specs.Keys.{path_keys, name_of}
 use Rattle.mount_settings.specs.Assigned.{is_key}
 
@@ -31,7 +33,8 @@ same_some x y e = cc
 pub same_key : (one other : PathKey) → is_key one other ≡ true → one ≡ other
 same_key one other e =
     same_some one other
-    (sym (found_by_name one) ∙ ap (λ name. find (λ key. bytes_eq (name_of key) name) path_keys) (same_name one other e) ∙ found_by_name other)
+    (sym (found_by_name one) ∙ ap (λ name. find (λ key. bytes_eq (name_of key) name) path_keys) (same_name one other e)
+    ∙ found_by_name other)
 
 pub is_itself : (key : PathKey) → is_key key key ≡ true
 is_itself key = (bytes_eq-Decides (name_of key) (name_of key)).1 refl

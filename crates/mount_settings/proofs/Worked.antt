@@ -14,7 +14,8 @@ said mentions = map (λ mention. (mention.path, mention.kind)) mentions
 system_yes : said (by_system Yes) ≡ (codes "usr" ∷ [], Ro) ∷ (codes "boot" ∷ [], Ro) ∷ (codes "efi" ∷ [], Ro) ∷ []
 system_yes = refl
 
-system_full : said (by_system Full) ≡ (codes "usr" ∷ [], Ro) ∷ (codes "boot" ∷ [], Ro) ∷ (codes "efi" ∷ [], Ro) ∷ (codes "etc" ∷ [], Ro) ∷ []
+system_full : said (by_system Full) ≡ (codes "usr" ∷ [], Ro) ∷ (codes "boot" ∷ [], Ro) ∷ (codes "efi" ∷ [], Ro) ∷
+    (codes "etc" ∷ [], Ro) ∷ []
 system_full = refl
 
 -- the root is read-only, and what the kernel shows is not
@@ -24,10 +25,12 @@ system_strict = refl
 home_yes : said (by_home HomeYes) ≡ (codes "home" ∷ [], Hide) ∷ (codes "root" ∷ [], Hide) ∷ (codes "run" ∷ codes "user" ∷ [], Hide) ∷ []
 home_yes = refl
 
-home_read_only : said (by_home HomeReadOnly) ≡ (codes "home" ∷ [], Ro) ∷ (codes "root" ∷ [], Ro) ∷ (codes "run" ∷ codes "user" ∷ [], Ro) ∷ []
+home_read_only : said (by_home HomeReadOnly) ≡ (codes "home" ∷ [], Ro) ∷ (codes "root" ∷ [], Ro) ∷
+    (codes "run" ∷ codes "user" ∷ [], Ro) ∷ []
 home_read_only = refl
 
-home_tmpfs : said (by_home Tmpfs) ≡ (codes "home" ∷ [], Tmp true) ∷ (codes "root" ∷ [], Tmp true) ∷ (codes "run" ∷ codes "user" ∷ [], Tmp true) ∷ []
+home_tmpfs : said (by_home Tmpfs) ≡ (codes "home" ∷ [], Tmp true) ∷ (codes "root" ∷ [], Tmp true) ∷
+    (codes "run" ∷ codes "user" ∷ [], Tmp true) ∷ []
 home_tmpfs = refl
 
 private_tmp : said (by_tmp true) ≡ (codes "tmp" ∷ [], Tmp false) ∷ (codes "var" ∷ codes "tmp" ∷ [], Tmp false) ∷ []
@@ -38,7 +41,8 @@ device name = (codes "dev" ∷ name ∷ [], Bind (codes "dev" ∷ name ∷ []) f
 
 private_devices :
     said (by_devices true)
-    ≡ (codes "dev" ∷ [], Tmp true) ∷ (codes "dev" ∷ [], NoExec) ∷ device (codes "null") ∷ device (codes "zero") ∷ device (codes "full") ∷ device (codes "random")
+    ≡ (codes "dev" ∷ [], Tmp true) ∷ (codes "dev" ∷ [], NoExec) ∷ device (codes "null") ∷ device (codes "zero") ∷ device
+    (codes "full") ∷ device (codes "random")
     ∷ device (codes "urandom") ∷ device (codes "tty") ∷ []
 private_devices = refl
 
@@ -47,8 +51,10 @@ below_proc name kind = (codes "proc" ∷ name ∷ [], kind)
 
 protect_kernel_tunables :
     said (by_tunables true)
-    ≡ below_proc (codes "sys") Ro ∷ (codes "sys" ∷ [], Ro) ∷ below_proc (codes "sysrq-trigger") Ro ∷ below_proc (codes "latency_stats") Ro ∷ below_proc (codes "acpi") Ro
-    ∷ below_proc (codes "timer_stats") Ro ∷ below_proc (codes "fs") Ro ∷ below_proc (codes "irq") Ro ∷ below_proc (codes "kallsyms") Hide ∷ below_proc (codes "kcore") Hide ∷ []
+    ≡ below_proc (codes "sys") Ro ∷ (codes "sys" ∷ [], Ro) ∷ below_proc (codes "sysrq-trigger") Ro ∷ below_proc
+    (codes "latency_stats") Ro ∷ below_proc (codes "acpi") Ro
+    ∷ below_proc (codes "timer_stats") Ro ∷ below_proc (codes "fs") Ro ∷ below_proc (codes "irq") Ro ∷ below_proc
+    (codes "kallsyms") Hide ∷ below_proc (codes "kcore") Hide ∷ []
 protect_kernel_tunables = refl
 
 protect_kernel_modules : said (by_modules true) ≡ (codes "usr" ∷ codes "lib" ∷ codes "modules" ∷ [], Hide) ∷ []

@@ -43,6 +43,8 @@ abbrev said : List WrittenPath → List (PathKey × Path)
 said paths = map (λ path. (path.key, path.mention.path)) paths
 
 -- two keys, of which one is reset between
-one_key_is_reset : said (written (at 2 ReadOnlyPaths (codes "/a /b") ∷ at 3 ReadWritePaths (codes "/c") ∷ at 4 ReadOnlyPaths [] ∷ at 5 ReadOnlyPaths (codes "/d d") ∷ [])) ≡ (ReadWritePaths, codes "c" ∷ []) ∷ (ReadOnlyPaths, codes "d" ∷ []) ∷ []
+one_key_is_reset : said (written
+    (at 2 ReadOnlyPaths (codes "/a /b") ∷ at 3 ReadWritePaths (codes "/c") ∷ at 4 ReadOnlyPaths [] ∷ at 5 ReadOnlyPaths
+    (codes "/d d") ∷ [])) ≡ (ReadWritePaths, codes "c" ∷ []) ∷ (ReadOnlyPaths, codes "d" ∷ []) ∷ []
 unfolding at words_of words_in text_only closed_only mark_of open_after escape_of symbols_of is_utf8 chars encode
 one_key_is_reset = refl

@@ -15,19 +15,23 @@ joined groups = flat_map (λ group. group) groups
 
 -- key by key, in the order of the manual's table
 abbrev pub by_files : Switches → Protections → List (List Mention)
-by_files switches protections = by_system protections.protect_system ∷ by_home protections.protect_home ∷ by_tmp protections.private_tmp ∷ by_devices switches.private_devices ∷ []
+by_files switches protections = by_system protections.protect_system ∷ by_home protections.protect_home ∷ by_tmp protections.private_tmp ∷
+    by_devices switches.private_devices ∷ []
 
 abbrev pub by_kernel : Switches → Protections → List (List Mention)
 by_kernel switches protections =
-    by_tunables protections.protect_kernel_tunables ∷ by_modules switches.protect_kernel_modules ∷ by_logs switches.protect_kernel_logs ∷ by_control_groups protections.protect_control_groups ∷ []
+    by_tunables protections.protect_kernel_tunables ∷ by_modules switches.protect_kernel_modules ∷ by_logs switches.protect_kernel_logs ∷
+    by_control_groups protections.protect_control_groups ∷ []
 
 -- folders that are the service's to write to
 abbrev pub by_folders : List WrittenPath → List (List Mention)
-by_folders paths = of_key StateDirectory paths ∷ of_key RuntimeDirectory paths ∷ of_key CacheDirectory paths ∷ of_key LogsDirectory paths ∷ []
+by_folders paths = of_key StateDirectory paths ∷ of_key RuntimeDirectory paths ∷ of_key CacheDirectory paths ∷ of_key LogsDirectory paths
+    ∷ []
 
 -- all of them
 abbrev pub asked : Switches → Protections → List WrittenPath → List Mention
-asked switches protections paths = joined (by_files switches protections) ++ (joined (by_kernel switches protections) ++ joined (by_folders paths))
+asked switches protections paths = joined (by_files switches protections) ++
+    (joined (by_kernel switches protections) ++ joined (by_folders paths))
 
 -- one whose path the site does not have is passed over
 unfoldable pub implied : Site → Switches → Protections → List WrittenPath → List Mention

@@ -5,7 +5,8 @@ use Rattle.path_settings.specs.declared.mentions.Mention.{Mention}
 use Rattle.mount_settings.specs.declared.protections.SystemProtection.{SystemProtection}
 use Rattle.mount_settings.specs.declared.protections.SystemProtection.TheVariants.{No, Yes, Full, Strict}
 use Rattle.mount_settings.specs.declared.protections.HomeProtection.{HomeProtection}
-use Rattle.mount_settings.specs.declared.protections.HomeProtection.TheVariants.{No as HomeNo, Yes as HomeYes, ReadOnly as HomeReadOnly, Tmpfs}
+use Rattle.mount_settings.specs.declared.protections.HomeProtection.TheVariants.{No as HomeNo, Yes as HomeYes, ReadOnly as HomeReadOnly}
+use Rattle.mount_settings.specs.declared.protections.HomeProtection.TheVariants.{Tmpfs}
 use Rattle.mount_settings.specs.declared.effects.Effect.{Effect}
 use Rattle.mount_settings.specs.declared.effects.Effect.TheVariants.{ReadOnly, Writable, NotExecutable, Hidden, Empty, Shown}
 use Rattle.mount_settings.specs.Effects.{brings}
@@ -50,7 +51,8 @@ abbrev pub devices : List (List ℕ)
 devices = codes "/dev" ∷ []
 
 abbrev pub harmless_devices : List (List ℕ)
-harmless_devices = codes "/dev/null" ∷ codes "/dev/zero" ∷ codes "/dev/full" ∷ codes "/dev/random" ∷ codes "/dev/urandom" ∷ codes "/dev/tty" ∷ []
+harmless_devices = codes "/dev/null" ∷ codes "/dev/zero" ∷ codes "/dev/full" ∷ codes "/dev/random" ∷ codes "/dev/urandom" ∷ codes
+    "/dev/tty" ∷ []
 
 -- PrivateDevices=: an empty folder of devices, with those in it that stand for no hardware
 abbrev pub by_devices : Bool → List Mention

@@ -33,9 +33,12 @@ at_place P (y ∷ xs) (suc at) x all e = at_place P xs at x all.1 e
 pub record UserCalled (launch : Launch) (creds : Creds) (table : Table) : Type 0 where
   pub fit : IsCall (user_call launch)
   pub small : pid_inside launch < 2 ^ 32
-  pub inside : (after : World) → IsSolo launch creds table after → IsDone (step after (user_call launch)).0 × IsEntered launch (entered creds) table (pid_inside launch) (step after (user_call launch)).1
+  pub inside : (after : World) → IsSolo launch creds table after
+      → IsDone (step after (user_call launch)).0 × IsEntered launch (entered creds) table (pid_inside launch)
+      (step after (user_call launch)).1
 
-pub user_called : (launch : Launch) → IsLaunched launch → can_make_user launch ≡ true → (creds : Creds) (table : Table) → UserCalled launch creds table
+pub user_called : (launch : Launch) → IsLaunched launch → can_make_user launch ≡ true → (creds : Creds) (table : Table)
+    → UserCalled launch creds table
 user_called launch l user creds table =
     let both = and_parts (nat_lt 0 launch.site.user_namespaces) (lets launch (ForNamespace User)) user in
     let c = chosen launch l (ForNamespace User) both.1 in
@@ -51,5 +54,6 @@ user_called launch l user creds table =
     }
 
 -- the first call of a kind, made there
-pub inside_is : (launch : Launch) {kind : CallKind} (c : ChosenLine launch kind) (payload : Payload) → call_inside launch kind payload ≡ made_by (pid_inside launch) (place_of c.line.line) c.line.args payload
+pub inside_is : (launch : Launch) {kind : CallKind} (c : ChosenLine launch kind) (payload : Payload)
+    → call_inside launch kind payload ≡ made_by (pid_inside launch) (place_of c.line.line) c.line.args payload
 inside_is launch c payload = ap (λ (call : Call). record call { pid = pid_inside launch }) (call_is c payload)

@@ -33,7 +33,8 @@ tail_short [] h = omega arith
 tail_short (part ∷ path) h = h
 
 module _ (launch : Launch) (o : Offers launch) (target : Row) (there : IsKnown launch.site target) (wish : Wish) where
-  led : (earlier later : Table) (entry : MountStep) (at : ℕ) (source rest : Path) → launch.table ≡ earlier ++ entry ∷ later → at ≡ length earlier → entry.what ≡ Host source → target.path ≡ source ++ rest → IsLead launch.table target.path at
+  led : (earlier later : Table) (entry : MountStep) (at : ℕ) (source rest : Path) → launch.table ≡ earlier ++ entry ∷ later
+      → at ≡ length earlier → entry.what ≡ Host source → target.path ≡ source ++ rest → IsLead launch.table target.path at
   led earlier later entry at source rest whole number host row_is =
       let own : slice_get launch.table at ≡ Some entry = ap (λ (t : Table). slice_get t at) whole ∙ ap (slice_get (earlier ++ entry ∷ later)) number ∙ get_here earlier entry later in
       let all : AllByRecursion HasShortPlace (earlier ++ entry ∷ later) = subst (AllByRecursion HasShortPlace) whole o.plan.places_are_short in
@@ -51,9 +52,12 @@ module _ (launch : Launch) (o : Offers launch) (target : Row) (there : IsKnown l
       let same : own ≡ at = cc in
       let lead' = first.0.lead in
       let split = split_some (leads_to lead'.path) launch.table lead'.split lead'.belongs in
-      subst (IsLead launch.table target.path) same (led lead'.split.earlier lead'.split.later lead'.split.entry own lead'.source lead'.rest split.whole first.0.number lead'.host lead'.row_is)
+      subst (IsLead launch.table target.path) same
+      (led lead'.split.earlier lead'.split.later lead'.split.entry own lead'.source lead'.rest split.whole first.0.number lead'.host
+      lead'.row_is)
 
-  unmounting : (x : Option ℕ) → IsFirst (Shows launch.table target.path wish) x → (at : ℕ) → x ≡ Some at → IsLead launch.table target.path at
+  unmounting : (x : Option ℕ) → IsFirst (Shows launch.table target.path wish) x → (at : ℕ) → x ≡ Some at
+      → IsLead launch.table target.path at
   unmounting None first at e = cc
   unmounting (Some own) first at e =
       let same : own ≡ at = cc in
@@ -64,4 +68,5 @@ module _ (launch : Launch) (o : Offers launch) (target : Row) (there : IsKnown l
   leads_nowise at e = nowise (reach Nowise launch.table target.path wish) (first_by_power Nowise launch.table target.path wish) at e
 
   pub leads_unmounting : (at : ℕ) → reach Unmounting launch.table target.path wish ≡ Some at → IsLead launch.table target.path at
-  leads_unmounting at e = unmounting (reach Unmounting launch.table target.path wish) (first_by_power Unmounting launch.table target.path wish) at e
+  leads_unmounting at e = unmounting (reach Unmounting launch.table target.path wish)
+      (first_by_power Unmounting launch.table target.path wish) at e

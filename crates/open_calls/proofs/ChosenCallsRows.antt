@@ -1,5 +1,6 @@
 -- The calls that are chosen for a row show what is wished of it.
-use Rattle.std.proofs.Common.{◌≡◌, ℕ, Bool, true, false, List, [], ◌∷◌, ◌++◌, Some, refl, ap, ◌∙◌, sym, subst, cond, append_assoc, arith, inl, inr}
+use Rattle.std.proofs.Common.{◌≡◌, ℕ, Bool, true, false, List, [], ◌∷◌, ◌++◌, Some, refl, ap, ◌∙◌, sym, subst, cond, append_assoc, arith}
+use Rattle.std.proofs.Common.{inl, inr}
 use Rattle.std.specs.Prelude.{slice_get, not, ◌&&◌}
 use Rattle.std.specs.Option.{option_map_or}
 use Rattle.std.proofs.lemmas.Bool.{and_parts, not-true}
@@ -22,9 +23,11 @@ use Rattle.ceilings.specs.kernel_laws.Bound.{is_barred, is_to_exec, is_mounting,
 use Rattle.ceilings.specs.kernel_laws.Denied.{Shows}
 use Rattle.ceilings.specs.kernel_laws.declared.question_types.kind.CallKind.TheVariants.{ForPath, ChangesMounts, RemovesMounts}
 use Rattle.ceilings.specs.kernel_laws.declared.question_types.wish.Wish.{Wish}
-use Rattle.ceilings.specs.kernel_laws.declared.question_types.wish.Wish.TheVariants.{See as ToSee, Read as ToRead, Write as ToWrite, Exec as ToExec}
+use Rattle.ceilings.specs.kernel_laws.declared.question_types.wish.Wish.TheVariants.{See as ToSee, Read as ToRead, Write as ToWrite}
+use Rattle.ceilings.specs.kernel_laws.declared.question_types.wish.Wish.TheVariants.{Exec as ToExec}
 use Rattle.ceilings.specs.kernel_laws.declared.question_types.power.Power.{Power}
-use Rattle.ceilings.specs.kernel_laws.declared.question_types.power.Power.TheVariants.{None as Nowise, Unmount as Unmounting, Mount as Mounting}
+use Rattle.ceilings.specs.kernel_laws.declared.question_types.power.Power.TheVariants.{None as Nowise, Unmount as Unmounting}
+use Rattle.ceilings.specs.kernel_laws.declared.question_types.power.Power.TheVariants.{Mount as Mounting}
 use Rattle.ceilings.specs.kernel_laws.declared.question_types.question.Question.TheVariants as asking
 use Rattle.ceilings.specs.kernel_laws.Launched.{Launch, IsLaunched, lets, can_make_user}
 use Rattle.ceilings.specs.kernel_laws.Reach.{reaches}
@@ -37,7 +40,8 @@ use Rattle.ceilings.proofs.OfKernelWays.Exposing.{mounts_pass}
 use Rattle.ceilings.proofs.OfKernelWays.Gains.{Basis}
 use Rattle.ceilings.proofs.OfKernelWays.Rows.{IsKnown, known_at}
 use Rattle.ceilings.proofs.OfKernelWays.Showing.{calls_show}
-use Rattle.open_calls.specs.chosen_calls.Chosen.{unmarked, doing_calls, row_calls, user_call, pid_inside, call_inside, inside_calls, row_inside}
+use Rattle.open_calls.specs.chosen_calls.Chosen.{unmarked, doing_calls, row_calls, user_call, pid_inside, call_inside, inside_calls}
+use Rattle.open_calls.specs.chosen_calls.Chosen.{row_inside}
 use Rattle.open_calls.proofs.ChosenCallsInside.{user_called, inside_is, at_place}
 use Rattle.ceilings.specs.kernel_ways.Entering.{MakesIn}
 use Rattle.ceilings.proofs.OfKernelWays.Entering.{calls_show_inside}
@@ -55,7 +59,8 @@ use Rattle.open_calls.proofs.Gained.{GainedSo, gained_by, at_once_gained, basis_
 
 -- ---- the calls that gain a capability
 module _ (launch : Launch) (l : IsLaunched launch) (o : Offers launch) (program : Path) (p : RunsProgram launch program) where
-  pub gained : (number : ℕ) → has (caps_at launch (power_of launch)) number ≡ true → GainedSo launch l o (gaining launch program number) number
+  pub gained : (number : ℕ) → has (caps_at launch (power_of launch)) number ≡ true
+      → GainedSo launch l o (gaining launch program number) number
   unfolding gaining
   gained number h =
       let g = gain_is launch number h in
@@ -80,7 +85,8 @@ module _ (launch : Launch) (l : IsLaunched launch) (o : Offers launch) (program 
       let R : Table → Type 0 = λ t. Way launch launch.creds launch.table (cap_calls launch program Nowise a.0) x.creds t in
       record { creds = x.creds; way = subst Q (sym calls) (subst R (x.still refl) x.way); basis = x.basis; holds = x.holds }
     where
-      by_way : (way : CapWay) → at_once launch 21 ≡ Some way → option_map_or (gain_calls launch program) (gain launch 21) [] ≡ cap_calls launch program Nowise way
+      by_way : (way : CapWay) → at_once launch 21 ≡ Some way
+          → option_map_or (gain_calls launch program) (gain launch 21) [] ≡ cap_calls launch program Nowise way
       by_way way e = rw e refl
 
 -- ---- rows
@@ -102,8 +108,11 @@ module _ (world : World) (launch : Launch) (l : IsLaunched launch) (o : Offers l
   own_known : IsKnown launch.site target
   own_known = known_at launch.site o.site place target listed
 
-  path_call : (wish : Wish) → IsFit launch.site (asking.Path wish place) → lets launch (ForPath wish) ≡ true → (creds : Creds) (power : Power) (flags : ℕ) → (x : ExposedAt launch creds power flags target wish) → Admits wish creds target (flags_at x.now (exposing_path launch power wish target.path)).no_suid
-      → PathCall launch creds x.now wish (exposing_path launch power wish target.path) (call_by launch (ForPath wish) (OnePath (exposing_path launch power wish target.path)))
+  path_call : (wish : Wish) → IsFit launch.site (asking.Path wish place) → lets launch (ForPath wish) ≡ true
+      → (creds : Creds) (power : Power) (flags : ℕ) → (x : ExposedAt launch creds power flags target wish)
+      → Admits wish creds target (flags_at x.now (exposing_path launch power wish target.path)).no_suid
+      → PathCall launch creds x.now wish (exposing_path launch power wish target.path)
+      (call_by launch (ForPath wish) (OnePath (exposing_path launch power wish target.path)))
   path_call ToSee fit passes creds power flags x admitted =
       let c = chosen launch l (ForPath ToSee) passes in
       let path = exposing_path launch power ToSee target.path in
@@ -118,7 +127,8 @@ module _ (world : World) (launch : Launch) (l : IsLaunched launch) (o : Offers l
       let c = chosen launch l (ForPath ToWrite) passes in
       let path = exposing_path launch power ToWrite target.path in
       let P : Call → Type 0 = λ call. PathCall launch creds x.now ToWrite path call in
-      subst P (sym (call_is c (OnePath path))) (write_path launch creds x.now path x.found.can_be_named target x.found.is_found (fit target listed) x.found.is_allowed c.line)
+      subst P (sym (call_is c (OnePath path)))
+      (write_path launch creds x.now path x.found.can_be_named target x.found.is_found (fit target listed) x.found.is_allowed c.line)
   path_call ToExec fit passes creds power flags x admitted =
       let c = chosen launch l (ForPath ToExec) passes in
       let path = exposing_path launch power ToExec target.path in
@@ -127,8 +137,10 @@ module _ (world : World) (launch : Launch) (l : IsLaunched launch) (o : Offers l
       subst P (sym (call_is c (OnePath path))) (record { doing = d.Execve path; effect = SetCreds (exec_done creds (marks_of target) (flags_at x.now path).no_suid); makes = makes; doable = tt; wanted = refl })
 
   -- behind any calls that leave the launched table
-  behind : (wish : Wish) → IsFit launch.site (asking.Path wish place) → lets launch (ForPath wish) ≡ true → {front : List Call} (creds : Creds) → Way launch launch.creds launch.table front creds launch.table
-      → (power : Power) (flags : ℕ) → (x : ExposedAt launch creds power flags target wish) → Admits wish creds target (flags_at x.now (exposing_path launch power wish target.path)).no_suid
+  behind : (wish : Wish) → IsFit launch.site (asking.Path wish place) → lets launch (ForPath wish) ≡ true
+      → {front : List Call} (creds : Creds) → Way launch launch.creds launch.table front creds launch.table
+      → (power : Power) (flags : ℕ) → (x : ExposedAt launch creds power flags target wish)
+      → Admits wish creds target (flags_at x.now (exposing_path launch power wish target.path)).no_suid
       → Shows world (asking.Path wish place) (front ++ doing_calls launch power flags wish target)
   behind wish fit passes {front = front} creds way power flags x admitted =
       let path = exposing_path launch power wish target.path in
@@ -139,33 +151,48 @@ module _ (world : World) (launch : Launch) (l : IsLaunched launch) (o : Offers l
       subst (Shows world (asking.Path wish place)) (append_assoc front calls (call ∷ [])) shown
 
   -- where marks are looked at, a row that is free is admitted
-  free_admits : (wish : Wish) → IsFree launch wish target → (creds : Creds) → Basis launch creds → (no_suid : Bool) → no_suid ≡ false → Admits wish creds target no_suid
+  free_admits : (wish : Wish) → IsFree launch wish target → (creds : Creds) → Basis launch creds → (no_suid : Bool) → no_suid ≡ false
+      → Admits wish creds target no_suid
   free_admits ToSee free creds b no_suid e = tt
   free_admits ToRead free creds b no_suid e = tt
   free_admits ToWrite free creds b no_suid e = tt
-  free_admits ToExec free creds b no_suid e = ap (λ x. is_refused creds (marks_of target) x) e ∙ ap (λ s. target.effective && not (within target.caps s)) b.bounding ∙ free
+  free_admits ToExec free creds b no_suid e = ap (λ x. is_refused creds (marks_of target) x) e
+      ∙ ap (λ s. target.effective && not (within target.caps s)) b.bounding ∙ free
 
   -- on the launched table
-  near : (wish : Wish) → IsFit launch.site (asking.Path wish place) → lets launch (ForPath wish) ≡ true → IsFree launch wish target → reaches Nowise launch.table target.path wish ≡ true → Shows world (asking.Path wish place) (doing_calls launch Nowise ms_remount_bind wish target)
+  near : (wish : Wish) → IsFit launch.site (asking.Path wish place) → lets launch (ForPath wish) ≡ true → IsFree launch wish target
+      → reaches Nowise launch.table target.path wish ≡ true → Shows world (asking.Path wish place)
+      (doing_calls launch Nowise ms_remount_bind wish target)
   near wish fit passes free e =
       let m = marked launch l o launch.creds target own_known wish Nowise (inl refl) e in
-      behind wish fit passes launch.creds here Nowise ms_remount_bind m.exposed (free_admits wish free launch.creds (basis_launch launch l o) (flags_at m.exposed.now (exposing_path launch Nowise wish target.path)).no_suid m.suid)
+      behind wish fit passes launch.creds here Nowise ms_remount_bind m.exposed
+      (free_admits wish free launch.creds (basis_launch launch l o)
+      (flags_at m.exposed.now (exposing_path launch Nowise wish target.path)).no_suid m.suid)
 
   -- on what CAP_SYS_ADMIN makes of it
-  far : (wish : Wish) → IsFit launch.site (asking.Path wish place) → lets launch (ForPath wish) ≡ true → IsFree launch wish target → (power_of launch ≡ Nowise → ⊥) → reaches (power_of launch) launch.table target.path wish ≡ true
-      → Shows world (asking.Path wish place) (gaining launch program cap_sys_admin ++ doing_calls launch (power_of launch) ms_remount_bind wish target)
+  far : (wish : Wish) → IsFit launch.site (asking.Path wish place) → lets launch (ForPath wish) ≡ true → IsFree launch wish target
+      → (power_of launch ≡ Nowise → ⊥) → reaches (power_of launch) launch.table target.path wish ≡ true
+      → Shows world (asking.Path wish place)
+      (gaining launch program cap_sys_admin ++ doing_calls launch (power_of launch) ms_remount_bind wish target)
   far wish fit passes free some e =
       let a = admin_gained launch l o program p some in
       let m = marked launch l o a.creds target own_known wish (power_of launch) (inr (a.holds, refl)) e in
-      behind wish fit passes a.creds a.way (power_of launch) ms_remount_bind m.exposed (free_admits wish free a.creds a.basis (flags_at m.exposed.now (exposing_path launch (power_of launch) wish target.path)).no_suid m.suid)
+      behind wish fit passes a.creds a.way (power_of launch) ms_remount_bind m.exposed
+      (free_admits wish free a.creds a.basis
+      (flags_at m.exposed.now (exposing_path launch (power_of launch) wish target.path)).no_suid m.suid)
 
-  near_or_far : (wish : Wish) → IsFit launch.site (asking.Path wish place) → lets launch (ForPath wish) ≡ true → IsFree launch wish target → reaches (power_of launch) launch.table target.path wish ≡ true → (b : Bool) → reaches Nowise launch.table target.path wish ≡ b
-      → Shows world (asking.Path wish place) (cond b (doing_calls launch Nowise ms_remount_bind wish target) (gaining launch program cap_sys_admin ++ doing_calls launch (power_of launch) ms_remount_bind wish target))
+  near_or_far : (wish : Wish) → IsFit launch.site (asking.Path wish place) → lets launch (ForPath wish) ≡ true → IsFree launch wish target
+      → reaches (power_of launch) launch.table target.path wish ≡ true → (b : Bool) → reaches Nowise launch.table target.path wish ≡ b
+      → Shows world (asking.Path wish place)
+      (cond b (doing_calls launch Nowise ms_remount_bind wish target)
+      (gaining launch program cap_sys_admin ++ doing_calls launch (power_of launch) ms_remount_bind wish target))
   near_or_far wish fit passes free e true n = near wish fit passes free n
   near_or_far wish fit passes free e false n = far wish fit passes free (λ none'. let yes : reaches Nowise launch.table target.path wish ≡ true = ap (λ power. reaches power launch.table target.path wish) (sym none') ∙ e in cc) e
 
   -- a barred row is run where marks are not looked at
-  far_unmarked : IsFit launch.site (asking.Path ToExec place) → lets launch (ForPath ToExec) ≡ true → (power : Power) → power_of launch ≡ power → power ≡ Mounting → Shows world (asking.Path ToExec place) (gaining launch program cap_sys_admin ++ doing_calls launch power unmarked ToExec target)
+  far_unmarked : IsFit launch.site (asking.Path ToExec place) → lets launch (ForPath ToExec) ≡ true → (power : Power)
+      → power_of launch ≡ power → power ≡ Mounting → Shows world (asking.Path ToExec place)
+      (gaining launch program cap_sys_admin ++ doing_calls launch power unmarked ToExec target)
   far_unmarked fit passes Nowise e m = cc
   far_unmarked fit passes Unmounting e m = cc
   far_unmarked fit passes Mounting e m =
@@ -175,8 +202,10 @@ module _ (world : World) (launch : Launch) (l : IsLaunched launch) (o : Offers l
       behind ToExec fit passes a.creds a.way Mounting unmarked x.0 (ap (λ f. is_refused a.creds (marks_of target) f.no_suid) x.1)
 
   -- in a user namespace of its own
-  inside_behind : IsFit launch.site (asking.Path ToExec place) → lets launch (ForPath ToExec) ≡ true → can_make_user launch ≡ true → {front : List Call} (creds : Creds) → Way launch launch.creds launch.table front creds launch.table
-      → (power : Power) → ExposedAt launch creds power ms_remount_bind target ToExec → Shows world (asking.Path ToExec place) (front ++ inside_calls launch power target)
+  inside_behind : IsFit launch.site (asking.Path ToExec place) → lets launch (ForPath ToExec) ≡ true → can_make_user launch ≡ true
+      → {front : List Call} (creds : Creds) → Way launch launch.creds launch.table front creds launch.table
+      → (power : Power) → ExposedAt launch creds power ms_remount_bind target ToExec
+      → Shows world (asking.Path ToExec place) (front ++ inside_calls launch power target)
   inside_behind fit passes user {front = front} creds way power x =
       let path = exposing_path launch power ToExec target.path in
       let calls = exposing_calls launch power ms_remount_bind ToExec target.path in
@@ -186,13 +215,17 @@ module _ (world : World) (launch : Launch) (l : IsLaunched launch) (o : Offers l
       let last = call_inside launch (ForPath ToExec) (OnePath path) in
       let m = subst P (sym (inside_is launch c (OnePath path))) (exec_inside launch creds x.now (pid_inside launch) u.small path x.found.can_be_named target x.found.is_found (fit target listed) x.found.is_allowed known_caps c.line) in
       let shown = calls_show_inside launch launch.creds creds launch.table x.now world (front ++ calls) (asking.Path ToExec place) (pid_inside launch) (user_call launch) last (d.Execve path) _ s (way_join way x.way) u.fit u.inside m tt (path, target, refl, listed, x.found.is_found) in
-      subst (Shows world (asking.Path ToExec place)) (append_assoc (front ++ calls) (user_call launch ∷ []) (last ∷ []) ∙ append_assoc front calls (user_call launch ∷ last ∷ [])) shown
+      subst (Shows world (asking.Path ToExec place)) (append_assoc (front ++ calls) (user_call launch ∷ []) (last ∷ [])
+      ∙ append_assoc front calls (user_call launch ∷ last ∷ [])) shown
     where
       known_caps : IsWithin target.caps all
       known_caps = (at_place (IsRowOf launch.site.rows) launch.site.rows place target o.site.each_row listed).known_caps
 
-  inside_shown : IsFit launch.site (asking.Path ToExec place) → lets launch (ForPath ToExec) ≡ true → can_make_user launch ≡ true → reaches (power_of launch) launch.table target.path ToExec ≡ true → (b : Bool) → reaches Nowise launch.table target.path ToExec ≡ b
-      → Shows world (asking.Path ToExec place) (cond b (inside_calls launch Nowise target) (gaining launch program cap_sys_admin ++ inside_calls launch (power_of launch) target))
+  inside_shown : IsFit launch.site (asking.Path ToExec place) → lets launch (ForPath ToExec) ≡ true → can_make_user launch ≡ true
+      → reaches (power_of launch) launch.table target.path ToExec ≡ true → (b : Bool) → reaches Nowise launch.table target.path ToExec ≡ b
+      → Shows world (asking.Path ToExec place)
+      (cond b (inside_calls launch Nowise target)
+      (gaining launch program cap_sys_admin ++ inside_calls launch (power_of launch) target))
   inside_shown fit passes user e true n =
       let m = marked launch l o launch.creds target own_known ToExec Nowise (inl refl) n in
       inside_behind fit passes user launch.creds here Nowise m.exposed
@@ -207,23 +240,30 @@ module _ (world : World) (launch : Launch) (l : IsLaunched launch) (o : Offers l
   mounting_is Mounting e = refl
 
   pub parts : (wish : Wish) → can_reach launch (power_of launch) wish target ≡ true
-      → (lets launch (ForPath wish) ≡ true) × (reaches (power_of launch) launch.table target.path wish ≡ true) × ((((is_to_exec wish && not (is_mounting (power_of launch))) && is_barred launch target) && not (can_make_user launch)) ≡ false)
+      → (lets launch (ForPath wish) ≡ true) × (reaches (power_of launch) launch.table target.path wish ≡ true) ×
+      ((((is_to_exec wish && not (is_mounting (power_of launch))) && is_barred launch target) && not (can_make_user launch)) ≡ false)
   parts wish e =
       let both = and_parts (lets launch (ForPath wish) && reaches (power_of launch) launch.table target.path wish) (not (((is_to_exec wish && not (is_mounting (power_of launch))) && is_barred launch target) && not (can_make_user launch))) e in
       let inner = and_parts (lets launch (ForPath wish)) (reaches (power_of launch) launch.table target.path wish) both.0 in
       (inner.0, inner.1, not-true (((is_to_exec wish && not (is_mounting (power_of launch))) && is_barred launch target) && not (can_make_user launch)) both.1)
 
   abbrev exec_calls : Bool → Bool → List Call
-  exec_calls b m = cond (b && not m) (row_inside launch program target) (cond (not b && reaches Nowise launch.table target.path ToExec) (doing_calls launch Nowise ms_remount_bind ToExec target) (gaining launch program cap_sys_admin ++ doing_calls launch (power_of launch) (cond b unmarked ms_remount_bind) ToExec target))
+  exec_calls b m = cond (b && not m) (row_inside launch program target)
+      (cond (not b && reaches Nowise launch.table target.path ToExec) (doing_calls launch Nowise ms_remount_bind ToExec target)
+      (gaining launch program cap_sys_admin ++ doing_calls launch (power_of launch) (cond b unmarked ms_remount_bind) ToExec target))
 
-  exec_shown : IsFit launch.site (asking.Path ToExec place) → lets launch (ForPath ToExec) ≡ true → reaches (power_of launch) launch.table target.path ToExec ≡ true → (b : Bool) → is_barred launch target ≡ b → (m : Bool) → is_mounting (power_of launch) ≡ m → (make : Bool) → can_make_user launch ≡ make
+  exec_shown : IsFit launch.site (asking.Path ToExec place) → lets launch (ForPath ToExec) ≡ true
+      → reaches (power_of launch) launch.table target.path ToExec ≡ true → (b : Bool) → is_barred launch target ≡ b → (m : Bool)
+      → is_mounting (power_of launch) ≡ m → (make : Bool) → can_make_user launch ≡ make
       → ((not m && b) && not make) ≡ false → Shows world (asking.Path ToExec place) (exec_calls b m)
   exec_shown fit passes e true bar true is make u held = far_unmarked fit passes (power_of launch) refl (mounting_is (power_of launch) is)
   exec_shown fit passes e true bar false is true u held = inside_shown fit passes u e (reaches Nowise launch.table target.path ToExec) refl
   exec_shown fit passes e true bar false is false u held = cc
-  exec_shown fit passes e false bar m is make u held = near_or_far ToExec fit passes bar e (reaches Nowise launch.table target.path ToExec) refl
+  exec_shown fit passes e false bar m is make u held = near_or_far ToExec fit passes bar e
+      (reaches Nowise launch.table target.path ToExec) refl
 
-  pub row_shown : (wish : Wish) → IsFit launch.site (asking.Path wish place) → can_reach launch (power_of launch) wish target ≡ true → Shows world (asking.Path wish place) (row_calls launch program wish target)
+  pub row_shown : (wish : Wish) → IsFit launch.site (asking.Path wish place) → can_reach launch (power_of launch) wish target ≡ true
+      → Shows world (asking.Path wish place) (row_calls launch program wish target)
   row_shown ToSee fit e = let x = parts ToSee e in near_or_far ToSee fit x.0 tt x.1 (reaches Nowise launch.table target.path ToSee) refl
   row_shown ToRead fit e = let x = parts ToRead e in near_or_far ToRead fit x.0 tt x.1 (reaches Nowise launch.table target.path ToRead) refl
   row_shown ToWrite fit e = let x = parts ToWrite e in near_or_far ToWrite fit x.0 tt x.1 (reaches Nowise launch.table target.path ToWrite) refl

@@ -1,5 +1,6 @@
 -- The calls that expose a row are a way, and then the row is found by the path that is named.
-use Rattle.std.proofs.Common.{◌≡◌, ℕ, true, false, List, ◌∷◌, ◌++◌, Option, Some, None, refl, ap, ◌∙◌, sym, subst, arith, ◌<◌, length, inl, inr}
+use Rattle.std.proofs.Common.{◌≡◌, ℕ, true, false, List, ◌∷◌, ◌++◌, Option, Some, None, refl, ap, ◌∙◌, sym, subst, arith, ◌<◌, length, inl}
+use Rattle.std.proofs.Common.{inr}
 use Rattle.std.specs.Prelude.{◌^◌, ◌+◌, drop, slice_get, unwrap_or, is_some}
 use Rattle.std.specs.List.{AllByRecursion}
 use Rattle.ceilings.specs.abs_path.Paths.{Path, proc}
@@ -30,7 +31,8 @@ use Rattle.ceilings.specs.kernel_laws.Bound.{caps_at}
 use Rattle.ceilings.specs.kernel_laws.declared.question_types.kind.CallKind.TheVariants.{ChangesMounts, RemovesMounts}
 use Rattle.ceilings.specs.kernel_laws.declared.question_types.wish.Wish.{Wish}
 use Rattle.ceilings.specs.kernel_laws.declared.question_types.power.Power.{Power}
-use Rattle.ceilings.specs.kernel_laws.declared.question_types.power.Power.TheVariants.{None as Nowise, Unmount as Unmounting, Mount as Mounting}
+use Rattle.ceilings.specs.kernel_laws.declared.question_types.power.Power.TheVariants.{None as Nowise, Unmount as Unmounting}
+use Rattle.ceilings.specs.kernel_laws.declared.question_types.power.Power.TheVariants.{Mount as Mounting}
 use Rattle.ceilings.specs.kernel_laws.Launched.{Launch, IsLaunched, lets}
 use Rattle.ceilings.specs.kernel_laws.Reach.{fits, Leads, reach, reaches}
 use Rattle.ceilings.specs.reach_paths.First.{LeadsBy, Shows, IsFirst}
@@ -54,23 +56,27 @@ use Rattle.open_calls.proofs.FirstLines.{chosen, place_is}
 use Rattle.open_calls.proofs.Lists.{get_here, drop_here}
 
 -- ---- the path that an entry shows a row at
-shown_is : (table earlier later : Table) (entry : MountStep) (at : ℕ) (row source rest : Path) → table ≡ earlier ++ entry ∷ later → at ≡ length earlier → entry.what ≡ Host source → row ≡ source ++ rest
+shown_is : (table earlier later : Table) (entry : MountStep) (at : ℕ) (row source rest : Path) → table ≡ earlier ++ entry ∷ later
+    → at ≡ length earlier → entry.what ≡ Host source → row ≡ source ++ rest
     → shown_at table row at ≡ entry.place ++ rest
 shown_is table earlier later entry at row source rest whole number host row_is =
     let own : slice_get table at ≡ Some entry = ap (λ (t : Table). slice_get t at) whole ∙ ap (slice_get (earlier ++ entry ∷ later)) number ∙ get_here earlier entry later in
-    ap (shown_if row) own ∙ ap (shown_by row entry) host ∙ ap (λ (r : Path). entry.place ++ rest_of source r) row_is ∙ ap (λ (r : Path). entry.place ++ r) (rest-append source rest)
+    ap (shown_if row) own ∙ ap (shown_by row entry) host ∙ ap (λ (r : Path). entry.place ++ rest_of source r) row_is
+    ∙ ap (λ (r : Path). entry.place ++ r) (rest-append source rest)
 
 same_tail : (x : MountStep) (a b : Table) → x ∷ a ≡ x ∷ b → a ≡ b
 same_tail x a b e = cc
 
-behind_is : (table earlier later : Table) (entry : MountStep) (at : ℕ) → table ≡ earlier ++ entry ∷ later → at ≡ length earlier → drop (at + 1) table ≡ later
+behind_is : (table earlier later : Table) (entry : MountStep) (at : ℕ) → table ≡ earlier ++ entry ∷ later → at ≡ length earlier
+    → drop (at + 1) table ≡ later
 behind_is table earlier later entry at whole number =
     let own : slice_get table at ≡ Some entry = ap (λ (t : Table). slice_get t at) whole ∙ ap (slice_get (earlier ++ entry ∷ later)) number ∙ get_here earlier entry later in
     let cut : drop at table ≡ entry ∷ later = ap (λ (t : Table). drop at t) whole ∙ ap (λ n. drop n (earlier ++ entry ∷ later)) number ∙ drop_here earlier (entry ∷ later) in
     let here' : drop at table ≡ entry ∷ drop (at + 1) table = from_here table at entry own in
     same_tail entry (drop (at + 1) table) later (sym here' ∙ cut)
 
-lead_is : (power : Power) (table : Table) (row : Path) (wish : Wish) (at : ℕ) → reach power table row wish ≡ Some at → lead power table row wish ≡ at
+lead_is : (power : Power) (table : Table) (row : Path) (wish : Wish) (at : ℕ) → reach power table row wish ≡ Some at
+    → lead power table row wish ≡ at
 unfolding lead
 lead_is power table row wish at e = ap (λ (o : Option ℕ). unwrap_or o 0) e
 
@@ -97,7 +103,8 @@ module _ (launch : Launch) (l : IsLaunched launch) (o : Offers launch) (creds : 
   rows = row_at launch.site.rows
 
   -- a path that leads to the row finds it
-  lead_finds : (target : Row) → IsKnown launch.site target → (wish : Wish) → (lead' : Leads launch.table target.path wish) → FindsAt rows launch.table lead'.path target wish
+  lead_finds : (target : Row) → IsKnown launch.site target → (wish : Wish) → (lead' : Leads launch.table target.path wish)
+      → FindsAt rows launch.table lead'.path target wish
   lead_finds target there wish lead' =
       let entry = lead'.split.entry in
       let own = found_row launch.site target.path target o.site there in
@@ -110,31 +117,40 @@ module _ (launch : Launch) (l : IsLaunched launch) (o : Offers launch) (creds : 
       ap (λ (p : Path). lead'.source ++ rest_of entry.place p) lead'.path_is ∙ ap (λ (r : Path). lead'.source ++ r) (rest-append entry.place lead'.rest) ∙ sym lead'.row_is in
       record {
         can_be_named = subst IsPath (sym lead'.path_is) (named_both entry.place lead'.rest place.normal place.short rest.0 rest.1);
-        is_found = ap (found_at rows lead'.path) by ∙ ap (λ w. found_by rows w entry.place lead'.path) lead'.host ∙ ap (λ (p : Path). row_or_nothing (rows p)) at ∙ ap row_or_nothing there;
+        is_found = ap (found_at rows lead'.path) by ∙ ap (λ w. found_by rows w entry.place lead'.path) lead'.host
+            ∙ ap (λ (p : Path). row_or_nothing (rows p)) at ∙ ap row_or_nothing there;
         is_allowed = ap (λ (x : Option MountStep). fits wish (flags_by x)) by ∙ lead'.flags;
       }
 
   -- the first call for mounts, and that for unmounts
-  mount_line : (own : Rule) (args : List ℕ) → choices.Choice ChangesMounts own args → (nr : CallAt) → IsCallAt nr → rule_there launch nr ≡ Some own → passes_at launch nr args → has creds.effective 21 ≡ true → CanMount launch creds known.Mount nr
+  mount_line : (own : Rule) (args : List ℕ) → choices.Choice ChangesMounts own args → (nr : CallAt) → IsCallAt nr
+      → rule_there launch nr ≡ Some own → passes_at launch nr args → has creds.effective 21 ≡ true → CanMount launch creds known.Mount nr
   mount_line own args choices.mounts nr n at t admin = record { admin = admin; number = n; follows = at; through = t }
 
-  umount_line : (own : Rule) (args : List ℕ) → choices.Choice RemovesMounts own args → (nr : CallAt) → IsCallAt nr → rule_there launch nr ≡ Some own → passes_at launch nr args → has creds.effective 21 ≡ true → CanMount launch creds known.Umount nr
+  umount_line : (own : Rule) (args : List ℕ) → choices.Choice RemovesMounts own args → (nr : CallAt) → IsCallAt nr
+      → rule_there launch nr ≡ Some own → passes_at launch nr args → has creds.effective 21 ≡ true → CanMount launch creds known.Umount nr
   umount_line own args choices.unmounts nr n at t admin = record { admin = admin; number = n; follows = at; through = t }
 
-  can_mount : lets launch ChangesMounts ≡ true → has creds.effective 21 ≡ true → CanMount launch creds known.Mount (place_of (line_of launch ChangesMounts))
+  can_mount : lets launch ChangesMounts ≡ true → has creds.effective 21 ≡ true
+      → CanMount launch creds known.Mount (place_of (line_of launch ChangesMounts))
   can_mount e admin =
       let c = chosen launch l ChangesMounts e in
       let x = c.line in
-      subst (CanMount launch creds known.Mount) (sym (place_is c)) (mount_line x.own x.args (choice_of x) (place_of x.line) x.number x.at x.through admin)
+      subst (CanMount launch creds known.Mount) (sym (place_is c))
+      (mount_line x.own x.args (choice_of x) (place_of x.line) x.number x.at x.through admin)
 
-  can_umount : lets launch RemovesMounts ≡ true → has creds.effective 21 ≡ true → CanMount launch creds known.Umount (place_of (line_of launch RemovesMounts))
+  can_umount : lets launch RemovesMounts ≡ true → has creds.effective 21 ≡ true
+      → CanMount launch creds known.Umount (place_of (line_of launch RemovesMounts))
   can_umount e admin =
       let c = chosen launch l RemovesMounts e in
       let x = c.line in
-      subst (CanMount launch creds known.Umount) (sym (place_is c)) (umount_line x.own x.args (choice_of x) (place_of x.line) x.number x.at x.through admin)
+      subst (CanMount launch creds known.Umount) (sym (place_is c))
+      (umount_line x.own x.args (choice_of x) (place_of x.line) x.number x.at x.through admin)
 
   -- by two mounts, with any flags that remount a single one
-  pub by_mounts : (target : Row) → IsKnown launch.site target → (wish : Wish) → lets launch ChangesMounts ≡ true → has creds.effective 21 ≡ true → (flags : ℕ) → flags < 2 ^ 32 → has_all ms_remount_bind flags ≡ true → has_other_kind flags ≡ false → fits wish (flags_of flags) ≡ true
+  pub by_mounts : (target : Row) → IsKnown launch.site target → (wish : Wish) → lets launch ChangesMounts ≡ true
+      → has creds.effective 21 ≡ true → (flags : ℕ) → flags < 2 ^ 32 → has_all ms_remount_bind flags ≡ true → has_other_kind flags ≡ false
+      → fits wish (flags_of flags) ≡ true
       → (x : ExposedAt launch creds Mounting flags target wish) × (flags_at x.now (proc ++ target.path) ≡ flags_of flags)
   by_mounts target there wish e admin flags small again other allowed =
       let two = two_mounts_show_rows launch creds (place_of (line_of launch ChangesMounts)) flags l o (can_mount e admin) small again other in
@@ -149,7 +165,8 @@ module _ (launch : Launch) (l : IsLaunched launch) (o : Offers launch) (creds : 
       )
 
   module _ (target : Row) (there : IsKnown launch.site target) (wish : Wish) where
-    nowise_by : (x : Option ℕ) → reach Nowise launch.table target.path wish ≡ x → IsFirst (LeadsBy launch.table target.path wish) x → is_some x ≡ true → MarkedAt launch creds Nowise target wish
+    nowise_by : (x : Option ℕ) → reach Nowise launch.table target.path wish ≡ x → IsFirst (LeadsBy launch.table target.path wish) x
+        → is_some x ≡ true → MarkedAt launch creds Nowise target wish
     nowise_by None e first s = cc
     nowise_by (Some at) e first s =
         let by = first.0 in
@@ -164,7 +181,9 @@ module _ (launch : Launch) (l : IsLaunched launch) (o : Offers launch) (creds : 
           suid = marks_count launch.table l.honours (exposing_path launch Nowise wish target.path);
         }
 
-    unmounting_by : has creds.effective 21 ≡ true → lets launch RemovesMounts ≡ true → (x : Option ℕ) → reach Unmounting launch.table target.path wish ≡ x → IsFirst (Shows launch.table target.path wish) x → is_some x ≡ true → MarkedAt launch creds Unmounting target wish
+    unmounting_by : has creds.effective 21 ≡ true → lets launch RemovesMounts ≡ true → (x : Option ℕ)
+        → reach Unmounting launch.table target.path wish ≡ x → IsFirst (Shows launch.table target.path wish) x → is_some x ≡ true
+        → MarkedAt launch creds Unmounting target wish
     unmounting_by admin passes' None e first s = cc
     unmounting_by admin passes' (Some at) e first s =
         let shows = first.0 in
@@ -191,10 +210,14 @@ module _ (launch : Launch) (l : IsLaunched launch) (o : Offers launch) (creds : 
         let x = by_mounts target there wish passes' admin ms_remount_bind (omega arith) refl refl (remounted_fits wish) in
         record { exposed = x.0; suid = ap (λ f. f.no_suid) x.1 }
 
-    pub marked : (power : Power) → HasPower launch creds power → reaches power launch.table target.path wish ≡ true → MarkedAt launch creds power target wish
+    pub marked : (power : Power) → HasPower launch creds power → reaches power launch.table target.path wish ≡ true
+        → MarkedAt launch creds power target wish
     marked Nowise h e = nowise_by (reach Nowise launch.table target.path wish) refl (first_by_power Nowise launch.table target.path wish) e
     marked Unmounting (inl none') e = cc
     marked Unmounting (inr both) e =
-        unmounting_by both.0 (unmounts_pass (has (caps_at launch Nowise) 21) (lets launch ChangesMounts) (lets launch RemovesMounts) both.1).1 (reach Unmounting launch.table target.path wish) refl (first_by_power Unmounting launch.table target.path wish) e
+        unmounting_by both.0 (unmounts_pass (has (caps_at launch Nowise) 21) (lets launch ChangesMounts)
+        (lets launch RemovesMounts) both.1).1 (reach Unmounting launch.table target.path wish) refl
+        (first_by_power Unmounting launch.table target.path wish) e
     marked Mounting (inl none') e = cc
-    marked Mounting (inr both) e = mounting_by both.0 (mounts_pass (has (caps_at launch Nowise) 21) (lets launch ChangesMounts) (lets launch RemovesMounts) both.1).1
+    marked Mounting (inr both) e =
+        mounting_by both.0 (mounts_pass (has (caps_at launch Nowise) 21) (lets launch ChangesMounts) (lets launch RemovesMounts) both.1).1

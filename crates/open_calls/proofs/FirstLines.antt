@@ -41,7 +41,8 @@ module _ (launch : Launch) (kind : CallKind) where
     listed : slice_get (calls_in launch.calls abi) at ≡ Some line
     lets : lets_line launch kind line ≡ true
 
-  by_name : (abi : ℕ) (name : List ℕ) (o : Option CallLine) → named name (calls_in launch.calls abi) ≡ o → option_map_or (lets_line launch kind) o false ≡ true → (line : CallLine) → o ≡ Some line → PassingIn abi line
+  by_name : (abi : ℕ) (name : List ℕ) (o : Option CallLine) → named name (calls_in launch.calls abi) ≡ o
+      → option_map_or (lets_line launch kind) o false ≡ true → (line : CallLine) → o ≡ Some line → PassingIn abi line
   by_name abi name None is h line e = cc
   by_name abi name (Some own) is h line e =
       let same : own ≡ line = cc in
@@ -51,7 +52,8 @@ module _ (launch : Launch) (kind : CallKind) where
   passing_in : (abi : ℕ) (line : CallLine) → line_in launch kind abi ≡ Some line → PassingIn abi line
   passing_in abi line e = by (find (lets_name launch kind abi) (names_of kind)) refl e
     where
-      by : (o : Option (List ℕ)) → find (lets_name launch kind abi) (names_of kind) ≡ o → option_and_then (λ name. named name (calls_in launch.calls abi)) o ≡ Some line → PassingIn abi line
+      by : (o : Option (List ℕ)) → find (lets_name launch kind abi) (names_of kind) ≡ o
+          → option_and_then (λ name. named name (calls_in launch.calls abi)) o ≡ Some line → PassingIn abi line
       by None n e = cc
       by (Some name) n e = let f = found_at (lets_name launch kind abi) (names_of kind) name n in by_name abi name (named name (calls_in launch.calls abi)) refl f.2 line e
 
@@ -71,24 +73,29 @@ module _ (launch : Launch) (kind : CallKind) where
   passing : (line : CallLine) → first_line launch kind ≡ Some line → Passing launch kind line
   passing line e = by (line_in launch kind 0) refl e
     where
-      by_other : (o : Option CallLine) → line_in launch kind 1 ≡ o → option_or o (find (lets_line launch kind) every) ≡ Some line → Passing launch kind line
+      by_other : (o : Option CallLine) → line_in launch kind 1 ≡ o → option_or o (find (lets_line launch kind) every) ≡ Some line
+          → Passing launch kind line
       by_other None is e = passing_any line e
       by_other (Some own) is e = passing_other line (is ∙ e)
 
-      by : (o : Option CallLine) → line_in launch kind 0 ≡ o → option_or o (option_or (line_in launch kind 1) (find (lets_line launch kind) every)) ≡ Some line → Passing launch kind line
+      by : (o : Option CallLine) → line_in launch kind 0 ≡ o
+          → option_or o (option_or (line_in launch kind 1) (find (lets_line launch kind) every)) ≡ Some line → Passing launch kind line
       by None is e = by_other (line_in launch kind 1) refl e
       by (Some own) is e = passing_native line (is ∙ e)
 
 -- a call of the kind that passes is found
 pub first_is : (launch : Launch) (kind : CallKind) → lets launch kind ≡ true → (line : CallLine) × (first_line launch kind ≡ Some line)
 unfolding lets
-first_is launch kind e = by (line_in launch kind 0) (then (line_in launch kind 1) (any_found (lets_line launch kind) (every_call launch.calls) e))
+first_is launch kind e = by (line_in launch kind 0)
+    (then (line_in launch kind 1) (any_found (lets_line launch kind) (every_call launch.calls) e))
   where
-    then : (o : Option CallLine) → (line : CallLine) × (find (lets_line launch kind) (every_call launch.calls) ≡ Some line) → (line : CallLine) × (option_or o (find (lets_line launch kind) (every_call launch.calls)) ≡ Some line)
+    then : (o : Option CallLine) → (line : CallLine) × (find (lets_line launch kind) (every_call launch.calls) ≡ Some line)
+        → (line : CallLine) × (option_or o (find (lets_line launch kind) (every_call launch.calls)) ≡ Some line)
     then None a = a
     then (Some line) a = (line, refl)
 
-    by : {more : Option CallLine} (o : Option CallLine) → (line : CallLine) × (more ≡ Some line) → (line : CallLine) × (option_or o more ≡ Some line)
+    by : {more : Option CallLine} (o : Option CallLine) → (line : CallLine) × (more ≡ Some line)
+        → (line : CallLine) × (option_or o more ≡ Some line)
     by None a = a
     by (Some line) a = (line, refl)
 
@@ -102,11 +109,13 @@ chosen launch l kind e =
 
 module _ {launch : Launch} {kind : CallKind} (c : ChosenLine launch kind) where
   args_are : args_of kind c.line.line ≡ c.line.args
-  args_are = ap (λ (r : Option Rule). unwrap_or (option_and_then (words kind) r) no_words) c.line.is ∙ ap (λ (w : Option (List ℕ)). unwrap_or w no_words) c.line.are
+  args_are = ap (λ (r : Option Rule). unwrap_or (option_and_then (words kind) r) no_words) c.line.is
+      ∙ ap (λ (w : Option (List ℕ)). unwrap_or w no_words) c.line.are
 
   -- its call
   pub call_is : (payload : Payload) → call_by launch kind payload ≡ first_by (place_of c.line.line) c.line.args payload
-  call_is payload = ap (λ (line : CallLine). first_by (place_of line) (args_of kind line) payload) c.is ∙ ap (λ (args : List ℕ). first_by (place_of c.line.line) args payload) args_are
+  call_is payload = ap (λ (line : CallLine). first_by (place_of line) (args_of kind line) payload) c.is
+      ∙ ap (λ (args : List ℕ). first_by (place_of c.line.line) args payload) args_are
 
   pub place_is : place_of (line_of launch kind) ≡ place_of c.line.line
   place_is = ap place_of c.is

@@ -21,7 +21,8 @@ not_user own.Pid n = refl
 not_user own.User n = absurd (n refl)
 not_user own.Uts n = refl
 
-pub made_inside : (launch : Launch) (space : NamespaceType) → is_user space ≡ false → has (ceiling launch).effective cap_sys_admin ≡ false → is_open launch (Ns space) ≡ true → (lets launch (ForNamespace space) ≡ true) × (lets launch (ForNamespace User) ≡ true)
+pub made_inside : (launch : Launch) (space : NamespaceType) → is_user space ≡ false → has (ceiling launch).effective cap_sys_admin ≡ false
+    → is_open launch (Ns space) ≡ true → (lets launch (ForNamespace space) ≡ true) × (lets launch (ForNamespace User) ≡ true)
 made_inside launch space other off h =
     let open' : (lets launch (ForNamespace space) && (has (ceiling launch).effective cap_sys_admin || can_make_user launch)) ≡ true =
     sym (ap (λ b. cond b (can_make_user launch) (lets launch (ForNamespace space) && (has (ceiling launch).effective cap_sys_admin || can_make_user launch))) other) ∙ h in

@@ -32,11 +32,13 @@ once_by launch number = by (at_once launch number)
     by None = behind_not_once (at_once launch cap_sys_admin) (at_power launch number)
 
 -- a way at once is the one on the launched table; and where there is none such there is none there
-pub once_at_once : (launch : Launch) (number : ℕ) (way : OwnCap) → option_map meant_gain (Some (own.AtOnce way)) ≡ gain launch number → option_map meant_cap (Some way) ≡ at_once launch number
+pub once_at_once : (launch : Launch) (number : ℕ) (way : OwnCap) → option_map meant_gain (Some (own.AtOnce way)) ≡ gain launch number
+    → option_map meant_cap (Some way) ≡ at_once launch number
 unfolding once_of
 once_at_once launch number way e = ap once_of e ∙ once_by launch number
 
-pub once_behind : (launch : Launch) (number : ℕ) (admin way : OwnCap) → option_map meant_gain (Some (own.Behind admin way)) ≡ gain launch number → None ≡ at_once launch number
+pub once_behind : (launch : Launch) (number : ℕ) (admin way : OwnCap)
+    → option_map meant_gain (Some (own.Behind admin way)) ≡ gain launch number → None ≡ at_once launch number
 unfolding once_of
 once_behind launch number admin way e = ap once_of e ∙ once_by launch number
 
@@ -51,7 +53,8 @@ module _ (launch : Launch) where
   GainedFrom number (one ∷ more) = IsGained launch number one × GainedFrom (number + 1) more
 
   -- what is kept of a capability is found by its number
-  kept_is : (number : ℕ) (list : List Gained) (at : ℕ) (one : Gained) → GainedFrom number list → slice_get list at ≡ Some one → IsGained launch (number + at) one
+  kept_is : (number : ℕ) (list : List Gained) (at : ℕ) (one : Gained) → GainedFrom number list → slice_get list at ≡ Some one
+      → IsGained launch (number + at) one
   kept_is number [] at one h e = cc
   kept_is number (first ∷ more) zero one h e =
       let same : first ≡ one = cc in
@@ -67,12 +70,14 @@ module _ (launch : Launch) where
       subst (λ k. IsGained launch k (Found way)) n (kept_is 0 list number (Found way) h e)
       )
 
-  pub kept_there : (list : List Gained) (at : ℕ) (one : Gained) → AreGained launch list → slice_get list at ≡ Some one → IsGained launch at one
+  pub kept_there : (list : List Gained) (at : ℕ) (one : Gained) → AreGained launch list → slice_get list at ≡ Some one
+      → IsGained launch at one
   kept_there list at Unasked h e = tt
   kept_there list at (Found way) h e = h at way e
 
   -- one capability more
-  pub kept_more : (number : ℕ) (list : List Gained) (one : Gained) → GainedFrom number list → IsGained launch (number + length list) one → GainedFrom number (list ++ one ∷ [])
+  pub kept_more : (number : ℕ) (list : List Gained) (one : Gained) → GainedFrom number list → IsGained launch (number + length list) one
+      → GainedFrom number (list ++ one ∷ [])
   kept_more number [] one h g = let n : number + 0 ≡ number = omega arith in (subst (λ k. IsGained launch k one) n g, tt)
   kept_more number (first ∷ more) one h g =
       let n : number + suc (length more) ≡ (number + 1) + length more = omega arith in

@@ -9,7 +9,8 @@ use Rattle.ceilings.specs.site_table.Table.{row_at}
 use Rattle.ceilings.specs.kernel_laws.Launched.{launch_of}
 use Rattle.ceilings.specs.kernel_laws.declared.question_types.wish.Wish.{Wish}
 use Rattle.ceilings.specs.kernel_laws.declared.question_types.power.Power.{Power}
-use Rattle.ceilings.specs.kernel_laws.declared.question_types.power.Power.TheVariants.{None as Nowise, Unmount as Unmounting, Mount as Mounting}
+use Rattle.ceilings.specs.kernel_laws.declared.question_types.power.Power.TheVariants.{None as Nowise, Unmount as Unmounting}
+use Rattle.ceilings.specs.kernel_laws.declared.question_types.power.Power.TheVariants.{Mount as Mounting}
 use Rattle.ceilings.specs.kernel_laws.Reach.{reach, reaches}
 use Rattle.ceilings.specs.kernel_model.World.{World}
 use Rattle.ceilings.specs.kernel_ways.Laws.{IsServedWorld}
@@ -23,7 +24,8 @@ tail_within [] = omega arith
 tail_within (part ∷ path) = omega arith
 
 -- there is an entry, so its number is that
-lead_is : (power : Power) (table : Table) (row : Path) (wish : Wish) → reaches power table row wish ≡ true → reach power table row wish ≡ Some (lead power table row wish)
+lead_is : (power : Power) (table : Table) (row : Path) (wish : Wish) → reaches power table row wish ≡ true
+    → reach power table row wish ≡ Some (lead power table row wish)
 unfolding lead
 lead_is power table row wish e = by (reach power table row wish) e
   where
@@ -40,13 +42,19 @@ module _ (world : World) (served : IsServedWorld world) (row : Row) (known : row
     pub in_range : at < length table
     pub leads : IsLead table row.path at
 
-  lead_by : (wish : Wish) (power : Power) → (power ≡ Nowise) ⊎ (power ≡ Unmounting) → reaches power (launch_of world).table row.path wish ≡ true → IsLead (launch_of world).table row.path (lead power (launch_of world).table row.path wish)
-  lead_by wish Nowise some e = leads_nowise (launch_of world) served.offers row known wish (lead Nowise (launch_of world).table row.path wish) (lead_is Nowise (launch_of world).table row.path wish e)
-  lead_by wish Unmounting some e = leads_unmounting (launch_of world) served.offers row known wish (lead Unmounting (launch_of world).table row.path wish) (lead_is Unmounting (launch_of world).table row.path wish e)
+  lead_by : (wish : Wish) (power : Power) → (power ≡ Nowise) ⊎ (power ≡ Unmounting)
+      → reaches power (launch_of world).table row.path wish ≡ true
+      → IsLead (launch_of world).table row.path (lead power (launch_of world).table row.path wish)
+  lead_by wish Nowise some e = leads_nowise (launch_of world) served.offers row known wish
+      (lead Nowise (launch_of world).table row.path wish) (lead_is Nowise (launch_of world).table row.path wish e)
+  lead_by wish Unmounting some e = leads_unmounting (launch_of world) served.offers row known wish
+      (lead Unmounting (launch_of world).table row.path wish) (lead_is Unmounting (launch_of world).table row.path wish e)
   lead_by wish Mounting (inl e') e = cc
   lead_by wish Mounting (inr e') e = cc
 
-  pub leads_by : (wish : Wish) (power : Power) → (power ≡ Nowise) ⊎ (power ≡ Unmounting) → reaches power (launch_of world).table row.path wish ≡ true → (table : Table) (at : ℕ) → table ≡ (launch_of world).table → at ≡ lead power (launch_of world).table row.path wish → Leads table at
+  pub leads_by : (wish : Wish) (power : Power) → (power ≡ Nowise) ⊎ (power ≡ Unmounting)
+      → reaches power (launch_of world).table row.path wish ≡ true → (table : Table) (at : ℕ) → table ≡ (launch_of world).table
+      → at ≡ lead power (launch_of world).table row.path wish → Leads table at
   leads_by wish power some e table at same number =
       let own = lead_by wish power some e in
       let at_own : IsLead (launch_of world).table row.path at = subst (IsLead (launch_of world).table row.path) (sym number) own in
@@ -55,7 +63,8 @@ module _ (world : World) (served : IsServedWorld world) (row : Row) (known : row
       record { in_range = slice_get_within table at here'.entry here'.own; leads = here' }
 
 -- the number of an entry that is found, and of none
-pub some_lead : (at : ℕ) (power : Power) (table : Table) (row : Path) (wish : Wish) → Some at ≡ reach power table row wish → at ≡ lead power table row wish
+pub some_lead : (at : ℕ) (power : Power) (table : Table) (row : Path) (wish : Wish) → Some at ≡ reach power table row wish
+    → at ≡ lead power table row wish
 unfolding lead
 some_lead at power table row wish e = ap (λ (o : Option ℕ). unwrap_or o 0) e
 

@@ -23,13 +23,17 @@ use Rattle.questions.proofs.Among.{has_contained, all_had}
 use Rattle.open_calls.specs.chosen_calls.Chosen.{calls_for, is_called, row_calls}
 
 module _ (launch : Launch) (program : Path) (place : ℕ) where
-  pub row_is : (wish : Wish) (row : Row) → slice_get launch.site.rows place ≡ Some row → row_calls launch program wish row ≡ calls_for launch program (asking.Path wish place)
+  pub row_is : (wish : Wish) (row : Row) → slice_get launch.site.rows place ≡ Some row
+      → row_calls launch program wish row ≡ calls_for launch program (asking.Path wish place)
   unfolding calls_for
   row_is wish row e = sym (ap (λ o. option_map_or (row_calls launch program wish) o []) e)
 
-  pub open_call : (line : CallLine) → slice_get (every_call launch.calls) place ≡ Some line → is_open launch (asking.Call place) ≡ true → list_any (is_called launch line.name) (every_call launch.calls) ≡ true
-  open_call line e h = (and_parts (list_any (is_called launch line.name) (every_call launch.calls)) (can_have_for (ceiling launch) (rule_of line)) (sym (ap (if_listed (is_call_open launch (ceiling launch))) e) ∙ h)).0
+  pub open_call : (line : CallLine) → slice_get (every_call launch.calls) place ≡ Some line → is_open launch (asking.Call place) ≡ true
+      → list_any (is_called launch line.name) (every_call launch.calls) ≡ true
+  open_call line e h = (and_parts (list_any (is_called launch line.name) (every_call launch.calls))
+      (can_have_for (ceiling launch) (rule_of line)) (sym (ap (if_listed (is_call_open launch (ceiling launch))) e) ∙ h)).0
 
 -- each question of the list is put to what it is about
 pub fit : (world : World) → IsServedWorld world → (one : Question) → Contains (questions world.calls world.site) one → IsFit world.site one
-fit world served one h = all_had (IsFit world.site) (questions world.calls world.site) one (listed_are_fit world.calls world.site served.offers.site) (has_contained (questions world.calls world.site) one h)
+fit world served one h = all_had (IsFit world.site) (questions world.calls world.site) one
+    (listed_are_fit world.calls world.site served.offers.site) (has_contained (questions world.calls world.site) one h)

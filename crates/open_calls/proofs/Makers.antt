@@ -16,16 +16,19 @@ use Rattle.ceilings.specs.kernel_model.kernel_calls.Doing.{Clone, Does, asked_by
 use Rattle.ceilings.specs.kernel_model.declared.kernel_calls.call.Call.{Call}
 use Rattle.ceilings.specs.kernel_model.declared.kernel_calls.payload.Payload.TheVariants.{Nothing, OnePath}
 use Rattle.ceilings.specs.kernel_model.declared.kernel_calls.rule.Rule.{Rule}
-use Rattle.ceilings.specs.kernel_laws.Bound.{is_barred, is_mounting, is_owner, is_to_exec, is_user, can_reach, ceiling, if_listed, is_open, power_of}
+use Rattle.ceilings.specs.kernel_laws.Bound.{is_barred, is_mounting, is_owner, is_to_exec, is_user, can_reach, ceiling, if_listed, is_open}
+use Rattle.ceilings.specs.kernel_laws.Bound.{power_of}
 use Rattle.ceilings.specs.kernel_laws.declared.question_types.kind.CallKind.{CallKind}
-use Rattle.ceilings.specs.kernel_laws.declared.question_types.kind.CallKind.TheVariants.{ForFamily, ForPath, ForNamespace, RemovesMounts, TakesUid, TakesGid}
+use Rattle.ceilings.specs.kernel_laws.declared.question_types.kind.CallKind.TheVariants.{ForFamily, ForPath, ForNamespace, RemovesMounts}
+use Rattle.ceilings.specs.kernel_laws.declared.question_types.kind.CallKind.TheVariants.{TakesUid, TakesGid}
 use Rattle.ceilings.specs.kernel_laws.declared.question_types.question.Question.{Question}
 use Rattle.questions.specs.filter_settings.declared.filter_rules.namespace_types.NamespaceType.{NamespaceType}
 use Rattle.questions.specs.filter_settings.declared.filter_rules.namespace_types.NamespaceType.TheVariants.{User}
 use Rattle.ceilings.specs.kernel_laws.declared.question_types.wish.Wish.{Wish}
 use Rattle.ceilings.specs.kernel_laws.declared.question_types.wish.Wish.TheVariants.{Exec as ToExec}
 use Rattle.ceilings.specs.kernel_laws.declared.question_types.power.Power.{Power}
-use Rattle.ceilings.specs.kernel_laws.declared.question_types.power.Power.TheVariants.{None as Nowise, Unmount as Unmounting, Mount as Mounting}
+use Rattle.ceilings.specs.kernel_laws.declared.question_types.power.Power.TheVariants.{None as Nowise, Unmount as Unmounting}
+use Rattle.ceilings.specs.kernel_laws.declared.question_types.power.Power.TheVariants.{Mount as Mounting}
 use Rattle.ceilings.specs.kernel_laws.declared.question_types.question.Question.TheVariants as asking
 use Rattle.ceilings.specs.kernel_laws.Kinds.{one_word}
 use Rattle.ceilings.specs.kernel_laws.Launched.{Launch, IsLaunched, lets, can_make_user, launch_of}
@@ -37,10 +40,15 @@ use Rattle.ceilings.specs.kernel_ways.Uncovering.{covering, umount_calls}
 use Rattle.ceilings.specs.kernel_ways.Ways.{CallAt, place_of, rule_there}
 use Rattle.ceilings.proofs.OfKernelWays.Choices as choices
 use Rattle.ceilings.proofs.OfKernelWays.Lines.{choice_of, first_by}
-use Rattle.open_calls.specs.chosen_calls.Chosen.{unmarked, is_held_off, doing_calls, user_call, pid_inside, call_inside, inside_calls, row_inside, row_calls, runner, taking, id_at_power, id_by_cap, id_by_row, id_calls, uid_calls, gid_calls, plain_cap, plain_line, plain_calls, socket_payload, socket_calls, space_calls, calls_for}
+use Rattle.open_calls.specs.chosen_calls.Chosen.{unmarked, is_held_off, doing_calls, user_call, pid_inside, call_inside, inside_calls}
+use Rattle.open_calls.specs.chosen_calls.Chosen.{row_inside, row_calls, runner, taking, id_at_power, id_by_cap, id_by_row, id_calls}
+use Rattle.open_calls.specs.chosen_calls.Chosen.{uid_calls, gid_calls, plain_cap, plain_line, plain_calls, socket_payload, socket_calls}
+use Rattle.open_calls.specs.chosen_calls.Chosen.{space_calls, calls_for}
 use Rattle.open_calls.specs.chosen_calls.Exposing.{exposing_calls, exposing_path, lead, shown_at}
 use Rattle.open_calls.specs.chosen_calls.First.{call_by, line_of, own_rule}
-use Rattle.open_calls.specs.chosen_calls.Gaining.{FileWay, Held, ByRun, ByCapset, CapWay, ByFile, ByRoot, GainWay, AtOnce, Behind, run_call, run_calls, capset_call, file_calls, root_call, last_path, cap_calls, gain, gain_calls, gaining, gaining_if, at_once}
+use Rattle.open_calls.specs.chosen_calls.Gaining.{FileWay, Held, ByRun, ByCapset, CapWay, ByFile, ByRoot, GainWay, AtOnce, Behind, run_call}
+use Rattle.open_calls.specs.chosen_calls.Gaining.{run_calls, capset_call, file_calls, root_call, last_path, cap_calls, gain, gain_calls}
+use Rattle.open_calls.specs.chosen_calls.Gaining.{gaining, gaining_if, at_once}
 use Rattle.open_calls.specs.chosen_calls.Laws.{ChoiceIsMade}
 use Rattle.open_calls.specs.chosen_calls.Makers.{MakesUserChild, AreMadeByService, no_more, by_first, by_child}
 use Rattle.open_calls.proofs.FirstLines.{chosen, call_is, rule_is}
@@ -75,11 +83,14 @@ module _ (launch : Launch) where
 
   doing : (power : Power) (flags : ℕ) (wish : Wish) (row : Row) → AreFirst (doing_calls launch power flags wish row)
   doing power flags wish row =
-      join (exposing_calls launch power flags wish row.path) (call_by launch (ForPath wish) (OnePath (exposing_path launch power wish row.path)) ∷ []) (exposing power flags wish row.path) (refl, tt)
+      join (exposing_calls launch power flags wish row.path)
+      (call_by launch (ForPath wish) (OnePath (exposing_path launch power wish row.path)) ∷ []) (exposing power flags wish row.path)
+      (refl, tt)
 
   runs : (power : Power) (row : Row) → AreFirst (run_calls launch power row)
   runs power row =
-      join (exposing_calls launch power ms_remount_bind ToExec row.path) (run_call launch (exposing_path launch power ToExec row.path) ∷ []) (exposing power ms_remount_bind ToExec row.path) (refl, tt)
+      join (exposing_calls launch power ms_remount_bind ToExec row.path)
+      (run_call launch (exposing_path launch power ToExec row.path) ∷ []) (exposing power ms_remount_bind ToExec row.path) (refl, tt)
 
   by_file : (power : Power) (way : FileWay) → AreFirst (file_calls launch power way)
   by_file power Held = tt
@@ -90,12 +101,14 @@ module _ (launch : Launch) where
     by_way : (power : Power) (way : CapWay) → AreFirst (cap_calls launch program power way)
     by_way power (ByFile way) = by_file power way
     by_way power (ByRoot way) =
-        join (file_calls launch power way) (root_call launch ∷ run_call launch (last_path launch program power way) ∷ []) (by_file power way) (refl, (refl, tt))
+        join (file_calls launch power way) (root_call launch ∷ run_call launch (last_path launch program power way) ∷ [])
+        (by_file power way) (refl, (refl, tt))
 
     by_gain : (way : GainWay) → AreFirst (gain_calls launch program way)
     by_gain (AtOnce way) = by_way Nowise way
     by_gain (Behind admin way) =
-        join (cap_calls launch program Nowise admin) (cap_calls launch program (power_of launch) way) (by_way Nowise admin) (by_way (power_of launch) way)
+        join (cap_calls launch program Nowise admin) (cap_calls launch program (power_of launch) way) (by_way Nowise admin)
+        (by_way (power_of launch) way)
 
     gains : (number : ℕ) → AreFirst (gaining launch program number)
     unfolding gaining
@@ -108,7 +121,8 @@ module _ (launch : Launch) where
     -- ids
     module _ (kind : CallKind) (cap id : ℕ) where
       at_power : (o : Option Row) → AreFirst (id_at_power launch program kind cap id o)
-      at_power (Some row) = join (gaining launch program cap_sys_admin) (run_calls launch (power_of launch) row) (gains cap_sys_admin) (runs (power_of launch) row)
+      at_power (Some row) = join (gaining launch program cap_sys_admin) (run_calls launch (power_of launch) row) (gains cap_sys_admin)
+          (runs (power_of launch) row)
       at_power None = join (gaining launch program cap) (taking launch kind id) (gains cap) (refl, tt)
 
       module _ (gives : Row → Bool) where
@@ -134,7 +148,9 @@ inside_by launch l user =
     let c = chosen launch l (ForNamespace User) both.1 in
     by (place_of c.line.line) (rule_is c) (call_is c Nothing) c.line.at (choice_of c.line)
   where
-    by : {own : Rule} {args : List ℕ} → (nr : CallAt) → own_rule (line_of launch (ForNamespace User)) ≡ own → user_call launch ≡ first_by nr args Nothing → rule_there launch nr ≡ Some own → choices.Choice (ForNamespace User) own args → IsInside launch
+    by : {own : Rule} {args : List ℕ} → (nr : CallAt) → own_rule (line_of launch (ForNamespace User)) ≡ own
+        → user_call launch ≡ first_by nr args Nothing → rule_there launch nr ≡ Some own → choices.Choice (ForNamespace User) own args
+        → IsInside launch
     by nr rule call at (choices.unshare _) = inl (ap pid_in rule)
     by nr rule call at (choices.clone _) =
         let own = first_by nr (one_word 0 (flag_of User)) Nothing in
@@ -142,7 +158,8 @@ inside_by launch l user =
         inr (ap pid_in rule, record { flags = flag_of User; asks = ap (asked_of launch.calls) call ∙ asks; newer = refl })
 
 -- execve holds the row off on every mount that the service has: then it can make a user namespace
-held_inside : (exec mounting barred user rest : Bool) → (rest && not (((exec && not mounting) && barred) && not user)) ≡ true → ((exec && barred) && not mounting) ≡ true → user ≡ true
+held_inside : (exec mounting barred user rest : Bool) → (rest && not (((exec && not mounting) && barred) && not user)) ≡ true
+    → ((exec && barred) && not mounting) ≡ true → user ≡ true
 held_inside false mounting barred user rest h g = cc
 held_inside true mounting false user rest h g = cc
 held_inside true true true user rest h g = cc
@@ -170,21 +187,25 @@ module _ (launch : Launch) (entered : can_make_user launch ≡ true → IsInside
   inside_row : IsInside launch → (power : Power) (row : Row) → Made (inside_calls launch power row)
   inside_row i power row =
       let last = call_inside launch (ForPath ToExec) (OnePath (exposing_path launch power ToExec row.path)) in
-      behind (exposing_calls launch power ms_remount_bind ToExec row.path) (user_call launch ∷ last ∷ []) (exposing launch power ms_remount_bind ToExec row.path) (inside i last refl)
+      behind (exposing_calls launch power ms_remount_bind ToExec row.path) (user_call launch ∷ last ∷ [])
+      (exposing launch power ms_remount_bind ToExec row.path) (inside i last refl)
 
   held_row : IsInside launch → (row : Row) → Made (row_inside launch program row)
   held_row i row = by (reaches Nowise launch.table row.path ToExec)
     where
-      by : (b : Bool) → Made (cond b (inside_calls launch Nowise row) (gaining launch program cap_sys_admin ++ inside_calls launch (power_of launch) row))
+      by : (b : Bool) → Made (cond b (inside_calls launch Nowise row)
+          (gaining launch program cap_sys_admin ++ inside_calls launch (power_of launch) row))
       by true = inside_row i Nowise row
-      by false = behind (gaining launch program cap_sys_admin) (inside_calls launch (power_of launch) row) (gains launch program cap_sys_admin) (inside_row i (power_of launch) row)
+      by false = behind (gaining launch program cap_sys_admin) (inside_calls launch (power_of launch) row)
+          (gains launch program cap_sys_admin) (inside_row i (power_of launch) row)
 
   module _ (wish : Wish) (row : Row) where
     abbrev at_first : List Call
     at_first = doing_calls launch Nowise ms_remount_bind wish row
 
     abbrev later : List Call
-    later = gaining launch program cap_sys_admin ++ doing_calls launch (power_of launch) (cond (is_held_off launch wish row) unmarked ms_remount_bind) wish row
+    later = gaining launch program cap_sys_admin ++ doing_calls launch (power_of launch)
+        (cond (is_held_off launch wish row) unmarked ms_remount_bind) wish row
 
     abbrev others : List Call
     others = cond (not (is_held_off launch wish row) && reaches Nowise launch.table row.path wish) at_first later
@@ -192,19 +213,24 @@ module _ (launch : Launch) (entered : can_make_user launch ≡ true → IsInside
     others_first : AreFirst others
     others_first =
         let flags = cond (is_held_off launch wish row) unmarked ms_remount_bind in
-        either (not (is_held_off launch wish row) && reaches Nowise launch.table row.path wish) at_first later (doing launch Nowise ms_remount_bind wish row)
-        (join (gaining launch program cap_sys_admin) (doing_calls launch (power_of launch) flags wish row) (gains launch program cap_sys_admin) (doing launch (power_of launch) flags wish row))
+        either (not (is_held_off launch wish row) && reaches Nowise launch.table row.path wish) at_first later
+        (doing launch Nowise ms_remount_bind wish row)
+        (join (gaining launch program cap_sys_admin) (doing_calls launch (power_of launch) flags wish row)
+        (gains launch program cap_sys_admin) (doing launch (power_of launch) flags wish row))
 
     for_row : can_reach launch (power_of launch) wish row ≡ true → Made (row_calls launch program wish row)
     for_row open' = by (is_held_off launch wish row && not (is_mounting (power_of launch))) refl
       where
-        by : (b : Bool) → (is_held_off launch wish row && not (is_mounting (power_of launch))) ≡ b → Made (cond b (row_inside launch program row) others)
+        by : (b : Bool) → (is_held_off launch wish row && not (is_mounting (power_of launch))) ≡ b
+            → Made (cond b (row_inside launch program row) others)
         by true e =
             let passes = lets launch (ForPath wish) && reaches (power_of launch) launch.table row.path wish in
-            held_row (entered (held_inside (is_to_exec wish) (is_mounting (power_of launch)) (is_barred launch row) (can_make_user launch) passes open' e)) row
+            held_row (entered (held_inside (is_to_exec wish) (is_mounting (power_of launch)) (is_barred launch row)
+            (can_make_user launch) passes open' e)) row
         by false e = made others others_first
 
-  listed_row : (wish : Wish) (o : Option Row) → if_listed (can_reach launch (power_of launch) wish) o ≡ true → Made (option_map_or (row_calls launch program wish) o [])
+  listed_row : (wish : Wish) (o : Option Row) → if_listed (can_reach launch (power_of launch) wish) o ≡ true
+      → Made (option_map_or (row_calls launch program wish) o [])
   listed_row wish None e = no_more
   listed_row wish (Some row) e = for_row wish row e
 
@@ -212,34 +238,48 @@ module _ (launch : Launch) (entered : can_make_user launch ≡ true → IsInside
   for_space : (space : NamespaceType) → is_open launch (asking.Namespace space) ≡ true → Made (space_calls launch program space)
   for_space space open' = by (is_user space) (has (ceiling launch).effective cap_sys_admin) open'
     where
-      by : (user admin : Bool) → cond user (can_make_user launch) (lets launch (ForNamespace space) && (admin || can_make_user launch)) ≡ true
-          → Made (cond user (user_call launch ∷ []) (cond admin (gaining launch program cap_sys_admin ++ call_by launch (ForNamespace space) Nothing ∷ []) (user_call launch ∷ call_inside launch (ForNamespace space) Nothing ∷ [])))
+      by : (user admin : Bool) → cond user (can_make_user launch) (lets launch (ForNamespace space) && (admin || can_make_user launch))
+          ≡ true
+          → Made (cond user (user_call launch ∷ [])
+          (cond admin (gaining launch program cap_sys_admin ++ call_by launch (ForNamespace space) Nothing ∷ [])
+          (user_call launch ∷ call_inside launch (ForNamespace space) Nothing ∷ [])))
       by true admin e = by_first (user_call launch) [] refl no_more
       by false true e =
-          made (gaining launch program cap_sys_admin ++ call_by launch (ForNamespace space) Nothing ∷ []) (join (gaining launch program cap_sys_admin) (call_by launch (ForNamespace space) Nothing ∷ []) (gains launch program cap_sys_admin) (refl, tt))
-      by false false e = inside (entered (and_parts (lets launch (ForNamespace space)) (can_make_user launch) e).1) (call_inside launch (ForNamespace space) Nothing) refl
+          made (gaining launch program cap_sys_admin ++ call_by launch (ForNamespace space) Nothing ∷ [])
+          (join (gaining launch program cap_sys_admin) (call_by launch (ForNamespace space) Nothing ∷ [])
+          (gains launch program cap_sys_admin) (refl, tt))
+      by false false e = inside (entered (and_parts (lets launch (ForNamespace space)) (can_make_user launch) e).1)
+          (call_inside launch (ForNamespace space) Nothing) refl
 
   -- the rest is of process 1
   for_plain : (line : CallLine) → AreFirst (plain_calls launch program line)
   for_plain line =
       let called = plain_line launch line.name in
-      join (gaining_if launch program (plain_cap (rule_of line))) (bare_call called.abi called.number ∷ []) (gains_if launch program (plain_cap (rule_of line))) (refl, tt)
+      join (gaining_if launch program (plain_cap (rule_of line))) (bare_call called.abi called.number ∷ [])
+      (gains_if launch program (plain_cap (rule_of line))) (refl, tt)
 
   for_socket : (line : CallLine) → AreFirst (socket_calls launch program line)
   for_socket line =
-      join (gaining_if launch program line.cap) (call_by launch (ForFamily line.number) (socket_payload launch line.number) ∷ []) (gains_if launch program line.cap) (refl, tt)
+      join (gaining_if launch program line.cap) (call_by launch (ForFamily line.number) (socket_payload launch line.number) ∷ [])
+      (gains_if launch program line.cap) (refl, tt)
 
   for_uid : (id : ℕ) → AreFirst (uid_calls launch program id)
-  for_uid id = either (id == launch.creds.uids.effective) [] (id_calls launch program TakesUid cap_setuid id (λ row. is_owner id row.setuid)) tt (ids launch program TakesUid cap_setuid id (λ row. is_owner id row.setuid))
+  for_uid id = either (id == launch.creds.uids.effective) []
+      (id_calls launch program TakesUid cap_setuid id (λ row. is_owner id row.setuid)) tt
+      (ids launch program TakesUid cap_setuid id (λ row. is_owner id row.setuid))
 
   for_gid : (id : ℕ) → AreFirst (gid_calls launch program id)
-  for_gid id = either (id == launch.creds.gids.effective || list_any (λ group. id == group) launch.creds.groups) [] (id_calls launch program TakesGid cap_setgid id (λ row. is_owner id row.setgid)) tt (ids launch program TakesGid cap_setgid id (λ row. is_owner id row.setgid))
+  for_gid id = either (id == launch.creds.gids.effective || list_any (λ group. id == group) launch.creds.groups) []
+      (id_calls launch program TakesGid cap_setgid id (λ row. is_owner id row.setgid)) tt
+      (ids launch program TakesGid cap_setgid id (λ row. is_owner id row.setgid))
 
   are_made : (question : Question) → is_open launch question ≡ true → Made (calls_for launch program question)
   unfolding calls_for
   are_made (asking.Path wish place) e = listed_row wish (slice_get launch.site.rows place) e
-  are_made (asking.Call place) e = made (option_map_or (plain_calls launch program) (slice_get (every_call launch.calls) place) []) (mapped (plain_calls launch program) for_plain (slice_get (every_call launch.calls) place))
-  are_made (asking.Socket place) e = made (option_map_or (socket_calls launch program) (slice_get launch.calls.families place) []) (mapped (socket_calls launch program) for_socket (slice_get launch.calls.families place))
+  are_made (asking.Call place) e = made (option_map_or (plain_calls launch program) (slice_get (every_call launch.calls) place) [])
+      (mapped (plain_calls launch program) for_plain (slice_get (every_call launch.calls) place))
+  are_made (asking.Socket place) e = made (option_map_or (socket_calls launch program) (slice_get launch.calls.families place) [])
+      (mapped (socket_calls launch program) for_socket (slice_get launch.calls.families place))
   are_made (asking.Namespace space) e = for_space space e
   are_made asking.MapWx e = by_first _ [] refl no_more
   are_made asking.ProtectX e = by_first _ [] refl no_more
@@ -252,4 +292,5 @@ module _ (launch : Launch) (entered : can_make_user launch ≡ true → IsInside
   are_made (asking.Gid id) e = made (gid_calls launch program id) (for_gid id)
 
 pub choice_is_made : ChoiceIsMade
-choice_is_made world program question launched open' = are_made (launch_of world) (inside_by (launch_of world) launched.launched) program question open'
+choice_is_made world program question launched open' = are_made (launch_of world)
+    (inside_by (launch_of world) launched.launched) program question open'

@@ -22,27 +22,33 @@ module _ (launch : Launch) (o : Offers launch) where
   pub runs : (power : Power) (gives : Row → Bool) (row : Row) → runner launch power gives ≡ Some row → IsRunner launch power row
   runs power gives row e = by launch.creds.no_new_privs refl e
     where
-      by : (n : Bool) → launch.creds.no_new_privs ≡ n → cond {A = Option Row} n None (find (λ row. gives row && can_run launch power row) launch.site.rows) ≡ Some row → IsRunner launch power row
+      by : (n : Bool) → launch.creds.no_new_privs ≡ n → cond {A = Option Row} n None
+          (find (λ row. gives row && can_run launch power row) launch.site.rows) ≡ Some row → IsRunner launch power row
       by true off e = cc
       by false off e = (found_runner launch o off power gives row e).0
 
-  pub serves : (kind : CallKind) (number : ℕ) (way : CapWay) → cond {A = Option CapWay} (lets launch kind) (at_once launch number) None ≡ Some way → CapCanBeMade launch Nowise way
+  pub serves : (kind : CallKind) (number : ℕ) (way : CapWay)
+      → cond {A = Option CapWay} (lets launch kind) (at_once launch number) None ≡ Some way → CapCanBeMade launch Nowise way
   serves kind number way e = by (lets launch kind) e
     where
       by : (b : Bool) → cond {A = Option CapWay} b (at_once launch number) None ≡ Some way → CapCanBeMade launch Nowise way
       by true e = once_can_be_made launch o number way e
       by false e = cc
 
-uid_is_open : (launch : Launch) (id : ℕ) → (ceiling launch).uid id ≡ true → eqb id launch.creds.uids.effective ≡ false → IsIdOpen launch TakesUid (gives User id)
+uid_is_open : (launch : Launch) (id : ℕ) → (ceiling launch).uid id ≡ true → eqb id launch.creds.uids.effective ≡ false
+    → IsIdOpen launch TakesUid (gives User id)
 uid_is_open launch id h off =
     let e = ap (λ b. any_uid launch (caps_at launch (power_of launch)) || (b || (not launch.creds.no_new_privs && list_any (owned_by launch (power_of launch) id) launch.site.rows))) off in
     elim (uid_open launch id (sym e ∙ h)) [ inl both ↦ inl both.1 | inr own ↦ inr own ]
 
-gid_is_open : (launch : Launch) (id : ℕ) → (ceiling launch).gid id ≡ true → (eqb id launch.creds.gids.effective || list_any (λ group. eqb id group) launch.creds.groups) ≡ false → IsIdOpen launch TakesGid (gives Group id)
+gid_is_open : (launch : Launch) (id : ℕ) → (ceiling launch).gid id ≡ true
+    → (eqb id launch.creds.gids.effective || list_any (λ group. eqb id group) launch.creds.groups) ≡ false
+    → IsIdOpen launch TakesGid (gives Group id)
 gid_is_open launch id h off =
     let e = ap (λ b. any_gid launch (caps_at launch (power_of launch)) || (b || (not launch.creds.no_new_privs && list_any (grouped_by launch (power_of launch) id) launch.site.rows))) off in
     elim (gid_open launch id (sym e ∙ h)) [ inl both ↦ inl both.1 | inr own ↦ inr own ]
 
-pub id_is_open : (launch : Launch) (kind : IdKind) (id : ℕ) → is_open launch (asked kind id) ≡ true → is_had kind launch id ≡ false → IsIdOpen launch (meant_kind kind) (gives kind id)
+pub id_is_open : (launch : Launch) (kind : IdKind) (id : ℕ) → is_open launch (asked kind id) ≡ true → is_had kind launch id ≡ false
+    → IsIdOpen launch (meant_kind kind) (gives kind id)
 id_is_open launch User id h off = uid_is_open launch id h off
 id_is_open launch Group id h off = gid_is_open launch id h off

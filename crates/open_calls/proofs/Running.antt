@@ -33,7 +33,8 @@ pub record RunnableAt (launch : Launch) (table : Table) (path : Path) (target : 
   pub suid : (flags_at table path).no_suid ≡ false
   pub free : is_barred launch target ≡ false
 
-abbrev runnable : {launch : Launch} {table : Table} {path : Path} {target : Row} → RunnableAt launch table path target → Runnable launch table target
+abbrev runnable : {launch : Launch} {table : Table} {path : Path} {target : Row} → RunnableAt launch table path target
+    → Runnable launch table target
 runnable {path = path} r = record {
   found = record { path = path; can_be_named = r.found.can_be_named; is_found = r.found.is_found; is_allowed = r.found.is_allowed };
   known = r.known;
@@ -42,7 +43,8 @@ runnable {path = path} r = record {
   free = r.free;
 }
 
-pub runs_at : (launch : Launch) → IsLaunched launch → Offers launch → (creds : Creds) (table : Table) (path : Path) (target : Row) → creds.bounding ≡ launch.creds.bounding → RunnableAt launch table path target
+pub runs_at : (launch : Launch) → IsLaunched launch → Offers launch → (creds : Creds) (table : Table) (path : Path) (target : Row)
+    → creds.bounding ≡ launch.creds.bounding → RunnableAt launch table path target
     → Makes launch creds table (d.Execve path) (run_call launch path) (SetCreds (exec_done creds (marks_of target) false))
 runs_at launch l o creds table path target bounding r =
     let c = chosen launch l (ForPath ToExec) o.execs in

@@ -20,7 +20,8 @@ use Rattle.ceilings.specs.kernel_model.declared.kernel_calls.call.Call.{Call}
 use Rattle.ceilings.specs.kernel_model.declared.kernel_calls.payload.Payload.TheVariants.{Nothing}
 use Rattle.ceilings.specs.kernel_model.declared.kernel_calls.rule.Rule.{Rule}
 use Rattle.ceilings.specs.kernel_model.World.{World}
-use Rattle.ceilings.specs.kernel_laws.Bound.{is_user, can_reach, can_have_cap, can_have_for, if_listed, power_of, ceiling, is_open, is_call_open}
+use Rattle.ceilings.specs.kernel_laws.Bound.{is_user, can_reach, can_have_cap, can_have_for, if_listed, power_of, ceiling, is_open}
+use Rattle.ceilings.specs.kernel_laws.Bound.{is_call_open}
 use Rattle.ceilings.specs.kernel_laws.Denied.{asks_space, asks_family, is_family, Shows}
 use Rattle.ceilings.specs.kernel_laws.Kinds as k
 use Rattle.ceilings.specs.kernel_laws.declared.question_types.kind.CallKind.{CallKind}
@@ -43,7 +44,8 @@ use Rattle.ceilings.proofs.OfKernelWays.Performing as performing
 use Rattle.ceilings.proofs.OfKernelWays.Performing.{CapAtHand, is_free}
 use Rattle.ceilings.proofs.OfKernelWays.Showing.{calls_show, creds_show}
 use Rattle.ceilings.proofs.OfKernelWays.Starts.{starts_solo, performs}
-use Rattle.open_calls.specs.chosen_calls.Chosen.{plain_cap, row_calls, plain_calls, socket_calls, space_calls, user_call, pid_inside, call_inside, calls_for, is_called, plain_line, socket_payload}
+use Rattle.open_calls.specs.chosen_calls.Chosen.{plain_cap, row_calls, plain_calls, socket_calls, space_calls, user_call, pid_inside}
+use Rattle.open_calls.specs.chosen_calls.Chosen.{call_inside, calls_for, is_called, plain_line, socket_payload}
 use Rattle.open_calls.specs.chosen_calls.First.{call_by, no_line}
 use Rattle.open_calls.proofs.ChosenCallsInside.{user_called, inside_is}
 use Rattle.ceilings.proofs.OfKernelWays.Entering.{calls_show_inside}
@@ -57,11 +59,16 @@ use Rattle.open_calls.proofs.ChosenCallsRows.{gained, row_shown}
 
 module _ (world : World) (launch : Launch) (l : IsLaunched launch) (o : Offers launch) (s : IsSolo launch launch.creds launch.table world) (program : Path) (p : RunsProgram launch program) where
   -- a call behind a way
-  by_performed : (question : Question) (asks : Doing → Bool) {front : List Call} (creds : Creds) (now : Table) → Way launch launch.creds launch.table front creds now → {call : Call} → (x : Performed launch creds now asks call) → Answers launch now question call x.doing → Shows world question (front ++ call ∷ [])
-  by_performed question asks {front = front} creds now way {call = call} x a = calls_show launch launch.creds creds launch.table now world front question x.doing call x.effect s way x.makes x.doable a
+  by_performed : (question : Question) (asks : Doing → Bool) {front : List Call} (creds : Creds) (now : Table)
+      → Way launch launch.creds launch.table front creds now → {call : Call} → (x : Performed launch creds now asks call)
+      → Answers launch now question call x.doing → Shows world question (front ++ call ∷ [])
+  by_performed question asks {front = front} creds now way {call = call} x a =
+      calls_show launch launch.creds creds launch.table now world front question x.doing call x.effect s way x.makes x.doable a
 
   -- the first call of a kind that every process may ask for
-  shown_free : (question : Question) (kind : CallKind) → is_free kind ≡ true → lets launch kind ≡ true → ((call : Call) (x : Performed launch launch.creds launch.table (k.asks kind) call) → Answers launch launch.table question call x.doing)
+  shown_free : (question : Question) (kind : CallKind) → is_free kind ≡ true → lets launch kind ≡ true
+      → ((call : Call) (x : Performed launch launch.creds launch.table (k.asks kind) call)
+      → Answers launch launch.table question call x.doing)
       → Shows world question (call_by launch kind Nothing ∷ [])
   shown_free question kind h e answers =
       let c = chosen launch l kind e in
@@ -80,7 +87,9 @@ module _ (world : World) (launch : Launch) (l : IsLaunched launch) (o : Offers l
   having None e = record { creds = launch.creds; now = launch.table; way = here; can = tt }
   having (Some number) e = let g = gained launch l o program p number e in record { creds = g.creds; now = g.now; way = g.way; can = g.holds }
 
-  shown_space : (space : NamespaceType) → is_user space ≡ false → lets launch (kinds.ForNamespace space) ≡ true → has (ceiling launch).effective 21 ≡ true → Shows world (asking.Namespace space) (gaining launch program 21 ++ call_by launch (kinds.ForNamespace space) Nothing ∷ [])
+  shown_space : (space : NamespaceType) → is_user space ≡ false → lets launch (kinds.ForNamespace space) ≡ true
+      → has (ceiling launch).effective 21 ≡ true → Shows world (asking.Namespace space)
+      (gaining launch program 21 ++ call_by launch (kinds.ForNamespace space) Nothing ∷ [])
   shown_space space u e h =
       let g = gained launch l o program p 21 h in
       let c = chosen launch l (kinds.ForNamespace space) e in
@@ -100,26 +109,37 @@ module _ (world : World) (launch : Launch) (l : IsLaunched launch) (o : Offers l
       subst P (sym (call_is c Nothing)) (record { fit = (first.makes.fit, tt); done = (done, tt); last = inl (performs launch launch.creds launch.table world s (asks_space namespace.User) first.doing call first.effect first.makes first.such done) })
 
   -- another one in it
-  shown_within : (space : NamespaceType) → is_user space ≡ false → lets launch (kinds.ForNamespace space) ≡ true → can_make_user launch ≡ true → Shows world (asking.Namespace space) (user_call launch ∷ call_inside launch (kinds.ForNamespace space) Nothing ∷ [])
+  shown_within : (space : NamespaceType) → is_user space ≡ false → lets launch (kinds.ForNamespace space) ≡ true
+      → can_make_user launch ≡ true → Shows world (asking.Namespace space)
+      (user_call launch ∷ call_inside launch (kinds.ForNamespace space) Nothing ∷ [])
   shown_within space u e user =
       let v = user_called launch l user launch.creds launch.table in
       let c = chosen launch l (kinds.ForNamespace space) e in
       let P : Call → Type 0 = λ call. Inside launch launch.creds launch.table (pid_inside launch) v.small (asks_space space) call in
       let x = subst P (sym (inside_is launch c Nothing)) (own_space launch launch.creds launch.table (pid_inside launch) v.small space u c.line) in
-      calls_show_inside launch launch.creds launch.creds launch.table launch.table world [] (asking.Namespace space) (pid_inside launch) (user_call launch) (call_inside launch (kinds.ForNamespace space) Nothing) x.doing x.effect s here v.fit v.inside x.makes x.doable x.such
+      calls_show_inside launch launch.creds launch.creds launch.table launch.table world [] (asking.Namespace space) (pid_inside launch)
+      (user_call launch) (call_inside launch (kinds.ForNamespace space) Nothing) x.doing x.effect s here v.fit v.inside x.makes
+      x.doable x.such
 
-  other_space : (space : NamespaceType) → is_user space ≡ false → (lets launch (kinds.ForNamespace space) && (has (ceiling launch).effective 21 || can_make_user launch)) ≡ true
-      → Shows world (asking.Namespace space) (cond (has (ceiling launch).effective 21) (gaining launch program 21 ++ call_by launch (kinds.ForNamespace space) Nothing ∷ []) (user_call launch ∷ call_inside launch (kinds.ForNamespace space) Nothing ∷ []))
+  other_space : (space : NamespaceType) → is_user space ≡ false
+      → (lets launch (kinds.ForNamespace space) && (has (ceiling launch).effective 21 || can_make_user launch)) ≡ true
+      → Shows world (asking.Namespace space)
+      (cond (has (ceiling launch).effective 21) (gaining launch program 21 ++ call_by launch (kinds.ForNamespace space) Nothing ∷ [])
+      (user_call launch ∷ call_inside launch (kinds.ForNamespace space) Nothing ∷ []))
   other_space space u e =
       let both = and_parts (lets launch (kinds.ForNamespace space)) (has (ceiling launch).effective 21 || can_make_user launch) e in
       by (has (ceiling launch).effective 21) refl both.0 both.1
     where
-      by : (b : Bool) → has (ceiling launch).effective 21 ≡ b → lets launch (kinds.ForNamespace space) ≡ true → (b || can_make_user launch) ≡ true
-          → Shows world (asking.Namespace space) (cond b (gaining launch program 21 ++ call_by launch (kinds.ForNamespace space) Nothing ∷ []) (user_call launch ∷ call_inside launch (kinds.ForNamespace space) Nothing ∷ []))
+      by : (b : Bool) → has (ceiling launch).effective 21 ≡ b → lets launch (kinds.ForNamespace space) ≡ true
+          → (b || can_make_user launch) ≡ true
+          → Shows world (asking.Namespace space)
+          (cond b (gaining launch program 21 ++ call_by launch (kinds.ForNamespace space) Nothing ∷ [])
+          (user_call launch ∷ call_inside launch (kinds.ForNamespace space) Nothing ∷ []))
       by true h let' more = shown_space space u let' h
       by false h let' more = shown_within space u let' more
 
-  shown_ns : (space : NamespaceType) → is_open launch (asking.Namespace space) ≡ true → Shows world (asking.Namespace space) (space_calls launch program space)
+  shown_ns : (space : NamespaceType) → is_open launch (asking.Namespace space) ≡ true
+      → Shows world (asking.Namespace space) (space_calls launch program space)
   shown_ns namespace.User e = shown_user e
   shown_ns namespace.Cgroup e = other_space namespace.Cgroup refl e
   shown_ns namespace.Ipc e = other_space namespace.Ipc refl e
@@ -148,7 +168,9 @@ module _ (world : World) (launch : Launch) (l : IsLaunched launch) (o : Offers l
   bare_by : {own : Rule} {args : List ℕ} → choices.Choice kinds.PlainCall own args → args ≡ k.no_words
   bare_by (choices.plain number) = refl
 
-  shown_call : (place : ℕ) (line : CallLine) → slice_get (every_call launch.calls) place ≡ Some line → list_any (is_called launch line.name) (every_call launch.calls) ≡ true → can_have_for (ceiling launch) (rule_of line) ≡ true → Shows world (asking.Call place) (plain_calls launch program line)
+  shown_call : (place : ℕ) (line : CallLine) → slice_get (every_call launch.calls) place ≡ Some line
+      → list_any (is_called launch line.name) (every_call launch.calls) ≡ true → can_have_for (ceiling launch) (rule_of line) ≡ true
+      → Shows world (asking.Call place) (plain_calls launch program line)
   shown_call place line listed e h =
       let called = called_line line.name e in
       let other = called.line in
@@ -170,9 +192,12 @@ module _ (world : World) (launch : Launch) (l : IsLaunched launch) (o : Offers l
       ap (λ (c : CallLine). first_by (place_of c) own.0.args Nothing) (own.1 ∙ sym called.is) ∙ ap (λ words. first_by (place_of (plain_line launch line.name)) words Nothing) (bare_by (choice_of own.0)) in
       let P : List Call → Type 0 = λ calls. Shows world (asking.Call place) calls in
       let end = bare_call (plain_line launch line.name).abi (plain_line launch line.name).number in
-      subst P (ap (λ call. gaining_if launch program r.0 ++ call ∷ []) call_is' ∙ ap (λ number. gaining_if launch program number ++ end ∷ []) (sym same)) shown
+      subst P (ap (λ call. gaining_if launch program r.0 ++ call ∷ []) call_is'
+      ∙ ap (λ number. gaining_if launch program number ++ end ∷ []) (sym same)) shown
 
-  shown_socket : (place : ℕ) (line : CallLine) → slice_get launch.calls.families place ≡ Some line → lets launch (kinds.ForFamily line.number) ≡ true → can_have_cap (ceiling launch) line.cap ≡ true → Shows world (asking.Socket place) (socket_calls launch program line)
+  shown_socket : (place : ℕ) (line : CallLine) → slice_get launch.calls.families place ≡ Some line
+      → lets launch (kinds.ForFamily line.number) ≡ true → can_have_cap (ceiling launch) line.cap ≡ true
+      → Shows world (asking.Socket place) (socket_calls launch program line)
   shown_socket place line listed e h =
       let w = having line.cap h in
       let found : numbered line.number launch.calls.families ≡ Some line = at_position launch.calls.families line.number place line (l.families_once place line listed) listed in
@@ -191,22 +216,27 @@ module _ (world : World) (launch : Launch) (l : IsLaunched launch) (o : Offers l
   listed_is holds (Some x) e = (x, refl, e)
 
   -- of a listed thing
-  of_listed : {X : Type 0} (question : Question) (calls : X → List Call) (listed : Option X) (x : X) → listed ≡ Some x → Shows world question (calls x) → Shows world question (option_map_or calls listed [])
+  of_listed : {X : Type 0} (question : Question) (calls : X → List Call) (listed : Option X) (x : X) → listed ≡ Some x
+      → Shows world question (calls x) → Shows world question (option_map_or calls listed [])
   of_listed question calls listed x e h = let P : List Call → Type 0 = λ list. Shows world question list in subst P (sym (ap (λ o. option_map_or calls o []) e)) h
 
-  pub shown : (question : Question) → IsFit launch.site question → is_open launch question ≡ true → Shows world question (calls_for launch program question)
+  pub shown : (question : Question) → IsFit launch.site question → is_open launch question ≡ true
+      → Shows world question (calls_for launch program question)
   unfolding calls_for
   shown (asking.Path wish place) fit e =
       let x = listed_is (can_reach launch (power_of launch) wish) (slice_get launch.site.rows place) e in
-      of_listed (asking.Path wish place) (row_calls launch program wish) (slice_get launch.site.rows place) x.0 x.1 (row_shown world launch l o s program p place x.0 x.1 wish fit x.2)
+      of_listed (asking.Path wish place) (row_calls launch program wish) (slice_get launch.site.rows place) x.0 x.1
+      (row_shown world launch l o s program p place x.0 x.1 wish fit x.2)
   shown (asking.Call place) fit e =
       let x = listed_is (is_call_open launch (ceiling launch)) (slice_get (every_call launch.calls) place) e in
       let both = and_parts (list_any (is_called launch x.0.name) (every_call launch.calls)) (can_have_for (ceiling launch) (rule_of x.0)) x.2 in
-      of_listed (asking.Call place) (plain_calls launch program) (slice_get (every_call launch.calls) place) x.0 x.1 (shown_call place x.0 x.1 both.0 both.1)
+      of_listed (asking.Call place) (plain_calls launch program) (slice_get (every_call launch.calls) place) x.0 x.1
+      (shown_call place x.0 x.1 both.0 both.1)
   shown (asking.Socket place) fit e =
       let x = listed_is (λ line. lets launch (kinds.ForFamily line.number) && can_have_cap (ceiling launch) line.cap) (slice_get launch.calls.families place) e in
       let both = and_parts (lets launch (kinds.ForFamily x.0.number)) (can_have_cap (ceiling launch) x.0.cap) x.2 in
-      of_listed (asking.Socket place) (socket_calls launch program) (slice_get launch.calls.families place) x.0 x.1 (shown_socket place x.0 x.1 both.0 both.1)
+      of_listed (asking.Socket place) (socket_calls launch program) (slice_get launch.calls.families place) x.0 x.1
+      (shown_socket place x.0 x.1 both.0 both.1)
   shown (asking.Namespace space) fit e = shown_ns space e
   shown asking.MapWx fit e = shown_free asking.MapWx kinds.MapsWx refl e (λ call x. x.such)
   shown asking.ProtectX fit e = shown_free asking.ProtectX kinds.ProtectsX refl e (λ call x. x.such)
@@ -220,4 +250,5 @@ module _ (world : World) (launch : Launch) (l : IsLaunched launch) (o : Offers l
 
 pub choice_shows : ChoiceShows
 choice_shows world program question served runs fit e =
-    shown world (launch_of world) served.launched.launched served.offers (starts_solo world served.launched served.few) program runs question fit e
+    shown world (launch_of world) served.launched.launched served.offers
+    (starts_solo world served.launched served.few) program runs question fit e

@@ -19,21 +19,28 @@ module _ (nr : CallAt) (path : Path) (table : Table) where
   abbrev pub calls_from : ℕ → List Call
   calls_from at = umount_calls nr (covering path (drop at table))
 
-  one_more : (at : ℕ) (entry : MountStep) → slice_get table at ≡ Some entry → (b : Bool) → leads_to path entry ≡ b → calls_from at ≡ calls_from (at + 1) ++ umount_calls nr (if_so b entry.place)
+  one_more : (at : ℕ) (entry : MountStep) → slice_get table at ≡ Some entry → (b : Bool) → leads_to path entry ≡ b
+      → calls_from at ≡ calls_from (at + 1) ++ umount_calls nr (if_so b entry.place)
   one_more at entry own b leads =
       ap (λ (t : Table). umount_calls nr (covering path t)) (from_here table at entry own)
       ∙ map_append (umount_call nr) (covering path (drop (at + 1) table)) (if_so (leads_to path entry) entry.place)
       ∙ ap (λ b. calls_from (at + 1) ++ umount_calls nr (if_so b entry.place)) leads
 
   -- an entry that covers the path adds a call
-  pub covers_here : (at : ℕ) (entry : MountStep) → slice_get table at ≡ Some entry → leads_to path entry ≡ true → (front calls : List Call) → calls ≡ front ++ calls_from (at + 1) → calls ++ umount_call nr entry.place ∷ [] ≡ front ++ calls_from at
+  pub covers_here : (at : ℕ) (entry : MountStep) → slice_get table at ≡ Some entry → leads_to path entry ≡ true
+      → (front calls : List Call) → calls ≡ front ++ calls_from (at + 1) → calls ++ umount_call nr entry.place ∷ [] ≡ front ++ calls_from at
   covers_here at entry own leads front calls is =
-      ap (λ (cs : List Call). cs ++ umount_call nr entry.place ∷ []) is ∙ append_assoc front (calls_from (at + 1)) (umount_call nr entry.place ∷ []) ∙ ap (λ (cs : List Call). front ++ cs) (sym (one_more at entry own true leads))
+      ap (λ (cs : List Call). cs ++ umount_call nr entry.place ∷ []) is
+      ∙ append_assoc front (calls_from (at + 1)) (umount_call nr entry.place ∷ [])
+      ∙ ap (λ (cs : List Call). front ++ cs) (sym (one_more at entry own true leads))
 
   -- another adds none
-  pub passes_here : (at : ℕ) (entry : MountStep) → slice_get table at ≡ Some entry → leads_to path entry ≡ false → (front calls : List Call) → calls ≡ front ++ calls_from (at + 1) → calls ≡ front ++ calls_from at
-  passes_here at entry own leads front calls is = is ∙ ap (λ (cs : List Call). front ++ cs) (sym (one_more at entry own false leads ∙ append-nil (calls_from (at + 1))))
+  pub passes_here : (at : ℕ) (entry : MountStep) → slice_get table at ≡ Some entry → leads_to path entry ≡ false
+      → (front calls : List Call) → calls ≡ front ++ calls_from (at + 1) → calls ≡ front ++ calls_from at
+  passes_here at entry own leads front calls is = is ∙ ap (λ (cs : List Call). front ++ cs)
+      (sym (one_more at entry own false leads ∙ append-nil (calls_from (at + 1))))
 
   -- behind the last there is none
   pub none_left : (at : ℕ) → length table ≤ at → (front : List Call) → front ≡ front ++ calls_from at
-  none_left at h front = sym (append-nil front) ∙ ap (λ (t : Table). front ++ umount_calls nr (covering path t)) (sym (none_from table at h))
+  none_left at h front = sym (append-nil front) ∙ ap (λ (t : Table). front ++ umount_calls nr (covering path t))
+      (sym (none_from table at h))

@@ -6,8 +6,10 @@ use Rattle.open_calls.specs.chosen_calls.Gaining.{gain}
 use Rattle.ceilings.specs.kernel_model.declared.kernel_calls.call.Call.{Call}
 use Rattle.ceilings.specs.kernel_model.declared.kernel_calls.payload.Payload.{Payload}
 use Rattle.ceilings.specs.kernel_laws.declared.question_types.kind.CallKind.{CallKind}
-use Rattle.ceilings.specs.kernel_laws.declared.question_types.kind.CallKind.TheVariants.{ForPath, ChangesMounts, RemovesMounts, SetsCaps, TakesUid, TakesGid}
-use Rattle.ceilings.specs.kernel_laws.declared.question_types.wish.Wish.TheVariants.{See as ToSee, Read as ToRead, Write as ToWrite, Exec as ToExec}
+use Rattle.ceilings.specs.kernel_laws.declared.question_types.kind.CallKind.TheVariants.{ForPath, ChangesMounts, RemovesMounts, SetsCaps}
+use Rattle.ceilings.specs.kernel_laws.declared.question_types.kind.CallKind.TheVariants.{TakesUid, TakesGid}
+use Rattle.ceilings.specs.kernel_laws.declared.question_types.wish.Wish.TheVariants.{See as ToSee, Read as ToRead, Write as ToWrite}
+use Rattle.ceilings.specs.kernel_laws.declared.question_types.wish.Wish.TheVariants.{Exec as ToExec}
 use Rattle.ceilings.specs.kernel_laws.Launched.{Launch}
 use Rattle.ceilings.specs.kernel_ways.Ways.{CallAt}
 use Rattle.open_calls.specs.Meanings.{meant_gain}
@@ -53,4 +55,5 @@ IsGained launch number Unasked = Unit {0}
 IsGained launch number (Found way) = option_map meant_gain way ≡ gain launch number
 
 abbrev pub AreGained : Launch → List Gained → Type 0
-AreGained launch list = (number : ℕ) (way : Option GainWay) → slice_get list number ≡ Some (Found way) → option_map meant_gain way ≡ gain launch number
+AreGained launch list = (number : ℕ) (way : Option GainWay) → slice_get list number ≡ Some (Found way)
+    → option_map meant_gain way ≡ gain launch number

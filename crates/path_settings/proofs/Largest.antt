@@ -37,7 +37,8 @@ no_le_below : (a b : ℕ) → nat_lt a b ≡ true → nat_le b a ≡ false
 no_le_below a b h = grind (arith, nat_tests)
 
 -- a smaller bound before a larger one says nothing
-smaller_says_nothing : (small large n : ℕ) (r : Bool) → nat_le small large ≡ true → (nat_le small n && (nat_le large n && r)) ≡ (nat_le large n && r)
+smaller_says_nothing : (small large n : ℕ) (r : Bool) → nat_le small large ≡ true
+    → (nat_le small n && (nat_le large n && r)) ≡ (nat_le large n && r)
 smaller_says_nothing small large n r h = by (nat_le large n) refl
   where
     by : (b : Bool) → nat_le large n ≡ b → (nat_le small n && (b && r)) ≡ (b && r)
@@ -54,7 +55,8 @@ and_swap true false r = refl
 and_swap false true r = refl
 and_swap false false r = refl
 
-covers_more : {X : Type 0} (size : X → ℕ) (xs : List X) (one other : X) → nat_le (size one) (size other) ≡ true → covers size xs one ≡ true → covers size xs other ≡ true
+covers_more : {X : Type 0} (size : X → ℕ) (xs : List X) (one other : X) → nat_le (size one) (size other) ≡ true
+    → covers size xs one ≡ true → covers size xs other ≡ true
 covers_more size [] one other h g = refl
 covers_more size (x ∷ xs) one other h g =
     let both = and_parts (nat_le (size x) (size one)) (covers size xs one) g in
@@ -65,7 +67,8 @@ past_less : {X : Type 0} (size : X → ℕ) (best x : X) (xs : List X) → nat_l
     find (covers size (x ∷ xs)) (x ∷ xs) ≡ find (covers size (best ∷ x ∷ xs)) (best ∷ x ∷ xs)
 past_less size best x xs less =
     let not_best : covers size (best ∷ x ∷ xs) best ≡ false = ap (λ b. nat_le (size best) (size best) && (b && covers size xs best)) (no_le_below (size best) (size x) less) ∙ ap (λ b. b && false) (le_itself (size best)) in
-    find_same (covers size (x ∷ xs)) (covers size (best ∷ x ∷ xs)) (x ∷ xs) (λ m. sym (smaller_says_nothing (size best) (size x) (size m) (covers size xs m) (less_le (size best) (size x) less)))
+    find_same (covers size (x ∷ xs)) (covers size (best ∷ x ∷ xs)) (x ∷ xs)
+    (λ m. sym (smaller_says_nothing (size best) (size x) (size m) (covers size xs m) (less_le (size best) (size x) less)))
     ∙ sym (ap (λ b. cond b (Some best) (find (covers size (best ∷ x ∷ xs)) (x ∷ xs))) not_best)
   where
     less_le : (a b : ℕ) → nat_lt a b ≡ true → nat_le a b ≡ true
@@ -77,22 +80,27 @@ past_rest : {X : Type 0} (size : X → ℕ) (best x : X) (xs : List X) → nat_l
 past_rest size best x xs less =
     skipped (covers size (best ∷ xs) best) refl
     ∙ find_same (covers size (best ∷ xs)) (covers size (best ∷ x ∷ xs)) (best ∷ x ∷ xs)
-    (λ m. sym (and_swap (nat_le (size best) (size m)) (nat_le (size x) (size m)) (covers size xs m) ∙ smaller_says_nothing (size x) (size best) (size m) (covers size xs m) (le_unless_less (size best) (size x) less)))
+    (λ m. sym (and_swap (nat_le (size best) (size m)) (nat_le (size x) (size m)) (covers size xs m)
+    ∙ smaller_says_nothing (size x) (size best) (size m) (covers size xs m) (le_unless_less (size best) (size x) less)))
   where
     skipped : (b : Bool) → covers size (best ∷ xs) best ≡ b →
-        cond b (Some best) (find (covers size (best ∷ xs)) xs) ≡ cond b (Some best) (cond (covers size (best ∷ xs) x) (Some x) (find (covers size (best ∷ xs)) xs))
+        cond b (Some best) (find (covers size (best ∷ xs)) xs)
+        ≡ cond b (Some best) (cond (covers size (best ∷ xs) x) (Some x) (find (covers size (best ∷ xs)) xs))
     skipped true e = refl
     skipped false e = further (covers size (best ∷ xs) x) refl
       where
-        further : (b : Bool) → covers size (best ∷ xs) x ≡ b → find (covers size (best ∷ xs)) xs ≡ cond b (Some x) (find (covers size (best ∷ xs)) xs)
+        further : (b : Bool) → covers size (best ∷ xs) x ≡ b
+            → find (covers size (best ∷ xs)) xs ≡ cond b (Some x) (find (covers size (best ∷ xs)) xs)
         further true g = absurd (false≢true (sym e ∙ covers_more size (best ∷ xs) x best (le_unless_less (size best) (size x) less) g))
         further false g = refl
 
-walk_from : {X : Type 0} (size : X → ℕ) (best : X) (xs : List X) → fold (larger size) (Some best) xs ≡ find (covers size (best ∷ xs)) (best ∷ xs)
+walk_from : {X : Type 0} (size : X → ℕ) (best : X) (xs : List X)
+    → fold (larger size) (Some best) xs ≡ find (covers size (best ∷ xs)) (best ∷ xs)
 walk_from size best [] = sym (ap (λ b. cond (b && true) (Some best) None) (le_itself (size best)))
 walk_from {X = X} size best (x ∷ xs) = by (nat_lt (size best) (size x)) refl (λ first. walk_from size first xs)
   where
-    by : (b : Bool) → nat_lt (size best) (size x) ≡ b → ((first : X) → fold (larger size) (Some first) xs ≡ find (covers size (first ∷ xs)) (first ∷ xs)) →
+    by : (b : Bool) → nat_lt (size best) (size x) ≡ b
+        → ((first : X) → fold (larger size) (Some first) xs ≡ find (covers size (first ∷ xs)) (first ∷ xs)) →
         fold (larger size) (Some (cond b x best)) xs ≡ find (covers size (best ∷ x ∷ xs)) (best ∷ x ∷ xs)
     by true e more = more x ∙ past_less size best x xs e
     by false e more = more best ∙ past_rest size best x xs e
@@ -107,7 +115,8 @@ abbrev within : {X : Type 0} → (X → ℕ) → ℕ → Option X → Bool
 within size n None = true
 within size n (Some best) = nat_le (size best) n
 
-within_larger : {X : Type 0} (size : X → ℕ) (n : ℕ) (best : Option X) (x : X) → within size n (larger size best x) ≡ (within size n best && nat_le (size x) n)
+within_larger : {X : Type 0} (size : X → ℕ) (n : ℕ) (best : Option X) (x : X)
+    → within size n (larger size best x) ≡ (within size n best && nat_le (size x) n)
 within_larger size n None x = refl
 within_larger size n (Some best) x = by (nat_lt (size best) (size x)) refl
   where
@@ -141,13 +150,15 @@ within_each size n best (x ∷ xs) =
     within_each size n (larger size best x) xs ∙ ap (λ b. b && list_all (λ x. nat_le (size x) n) xs) (within_larger size n best x)
     ∙ and_group (within size n best) (nat_le (size x) n) (list_all (λ x. nat_le (size x) n) xs)
 
-reaches_larger : {X : Type 0} (size : X → ℕ) (best : Option X) (x : X) (other : Option X) → reaches size (larger size best x) other ≡ (reaches size best other || within size (size x) other)
+reaches_larger : {X : Type 0} (size : X → ℕ) (best : Option X) (x : X) (other : Option X)
+    → reaches size (larger size best x) other ≡ (reaches size best other || within size (size x) other)
 reaches_larger size None x None = refl
 reaches_larger size None x (Some other) = refl
 reaches_larger size (Some best) x None = refl
 reaches_larger size (Some best) x (Some other) = by (nat_lt (size best) (size x)) refl
   where
-    by : (b : Bool) → nat_lt (size best) (size x) ≡ b → nat_le (size other) (size (cond b x best)) ≡ (nat_le (size other) (size best) || nat_le (size other) (size x))
+    by : (b : Bool) → nat_lt (size best) (size x) ≡ b → nat_le (size other) (size (cond b x best))
+        ≡ (nat_le (size other) (size best) || nat_le (size other) (size x))
     by true e = below (size best) (size x) (size other) e
       where
         below : (small large n : ℕ) → nat_lt small large ≡ true → nat_le n large ≡ (nat_le n small || nat_le n large)
@@ -165,7 +176,8 @@ reaches_some size best [] other = or_false (reaches size best other)
     or_false true = refl
     or_false false = refl
 reaches_some size best (x ∷ xs) other =
-    reaches_some size (larger size best x) xs other ∙ ap (λ b. b || list_any (λ x. within size (size x) other) xs) (reaches_larger size best x other)
+    reaches_some size (larger size best x) xs other ∙ ap (λ b. b || list_any (λ x. within size (size x) other) xs)
+    (reaches_larger size best x other)
     ∙ or_group (reaches size best other) (within size (size x) other) (list_any (λ x. within size (size x) other) xs)
 
 any_same : {X : Type 0} (p q : X → Bool) (xs : List X) → ((x : X) → p x ≡ q x) → list_any p xs ≡ list_any q xs
@@ -173,12 +185,14 @@ any_same p q [] h = refl
 any_same p q (x ∷ xs) h = let here = h x in let more = any_same p q xs h in cc
 
 -- one of a list is as large as each of another list exactly where its largest reaches as far as the other's
-pub largest_reaches : {X : Type 0} (size : X → ℕ) (xs others : List X) → reaches size (find (covers size xs) xs) (find (covers size others) others) ≡ list_any (covers size others) xs
+pub largest_reaches : {X : Type 0} (size : X → ℕ) (xs others : List X)
+    → reaches size (find (covers size xs) xs) (find (covers size others) others) ≡ list_any (covers size others) xs
 largest_reaches size xs others =
     ap (λ o. reaches size o (find (covers size others) others)) (sym (walk_finds size xs))
     ∙ ap (reaches size (fold (larger size) None xs)) (sym (walk_finds size others))
     ∙ reaches_some size None xs (fold (larger size) None others)
-    ∙ any_same (λ x. within size (size x) (fold (larger size) None others)) (covers size others) xs (λ x. within_each size (size x) None others)
+    ∙ any_same (λ x. within size (size x) (fold (larger size) None others)) (covers size others) xs
+    (λ x. within_each size (size x) None others)
 
 walk_has : {X : Type 0} (size : X → ℕ) (best : X) (xs : List X) → (last : X) × (fold (larger size) (Some best) xs ≡ Some last)
 walk_has size best [] = (best, refl)

@@ -7,7 +7,9 @@ use Rattle.abs_path.specs.Paths.{Path, parts_of}
 use Rattle.abs_path.specs.Read.{fault_of}
 use Rattle.abs_path.specs.declared.error.PathError.{PathError}
 use Rattle.path_settings.specs.declared.keys.PathKey.{PathKey}
-use Rattle.path_settings.specs.declared.keys.PathKey.TheVariants.{ReadWritePaths, ReadOnlyPaths, InaccessiblePaths, ExecPaths, NoExecPaths, BindPaths, BindReadOnlyPaths, TemporaryFileSystem, StateDirectory, RuntimeDirectory, CacheDirectory, LogsDirectory}
+use Rattle.path_settings.specs.declared.keys.PathKey.TheVariants.{ReadWritePaths, ReadOnlyPaths, InaccessiblePaths, ExecPaths, NoExecPaths}
+use Rattle.path_settings.specs.declared.keys.PathKey.TheVariants.{BindPaths, BindReadOnlyPaths, TemporaryFileSystem, StateDirectory}
+use Rattle.path_settings.specs.declared.keys.PathKey.TheVariants.{RuntimeDirectory, CacheDirectory, LogsDirectory}
 use Rattle.path_settings.specs.declared.mentions.Kind.{Kind}
 use Rattle.path_settings.specs.declared.mentions.Kind.TheVariants.{Ro, Rw, Exec, NoExec, Hide, Tmp, Bind}
 use Rattle.path_settings.specs.declared.mentions.Mention.{Mention}
@@ -26,13 +28,15 @@ setting_is_short text path e = by (fault_of text) e
     by : (fault : Option PathError) → unless_fault fault (parts_of text) ≡ Some path → is_short_path path ≡ true
     by None e = test (is_short_path (parts_of text)) refl e
       where
-        test : (b : Bool) → is_short_path (parts_of text) ≡ b → (if b then Some (parts_of text) else None) ≡ Some path → is_short_path path ≡ true
+        test : (b : Bool) → is_short_path (parts_of text) ≡ b → (if b then Some (parts_of text) else None) ≡ Some path
+            → is_short_path path ≡ true
         test true short e = let same : parts_of text ≡ path = cc in subst (λ (p : Path). is_short_path p ≡ true) same short
         test false short e = cc
     by (Some fault) e = cc
 
 -- what a mention of a read path has, where each of that path has it
-mapped : (P : Mention → Type 0) (text : List ℕ) (f : Path → Mention) (mention : Mention) → ((path : Path) → is_short_path path ≡ true → P (f path)) → option_map f (setting_path text) ≡ Some mention → P mention
+mapped : (P : Mention → Type 0) (text : List ℕ) (f : Path → Mention) (mention : Mention)
+    → ((path : Path) → is_short_path path ≡ true → P (f path)) → option_map f (setting_path text) ≡ Some mention → P mention
 mapped P text f mention h e = by (setting_path text) refl e
   where
     by : (o : Option Path) → setting_path text ≡ o → option_map f o ≡ Some mention → P mention
@@ -41,39 +45,52 @@ mapped P text f mention h e = by (setting_path text) refl e
 
 -- the same of a bind between two read paths
 bound : (P : Mention → Type 0) (read_only optional : Bool) (ends : List ℕ × List ℕ) (mention : Mention) →
-    ((source place : Path) → is_short_path source ≡ true → is_short_path place ≡ true → P (record { path = place; kind = Bind source read_only; optional = optional })) →
+    ((source place : Path) → is_short_path source ≡ true → is_short_path place ≡ true
+    → P (record { path = place; kind = Bind source read_only; optional = optional })) →
     bind_between read_only optional ends ≡ Some mention → P mention
 bound P read_only optional ends mention h e = by (setting_path ends.0) refl e
   where
     by : (o : Option Path) → setting_path ends.0 ≡ o →
-        option_and_then (λ source. option_map (λ place. record { path = place; kind = Bind source read_only; optional = optional }) (setting_path ends.1)) o ≡ Some mention → P mention
+        option_and_then (λ source. option_map (λ place. record { path = place; kind = Bind source read_only; optional = optional })
+        (setting_path ends.1)) o ≡ Some mention → P mention
     by None read e = cc
-    by (Some source) read e = mapped P ends.1 (λ place. record { path = place; kind = Bind source read_only; optional = optional }) mention (λ place short. h source place (setting_is_short ends.0 source read) short) e
+    by (Some source) read e = mapped P ends.1 (λ place. record { path = place; kind = Bind source read_only; optional = optional })
+        mention (λ place short. h source place (setting_is_short ends.0 source read) short) e
 
-path_short : (kind : Kind) (word : List ℕ) (mention : Mention) → has_short_source kind ≡ true → path_mention kind word ≡ Some mention → is_short mention ≡ true
+path_short : (kind : Kind) (word : List ℕ) (mention : Mention) → has_short_source kind ≡ true → path_mention kind word ≡ Some mention
+    → is_short mention ≡ true
 path_short kind word mention source e =
-    mapped (λ mention. is_short mention ≡ true) (without (codes "+") (without (codes "-") word)) (λ path. record { path = path; kind = kind; optional = is_marked word }) mention (λ path short. and_from _ _ short source) e
+    mapped (λ mention. is_short mention ≡ true) (without (codes "+") (without (codes "-") word))
+    (λ path. record { path = path; kind = kind; optional = is_marked word }) mention (λ path short. and_from _ _ short source) e
 
 bind_short : (read_only : Bool) (word : List ℕ) (mention : Mention) → bind_mention read_only word ≡ Some mention → is_short mention ≡ true
 bind_short read_only word mention e = by (ends_of (bind_pieces (without (codes "-") word))) e
   where
-    by : (o : Option (List ℕ × List ℕ)) → option_and_then (bind_between read_only (is_marked word)) o ≡ Some mention → is_short mention ≡ true
+    by : (o : Option (List ℕ × List ℕ)) → option_and_then (bind_between read_only (is_marked word)) o ≡ Some mention
+        → is_short mention ≡ true
     by None e = cc
-    by (Some ends) e = bound (λ mention. is_short mention ≡ true) read_only (is_marked word) ends mention (λ source place from to. and_from _ _ to from) e
+    by (Some ends) e = bound (λ mention. is_short mention ≡ true) read_only (is_marked word) ends mention
+        (λ source place from to. and_from _ _ to from) e
 
 temporary_short : (word : List ℕ) (mention : Mention) → temporary_mention word ≡ Some mention → is_short mention ≡ true
 temporary_short word mention e =
-    mapped (λ mention. is_short mention ≡ true) (before_first is_colon word) (λ path. record { path = path; kind = Tmp (asks_read_only (after_first is_colon word)); optional = false }) mention (λ path short. and_from _ _ short refl) e
+    mapped (λ mention. is_short mention ≡ true) (before_first is_colon word)
+    (λ path. record { path = path; kind = Tmp (asks_read_only (after_first is_colon word)); optional = false }) mention
+    (λ path short. and_from _ _ short refl) e
 
-folder_is : (P : Mention → Type 0) (folder name : List ℕ) (mention : Mention) → ((path : Path) → is_short_path path ≡ true → P (record { path = path; kind = Rw; optional = true })) → folder_mention folder name ≡ Some mention → P mention
+folder_is : (P : Mention → Type 0) (folder name : List ℕ) (mention : Mention)
+    → ((path : Path) → is_short_path path ≡ true → P (record { path = path; kind = Rw; optional = true }))
+    → folder_mention folder name ≡ Some mention → P mention
 folder_is P folder name mention h e = by (is_relative name) e
   where
-    by : (b : Bool) → (if b then option_map (λ path. record { path = path; kind = Rw; optional = true }) (setting_path (text_below folder name)) else None) ≡ Some mention → P mention
+    by : (b : Bool) → (if b then option_map (λ path. record { path = path; kind = Rw; optional = true })
+        (setting_path (text_below folder name)) else None) ≡ Some mention → P mention
     by true e = mapped P (text_below folder name) (λ path. record { path = path; kind = Rw; optional = true }) mention h e
     by false e = cc
 
 folder_short : (folder name : List ℕ) (mention : Mention) → folder_mention folder name ≡ Some mention → is_short mention ≡ true
-folder_short folder name mention e = folder_is (λ mention. is_short mention ≡ true) folder name mention (λ path short. and_from _ _ short refl) e
+folder_short folder name mention e = folder_is (λ mention. is_short mention ≡ true) folder name mention
+    (λ path short. and_from _ _ short refl) e
 
 folder_optional : (folder name : List ℕ) (mention : Mention) → folder_mention folder name ≡ Some mention → mention.optional ≡ true
 folder_optional folder name mention e = folder_is (λ mention. mention.optional ≡ true) folder name mention (λ path short. refl) e
@@ -92,7 +109,8 @@ mention_short RuntimeDirectory word mention e = folder_short (codes "/run") word
 mention_short CacheDirectory word mention e = folder_short (codes "/var/cache") word mention e
 mention_short LogsDirectory word mention e = folder_short (codes "/var/log") word mention e
 
-pub implied_optional : (key : PathKey) (word : List ℕ) (mention : Mention) → is_implied key ≡ true → mention_of key word ≡ Some mention → mention.optional ≡ true
+pub implied_optional : (key : PathKey) (word : List ℕ) (mention : Mention) → is_implied key ≡ true → mention_of key word ≡ Some mention
+    → mention.optional ≡ true
 implied_optional StateDirectory word mention implied e = folder_optional (codes "/var/lib") word mention e
 implied_optional RuntimeDirectory word mention implied e = folder_optional (codes "/run") word mention e
 implied_optional CacheDirectory word mention implied e = folder_optional (codes "/var/cache") word mention e

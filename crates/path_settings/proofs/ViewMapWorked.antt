@@ -99,14 +99,16 @@ last_bind : kept_of row_at (says a (Bind beside false) ∷ says a (Bind a_b true
 last_bind = refl
 
 -- paths are taken in byte order: `-` comes before `/`
-in_order : kept_of row_at (says a_b_c Ro ∷ says beside Ro ∷ says a Ro ∷ says a NoExec ∷ []) ≡ Ok (says a Ro ∷ says a NoExec ∷ says beside Ro ∷ says a_b_c Ro ∷ [])
+in_order : kept_of row_at (says a_b_c Ro ∷ says beside Ro ∷ says a Ro ∷ says a NoExec ∷ [])
+    ≡ Ok (says a Ro ∷ says a NoExec ∷ says beside Ro ∷ says a_b_c Ro ∷ [])
 in_order = refl
 
 -- a bind's source is there, and of the kind of what it covers
 no_source : kept_of row_at (says a (Bind none false) ∷ says none Ro ∷ []) ≡ Err (missing none)
 no_source = refl
 
-no_source_before_no_row : kept_of (λ path. cond (is_same path a) (Some true) None) (says none Ro ∷ says none (Bind file false) ∷ []) ≡ Err (missing file)
+no_source_before_no_row : kept_of (λ path. cond (is_same path a) (Some true) None) (says none Ro ∷ says none (Bind file false) ∷ [])
+    ≡ Err (missing file)
 no_source_before_no_row = refl
 
 optional_source : kept_of row_at (may_say a (Bind none false) ∷ says a Ro ∷ []) ≡ Ok (says a Ro ∷ [])
@@ -119,11 +121,13 @@ empty_over_a_file : kept_of row_at (says file (Tmp false) ∷ []) ≡ Err (wrong
 empty_over_a_file = refl
 
 -- where nothing is covered, any kind is put
-put_at_no_row : kept_of row_at (says none (Bind file false) ∷ says none NoExec ∷ []) ≡ Ok (says none (Bind file false) ∷ says none NoExec ∷ [])
+put_at_no_row : kept_of row_at (says none (Bind file false) ∷ says none NoExec ∷ [])
+    ≡ Ok (says none (Bind file false) ∷ says none NoExec ∷ [])
 put_at_no_row = refl
 
 -- below an empty file system flags are dropped, but for those of what is put there; what is hidden there is kept
-below_empty : kept_of row_at (says a (Tmp true) ∷ says a_b Rw ∷ says a_b_c (Bind file false) ∷ says a_b_c Ro ∷ []) ≡ Ok (says a (Tmp true) ∷ says a_b_c (Bind file false) ∷ says a_b_c Ro ∷ [])
+below_empty : kept_of row_at (says a (Tmp true) ∷ says a_b Rw ∷ says a_b_c (Bind file false) ∷ says a_b_c Ro ∷ [])
+    ≡ Ok (says a (Tmp true) ∷ says a_b_c (Bind file false) ∷ says a_b_c Ro ∷ [])
 below_empty = refl
 
 hidden_below_empty : kept_of row_at (says a (Tmp true) ∷ says a_b Hide ∷ []) ≡ Ok (says a (Tmp true) ∷ says a_b Hide ∷ [])
@@ -140,7 +144,8 @@ optional_row : kept_of row_at (may_say none Ro ∷ may_say none Hide ∷ []) ≡
 optional_row = refl
 
 -- behind a bind it is the source's row that counts
-behind_a_bind : kept_of (λ path. cond (is_same path a_b) None (Some true)) (says beside (Bind a false) ∷ says (codes "a-b" ∷ codes "b" ∷ []) Ro ∷ []) ≡ Err (missing (codes "a-b" ∷ codes "b" ∷ []))
+behind_a_bind : kept_of (λ path. cond (is_same path a_b) None (Some true))
+    (says beside (Bind a false) ∷ says (codes "a-b" ∷ codes "b" ∷ []) Ro ∷ []) ≡ Err (missing (codes "a-b" ∷ codes "b" ∷ []))
 behind_a_bind = refl
 
 -- the refusal is of the first path in byte order

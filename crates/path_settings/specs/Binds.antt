@@ -25,7 +25,8 @@ ends_of _ = None
 -- both are paths of a setting; an empty text is none
 abbrev pub bind_between : Bool → Bool → List ℕ × List ℕ → Option Mention
 bind_between read_only optional ends =
-    option_and_then (λ source. option_map (λ place. record { path = place; kind = Bind source read_only; optional = optional }) (setting_path ends.1)) (setting_path ends.0)
+    option_and_then (λ source. option_map (λ place. record { path = place; kind = Bind source read_only; optional = optional })
+    (setting_path ends.1)) (setting_path ends.0)
 
 abbrev pub bind_mention : Bool → List ℕ → Option Mention
 bind_mention read_only word = option_and_then (bind_between read_only (is_marked word)) (ends_of (bind_pieces (without (codes "-") word)))

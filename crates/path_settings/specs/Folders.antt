@@ -16,4 +16,5 @@ text_below folder name = folder ++ codes "/" ++ name
 
 abbrev pub folder_mention : List ℕ → List ℕ → Option Mention
 folder_mention folder name =
-    if is_relative name then option_map (λ path. record { path = path; kind = Rw; optional = true }) (setting_path (text_below folder name)) else None
+    if is_relative name then option_map (λ path. record { path = path; kind = Rw; optional = true })
+    (setting_path (text_below folder name)) else None

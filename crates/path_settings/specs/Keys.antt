@@ -1,7 +1,9 @@
 -- The keys that speak of paths (systemd.exec(5), Sandboxing), and the mention that a word of each is.
 use Rattle.std.specs.Prelude.{ℕ, Bool, true, false, codes, List, [], ◌∷◌, Option}
 use Rattle.path_settings.specs.declared.keys.PathKey.{PathKey}
-use Rattle.path_settings.specs.declared.keys.PathKey.TheVariants.{ReadWritePaths, ReadOnlyPaths, InaccessiblePaths, ExecPaths, NoExecPaths, BindPaths, BindReadOnlyPaths, TemporaryFileSystem, StateDirectory, RuntimeDirectory, CacheDirectory, LogsDirectory}
+use Rattle.path_settings.specs.declared.keys.PathKey.TheVariants.{ReadWritePaths, ReadOnlyPaths, InaccessiblePaths, ExecPaths, NoExecPaths}
+use Rattle.path_settings.specs.declared.keys.PathKey.TheVariants.{BindPaths, BindReadOnlyPaths, TemporaryFileSystem, StateDirectory}
+use Rattle.path_settings.specs.declared.keys.PathKey.TheVariants.{RuntimeDirectory, CacheDirectory, LogsDirectory}
 use Rattle.path_settings.specs.declared.mentions.Kind.TheVariants.{Ro, Rw, Exec, NoExec, Hide}
 use Rattle.path_settings.specs.declared.mentions.Mention.{Mention}
 use Rattle.path_settings.specs.Lists.{path_mention}
@@ -11,7 +13,8 @@ use Rattle.path_settings.specs.Folders.{folder_mention}
 
 -- the keys whose values speak of paths, each once
 abbrev pub path_keys : List PathKey
-path_keys = ReadWritePaths ∷ ReadOnlyPaths ∷ InaccessiblePaths ∷ ExecPaths ∷ NoExecPaths ∷ BindPaths ∷ BindReadOnlyPaths ∷ TemporaryFileSystem ∷ StateDirectory ∷ RuntimeDirectory ∷ CacheDirectory ∷ LogsDirectory ∷ []
+path_keys = ReadWritePaths ∷ ReadOnlyPaths ∷ InaccessiblePaths ∷ ExecPaths ∷ NoExecPaths ∷ BindPaths ∷ BindReadOnlyPaths ∷
+    TemporaryFileSystem ∷ StateDirectory ∷ RuntimeDirectory ∷ CacheDirectory ∷ LogsDirectory ∷ []
 
 abbrev pub name_of : PathKey → List ℕ
 name_of ReadWritePaths = codes "ReadWritePaths"

@@ -8,4 +8,5 @@ use Rattle.path_settings.specs.SettingPaths.{setting_path}
 use Rattle.path_settings.specs.Marks.{is_marked, without}
 
 abbrev pub path_mention : Kind → List ℕ → Option Mention
-path_mention kind word = option_map (λ path. record { path = path; kind = kind; optional = is_marked word }) (setting_path (without (codes "+") (without (codes "-") word)))
+path_mention kind word = option_map (λ path. record { path = path; kind = kind; optional = is_marked word })
+    (setting_path (without (codes "+") (without (codes "-") word)))

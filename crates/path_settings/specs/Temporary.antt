@@ -15,7 +15,8 @@ abbrev pub asks_read_only : List ℕ → Bool
 asks_read_only options = list_any (λ option. bytes_eq option (codes "ro")) (slice_split (λ byte. byte == ascii ",") options)
 
 abbrev pub temporary_at : List ℕ → List ℕ → Option Mention
-temporary_at path options = option_map (λ place. record { path = place; kind = Tmp (asks_read_only options); optional = false }) (setting_path path)
+temporary_at path options = option_map (λ place. record { path = place; kind = Tmp (asks_read_only options); optional = false })
+    (setting_path path)
 
 abbrev pub temporary_mention : List ℕ → Option Mention
 temporary_mention word = temporary_at (before_first is_colon word) (after_first is_colon word)

@@ -17,7 +17,10 @@ use Rattle.plan_command.specs.Refusals.{error_line, plan_line}
 
 module _ (unit : List ℕ) (row_at : Host) (mentions : List Mention) where
   -- a table is the plan
-  pub plan_is : (table : List MountStep) → Plans row_at mentions (Ok table) → IfOk (kept_of row_at mentions) (KeepsByRules row_at mentions) → IfOk (kept_of row_at mentions) (λ kept. FindsAsView kept table) → HasPlacesOf mentions table → CanBeMounted row_at table → Prepares (IsPlan row_at mentions) (path_refusals unit row_at mentions) (Ok table)
+  pub plan_is : (table : List MountStep) → Plans row_at mentions (Ok table)
+      → IfOk (kept_of row_at mentions) (KeepsByRules row_at mentions) → IfOk (kept_of row_at mentions) (λ kept. FindsAsView kept table)
+      → HasPlacesOf mentions table → CanBeMounted row_at table
+      → Prepares (IsPlan row_at mentions) (path_refusals unit row_at mentions) (Ok table)
   plan_is table (kept, is, made) keeps finds places can = (
     ap (λ found. first_refusal (refusal_in (or_line (plan_line unit) found) ∷ [])) is,
     record {
@@ -32,8 +35,12 @@ module _ (unit : List ℕ) (row_at : Host) (mentions : List Mention) where
   )
 
   -- an error is the first path that is refused
-  pub plan_stops : (error : PlanError) (line : Result (Vec ℕ Global) AllocError) → error ≢ Memory → Plans row_at mentions (Err error) → IfOk line (λ l. l.items ≡ error_line unit error) → Prepares (IsPlan row_at mentions) (path_refusals unit row_at mentions) (Err (stop_of line))
+  pub plan_stops : (error : PlanError) (line : Result (Vec ℕ Global) AllocError) → error ≢ Memory → Plans row_at mentions (Err error)
+      → IfOk line (λ l. l.items ≡ error_line unit error) → Prepares (IsPlan row_at mentions) (path_refusals unit row_at mentions)
+      (Err (stop_of line))
   plan_stops error (Err none) told refuses is = tt
-  plan_stops (Missing path) (Ok line) told refuses is = ap (λ found. first_refusal (refusal_in (or_line (plan_line unit) found) ∷ [])) refuses ∙ ap Some (sym is)
-  plan_stops (Kind path) (Ok line) told refuses is = ap (λ found. first_refusal (refusal_in (or_line (plan_line unit) found) ∷ [])) refuses ∙ ap Some (sym is)
+  plan_stops (Missing path) (Ok line) told refuses is = ap (λ found. first_refusal (refusal_in (or_line (plan_line unit) found) ∷ []))
+      refuses ∙ ap Some (sym is)
+  plan_stops (Kind path) (Ok line) told refuses is = ap (λ found. first_refusal (refusal_in (or_line (plan_line unit) found) ∷ []))
+      refuses ∙ ap Some (sym is)
   plan_stops Memory (Ok line) told refuses is = absurd (told refl)

@@ -31,32 +31,54 @@ pub together : (told : Option Files) (unit : List ℕ) → GoTogether (laws_over
 together told unit = go_together (plan_laws unit) told (done_is_answer unit)
 
 -- an input or a setting is refused
-pub refused_before : (P : SettledUnit → Type 0) (told : Option Files) (unit : List ℕ) (stop : Stop) → IfSome told (λ files. Prepares P (unit_refusals files unit) (Err stop)) → IfSome told (λ files. Prepares P (plan_refusals files unit) (Err stop))
+pub refused_before : (P : SettledUnit → Type 0) (told : Option Files) (unit : List ℕ) (stop : Stop)
+    → IfSome told (λ files. Prepares P (unit_refusals files unit) (Err stop))
+    → IfSome told (λ files. Prepares P (plan_refusals files unit) (Err stop))
 refused_before P None unit stop said = tt
-refused_before P (Some files) unit stop said = stops_before P P stop (unit_refusals files unit) (refusals_by (refused_paths unit) (inputs_of files unit)) said
+refused_before P (Some files) unit stop said = stops_before P P stop (unit_refusals files unit)
+    (refusals_by (refused_paths unit) (inputs_of files unit)) said
 
-pub stops_before_paths : (P : SettledUnit → Type 0) (told : Option Files) (unit : List ℕ) (stop : Stop) → IfSome told (λ files. Prepares P (unit_refusals files unit) (Err stop)) → IsAdmitted (laws_over told (plan_laws unit)) ending_of mounts_text (Err stop)
-stops_before_paths P told unit stop said = stop_is_admitted (plan_laws unit) ending_of mounts_text P told stop (refused_before P told unit stop said)
+pub stops_before_paths : (P : SettledUnit → Type 0) (told : Option Files) (unit : List ℕ) (stop : Stop)
+    → IfSome told (λ files. Prepares P (unit_refusals files unit) (Err stop))
+    → IsAdmitted (laws_over told (plan_laws unit)) ending_of mounts_text (Err stop)
+stops_before_paths P told unit stop said = stop_is_admitted (plan_laws unit) ending_of mounts_text P told stop
+    (refused_before P told unit stop said)
 
 module _ (told : Option Files) (unit : List ℕ) (one : SettledUnit) (mentions : List Mention) (site : Site) where
   -- with the inputs the paths of the settings are those that the unit mentions
-  pub refused_as : (files : Files) → mentions ≡ unit_mentions (inputs_view one.inputs).unit (inputs_view one.inputs).site → site ≡ (inputs_view one.inputs).site → (first_refusal (unit_refusals files unit) ≡ None) × (inputs_of files unit ≡ Some (inputs_view one.inputs)) → first_refusal (plan_refusals files unit) ≡ first_refusal (path_refusals unit (host_of site) mentions)
+  pub refused_as : (files : Files) → mentions ≡ unit_mentions (inputs_view one.inputs).unit (inputs_view one.inputs).site
+      → site ≡ (inputs_view one.inputs).site → (first_refusal (unit_refusals files unit) ≡ None) ×
+      (inputs_of files unit ≡ Some (inputs_view one.inputs))
+      → first_refusal (plan_refusals files unit) ≡ first_refusal (path_refusals unit (host_of site) mentions)
   refused_as files same lies settles =
       refusals_with files unit (unit_refusals files unit) (refused_paths unit) (inputs_view one.inputs) settles.0 settles.1
       ∙ ap (λ these. first_refusal (path_refusals unit (host_of (inputs_view one.inputs).site) these)) (sym same)
       ∙ ap (λ place. first_refusal (path_refusals unit (host_of place) mentions)) (sym lies)
 
-  pub at_paths : (P : List MountStep → Type 0) (told : Option Files) (stop : Stop) → mentions ≡ unit_mentions (inputs_view one.inputs).unit (inputs_view one.inputs).site → site ≡ (inputs_view one.inputs).site → IfSome told (λ files. (first_refusal (unit_refusals files unit) ≡ None) × (inputs_of files unit ≡ Some (inputs_view one.inputs))) → Prepares P (path_refusals unit (host_of site) mentions) (Err stop) → IfSome told (λ files. Prepares P (plan_refusals files unit) (Err stop))
+  pub at_paths : (P : List MountStep → Type 0) (told : Option Files) (stop : Stop)
+      → mentions ≡ unit_mentions (inputs_view one.inputs).unit (inputs_view one.inputs).site → site ≡ (inputs_view one.inputs).site
+      → IfSome told (λ files. (first_refusal (unit_refusals files unit) ≡ None) × (inputs_of files unit ≡ Some (inputs_view one.inputs)))
+      → Prepares P (path_refusals unit (host_of site) mentions) (Err stop)
+      → IfSome told (λ files. Prepares P (plan_refusals files unit) (Err stop))
   at_paths P None stop same lies settles said = tt
-  at_paths P (Some files) stop same lies settles said = stops_as P stop (path_refusals unit (host_of site) mentions) (plan_refusals files unit) (refused_as files same lies settles) said
+  at_paths P (Some files) stop same lies settles said = stops_as P stop (path_refusals unit (host_of site) mentions)
+      (plan_refusals files unit) (refused_as files same lies settles) said
 
   -- a path is refused
-  pub stops_at_paths : (stop : Stop) → mentions ≡ unit_mentions (inputs_view one.inputs).unit (inputs_view one.inputs).site → site ≡ (inputs_view one.inputs).site → IfSome told (λ files. (first_refusal (unit_refusals files unit) ≡ None) × (inputs_of files unit ≡ Some (inputs_view one.inputs))) → Prepares (IsPlan (host_of site) mentions) (path_refusals unit (host_of site) mentions) (Err stop) → IsAdmitted (laws_over told (plan_laws unit)) ending_of mounts_text (Err stop)
+  pub stops_at_paths : (stop : Stop) → mentions ≡ unit_mentions (inputs_view one.inputs).unit (inputs_view one.inputs).site
+      → site ≡ (inputs_view one.inputs).site
+      → IfSome told (λ files. (first_refusal (unit_refusals files unit) ≡ None) × (inputs_of files unit ≡ Some (inputs_view one.inputs)))
+      → Prepares (IsPlan (host_of site) mentions) (path_refusals unit (host_of site) mentions) (Err stop)
+      → IsAdmitted (laws_over told (plan_laws unit)) ending_of mounts_text (Err stop)
   stops_at_paths stop same lies settles said =
       stop_is_admitted (plan_laws unit) ending_of mounts_text (IsPlan (host_of site) mentions) told stop
       (at_paths (IsPlan (host_of site) mentions) told stop same lies settles said)
 
-  prints_it : (table : List MountStep) (told : Option Files) → mentions ≡ unit_mentions (inputs_view one.inputs).unit (inputs_view one.inputs).site → site ≡ (inputs_view one.inputs).site → IfSome told (λ files. (first_refusal (unit_refusals files unit) ≡ None) × (inputs_of files unit ≡ Some (inputs_view one.inputs))) → first_refusal (path_refusals unit (host_of site) mentions) ≡ None → IsPlan (host_of site) mentions table → IfSome told (λ files. AcceptsFiles (plan_laws unit) files × PrintsPlan files unit (text_of table))
+  prints_it : (table : List MountStep) (told : Option Files)
+      → mentions ≡ unit_mentions (inputs_view one.inputs).unit (inputs_view one.inputs).site → site ≡ (inputs_view one.inputs).site
+      → IfSome told (λ files. (first_refusal (unit_refusals files unit) ≡ None) × (inputs_of files unit ≡ Some (inputs_view one.inputs)))
+      → first_refusal (path_refusals unit (host_of site) mentions) ≡ None → IsPlan (host_of site) mentions table
+      → IfSome told (λ files. AcceptsFiles (plan_laws unit) files × PrintsPlan files unit (text_of table))
   prints_it table None same lies settles none is = tt
   prints_it table (Some files) same lies settles none is = (
     refused_as files same lies settles ∙ none,
@@ -64,11 +86,17 @@ module _ (told : Option Files) (unit : List ℕ) (one : SettledUnit) (mentions :
       inputs = inputs_view one.inputs;
       inputs_are = settles.1;
       table = table;
-      is_plan = subst (λ these. IsPlan (host_of (inputs_view one.inputs).site) these table) same (subst (λ place. IsPlan (host_of place) mentions table) lies is);
+      is_plan = subst (λ these. IsPlan (host_of (inputs_view one.inputs).site) these table) same
+          (subst (λ place. IsPlan (host_of place) mentions table) lies is);
       is_its_text = refl;
     },
   )
 
   -- the plan is ready
-  pub ready : (mounts : Mounts) → mentions ≡ unit_mentions (inputs_view one.inputs).unit (inputs_view one.inputs).site → site ≡ (inputs_view one.inputs).site → IfSome told (λ files. (first_refusal (unit_refusals files unit) ≡ None) × (inputs_of files unit ≡ Some (inputs_view one.inputs))) → (first_refusal (path_refusals unit (host_of site) mentions) ≡ None) × IsPlan (host_of site) mentions mounts.table → IsAdmitted (laws_over told (plan_laws unit)) ending_of mounts_text (Ok mounts)
-  ready mounts same lies settles planned = ready_is_admitted (plan_laws unit) ending_of mounts_text told mounts refl (prints_it mounts.table told same lies settles planned.0 planned.1)
+  pub ready : (mounts : Mounts) → mentions ≡ unit_mentions (inputs_view one.inputs).unit (inputs_view one.inputs).site
+      → site ≡ (inputs_view one.inputs).site
+      → IfSome told (λ files. (first_refusal (unit_refusals files unit) ≡ None) × (inputs_of files unit ≡ Some (inputs_view one.inputs)))
+      → (first_refusal (path_refusals unit (host_of site) mentions) ≡ None) × IsPlan (host_of site) mentions mounts.table
+      → IsAdmitted (laws_over told (plan_laws unit)) ending_of mounts_text (Ok mounts)
+  ready mounts same lies settles planned = ready_is_admitted (plan_laws unit) ending_of mounts_text told mounts refl
+      (prints_it mounts.table told same lies settles planned.0 planned.1)

@@ -10,11 +10,16 @@ use Rattle.report_text.proofs.AbsPath.Reading.{text_parts}
 use Rattle.report_text.specs.call_table.declared.listed.CallLine.{CallLine}
 use Rattle.report_text.specs.call_table.Lookups.{AreOnce, place_named}
 use Rattle.report_text.specs.call_table.Table as calls
-use Rattle.report_text.specs.kernel_laws.declared.question_types.wish.Wish.TheVariants.{See as ToSee, Read as ToRead, Write as ToWrite, Exec as ToExec}
+use Rattle.report_text.specs.kernel_laws.declared.question_types.wish.Wish.TheVariants.{See as ToSee, Read as ToRead, Write as ToWrite}
+use Rattle.report_text.specs.kernel_laws.declared.question_types.wish.Wish.TheVariants.{Exec as ToExec}
 use Rattle.report_text.specs.filter_settings.declared.filter_rules.namespace_types.NamespaceType.{NamespaceType}
-use Rattle.report_text.specs.filter_settings.declared.filter_rules.namespace_types.NamespaceType.TheVariants.{Cgroup, Ipc, Net, Mnt, Pid, User, Uts}
+use Rattle.report_text.specs.filter_settings.declared.filter_rules.namespace_types.NamespaceType.TheVariants.{Cgroup, Ipc, Net, Mnt, Pid}
+use Rattle.report_text.specs.filter_settings.declared.filter_rules.namespace_types.NamespaceType.TheVariants.{User, Uts}
 use Rattle.report_text.specs.kernel_laws.declared.question_types.question.Question.{Question}
-use Rattle.report_text.specs.kernel_laws.declared.question_types.question.Question.TheVariants.{Path as ByPath, Call, Socket, Namespace as Ns, MapWx, ProtectX, ShmX, Realtime, Personality, SuidBit, Cap, Uid, Gid}
+use Rattle.report_text.specs.kernel_laws.declared.question_types.question.Question.TheVariants.{Path as ByPath, Call, Socket}
+use Rattle.report_text.specs.kernel_laws.declared.question_types.question.Question.TheVariants.{Namespace as Ns, MapWx, ProtectX, ShmX}
+use Rattle.report_text.specs.kernel_laws.declared.question_types.question.Question.TheVariants.{Realtime, Personality, SuidBit, Cap, Uid}
+use Rattle.report_text.specs.kernel_laws.declared.question_types.question.Question.TheVariants.{Gid}
 use Rattle.report_text.specs.questions.Listed.{IsAskedOf}
 use Rattle.report_text.proofs.Questions.Among.{all_had, has_contained}
 use Rattle.report_text.proofs.Questions.Members.{what_is_asked}
@@ -51,8 +56,10 @@ name_read lines word = option_and_then (λ name. place_named name lines) (word_r
 
 abbrev space_read : List ℕ → Option NamespaceType
 space_read word =
-    cond (bytes_eq word (codes "cgroup")) (Some Cgroup) (cond (bytes_eq word (codes "ipc")) (Some Ipc) (cond (bytes_eq word (codes "net")) (Some Net)
-    (cond (bytes_eq word (codes "mnt")) (Some Mnt) (cond (bytes_eq word (codes "pid")) (Some Pid) (cond (bytes_eq word (codes "user")) (Some User)
+    cond (bytes_eq word (codes "cgroup")) (Some Cgroup)
+    (cond (bytes_eq word (codes "ipc")) (Some Ipc) (cond (bytes_eq word (codes "net")) (Some Net)
+    (cond (bytes_eq word (codes "mnt")) (Some Mnt)
+    (cond (bytes_eq word (codes "pid")) (Some Pid) (cond (bytes_eq word (codes "user")) (Some User)
     (cond (bytes_eq word (codes "uts")) (Some Uts) None))))))
 
 -- a question of a path
@@ -88,13 +95,15 @@ told_by table site text = told table site (front text) (behind text)
 name_there : (lines : List CallLine) (at : ℕ) (line : CallLine) → slice_get lines at ≡ Some line → name_at lines at ≡ line.name
 name_there lines at line stands = ap (λ (found : Option CallLine). option_map_or (λ line. line.name) found []) stands
 
-name_back : (lines : List CallLine) (at : ℕ) (line : CallLine) → slice_get lines at ≡ Some line → place_named line.name lines ≡ Some at → name_read lines (escaped_word (name_at lines at)) ≡ Some at
+name_back : (lines : List CallLine) (at : ℕ) (line : CallLine) → slice_get lines at ≡ Some line → place_named line.name lines ≡ Some at
+    → name_read lines (escaped_word (name_at lines at)) ≡ Some at
 name_back lines at line stands placed =
     ap (λ (found : Option (List ℕ)). option_and_then (λ name. place_named name lines) found) (word_back (name_at lines at))
     ∙ ap (λ (name : List ℕ). place_named name lines) (name_there lines at line stands)
     ∙ placed
 
-family_back : (families : List CallLine) (at : ℕ) → AreOnce families → at < length families → name_read families (escaped_word (name_at families at)) ≡ Some at
+family_back : (families : List CallLine) (at : ℕ) → AreOnce families → at < length families
+    → name_read families (escaped_word (name_at families at)) ≡ Some at
 family_back families at once lt =
     elim (slice_get_cases families at).1 [
       | inl there ↦ name_back families at there.0 there.2 (once.by_name at there.0 there.2)
@@ -108,9 +117,11 @@ row_normal site at row holds stands =
     (has_contained site.rows row (at, slice_get_within site.rows at row stands, get_or_from_slice_get site.rows at row row stands)) in
     is.normal
 
-row_back : (site : Site) (at : ℕ) (row : Row) → IsSite site → slice_get site.rows at ≡ Some row → row_read site.rows (escaped_word (path_at site.rows at)) ≡ Some at
+row_back : (site : Site) (at : ℕ) (row : Row) → IsSite site → slice_get site.rows at ≡ Some row
+    → row_read site.rows (escaped_word (path_at site.rows at)) ≡ Some at
 row_back site at row holds stands =
-    ap (λ (found : Option (List ℕ)). option_and_then (λ text. place_of_text site.rows (tail_of (parts_of text))) found) (word_back (path_at site.rows at))
+    ap (λ (found : Option (List ℕ)). option_and_then (λ text. place_of_text site.rows (tail_of (parts_of text))) found)
+    (word_back (path_at site.rows at))
     ∙ ap (λ (found : Option Row). place_of_text site.rows (tail_of (parts_of (option_map_or (λ row. text_of row.path) found [])))) stands
     ∙ ap (λ path. place_of_text site.rows (tail_of path)) (text_parts row.path (row_normal site at row holds stands))
     ∙ found_place site.rows (tail_of row.path) at holds.ascending
@@ -121,12 +132,18 @@ id_back id h = decimal_read id (omega (arith, h))
 
 -- ---- a question
 
-read_back : (table : calls.Table) (site : Site) → AreOnce table.families → IsSite site → (question : Question) → IsAskedOf table site question → told_by table site (question_words table site question) ≡ Some question
-read_back table site once holds (ByPath ToSee at) asked = ap (λ found. option_map (ByPath ToSee) found) (row_back site at asked.0 holds asked.1)
-read_back table site once holds (ByPath ToRead at) asked = ap (λ found. option_map (ByPath ToRead) found) (row_back site at asked.0 holds asked.1)
-read_back table site once holds (ByPath ToWrite at) asked = ap (λ found. option_map (ByPath ToWrite) found) (row_back site at asked.0 holds asked.1)
-read_back table site once holds (ByPath ToExec at) asked = ap (λ found. option_map (ByPath ToExec) found) (row_back site at asked.0 holds asked.1)
-read_back table site once holds (Call at) asked = ap (λ found. option_map Call found) (name_back (calls.every_call table) at asked.0 asked.1 asked.3)
+read_back : (table : calls.Table) (site : Site) → AreOnce table.families → IsSite site → (question : Question)
+    → IsAskedOf table site question → told_by table site (question_words table site question) ≡ Some question
+read_back table site once holds (ByPath ToSee at) asked = ap (λ found. option_map (ByPath ToSee) found)
+    (row_back site at asked.0 holds asked.1)
+read_back table site once holds (ByPath ToRead at) asked = ap (λ found. option_map (ByPath ToRead) found)
+    (row_back site at asked.0 holds asked.1)
+read_back table site once holds (ByPath ToWrite at) asked = ap (λ found. option_map (ByPath ToWrite) found)
+    (row_back site at asked.0 holds asked.1)
+read_back table site once holds (ByPath ToExec at) asked = ap (λ found. option_map (ByPath ToExec) found)
+    (row_back site at asked.0 holds asked.1)
+read_back table site once holds (Call at) asked = ap (λ found. option_map Call found)
+    (name_back (calls.every_call table) at asked.0 asked.1 asked.3)
 read_back table site once holds (Socket at) asked = ap (λ found. option_map Socket found) (family_back table.families at once asked)
 read_back table site once holds (Ns Cgroup) asked = refl
 read_back table site once holds (Ns Ipc) asked = refl

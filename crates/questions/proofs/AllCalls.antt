@@ -1,5 +1,6 @@
 -- All calls of a table, those of both ABIs: how many there are, and what is left to ask of them.
-use Rattle.std.proofs.Common.{◌≡◌, ◌<◌, ℕ, zero, suc, Bool, List, [], ◌∷◌, ◌++◌, ◌+◌, Option, Some, false, length, drop, refl, ap, ◌∙◌, sym, arith, length-append}
+use Rattle.std.proofs.Common.{◌≡◌, ◌<◌, ℕ, zero, suc, Bool, List, [], ◌∷◌, ◌++◌, ◌+◌, Option, Some, false, length, drop, refl, ap, ◌∙◌, sym}
+use Rattle.std.proofs.Common.{arith, length-append}
 use Rattle.std.specs.Prelude.{slice_get, ◌&&◌}
 use Rattle.std.specs.Option.{option_map_or}
 use Rattle.kernel_laws.proofs.CallTable.AllCalls.{second_are}
@@ -12,10 +13,12 @@ use Rattle.kernel_laws.specs.Questions.{if_so, is_plain, of_calls}
 
 module _ (table : Table) where
   pub count_all : length table.calls + length (calls_in table 1) ≡ length (every_call table)
-  count_all = ap (λ lines. length table.calls + length lines) (sym (second_are table.second)) ∙ sym (length-append table.calls (second_calls table.second))
+  count_all = ap (λ lines. length table.calls + length lines) (sym (second_are table.second))
+      ∙ sym (length-append table.calls (second_calls table.second))
 
 -- a list from one of its elements on
-from_here : {X : Type 0} (xs : List X) (at : ℕ) → at < length xs → (x : X) × (slice_get xs at ≡ Some x) × (drop at xs ≡ x ∷ drop (at + 1) xs)
+from_here : {X : Type 0} (xs : List X) (at : ℕ) → at < length xs
+    → (x : X) × (slice_get xs at ≡ Some x) × (drop at xs ≡ x ∷ drop (at + 1) xs)
 from_here [] at h = absurd (omega arith)
 from_here (x ∷ xs) zero h = (x, refl, refl)
 from_here (x ∷ xs) (suc at) h =
@@ -28,7 +31,8 @@ abbrev pub is_asked_at : List CallLine → ℕ → Option CallLine → Bool
 is_asked_at every at line = option_map_or (λ line. is_plain (rule_of line) && is_first every line.name at) line false
 
 -- what is left to ask, one call further
-pub calls_left : (every : List CallLine) (at : ℕ) → at < length every → (b : Bool) → is_asked_at every at (slice_get every at) ≡ b → of_calls every at (drop at every) ≡ if_so b (Call at) ++ of_calls every (at + 1) (drop (at + 1) every)
+pub calls_left : (every : List CallLine) (at : ℕ) → at < length every → (b : Bool) → is_asked_at every at (slice_get every at) ≡ b
+    → of_calls every at (drop at every) ≡ if_so b (Call at) ++ of_calls every (at + 1) (drop (at + 1) every)
 calls_left every at h b e =
     let here = from_here every at h in
     let asked : is_asked_at every at (Some here.0) ≡ b = ap (is_asked_at every at) (sym here.1) ∙ e in

@@ -21,7 +21,8 @@ contains_had (x ∷ xs) q h = elim h [ inl e ↦ (0, (omega arith), e) | inr mor
 
 pub has_append : {X : Type 0} (xs ys : List X) (q : X) → Has (xs ++ ys) q → Has xs q ⊎ Has ys q
 has_append [] ys q h = inr h
-has_append (x ∷ xs) ys q h = elim h [ inl e ↦ inl (inl e) | inr more ↦ elim (has_append xs ys q more) [ inl a ↦ inl (inr a) | inr b ↦ inr b ] ]
+has_append (x ∷ xs) ys q h =
+    elim h [ inl e ↦ inl (inl e) | inr more ↦ elim (has_append xs ys q more) [ inl a ↦ inl (inr a) | inr b ↦ inr b ] ]
 
 pub has_left : {X : Type 0} (xs ys : List X) (q : X) → Has xs q → Has (xs ++ ys) q
 has_left [] ys q h = absurd h

@@ -1,5 +1,6 @@
 -- Ids in order: the same members, each below the next; and a list of which both hold is the only one.
-use Rattle.std.proofs.Common.{◌≡◌, ◌<◌, ◌≤◌, ◌⊎◌, inl, inr, ℕ, zero, suc, Bool, true, false, cond, List, [], ◌∷◌, ◌+◌, get_or, length, refl, ◌∙◌, sym, arith}
+use Rattle.std.proofs.Common.{◌≡◌, ◌<◌, ◌≤◌, ◌⊎◌, inl, inr, ℕ, zero, suc, Bool, true, false, cond, List, [], ◌∷◌, ◌+◌, get_or, length, refl}
+use Rattle.std.proofs.Common.{◌∙◌, sym, arith}
 use Rattle.std.specs.Prelude.{nat_lt, ◌==◌, Contains, AllPairs}
 use Rattle.std.specs.List.Sorted.{IsStrictlyIncreasing}
 use Rattle.std.specs.List.{AllByRecursion}
@@ -22,7 +23,8 @@ pub has_placed : (id : ℕ) (ids : List ℕ) (n : ℕ) → Has (placed id ids) n
 has_placed id [] n h = h
 has_placed id (other ∷ ids) n h = by (nat_lt id other) (id == other) h (has_placed id ids n)
   where
-    by : (lt eq : Bool) → Has (cond lt (id ∷ other ∷ ids) (cond eq (other ∷ ids) (other ∷ placed id ids))) n → (Has (placed id ids) n → (id ≡ n) ⊎ Has ids n) → (id ≡ n) ⊎ Has (other ∷ ids) n
+    by : (lt eq : Bool) → Has (cond lt (id ∷ other ∷ ids) (cond eq (other ∷ ids) (other ∷ placed id ids))) n
+        → (Has (placed id ids) n → (id ≡ n) ⊎ Has ids n) → (id ≡ n) ⊎ Has (other ∷ ids) n
     by true eq h more = h
     by false true h more = inr h
     by false false h more = elim h [ inl e ↦ inr (inl e) | inr deep ↦ elim (more deep) [ inl e ↦ inl e | inr there ↦ inr (inr there) ] ]
@@ -31,10 +33,12 @@ pub placed_has : (id : ℕ) (ids : List ℕ) (n : ℕ) → (id ≡ n) ⊎ Has id
 placed_has id [] n h = h
 placed_has id (other ∷ ids) n h = by (nat_lt id other) (id == other) refl h (placed_has id ids n)
   where
-    by : (lt eq : Bool) → (id == other) ≡ eq → (id ≡ n) ⊎ Has (other ∷ ids) n → ((id ≡ n) ⊎ Has ids n → Has (placed id ids) n) → Has (cond lt (id ∷ other ∷ ids) (cond eq (other ∷ ids) (other ∷ placed id ids))) n
+    by : (lt eq : Bool) → (id == other) ≡ eq → (id ≡ n) ⊎ Has (other ∷ ids) n → ((id ≡ n) ⊎ Has ids n → Has (placed id ids) n)
+        → Has (cond lt (id ∷ other ∷ ids) (cond eq (other ∷ ids) (other ∷ placed id ids))) n
     by true eq e h more = h
     by false true e h more = elim h [ inl is ↦ (let same : id ≡ other = eqb-true id other e in inl (sym same ∙ is)) | inr there ↦ there ]
-    by false false e h more = elim h [ inl is ↦ inr (more (inl is)) | inr there ↦ elim there [ inl is ↦ inl is | inr deep ↦ inr (more (inr deep)) ] ]
+    by false false e h more =
+        elim h [ inl is ↦ inr (more (inl is)) | inr there ↦ elim there [ inl is ↦ inl is | inr deep ↦ inr (more (inr deep)) ] ]
 
 above_all : (low high : ℕ) (ids : List ℕ) → low < high → AllByRecursion (λ y. high < y) ids → AllByRecursion (λ y. low < y) ids
 above_all low high [] h all = tt
@@ -44,7 +48,8 @@ placed_above : (low id : ℕ) (ids : List ℕ) → low < id → AllByRecursion (
 placed_above low id [] h all = (h, tt)
 placed_above low id (other ∷ ids) h all = by (nat_lt id other) (id == other) (placed_above low id ids h all.1)
   where
-    by : (lt eq : Bool) → AllByRecursion (λ y. low < y) (placed id ids) → AllByRecursion (λ y. low < y) (cond lt (id ∷ other ∷ ids) (cond eq (other ∷ ids) (other ∷ placed id ids)))
+    by : (lt eq : Bool) → AllByRecursion (λ y. low < y) (placed id ids)
+        → AllByRecursion (λ y. low < y) (cond lt (id ∷ other ∷ ids) (cond eq (other ∷ ids) (other ∷ placed id ids)))
     by true eq more = (h, all)
     by false true more = all
     by false false more = (all.0, more)
@@ -53,7 +58,8 @@ placed_rises : (id : ℕ) (ids : List ℕ) → Rises ids → Rises (placed id id
 placed_rises id [] h = (tt, tt)
 placed_rises id (other ∷ ids) h = by (nat_lt id other) refl (id == other) refl (placed_rises id ids h.1)
   where
-    by : (lt : Bool) → nat_lt id other ≡ lt → (eq : Bool) → (id == other) ≡ eq → Rises (placed id ids) → Rises (cond lt (id ∷ other ∷ ids) (cond eq (other ∷ ids) (other ∷ placed id ids)))
+    by : (lt : Bool) → nat_lt id other ≡ lt → (eq : Bool) → (id == other) ≡ eq → Rises (placed id ids)
+        → Rises (cond lt (id ∷ other ∷ ids) (cond eq (other ∷ ids) (other ∷ placed id ids)))
     by true l eq e more = let low : id < other = ltb-true id other l in ((low, above_all id other ids low h.0), h)
     by false l true e more = h
     by false l false e more = (placed_above other id ids (above id other l e) h.0, more)
@@ -65,7 +71,8 @@ has_ascending (id ∷ ids) n h = elim (has_placed id (ascending ids) n h) [ inl 
 
 pub ascending_has : (ids : List ℕ) (n : ℕ) → Has ids n → Has (ascending ids) n
 ascending_has [] n h = h
-ascending_has (id ∷ ids) n h = elim h [ inl e ↦ placed_has id (ascending ids) n (inl e) | inr more ↦ placed_has id (ascending ids) n (inr (ascending_has ids n more)) ]
+ascending_has (id ∷ ids) n h =
+    elim h [ inl e ↦ placed_has id (ascending ids) n (inl e) | inr more ↦ placed_has id (ascending ids) n (inr (ascending_has ids n more)) ]
 
 pub ascending_rises : (ids : List ℕ) → Rises (ascending ids)
 ascending_rises [] = tt
@@ -93,7 +100,8 @@ pub rises_increasing : (ids : List ℕ) → IsStrictlyIncreasing ids → Rises i
 rises_increasing ids h = rises_by_pairs ids (AllPairs-from_increasing ids h)
 
 -- ---- one list alone rises and has these members
-pub only_one : (one other : List ℕ) → Rises one → Rises other → ((n : ℕ) → Has one n → Has other n) → ((n : ℕ) → Has other n → Has one n) → one ≡ other
+pub only_one : (one other : List ℕ) → Rises one → Rises other → ((n : ℕ) → Has one n → Has other n) → ((n : ℕ) → Has other n → Has one n)
+    → one ≡ other
 only_one [] [] h g there back = refl
 only_one [] (y ∷ other) h g there back = absurd (back y (inl refl))
 only_one (x ∷ one) [] h g there back = absurd (there x (inl refl))
@@ -107,7 +115,8 @@ only_one (x ∷ one) (y ∷ other) h g there back =
     cc
 
 -- a list that rises and has the members of another is that in order
-pub is_ascending : (ids given : List ℕ) → IsStrictlyIncreasing ids → ((n : ℕ) → Contains given n → Contains ids n) → ((n : ℕ) → Contains ids n → Contains given n) → ids ≡ ascending given
+pub is_ascending : (ids given : List ℕ) → IsStrictlyIncreasing ids → ((n : ℕ) → Contains given n → Contains ids n)
+    → ((n : ℕ) → Contains ids n → Contains given n) → ids ≡ ascending given
 is_ascending ids given rises there back =
     only_one ids (ascending given) (rises_increasing ids rises) (ascending_rises given)
     (λ n h. ascending_has given n (has_contained given n (back n (contains_had ids n h))))

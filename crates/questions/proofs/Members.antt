@@ -1,5 +1,6 @@
 -- Which questions the list has: each of which there is a thing to be asked of, and no other.
-use Rattle.std.proofs.Common.{◌≡◌, ◌<◌, ◌≤◌, ◌⊎◌, inl, inr, ℕ, zero, suc, Bool, true, false, List, [], ◌∷◌, ◌++◌, ◌+◌, Option, Some, None, length, map, refl, ap, ◌∙◌, sym, subst, arith}
+use Rattle.std.proofs.Common.{◌≡◌, ◌<◌, ◌≤◌, ◌⊎◌, inl, inr, ℕ, zero, suc, Bool, true, false, List, [], ◌∷◌, ◌++◌, ◌+◌, Option, Some, None}
+use Rattle.std.proofs.Common.{length, map, refl, ap, ◌∙◌, sym, subst, arith}
 use Rattle.std.specs.Prelude.{slice_get, not, ◌==◌, ◌&&◌, Contains}
 use Rattle.std.specs.List.{AllByRecursion}
 use Rattle.std.specs.Option.{option_map_or}
@@ -18,12 +19,19 @@ use Rattle.kernel_laws.specs.kernel_model.kernel_calls.Rules.{rule_of}
 use Rattle.kernel_laws.specs.declared.question_types.wish.Wish.{Wish}
 use Rattle.kernel_laws.specs.declared.question_types.wish.Wish.TheVariants.{See as ToSee, Read as ToRead, Write as ToWrite, Exec as ToExec}
 use Rattle.kernel_laws.specs.filter_settings.declared.filter_rules.namespace_types.NamespaceType.{NamespaceType}
-use Rattle.kernel_laws.specs.filter_settings.declared.filter_rules.namespace_types.NamespaceType.TheVariants.{Cgroup, Ipc, Net, Mnt, Pid, User as UserSpace, Uts}
+use Rattle.kernel_laws.specs.filter_settings.declared.filter_rules.namespace_types.NamespaceType.TheVariants.{Cgroup, Ipc, Net, Mnt, Pid}
+use Rattle.kernel_laws.specs.filter_settings.declared.filter_rules.namespace_types.NamespaceType.TheVariants.{User as UserSpace, Uts}
 use Rattle.kernel_laws.specs.declared.question_types.question.Question.{Question}
-use Rattle.kernel_laws.specs.declared.question_types.question.Question.TheVariants.{Path as ByPath, Call, Socket, Namespace as Ns, MapWx, ProtectX, ShmX, Realtime, Personality, SuidBit, Cap, Uid, Gid}
-use Rattle.kernel_laws.specs.Questions.{is_plain, if_so, of_row, of_rows, of_calls, of_families, count_from, some_ids, joined, uids_of, gids_of, other_questions, questions}
-use Rattle.questions.specs.Listed.{is_asked_of, IsUidOf, of_root, of_dynamic_user, of_user, of_owner, IsGidOf, of_root_group, of_dynamic_group, of_group, of_group_of_user, of_further_group, of_group_of_row, IsAskedOf, ListsWhatIsAsked}
-use Rattle.questions.proofs.Among.{Has, has_contained, contains_had, has_append, has_left, has_right, all_had, Some_one, some_any, any_some, has_mapped, mapped_has}
+use Rattle.kernel_laws.specs.declared.question_types.question.Question.TheVariants.{Path as ByPath, Call, Socket, Namespace as Ns, MapWx}
+use Rattle.kernel_laws.specs.declared.question_types.question.Question.TheVariants.{ProtectX, ShmX, Realtime, Personality, SuidBit, Cap}
+use Rattle.kernel_laws.specs.declared.question_types.question.Question.TheVariants.{Uid, Gid}
+use Rattle.kernel_laws.specs.Questions.{is_plain, if_so, of_row, of_rows, of_calls, of_families, count_from, some_ids, joined, uids_of}
+use Rattle.kernel_laws.specs.Questions.{gids_of, other_questions, questions}
+use Rattle.questions.specs.Listed.{is_asked_of, IsUidOf, of_root, of_dynamic_user, of_user, of_owner, IsGidOf, of_root_group}
+use Rattle.questions.specs.Listed.{of_dynamic_group, of_group, of_group_of_user, of_further_group, of_group_of_row, IsAskedOf}
+use Rattle.questions.specs.Listed.{ListsWhatIsAsked}
+use Rattle.questions.proofs.Among.{Has, has_contained, contains_had, has_append, has_left, has_right, all_had, Some_one, some_any, any_some}
+use Rattle.questions.proofs.Among.{has_mapped, mapped_has}
 use Rattle.questions.proofs.Ascending.{has_ascending, ascending_has}
 
 -- ---- rows
@@ -46,18 +54,23 @@ row_asked at row q h =
       | inl see ↦ record { wish = ToSee; is = see; asked = refl }
       | inr more ↦ elim more [
         | inl read ↦ record { wish = ToRead; is = read; asked = refl }
-        | inr last ↦ elim (has_append (if_so (not (is_dir row.kind)) (ByPath ToWrite at)) (if_so (is_exe row.kind) (ByPath ToExec at)) q last) [
-          | inl write ↦ (let w = if_had (not (is_dir row.kind)) (ByPath ToWrite at) q write in record { wish = ToWrite; is = w.1; asked = w.0 })
-          | inr exec ↦ (let x = if_had (is_exe row.kind) (ByPath ToExec at) q exec in record { wish = ToExec; is = x.1; asked = x.0 })
-        ]
+        | inr last ↦ elim (has_append (if_so (not (is_dir row.kind)) (ByPath ToWrite at))
+            (if_so (is_exe row.kind) (ByPath ToExec at)) q last) [
+              | inl write ↦ (let w = if_had (not (is_dir row.kind)) (ByPath ToWrite at) q write in record { wish = ToWrite; is = w.1; asked = w.0 })
+              | inr exec ↦ (let x = if_had (is_exe row.kind) (ByPath ToExec at) q exec in record { wish = ToExec; is = x.1; asked = x.0 })
+            ]
       ]
     ]
 
 asked_row : (at : ℕ) (row : Row) (wish : Wish) → is_asked_of wish row.kind ≡ true → Has (of_row at row) (ByPath wish at)
 asked_row at row ToSee e = inl refl
 asked_row at row ToRead e = inr (inl refl)
-asked_row at row ToWrite e = inr (inr (has_left (if_so (not (is_dir row.kind)) (ByPath ToWrite at)) (if_so (is_exe row.kind) (ByPath ToExec at)) (ByPath ToWrite at) (had_if (not (is_dir row.kind)) (ByPath ToWrite at) e)))
-asked_row at row ToExec e = inr (inr (has_right (if_so (not (is_dir row.kind)) (ByPath ToWrite at)) (if_so (is_exe row.kind) (ByPath ToExec at)) (ByPath ToExec at) (had_if (is_exe row.kind) (ByPath ToExec at) e)))
+asked_row at row ToWrite e =
+    inr (inr (has_left (if_so (not (is_dir row.kind)) (ByPath ToWrite at)) (if_so (is_exe row.kind) (ByPath ToExec at))
+    (ByPath ToWrite at) (had_if (not (is_dir row.kind)) (ByPath ToWrite at) e)))
+asked_row at row ToExec e =
+    inr (inr (has_right (if_so (not (is_dir row.kind)) (ByPath ToWrite at)) (if_so (is_exe row.kind) (ByPath ToExec at))
+    (ByPath ToExec at) (had_if (is_exe row.kind) (ByPath ToExec at) e)))
 
 record AskedOfRows (from : ℕ) (rows : List Row) (q : Question) : Type 0 where
   at : ℕ
@@ -72,16 +85,19 @@ rows_asked from (row ∷ rows) q h = elim (has_append (of_row from row) (of_rows
   | inr more ↦ (let m = rows_asked (from + 1) rows q more in let n : from + 1 + m.at ≡ from + suc m.at = omega arith in record { at = suc m.at; row = m.row; listed = m.listed; asked = subst (λ k. AskedOfRow k m.row q) n m.asked })
 ]
 
-asked_rows : (from : ℕ) (rows : List Row) (at : ℕ) (row : Row) (wish : Wish) → slice_get rows at ≡ Some row → is_asked_of wish row.kind ≡ true → Has (of_rows from rows) (ByPath wish (from + at))
+asked_rows : (from : ℕ) (rows : List Row) (at : ℕ) (row : Row) (wish : Wish) → slice_get rows at ≡ Some row
+    → is_asked_of wish row.kind ≡ true → Has (of_rows from rows) (ByPath wish (from + at))
 asked_rows from [] at row wish e a = cc
 asked_rows from (first ∷ rows) zero row wish e a =
     let same : first ≡ row = cc in
     let here : Has (of_row from first) (ByPath wish from) = asked_row from first wish (ap (λ (r : Row). is_asked_of wish r.kind) same ∙ a) in
     let n : from ≡ from + 0 = omega arith in
-    has_left (of_row from first) (of_rows (from + 1) rows) (ByPath wish (from + 0)) (subst (λ k. Has (of_row from first) (ByPath wish k)) n here)
+    has_left (of_row from first) (of_rows (from + 1) rows) (ByPath wish (from + 0))
+    (subst (λ k. Has (of_row from first) (ByPath wish k)) n here)
 asked_rows from (first ∷ rows) (suc at) row wish e a =
     let n : from + 1 + at ≡ from + suc at = omega arith in
-    has_right (of_row from first) (of_rows (from + 1) rows) (ByPath wish (from + suc at)) (subst (λ k. Has (of_rows (from + 1) rows) (ByPath wish k)) n (asked_rows (from + 1) rows at row wish e a))
+    has_right (of_row from first) (of_rows (from + 1) rows) (ByPath wish (from + suc at))
+    (subst (λ k. Has (of_rows (from + 1) rows) (ByPath wish k)) n (asked_rows (from + 1) rows at row wish e a))
 
 -- ---- calls and families
 record AskedOfCalls (every : List CallLine) (from : ℕ) (lines : List CallLine) (q : Question) : Type 0 where
@@ -95,31 +111,38 @@ record AskedOfCalls (every : List CallLine) (from : ℕ) (lines : List CallLine)
 abbrev asks_at : List CallLine → ℕ → CallLine → Bool
 asks_at every at line = is_plain (rule_of line) && is_first every line.name at
 
-calls_asked : (every : List CallLine) (from : ℕ) (lines : List CallLine) (q : Question) → Has (of_calls every from lines) q → AskedOfCalls every from lines q
+calls_asked : (every : List CallLine) (from : ℕ) (lines : List CallLine) (q : Question) → Has (of_calls every from lines) q
+    → AskedOfCalls every from lines q
 calls_asked every from [] q h = absurd h
-calls_asked every from (line ∷ lines) q h = elim (has_append (if_so (asks_at every from line) (Call from)) (of_calls every (from + 1) lines) q h) [
-  | inl here ↦ (
-      let p = if_had (asks_at every from line) (Call from) q here in
-      let both = and_parts (is_plain (rule_of line)) (is_first every line.name from) p.0 in
-      let n : from + 0 ≡ from = omega arith in
-      record { at = 0; line = line; listed = refl; plain = both.0; first = ap (is_first every line.name) n ∙ both.1; is = ap Call n ∙ p.1 })
-  | inr more ↦ (
-      let m = calls_asked every (from + 1) lines q more in
-      let n : from + suc m.at ≡ from + 1 + m.at = omega arith in
-      record { at = suc m.at; line = m.line; listed = m.listed; plain = m.plain; first = ap (is_first every m.line.name) n ∙ m.first; is = ap Call n ∙ m.is })
-]
+calls_asked every from (line ∷ lines) q h =
+    elim (has_append (if_so (asks_at every from line) (Call from)) (of_calls every (from + 1) lines) q h) [
+      | inl here ↦ (
+          let p = if_had (asks_at every from line) (Call from) q here in
+          let both = and_parts (is_plain (rule_of line)) (is_first every line.name from) p.0 in
+          let n : from + 0 ≡ from = omega arith in
+          record { at = 0; line = line; listed = refl; plain = both.0; first = ap (is_first every line.name) n ∙ both.1; is = ap Call n ∙ p.1 })
+      | inr more ↦ (
+          let m = calls_asked every (from + 1) lines q more in
+          let n : from + suc m.at ≡ from + 1 + m.at = omega arith in
+          record { at = suc m.at; line = m.line; listed = m.listed; plain = m.plain; first = ap (is_first every m.line.name) n ∙ m.first; is = ap Call n ∙ m.is })
+    ]
 
-asked_calls : (every : List CallLine) (from : ℕ) (lines : List CallLine) (at : ℕ) (line : CallLine) → slice_get lines at ≡ Some line → is_plain (rule_of line) ≡ true → is_first every line.name (from + at) ≡ true → Has (of_calls every from lines) (Call (from + at))
+asked_calls : (every : List CallLine) (from : ℕ) (lines : List CallLine) (at : ℕ) (line : CallLine) → slice_get lines at ≡ Some line
+    → is_plain (rule_of line) ≡ true → is_first every line.name (from + at) ≡ true → Has (of_calls every from lines) (Call (from + at))
 asked_calls every from [] at line e p f = cc
 asked_calls every from (first ∷ lines) zero line e p f =
     let same : line ≡ first = cc in
     let n : from + 0 ≡ from = omega arith in
     let own : asks_at every from first ≡ true =
     and_from (is_plain (rule_of first)) (is_first every first.name from) (ap (λ (l : CallLine). is_plain (rule_of l)) (sym same) ∙ p) (ap (λ (l : CallLine). is_first every l.name from) (sym same) ∙ ap (is_first every line.name) (sym n) ∙ f) in
-    has_left (if_so (asks_at every from first) (Call from)) (of_calls every (from + 1) lines) (Call (from + 0)) (subst (λ k. Has (if_so (asks_at every from first) (Call from)) (Call k)) (sym n) (had_if (asks_at every from first) (Call from) own))
+    has_left (if_so (asks_at every from first) (Call from)) (of_calls every (from + 1) lines) (Call (from + 0))
+    (subst (λ k. Has (if_so (asks_at every from first) (Call from)) (Call k)) (sym n)
+    (had_if (asks_at every from first) (Call from) own))
 asked_calls every from (first ∷ lines) (suc at) line e p f =
     let n : from + 1 + at ≡ from + suc at = omega arith in
-    has_right (if_so (asks_at every from first) (Call from)) (of_calls every (from + 1) lines) (Call (from + suc at)) (subst (λ k. Has (of_calls every (from + 1) lines) (Call k)) n (asked_calls every (from + 1) lines at line e p (ap (is_first every line.name) n ∙ f)))
+    has_right (if_so (asks_at every from first) (Call from)) (of_calls every (from + 1) lines) (Call (from + suc at))
+    (subst (λ k. Has (of_calls every (from + 1) lines) (Call k)) n
+    (asked_calls every (from + 1) lines at line e p (ap (is_first every line.name) n ∙ f)))
 
 -- the first of all lines of a name
 first_is : (every : List CallLine) (name : List ℕ) (at : ℕ) → is_first every name at ≡ true → place_named name every ≡ Some at
@@ -132,7 +155,8 @@ first_is every name at h = by (place_named name every) h
 is_the_first : (every : List CallLine) (name : List ℕ) (at : ℕ) → place_named name every ≡ Some at → is_first every name at ≡ true
 is_the_first every name at h = ap (λ o. option_map_or (λ place. place == at) o false) h ∙ eq-eqb at at refl
 
-families_asked : (from : ℕ) (lines : List CallLine) (q : Question) → Has (of_families from lines) q → (at : ℕ) × (at < length lines) × (Socket (from + at) ≡ q)
+families_asked : (from : ℕ) (lines : List CallLine) (q : Question) → Has (of_families from lines) q
+    → (at : ℕ) × (at < length lines) × (Socket (from + at) ≡ q)
 families_asked from [] q h = absurd h
 families_asked from (line ∷ lines) q h = elim h [
   | inl e ↦ (let n : from + 0 ≡ from = omega arith in (0, (omega arith), ap Socket n ∙ e))
@@ -147,7 +171,8 @@ asked_families from (line ∷ lines) (suc at) h =
     inr (subst (λ k. Has (of_families (from + 1) lines) (Socket k)) n (asked_families (from + 1) lines at (omega arith)))
 
 -- ---- numbers
-counted : (make : ℕ → Question) (from count : ℕ) (q : Question) → Has (map make (count_from from count)) q → (n : ℕ) × (from ≤ n) × (n < from + count) × (make n ≡ q)
+counted : (make : ℕ → Question) (from count : ℕ) (q : Question) → Has (map make (count_from from count)) q
+    → (n : ℕ) × (from ≤ n) × (n < from + count) × (make n ≡ q)
 counted make from zero q h = absurd h
 counted make from (suc count) q h = elim h [
   | inl e ↦ (from, (omega arith), (omega arith), e)
@@ -159,9 +184,11 @@ later from n low e = grind (arith, nat_tests, e, low)
 
 has_counted : (make : ℕ → Question) (from count n : ℕ) → from ≤ n → n < from + count → Has (map make (count_from from count)) (make n)
 has_counted make from zero n low high = absurd (omega arith)
-has_counted make from (suc count) n low high = by (n == from) refl (λ above. has_counted make (from + 1) count n above (omega (arith, high)))
+has_counted make from (suc count) n low high = by (n == from) refl
+    (λ above. has_counted make (from + 1) count n above (omega (arith, high)))
   where
-    by : (b : Bool) → (n == from) ≡ b → (from + 1 ≤ n → Has (map make (count_from (from + 1) count)) (make n)) → (make from ≡ make n) ⊎ Has (map make (count_from (from + 1) count)) (make n)
+    by : (b : Bool) → (n == from) ≡ b → (from + 1 ≤ n → Has (map make (count_from (from + 1) count)) (make n))
+        → (make from ≡ make n) ⊎ Has (map make (count_from (from + 1) count)) (make n)
     by true e more = inl (ap make (sym (eqb-true n from e)))
     by false e more = inr (more (later from n low e))
 
@@ -178,7 +205,8 @@ some_had : {X : Type 0} (f : X → Option ℕ) (xs : List X) (id : ℕ) → Has 
 some_had f [] id h = h
 some_had f (x ∷ xs) id h = by (f x) refl h (some_had f xs id)
   where
-    by : (o : Option ℕ) → f x ≡ o → Has (some_ids (o ∷ map f xs)) id → (Has (some_ids (map f xs)) id → Some_one (λ y. f y ≡ Some id) xs) → Some_one (λ y. f y ≡ Some id) (x ∷ xs)
+    by : (o : Option ℕ) → f x ≡ o → Has (some_ids (o ∷ map f xs)) id → (Has (some_ids (map f xs)) id → Some_one (λ y. f y ≡ Some id) xs)
+        → Some_one (λ y. f y ≡ Some id) (x ∷ xs)
     by None e h deep = inr (deep h)
     by (Some own) e h deep = elim h [ inl is ↦ inl (e ∙ ap (λ n. Some n) is) | inr more ↦ inr (deep more) ]
 
@@ -186,17 +214,24 @@ had_some : {X : Type 0} (f : X → Option ℕ) (xs : List X) (id : ℕ) → Some
 had_some f [] id h = h
 had_some f (x ∷ xs) id h = by (f x) refl h (had_some f xs id)
   where
-    by : (o : Option ℕ) → f x ≡ o → (f x ≡ Some id) ⊎ Some_one (λ y. f y ≡ Some id) xs → (Some_one (λ y. f y ≡ Some id) xs → Has (some_ids (map f xs)) id) → Has (some_ids (o ∷ map f xs)) id
+    by : (o : Option ℕ) → f x ≡ o → (f x ≡ Some id) ⊎ Some_one (λ y. f y ≡ Some id) xs
+        → (Some_one (λ y. f y ≡ Some id) xs → Has (some_ids (map f xs)) id) → Has (some_ids (o ∷ map f xs)) id
     by None e h deep = elim h [ inl is ↦ absurd (let clash : None ≡ Some id = sym e ∙ is in cc) | inr more ↦ deep more ]
     by (Some own) e h deep = elim h [ inl is ↦ (let both : Some own ≡ Some id = sym e ∙ is in let same : own ≡ id = cc in inl same) | inr more ↦ inr (deep more) ]
 
 joined_had : {X : Type 0} (f : X → List ℕ) (xs : List X) (id : ℕ) → Has (joined (map f xs)) id → Some_one (λ x. Contains (f x) id) xs
 joined_had f [] id h = h
-joined_had f (x ∷ xs) id h = elim (has_append (f x) (joined (map f xs)) id h) [ inl here ↦ inl (contains_had (f x) id here) | inr more ↦ inr (joined_had f xs id more) ]
+joined_had f (x ∷ xs) id h = elim (has_append (f x) (joined (map f xs)) id h)
+    [ inl here ↦ inl (contains_had (f x) id here) | inr more ↦ inr (joined_had f xs id more) ]
 
 had_joined : {X : Type 0} (f : X → List ℕ) (xs : List X) (id : ℕ) → Some_one (λ x. Contains (f x) id) xs → Has (joined (map f xs)) id
 had_joined f [] id h = h
-had_joined f (x ∷ xs) id h = elim h [ inl here ↦ has_left (f x) (joined (map f xs)) id (has_contained (f x) id here) | inr more ↦ has_right (f x) (joined (map f xs)) id (had_joined f xs id more) ]
+had_joined f (x ∷ xs) id h =
+    elim h [
+      | inl here ↦ has_left (f x) (joined (map f xs)) id (has_contained (f x) id here)
+      | inr more ↦ has_right (f x)
+          (joined (map f xs)) id (had_joined f xs id more)
+    ]
 
 module _ (site : Site) where
   abbrev uids_given : List ℕ
@@ -207,10 +242,13 @@ module _ (site : Site) where
     | inl root ↦ of_root (sym root)
     | inr more ↦ elim more [
       | inl dynamic ↦ of_dynamic_user (sym dynamic)
-      | inr last ↦ elim (has_append (map (λ (user : User). user.uid) site.users) (some_ids (map (λ (row : Row). row.setuid) site.rows)) id last) [
-        | inl user ↦ of_user (any_some (λ (user : User). user.uid ≡ id) site.users (has_mapped (λ (user : User). user.uid) site.users id user))
-        | inr owner ↦ of_owner (any_some (λ (row : Row). row.setuid ≡ Some id) site.rows (some_had (λ (row : Row). row.setuid) site.rows id owner))
-      ]
+      | inr last ↦ elim (has_append (map (λ (user : User). user.uid) site.users)
+          (some_ids (map (λ (row : Row). row.setuid) site.rows)) id last) [
+            | inl user ↦ of_user (any_some (λ (user : User). user.uid ≡ id) site.users
+                (has_mapped (λ (user : User). user.uid) site.users id user))
+            | inr owner ↦ of_owner (any_some (λ (row : Row). row.setuid ≡ Some id) site.rows
+                (some_had (λ (row : Row). row.setuid) site.rows id owner))
+          ]
     ]
   ]
 
@@ -220,9 +258,11 @@ module _ (site : Site) where
       given : IsUidOf site id → Has uids_given id
       given (of_root e) = inl (sym e)
       given (of_dynamic_user e) = inr (inl (sym e))
-      given (of_user any) = inr (inr (has_left (map (λ (user : User). user.uid) site.users) (some_ids (map (λ (row : Row). row.setuid) site.rows)) id
+      given (of_user any) = inr
+          (inr (has_left (map (λ (user : User). user.uid) site.users) (some_ids (map (λ (row : Row). row.setuid) site.rows)) id
           (mapped_has (λ (user : User). user.uid) site.users id (some_any (λ (user : User). user.uid ≡ id) site.users any))))
-      given (of_owner any) = inr (inr (has_right (map (λ (user : User). user.uid) site.users) (some_ids (map (λ (row : Row). row.setuid) site.rows)) id
+      given (of_owner any) = inr
+          (inr (has_right (map (λ (user : User). user.uid) site.users) (some_ids (map (λ (row : Row). row.setuid) site.rows)) id
           (had_some (λ (row : Row). row.setuid) site.rows id (some_any (λ (row : Row). row.setuid ≡ Some id) site.rows any))))
 
   abbrev groups_of : List ℕ
@@ -241,16 +281,25 @@ module _ (site : Site) where
   gids_given = 0 ∷ site.dynamic_uid ∷ groups_of ++ users_of ++ further_of ++ rows_of
 
   gid_known : (id : ℕ) → Has (gids_of site) id → IsGidOf site id
-  gid_known id h = elim (has_ascending gids_given id h) [ inl root ↦ of_root_group (sym root) | inr more ↦ elim more [ inl dynamic ↦ of_dynamic_group (sym dynamic) | inr last ↦ by last ] ]
+  gid_known id h = elim (has_ascending gids_given id h) [
+    | inl root ↦ of_root_group
+        (sym root)
+    | inr more ↦ elim more [ inl dynamic ↦ of_dynamic_group (sym dynamic) | inr last ↦ by last ]
+  ]
     where
       by : Has (groups_of ++ users_of ++ further_of ++ rows_of) id → IsGidOf site id
       by h = elim (has_append (groups_of ++ users_of ++ further_of) rows_of id h) [
-        | inr row ↦ of_group_of_row (any_some (λ (row : Row). row.setgid ≡ Some id) site.rows (some_had (λ (row : Row). row.setgid) site.rows id row))
+        | inr row ↦ of_group_of_row
+            (any_some (λ (row : Row). row.setgid ≡ Some id) site.rows (some_had (λ (row : Row). row.setgid) site.rows id row))
         | inl three ↦ elim (has_append (groups_of ++ users_of) further_of id three) [
-          | inr further ↦ of_further_group (any_some (λ (user : User). Contains user.groups id) site.users (joined_had (λ (user : User). user.groups) site.users id further))
+          | inr further ↦ of_further_group
+              (any_some (λ (user : User). Contains user.groups id) site.users
+              (joined_had (λ (user : User). user.groups) site.users id further))
           | inl two ↦ elim (has_append groups_of users_of id two) [
-            | inl group ↦ of_group (any_some (λ (group : Group). group.gid ≡ id) site.groups (has_mapped (λ (group : Group). group.gid) site.groups id group))
-            | inr user ↦ of_group_of_user (any_some (λ (user : User). user.gid ≡ id) site.users (has_mapped (λ (user : User). user.gid) site.users id user))
+            | inl group ↦ of_group (any_some (λ (group : Group). group.gid ≡ id) site.groups
+                (has_mapped (λ (group : Group). group.gid) site.groups id group))
+            | inr user ↦ of_group_of_user
+                (any_some (λ (user : User). user.gid ≡ id) site.users (has_mapped (λ (user : User). user.gid) site.users id user))
           ]
         ]
       ]
@@ -261,11 +310,16 @@ module _ (site : Site) where
       given : IsGidOf site id → Has gids_given id
       given (of_root_group e) = inl (sym e)
       given (of_dynamic_group e) = inr (inl (sym e))
-      given (of_group any) = inr (inr (has_left (groups_of ++ users_of ++ further_of) rows_of id (has_left (groups_of ++ users_of) further_of id (has_left groups_of users_of id
+      given (of_group any) = inr
+          (inr (has_left (groups_of ++ users_of ++ further_of) rows_of id
+          (has_left (groups_of ++ users_of) further_of id (has_left groups_of users_of id
           (mapped_has (λ (group : Group). group.gid) site.groups id (some_any (λ (group : Group). group.gid ≡ id) site.groups any))))))
-      given (of_group_of_user any) = inr (inr (has_left (groups_of ++ users_of ++ further_of) rows_of id (has_left (groups_of ++ users_of) further_of id (has_right groups_of users_of id
+      given (of_group_of_user any) =
+          inr (inr (has_left (groups_of ++ users_of ++ further_of) rows_of id
+          (has_left (groups_of ++ users_of) further_of id (has_right groups_of users_of id
           (mapped_has (λ (user : User). user.gid) site.users id (some_any (λ (user : User). user.gid ≡ id) site.users any))))))
-      given (of_further_group any) = inr (inr (has_left (groups_of ++ users_of ++ further_of) rows_of id (has_right (groups_of ++ users_of) further_of id
+      given (of_further_group any) =
+          inr (inr (has_left (groups_of ++ users_of ++ further_of) rows_of id (has_right (groups_of ++ users_of) further_of id
           (had_joined (λ (user : User). user.groups) site.users id (some_any (λ (user : User). Contains user.groups id) site.users any)))))
       given (of_group_of_row any) = inr (inr (has_right (groups_of ++ users_of ++ further_of) rows_of id
           (had_some (λ (row : Row). row.setgid) site.rows id (some_any (λ (row : Row). row.setgid ≡ Some id) site.rows any))))
@@ -386,13 +440,17 @@ module _ (table : calls.Table) (site : Site) where
   listed : (q : Question) → Asked q → Has (questions table site) q
   listed (ByPath wish at) a =
       let n : 0 + at ≡ at = omega arith in
-      from_two (ByPath wish at) (has_left one calls_of (ByPath wish at) (subst (λ k. Has one (ByPath wish k)) n (asked_rows 0 site.rows at a.0 wish a.1 a.2)))
+      from_two (ByPath wish at)
+      (has_left one calls_of (ByPath wish at) (subst (λ k. Has one (ByPath wish k)) n (asked_rows 0 site.rows at a.0 wish a.1 a.2)))
   listed (Call at) a =
       let n : 0 + at ≡ at = omega arith in
-      from_two (Call at) (has_right one calls_of (Call at) (subst (λ k. Has calls_of (Call k)) n (asked_calls every 0 every at a.0 a.1 a.2 (ap (is_first every a.0.name) n ∙ is_the_first every a.0.name at a.3))))
+      from_two (Call at) (has_right one calls_of (Call at)
+      (subst (λ k. Has calls_of (Call k)) n
+      (asked_calls every 0 every at a.0 a.1 a.2 (ap (is_first every a.0.name) n ∙ is_the_first every a.0.name at a.3))))
   listed (Socket at) a =
       let n : 0 + at ≡ at = omega arith in
-      from_three (Socket at) (has_right two (of_families 0 table.families) (Socket at) (subst (λ k. Has (of_families 0 table.families) (Socket k)) n (asked_families 0 table.families at a)))
+      from_three (Socket at) (has_right two (of_families 0 table.families) (Socket at)
+      (subst (λ k. Has (of_families 0 table.families) (Socket k)) n (asked_families 0 table.families at a)))
   listed (Ns space) a = from_other (Ns space) (spaces space)
   listed MapWx a = from_other MapWx (inr (inr (inr (inr (inr (inr (inr (inl refl))))))))
   listed ProtectX a = from_other ProtectX (inr (inr (inr (inr (inr (inr (inr (inr (inl refl)))))))))
@@ -400,8 +458,10 @@ module _ (table : calls.Table) (site : Site) where
   listed Realtime a = from_other Realtime (inr (inr (inr (inr (inr (inr (inr (inr (inr (inr (inl refl)))))))))))
   listed Personality a = from_other Personality (inr (inr (inr (inr (inr (inr (inr (inr (inr (inr (inr (inl refl))))))))))))
   listed SuidBit a = from_other SuidBit (inr (inr (inr (inr (inr (inr (inr (inr (inr (inr (inr (inr (inl refl)))))))))))))
-  listed (Cap number) a = from_five (Cap number) (has_right four (map Cap (count_from 0 41)) (Cap number) (has_counted Cap 0 41 number (omega arith) (omega (arith, a))))
-  listed (Uid id) a = from_six (Uid id) (has_right five (map Uid (uids_of site)) (Uid id) (of_made Uid (uids_of site) id (known_uid site id a)))
+  listed (Cap number) a = from_five (Cap number)
+      (has_right four (map Cap (count_from 0 41)) (Cap number) (has_counted Cap 0 41 number (omega arith) (omega (arith, a))))
+  listed (Uid id) a = from_six (Uid id)
+      (has_right five (map Uid (uids_of site)) (Uid id) (of_made Uid (uids_of site) id (known_uid site id a)))
   listed (Gid id) a = has_right six (map Gid (gids_of site)) (Gid id) (of_made Gid (gids_of site) id (known_gid site id a))
 
 pub what_is_asked : ListsWhatIsAsked

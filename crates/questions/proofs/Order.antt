@@ -1,5 +1,6 @@
 -- Each question of the list comes before the later ones.
-use Rattle.std.proofs.Common.{◌≡◌, ◌<◌, ◌≤◌, inl, inr, ℕ, zero, suc, Bool, true, false, List, [], ◌∷◌, ◌++◌, ◌+◌, ◌*◌, map, refl, ◌∙◌, sym, arith, get_or, length}
+use Rattle.std.proofs.Common.{◌≡◌, ◌<◌, ◌≤◌, inl, inr, ℕ, zero, suc, Bool, true, false, List, [], ◌∷◌, ◌++◌, ◌+◌, ◌*◌, map, refl, ◌∙◌, sym}
+use Rattle.std.proofs.Common.{arith, get_or, length}
 use Rattle.std.specs.Prelude.{not, nat_lt, ◌==◌, ◌||◌, ◌&&◌}
 use Rattle.std.specs.List.{AllByRecursion, list_all}
 use Rattle.std.proofs.lemmas.Bool.{and_parts, or_cases, not-true, eqb-true, ltb-true, ltb-false}
@@ -13,7 +14,8 @@ use Rattle.kernel_laws.specs.kernel_model.kernel_calls.Rules.{rule_of}
 use Rattle.kernel_laws.specs.declared.question_types.wish.Wish.TheVariants.{See as ToSee, Read as ToRead, Write as ToWrite, Exec as ToExec}
 use Rattle.kernel_laws.specs.declared.question_types.question.Question.{Question}
 use Rattle.kernel_laws.specs.declared.question_types.question.Question.TheVariants.{Path as ByPath, Call, Socket, Cap, Uid, Gid}
-use Rattle.kernel_laws.specs.Questions.{is_plain, if_so, of_rows, of_calls, of_families, count_from, some_ids, joined, uids_of, gids_of, other_questions, questions}
+use Rattle.kernel_laws.specs.Questions.{is_plain, if_so, of_rows, of_calls, of_families, count_from, some_ids, joined, uids_of, gids_of}
+use Rattle.kernel_laws.specs.Questions.{other_questions, questions}
 use Rattle.questions.specs.Listed.{kind_of, place_of, IsBefore, StandInOrder}
 use Rattle.questions.proofs.Ascending.{Rises, ascending_rises}
 
@@ -31,7 +33,8 @@ all_more P Q more [] h = tt
 all_more P Q more (x ∷ xs) h = (more x h.0, all_more P Q more xs h.1)
 
 -- one list of which all comes before all of another
-order_append : (xs ys : List Question) → InOrder xs → InOrder ys → AllByRecursion (λ x. AllByRecursion (IsBefore x) ys) xs → InOrder (xs ++ ys)
+order_append : (xs ys : List Question) → InOrder xs → InOrder ys → AllByRecursion (λ x. AllByRecursion (IsBefore x) ys) xs
+    → InOrder (xs ++ ys)
 order_append [] ys h g a = g
 order_append (x ∷ xs) ys h g a = (all_append (IsBefore x) xs ys h.0 a.0, order_append xs ys h.1 g a.1)
 
@@ -61,10 +64,13 @@ abbrev AreOfKind : ℕ → ℕ → List Question → Type 0
 AreOfKind kind place list = AllByRecursion (IsOfKind kind place) list
 
 lower : (kind low high : ℕ) (list : List Question) → low ≤ high → AreOfKind kind high list → AreOfKind kind low list
-lower kind low high list h all = all_more (IsOfKind kind high) (IsOfKind kind low) (λ q is. record { kind_is = is.kind_is; from = omega (arith, h, is.from) }) list all
+lower kind low high list h all = all_more (IsOfKind kind high) (IsOfKind kind low)
+    (λ q is. record { kind_is = is.kind_is; from = omega (arith, h, is.from) }) list all
 
-before_all : (kind : ℕ) (q : Question) (list : List Question) → kind_of q ≡ kind → AreOfKind kind (place_of q + 1) list → AllByRecursion (IsBefore q) list
-before_all kind q list k all = all_more (IsOfKind kind (place_of q + 1)) (IsBefore q) (λ other is. inr (k ∙ sym is.kind_is, omega (arith, is.from))) list all
+before_all : (kind : ℕ) (q : Question) (list : List Question) → kind_of q ≡ kind → AreOfKind kind (place_of q + 1) list
+    → AllByRecursion (IsBefore q) list
+before_all kind q list k all = all_more (IsOfKind kind (place_of q + 1)) (IsBefore q)
+    (λ other is. inr (k ∙ sym is.kind_is, omega (arith, is.from))) list all
 
 kinds_until : (kind place : ℕ) (list : List Question) → AreOfKind kind place list → Until (kind + 1) list
 kinds_until kind place list all = all_more (IsOfKind kind place) (λ q. kind_of q < kind + 1) (λ q is. omega (arith, is.kind_is)) list all
@@ -152,7 +158,8 @@ rows_in at (row ∷ rows) =
 
 -- ---- one question a place
 -- a question, if so, before those of its kind at later places
-if_first : (b : Bool) (q : Question) (kind place : ℕ) (list : List Question) → kind_of q ≡ kind → place_of q ≡ place → InPlaces kind (place + 1) list → InPlaces kind place (if_so b q ++ list)
+if_first : (b : Bool) (q : Question) (kind place : ℕ) (list : List Question) → kind_of q ≡ kind → place_of q ≡ place
+    → InPlaces kind (place + 1) list → InPlaces kind place (if_so b q ++ list)
 if_first b q kind place list k p more = by b
   where
     kept : AreOfKind kind place list
@@ -164,7 +171,8 @@ if_first b q kind place list k p more = by b
 
 calls_in : (every : List CallLine) (at : ℕ) (lines : List CallLine) → InPlaces 1 at (of_calls every at lines)
 calls_in every at [] = record { order = tt; kinds = tt }
-calls_in every at (line ∷ lines) = if_first (is_plain (rule_of line) && is_first every line.name at) (Call at) 1 at (of_calls every (at + 1) lines) refl refl (calls_in every (at + 1) lines)
+calls_in every at (line ∷ lines) = if_first (is_plain (rule_of line) && is_first every line.name at) (Call at) 1 at
+    (of_calls every (at + 1) lines) refl refl (calls_in every (at + 1) lines)
 
 families_in : (at : ℕ) (lines : List CallLine) → InPlaces 2 at (of_families at lines)
 families_in at [] = record { order = tt; kinds = tt }
@@ -178,7 +186,8 @@ caps_in from (suc count) = if_first true (Cap from) 10 from (map Cap (count_from
 module _ (make : ℕ → Question) (kind : ℕ) (kind_is : (id : ℕ) → kind_of (make id) ≡ kind) (place_is : (id : ℕ) → place_of (make id) ≡ id) where
   ids_before : (low : ℕ) (ids : List ℕ) → AllByRecursion (λ y. low < y) ids → AllByRecursion (IsBefore (make low)) (map make ids)
   ids_before low [] h = tt
-  ids_before low (id ∷ ids) h = (inr (kind_is low ∙ sym (kind_is id), omega (arith, place_is low, place_is id, h.0)), ids_before low ids h.1)
+  ids_before low (id ∷ ids) h =
+      (inr (kind_is low ∙ sym (kind_is id), omega (arith, place_is low, place_is id, h.0)), ids_before low ids h.1)
 
   ids_kind : (ids : List ℕ) → AreOfKind kind 0 (map make ids)
   ids_kind [] = tt
@@ -197,10 +206,11 @@ order_test [] = true
 order_test (q ∷ list) = list_all (before_test q) list && order_test list
 
 before_by : (one other : Question) → before_test one other ≡ true → IsBefore one other
-before_by one other e = elim (or_cases (nat_lt (kind_of one) (kind_of other)) (kind_of one == kind_of other && nat_lt (place_of one) (place_of other)) e) [
-  | inl less ↦ inl (ltb-true (kind_of one) (kind_of other) less)
-  | inr both ↦ (let b = and_parts (kind_of one == kind_of other) (nat_lt (place_of one) (place_of other)) both in inr (eqb-true (kind_of one) (kind_of other) b.0, ltb-true (place_of one) (place_of other) b.1))
-]
+before_by one other e = elim
+    (or_cases (nat_lt (kind_of one) (kind_of other)) (kind_of one == kind_of other && nat_lt (place_of one) (place_of other)) e) [
+      | inl less ↦ inl (ltb-true (kind_of one) (kind_of other) less)
+      | inr both ↦ (let b = and_parts (kind_of one == kind_of other) (nat_lt (place_of one) (place_of other)) both in inr (eqb-true (kind_of one) (kind_of other) b.0, ltb-true (place_of one) (place_of other) b.1))
+    ]
 
 all_by : (q : Question) (list : List Question) → list_all (before_test q) list ≡ true → AllByRecursion (IsBefore q) list
 all_by q [] e = tt
@@ -213,7 +223,8 @@ order_by (q ∷ list) e = let b = and_parts (list_all (before_test q) list) (ord
 others_order : InOrder other_questions
 others_order = order_by other_questions refl
 
-kinds_test : (low high : ℕ) (list : List Question) → list_all (λ q. not (nat_lt (kind_of q) low) && nat_lt (kind_of q) high) list ≡ true → From low list × Until high list
+kinds_test : (low high : ℕ) (list : List Question) → list_all (λ q. not (nat_lt (kind_of q) low) && nat_lt (kind_of q) high) list ≡ true
+    → From low list × Until high list
 kinds_test low high [] e = (tt, tt)
 kinds_test low high (q ∷ list) e =
     let b = and_parts (not (nat_lt (kind_of q) low) && nat_lt (kind_of q) high) (list_all (λ q. not (nat_lt (kind_of q) low) && nat_lt (kind_of q) high) list) e in
@@ -231,7 +242,8 @@ record Ready (kind : ℕ) (list : List Question) : Type 0 where
   until : Until kind list
 
 -- one part more, of later kinds
-with_part : (kind next : ℕ) (list part : List Question) → kind ≤ next → Ready kind list → InOrder part → From kind part → Until next part → Ready next (list ++ part)
+with_part : (kind next : ℕ) (list part : List Question) → kind ≤ next → Ready kind list → InOrder part → From kind part → Until next part
+    → Ready next (list ++ part)
 with_part kind next list part h r order from until = record {
   order = join kind list part r.order order r.until from;
   until = until_append next list part (until_later kind next list h r.until) until;
@@ -265,18 +277,23 @@ whole table site =
     seven.order
   where
     uids_rise : (site : Site) → Rises (uids_of site)
-    uids_rise site = ascending_rises (0 ∷ site.dynamic_uid ∷ map (λ user. user.uid) site.users ++ some_ids (map (λ row. row.setuid) site.rows))
+    uids_rise site = ascending_rises
+        (0 ∷ site.dynamic_uid ∷ map (λ user. user.uid) site.users ++ some_ids (map (λ row. row.setuid) site.rows))
 
     gids_rise : (site : Site) → Rises (gids_of site)
-    gids_rise site = ascending_rises (0 ∷ site.dynamic_uid ∷ map (λ group. group.gid) site.groups ++ map (λ user. user.gid) site.users ++ joined (map (λ user. user.groups) site.users) ++ some_ids (map (λ row. row.setgid) site.rows))
+    gids_rise site = ascending_rises
+        (0 ∷ site.dynamic_uid ∷ map (λ group. group.gid) site.groups ++ map (λ user. user.gid) site.users ++ joined
+        (map (λ user. user.groups) site.users) ++ some_ids (map (λ row. row.setgid) site.rows))
 
 -- ---- by indices
-at_place : (P : Question → Type 0) (list : List Question) → AllByRecursion P list → (j : ℕ) (d : Question) → j < length list → P (get_or list j d)
+at_place : (P : Question → Type 0) (list : List Question) → AllByRecursion P list → (j : ℕ) (d : Question) → j < length list
+    → P (get_or list j d)
 at_place P [] h j d b = absurd (omega arith)
 at_place P (q ∷ list) h zero d b = h.0
 at_place P (q ∷ list) h (suc j) d b = at_place P list h.1 j d (omega arith)
 
-all_pairs : (list : List Question) → InOrder list → (i j : ℕ) (d : Question) → i < j → j < length list → IsBefore (get_or list i d) (get_or list j d)
+all_pairs : (list : List Question) → InOrder list → (i j : ℕ) (d : Question) → i < j → j < length list
+    → IsBefore (get_or list i d) (get_or list j d)
 all_pairs [] h i j d a b = absurd (omega arith)
 all_pairs (q ∷ list) h i zero d a b = absurd (omega arith)
 all_pairs (q ∷ list) h zero (suc j) d a b = at_place (IsBefore q) list h.0 j d (omega arith)

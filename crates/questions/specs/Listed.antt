@@ -17,9 +17,12 @@ use Rattle.kernel_laws.specs.kernel_model.kernel_calls.Rules.{rule_of}
 use Rattle.kernel_laws.specs.Questions.{flag_of, is_plain, ascending, questions}
 use Rattle.kernel_laws.specs.declared.question_types.wish.Wish.{Wish}
 use Rattle.kernel_laws.specs.declared.question_types.wish.Wish.TheVariants.{See as ToSee, Read as ToRead, Write as ToWrite, Exec as ToExec}
-use Rattle.kernel_laws.specs.filter_settings.declared.filter_rules.namespace_types.NamespaceType.TheVariants.{Cgroup, Ipc, Net, Mnt, Pid, User as UserSpace, Uts}
+use Rattle.kernel_laws.specs.filter_settings.declared.filter_rules.namespace_types.NamespaceType.TheVariants.{Cgroup, Ipc, Net, Mnt, Pid}
+use Rattle.kernel_laws.specs.filter_settings.declared.filter_rules.namespace_types.NamespaceType.TheVariants.{User as UserSpace, Uts}
 use Rattle.kernel_laws.specs.declared.question_types.question.Question.{Question}
-use Rattle.kernel_laws.specs.declared.question_types.question.Question.TheVariants.{Path as ByPath, Call, Socket, Namespace as Ns, MapWx, ProtectX, ShmX, Realtime, Personality, SuidBit, Cap, Uid, Gid}
+use Rattle.kernel_laws.specs.declared.question_types.question.Question.TheVariants.{Path as ByPath, Call, Socket, Namespace as Ns, MapWx}
+use Rattle.kernel_laws.specs.declared.question_types.question.Question.TheVariants.{ProtectX, ShmX, Realtime, Personality, SuidBit, Cap}
+use Rattle.kernel_laws.specs.declared.question_types.question.Question.TheVariants.{Uid, Gid}
 
 -- what is asked of a row of this kind: anything may be seen and read, what is no directory written, an executable executed
 abbrev pub is_asked_of : Wish → RowKind → Bool
@@ -49,7 +52,8 @@ pub data IsGidOf (site : Site) (id : ℕ) : Type 0 where
 abbrev pub IsAskedOf : calls.Table → Site → Question → Type 0
 IsAskedOf table site (ByPath wish at) = (row : Row) × (slice_get site.rows at ≡ Some row) × (is_asked_of wish row.kind ≡ true)
 IsAskedOf table site (Call at) =
-    (line : CallLine) × (slice_get (calls.every_call table) at ≡ Some line) × (is_plain (rule_of line) ≡ true) × (place_named line.name (calls.every_call table) ≡ Some at)
+    (line : CallLine) × (slice_get (calls.every_call table) at ≡ Some line) × (is_plain (rule_of line) ≡ true) ×
+    (place_named line.name (calls.every_call table) ≡ Some at)
 IsAskedOf table site (Socket at) = at < length table.families
 IsAskedOf table site (Cap number) = number ≤ cap_last_cap
 IsAskedOf table site (Uid id) = IsUidOf site id
@@ -58,7 +62,8 @@ IsAskedOf table site _ = Unit {0}
 
 -- exactly these are in the list
 abbrev pub ListsWhatIsAsked : Type 0
-ListsWhatIsAsked = (table : calls.Table) (site : Site) (question : Question) → Contains (questions table site) question ↔ IsAskedOf table site question
+ListsWhatIsAsked = (table : calls.Table) (site : Site) (question : Question)
+    → Contains (questions table site) question ↔ IsAskedOf table site question
 
 -- the kinds in their order
 abbrev pub kind_of : Question → ℕ

@@ -22,7 +22,8 @@ no_prefix front path e = by (is_prefix front path) e
 
 -- a place that the front does not lead to leads to what is behind the front exactly where it leads to the front
 pub leads_before : (place front rest : Path) → None ≡ rest_text front place → is_prefix place front ≡ is_prefix place (front ++ rest)
-leads_before place front rest none' = same_test (is_prefix place front) (is_prefix place (front ++ rest)) (λ e. leads_on place front rest e) back
+leads_before place front rest none' = same_test (is_prefix place front) (is_prefix place (front ++ rest))
+    (λ e. leads_on place front rest e) back
   where
     off : is_prefix front place ≡ false
     off = no_prefix front place none'
@@ -38,7 +39,8 @@ some_rest front path = by (is_prefix front path)
     by false = refl
 
 -- one below the front leads there exactly where the rest's text is, or goes on behind, what its text has behind the front
-pub leads_behind : (place front : Path) (further rest : List ℕ) → is_normal place ≡ true → IsRest further → IsRest rest → Some further ≡ rest_text front place
+pub leads_behind : (place front : Path) (further rest : List ℕ) → is_normal place ≡ true → IsRest further → IsRest rest
+    → Some further ≡ rest_text front place
     → is_some (behind_text further rest) ≡ is_prefix place (front ++ parts_of rest)
 leads_behind place front further rest normal f r is =
     ap (λ l. is_some (behind_text l rest)) (sym f.whole) ∙ ap (λ l. is_some (behind_text (tail_of (parts_of further)) l)) (sym r.whole)

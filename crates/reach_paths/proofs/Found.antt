@@ -53,7 +53,8 @@ module _ (site : Site) (wish : Wish) (target : Row) (is : IsSite site) (there : 
       record {
         path = lead.path;
         can_be_named = subst IsPath (sym lead.path_is) (named_both lead.split.entry.place lead.rest place.normal place.short rest.0 rest.1);
-        is_found = ap (found_at rows lead.path) by ∙ ap (λ w. found_by rows w lead.split.entry.place lead.path) lead.host ∙ ap (λ (p : Path). row_or_nothing (rows p)) at ∙ ap row_or_nothing there;
+        is_found = ap (found_at rows lead.path) by ∙ ap (λ w. found_by rows w lead.split.entry.place lead.path) lead.host
+            ∙ ap (λ (p : Path). row_or_nothing (rows p)) at ∙ ap row_or_nothing there;
         is_allowed = ap (λ (o : Option MountStep). fits wish (flags_by o)) by ∙ lead.flags;
       }
 
@@ -88,7 +89,8 @@ module _ (site : Site) (wish : Wish) (target : Row) (is : IsSite site) (there : 
         let two = mounted_twice site table ms_remount_bind is can refl refl in
         let below = two.each_row target there in (
           two.last,
-          then_one [] proc ms_bind root_named proc_named (omega arith) two.bound (then_one [] proc ms_remount_bind root_named proc_named (omega arith) two.remounted still),
+          then_one [] proc ms_bind root_named proc_named (omega arith) two.bound
+              (then_one [] proc ms_remount_bind root_named proc_named (omega arith) two.remounted still),
           record { path = proc ++ target.path; can_be_named = below.can_be_named; is_found = below.is_found; is_allowed = ap (fits wish) below.flags_are ∙ all_fit wish },
         )
 
@@ -98,15 +100,20 @@ module _ (site : Site) (wish : Wish) (target : Row) (is : IsSite site) (there : 
     back_by Mounting f = refl
 
 -- at each power: where an entry is answered, and only there
-pub exactly : (power : Power) (table : Table) (path : Path) (wish : Wish) (site : Site) (target : Row) → IsSite site → CanBeMounted (dirs_of site) table → row_at site.rows path ≡ Some target
-    → (reaches power table path wish ≡ true → CanBeFound power (row_at site.rows) table wish target) × (CanBeFound power (row_at site.rows) table wish target → reaches power table path wish ≡ true)
+pub exactly : (power : Power) (table : Table) (path : Path) (wish : Wish) (site : Site) (target : Row) → IsSite site
+    → CanBeMounted (dirs_of site) table → row_at site.rows path ≡ Some target
+    → (reaches power table path wish ≡ true → CanBeFound power (row_at site.rows) table wish target) ×
+    (CanBeFound power (row_at site.rows) table wish target → reaches power table path wish ≡ true)
 exactly power table path wish site target is can there =
     let same : target.path ≡ path = found_path site.rows path target there in
     let there' : row_at site.rows target.path ≡ Some target = ap (row_at site.rows) same ∙ there in
     ((λ e. there_by site wish target is there' table can power (ap (λ p. reaches power table p wish) same ∙ e)), (λ f. ap (λ p. reaches power table p wish) (sym same) ∙ back_by site wish target is there' table can power f))
 
-pub exactly_answered : (power : Power) (table : Table) (path : Path) (wish : Wish) (answer : Option ℕ) → answer ≡ reach power table path wish → (site : Site) (target : Row) → IsSite site → CanBeMounted (dirs_of site) table → row_at site.rows path ≡ Some target
-    → (IsSome answer → CanBeFound power (row_at site.rows) table wish target) × (CanBeFound power (row_at site.rows) table wish target → IsSome answer)
+pub exactly_answered : (power : Power) (table : Table) (path : Path) (wish : Wish) (answer : Option ℕ)
+    → answer ≡ reach power table path wish → (site : Site) (target : Row) → IsSite site → CanBeMounted (dirs_of site) table
+    → row_at site.rows path ≡ Some target
+    → (IsSome answer → CanBeFound power (row_at site.rows) table wish target) ×
+    (CanBeFound power (row_at site.rows) table wish target → IsSome answer)
 exactly_answered power table path wish answer is site target s can there =
     let e = exactly power table path wish site target s can there in
     ((λ some. e.0 (ap (λ (o : Option ℕ). is_some o) (sym is) ∙ some)), (λ f. ap (λ (o : Option ℕ). is_some o) is ∙ e.1 f))

@@ -1,5 +1,6 @@
 -- A loop over the entries of a table, by their numbers.
-use Rattle.std.proofs.Common.{◌≡◌, ◌≤◌, ◌∙◌, ℕ, zero, suc, Bool, true, false, List, [], ◌∷◌, ◌++◌, Some, None, refl, cond, ap, sym, ◌+◌, length, drop, arith}
+use Rattle.std.proofs.Common.{◌≡◌, ◌≤◌, ◌∙◌, ℕ, zero, suc, Bool, true, false, List, [], ◌∷◌, ◌++◌, Some, None, refl, cond, ap, sym, ◌+◌}
+use Rattle.std.proofs.Common.{length, drop, arith}
 use Rattle.std.specs.Prelude.{slice_get, not, ◌||◌, ◌&&◌}
 use Rattle.std.specs.List.{list_any}
 use Rattle.std.proofs.lemmas.Bool.{and_from}
@@ -29,7 +30,8 @@ module _ (p : MountStep → Bool) (table : Table) (at : ℕ) where
   pub any_here : (entry : MountStep) → slice_get table at ≡ Some entry → p entry ≡ true → true ≡ list_any p (drop at table)
   any_here entry e is = sym (ap (list_any p) (from_here table at entry e) ∙ ap (λ b. b || list_any p (drop (at + 1) table)) is)
 
-  pub any_not_here : (entry : MountStep) → slice_get table at ≡ Some entry → p entry ≡ false → list_any p (drop (at + 1) table) ≡ list_any p (drop at table)
+  pub any_not_here : (entry : MountStep) → slice_get table at ≡ Some entry → p entry ≡ false
+      → list_any p (drop (at + 1) table) ≡ list_any p (drop at table)
   any_not_here entry e is = sym (ap (list_any p) (from_here table at entry e) ∙ ap (λ b. b || list_any p (drop (at + 1) table)) is)
 
 -- ---- the first entry that serves from here on
@@ -37,17 +39,21 @@ module _ (uncover : Bool) (row : Path) (wish : Wish) (table : Table) (at : ℕ) 
   step : (entry : MountStep) → slice_get table at ≡ Some entry → (b : Bool) → serves uncover row wish entry (drop (at + 1) table) ≡ b
       → reach_from uncover row wish (drop at table) at ≡ cond b (Some at) (reach_from uncover row wish (drop (at + 1) table) (at + 1))
   step entry e b is =
-      ap (λ t. reach_from uncover row wish t at) (from_here table at entry e) ∙ ap (λ s. cond s (Some at) (reach_from uncover row wish (drop (at + 1) table) (at + 1))) is
+      ap (λ t. reach_from uncover row wish t at) (from_here table at entry e)
+      ∙ ap (λ s. cond s (Some at) (reach_from uncover row wish (drop (at + 1) table) (at + 1))) is
 
-  pub serves_here : (entry : MountStep) → slice_get table at ≡ Some entry → fits wish entry.flags ≡ true → shows_row uncover entry (drop (at + 1) table) row entry.what ≡ true
+  pub serves_here : (entry : MountStep) → slice_get table at ≡ Some entry → fits wish entry.flags ≡ true
+      → shows_row uncover entry (drop (at + 1) table) row entry.what ≡ true
       → Some at ≡ reach_from uncover row wish (drop at table) at
-  serves_here entry e f s = sym (step entry e true (and_from (fits wish entry.flags) (shows_row uncover entry (drop (at + 1) table) row entry.what) f s))
+  serves_here entry e f s =
+      sym (step entry e true (and_from (fits wish entry.flags) (shows_row uncover entry (drop (at + 1) table) row entry.what) f s))
 
   pub forbids_here : (entry : MountStep) → slice_get table at ≡ Some entry → fits wish entry.flags ≡ false
       → reach_from uncover row wish (drop (at + 1) table) (at + 1) ≡ reach_from uncover row wish (drop at table) at
   forbids_here entry e f = sym (step entry e false (ap (λ b. b && shows_row uncover entry (drop (at + 1) table) row entry.what) f))
 
-  pub hides_here : (entry : MountStep) → slice_get table at ≡ Some entry → fits wish entry.flags ≡ true → shows_row uncover entry (drop (at + 1) table) row entry.what ≡ false
+  pub hides_here : (entry : MountStep) → slice_get table at ≡ Some entry → fits wish entry.flags ≡ true
+      → shows_row uncover entry (drop (at + 1) table) row entry.what ≡ false
       → reach_from uncover row wish (drop (at + 1) table) (at + 1) ≡ reach_from uncover row wish (drop at table) at
   hides_here entry e f s = sym (step entry e false (ap (λ b. b && shows_row uncover entry (drop (at + 1) table) row entry.what) f ∙ s))
 
@@ -59,8 +65,10 @@ prefix_of source row rest e = by (is_prefix source row) e
     by true e = refl
     by false e = cc
 
-pub shows_behind : (row : Path) (table : Table) (at : ℕ) (own entry : MountStep) (source : Path) (rest : List ℕ) (covered : Bool) → slice_get table at ≡ Some own → slice_get table at ≡ Some entry → own.what ≡ Host source
-    → Some rest ≡ rest_text source row → is_normal row ≡ true → covered ≡ list_any (leads_to (own.place ++ parts_of rest)) (drop (at + 1) table)
+pub shows_behind : (row : Path) (table : Table) (at : ℕ) (own entry : MountStep) (source : Path) (rest : List ℕ) (covered : Bool)
+    → slice_get table at ≡ Some own → slice_get table at ≡ Some entry → own.what ≡ Host source
+    → Some rest ≡ rest_text source row → is_normal row ≡ true
+    → covered ≡ list_any (leads_to (own.place ++ parts_of rest)) (drop (at + 1) table)
     → not covered ≡ shows_row false entry (drop (at + 1) table) row entry.what
 shows_behind row table at own entry source rest covered e f host is normal c =
     let same : own ≡ entry = cc in

@@ -1,5 +1,6 @@
 -- Two mounts show the whole host: a bind of the root at the folder of the processes, and a remount of it.
-use Rattle.std.proofs.Common.{◌≡◌, ◌∙◌, inl, inr, ℕ, Bool, true, false, [], ◌∷◌, ◌++◌, Option, Some, None, Result, Ok, Err, refl, cond, ap, sym, subst, length, arith}
+use Rattle.std.proofs.Common.{◌≡◌, ◌∙◌, inl, inr, ℕ, Bool, true, false, [], ◌∷◌, ◌++◌, Option, Some, None, Result, Ok, Err, refl, cond, ap}
+use Rattle.std.proofs.Common.{sym, subst, length, arith}
 use Rattle.std.specs.Prelude.{map, nat_lt, ◌+◌, option_map}
 use Rattle.std.specs.List.{AllByRecursion}
 use Rattle.std.proofs.lemmas.Bool.{false≢true}
@@ -26,7 +27,8 @@ use Rattle.kernel_laws.proofs.KernMounts.Entries.{entry_push}
 use Rattle.kernel_laws.proofs.KernMounts.Splits.{split_is, of_split}
 use Rattle.kernel_laws.specs.kernel_model.kern_files.Bits.{has_all}
 use Rattle.kernel_laws.specs.kernel_model.kern_files.Looking.{flags_by}
-use Rattle.kernel_laws.specs.kernel_model.kern_files.MountCall.{ms_bind, ms_remount_bind, has_other_kind, flags_of, kind_found, hidden_kind, hidden_at, or_found, target_kind, bind_found, mount_onto, after_mount}
+use Rattle.kernel_laws.specs.kernel_model.kern_files.MountCall.{ms_bind, ms_remount_bind, has_other_kind, flags_of, kind_found, hidden_kind}
+use Rattle.kernel_laws.specs.kernel_model.kern_files.MountCall.{hidden_at, or_found, target_kind, bind_found, mount_onto, after_mount}
 use Rattle.kernel_laws.proofs.ExposedByMount.{none_leads}
 use Rattle.reach_paths.specs.Finding.{dirs_of}
 use Rattle.reach_paths.specs.Mounting.{IsBelowProc, MountedTwice, MountedTwiceShowsAll}
@@ -62,7 +64,8 @@ begins (first ∷ rest) root ascend = record {
   whole = refl;
   place = root.0;
   host = root.1;
-  below = below_root rest (subst (λ (path : Path). AllByRecursion (λ other. is_before path other ≡ true) (map (λ step. step.place) rest)) root.0 ascend.0);
+  below = below_root rest (subst (λ (path : Path). AllByRecursion (λ other. is_before path other ≡ true) (map (λ step. step.place) rest))
+      root.0 ascend.0);
 }
 
 module _ (site : Site) (table : Table) where
@@ -70,11 +73,13 @@ module _ (site : Site) (table : Table) where
   rows = row_at site.rows
 
   -- what is a directory by the site's kinds is one by its rows
-  dir_of_row : (o : Option Row) → IsDirectory (row_or_nothing (option_map is_dir (option_map (λ (r : Row). r.kind) o))) → kind_found (row_or_nothing o) ≡ Ok true
+  dir_of_row : (o : Option Row) → IsDirectory (row_or_nothing (option_map is_dir (option_map (λ (r : Row). r.kind) o)))
+      → kind_found (row_or_nothing o) ≡ Ok true
   dir_of_row None h = absurd h
   dir_of_row (Some own) h = ap (λ (b : Bool). Ok b) h
 
-  dir_by : (place : Path) (what : What) → IsDirectory (found_by (dirs_of site) what place proc) → or_found (hidden_kind place what proc) (kind_found (found_by rows what place proc)) ≡ Ok true
+  dir_by : (place : Path) (what : What) → IsDirectory (found_by (dirs_of site) what place proc)
+      → or_found (hidden_kind place what proc) (kind_found (found_by rows what place proc)) ≡ Ok true
   dir_by place (Host source) h = dir_of_row (rows (source ++ rest_of place proc)) h
   dir_by place Empty h = by (is_same place proc) h
     where
@@ -83,7 +88,8 @@ module _ (site : Site) (table : Table) where
       by false h = absurd h
   dir_by place (Hidden directory) h = absurd h
 
-  dir_at : (o : Option MountStep) → IsDirectory (found_at (dirs_of site) proc o) → or_found (hidden_at proc o) (kind_found (found_at rows proc o)) ≡ Ok true
+  dir_at : (o : Option MountStep) → IsDirectory (found_at (dirs_of site) proc o)
+      → or_found (hidden_at proc o) (kind_found (found_at rows proc o)) ≡ Ok true
   dir_at None h = absurd h
   dir_at (Some step) h = dir_by step.place step.what h
 
@@ -104,13 +110,15 @@ module _ (site : Site) (table : Table) where
     root = has_dir site.rows [] is.root
 
     split : split_at [] table ≡ Some (record { earlier = []; entry = b.first; later = b.rest })
-    split = ap (split_at []) b.whole ∙ split_is (leads_to []) [] b.first b.rest (ap (λ p. is_prefix p []) b.place) (none_leads b.rest b.below)
+    split = ap (split_at []) b.whole ∙ split_is (leads_to []) [] b.first b.rest (ap (λ p. is_prefix p []) b.place)
+        (none_leads b.rest b.below)
 
     own : entry_of table [] ≡ Some b.first
     own = of_split [] table (record { earlier = []; entry = b.first; later = b.rest }) split
 
     root_found : kind_found (finds rows table []) ≡ Ok true
-    root_found = ap (λ o. kind_found (found_at rows [] o)) own ∙ ap (λ w. kind_found (found_by rows w b.first.place [])) b.host ∙ ap (λ p. kind_found (row_or_nothing (rows (rest_of p [])))) b.place
+    root_found = ap (λ o. kind_found (found_at rows [] o)) own ∙ ap (λ w. kind_found (found_by rows w b.first.place [])) b.host
+        ∙ ap (λ p. kind_found (row_or_nothing (rows (rest_of p [])))) b.place
         ∙ ap (λ o. kind_found (row_or_nothing o)) root.there ∙ ap (λ d. Ok d) root.dir
 
     abbrev added : MountStep
@@ -138,7 +146,8 @@ module _ (site : Site) (table : Table) where
         let at : split_at proc middle ≡ Some (record { earlier = table; entry = added; later = [] }) = split_is (leads_to proc) table added [] (prefix_itself proc) tt in
         ap (remounted proc flags) at ∙ ap (λ t. cond {A = Result Table ℕ} t (Ok (last flags)) (Err 22)) (same_itself proc)
 
-    remounts : (flags : ℕ) → has_all ms_remount_bind flags ≡ true → has_other_kind flags ≡ false → after_mount rows middle [] proc flags ≡ Ok (last (flags_of flags))
+    remounts : (flags : ℕ) → has_all ms_remount_bind flags ≡ true → has_other_kind flags ≡ false
+        → after_mount rows middle [] proc flags ≡ Ok (last (flags_of flags))
     remounts flags all other = rw (other, all) (remounts_by (flags_of flags))
 
     what_is : added.what ≡ Host []
@@ -146,15 +155,18 @@ module _ (site : Site) (table : Table) where
 
     -- a path below belongs to the new entry
     entry_below : (flags : Flags) (path : Path) → entry_of (last flags) (proc ++ path) ≡ Some (again flags)
-    entry_below flags path = entry_push table (again flags) (proc ++ path) ∙ ap (λ t. cond t (Some (again flags)) (entry_of table (proc ++ path))) (prefix-append proc path)
+    entry_below flags path = entry_push table (again flags) (proc ++ path)
+        ∙ ap (λ t. cond t (Some (again flags)) (entry_of table (proc ++ path))) (prefix-append proc path)
 
-    below_proc : (flags : ℕ) (target : Row) → row_at site.rows target.path ≡ Some target → IsBelowProc site (last (flags_of flags)) flags target
+    below_proc : (flags : ℕ) (target : Row) → row_at site.rows target.path ≡ Some target
+        → IsBelowProc site (last (flags_of flags)) flags target
     below_proc flags target there =
         let of = found_row site target.path target is there in
         let rest = rest_short [] target.path target.path refl of.normal of.short in
         record {
           can_be_named = named_both proc target.path refl (omega arith) rest.0 rest.1;
-          is_found = ap (found_at rows (proc ++ target.path)) (entry_below (flags_of flags) target.path) ∙ ap (λ w. found_by rows w proc (proc ++ target.path)) what_is ∙ ap row_or_nothing there;
+          is_found = ap (found_at rows (proc ++ target.path)) (entry_below (flags_of flags) target.path)
+              ∙ ap (λ w. found_by rows w proc (proc ++ target.path)) what_is ∙ ap row_or_nothing there;
           flags_are = ap flags_by (entry_below (flags_of flags) target.path);
         }
 

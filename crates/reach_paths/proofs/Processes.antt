@@ -1,5 +1,6 @@
 -- A process that may mount makes the tables that the rules make of its own, call by call.
-use Rattle.std.proofs.Common.{◌≡◌, ◌∙◌, ℕ, zero, suc, Bool, true, false, List, [], ◌∷◌, ◌++◌, Some, Ok, refl, cond, ap, sym, subst, arith, map}
+use Rattle.std.proofs.Common.{◌≡◌, ◌∙◌, ℕ, zero, suc, Bool, true, false, List, [], ◌∷◌, ◌++◌, Some, Ok, refl, cond, ap, sym, subst, arith}
+use Rattle.std.proofs.Common.{map}
 use Rattle.std.specs.Prelude.{slice_get, slice_set, ◌-◌}
 use Rattle.std.specs.List.{AllByRecursion}
 use Rattle.kernel_laws.specs.abs_path.Paths.{Path, proc}
@@ -52,11 +53,13 @@ module _ (world : World) (pid : ℕ) (process : Process) (table : Table) (can : 
         lives = can.lives;
         admin = can.admin;
         owns = can.owns;
-        own = get_number (slice_set world.tables (process.namespace - 1) (map plain next)) process.namespace (map plain next) at.0 (put_own world.tables (process.namespace - 1) (map plain table) (map plain next) at.1);
+        own = get_number (slice_set world.tables (process.namespace - 1) (map plain next)) process.namespace (map plain next) at.0
+            (put_own world.tables (process.namespace - 1) (map plain table) (map plain next) at.1);
       }
 
   -- a call that asks for a change of the table makes it
-  steps : (call : Call) (doing : Doing) (next : Table) → AsksFor world pid process call doing → effect_of (host_of world) (caller_of world process) doing ≡ SetTable (map plain next)
+  steps : (call : Call) (doing : Doing) (next : Table) → AsksFor world pid process call doing
+      → effect_of (host_of world) (caller_of world process) doing ≡ SetTable (map plain next)
       → step world call ≡ (Done 0, after next)
   steps call doing next asks makes =
       ap (λ p. step_by world call (living_of world p)) asks.caller
@@ -68,23 +71,36 @@ module _ (world : World) (pid : ℕ) (process : Process) (table : Table) (can : 
   mount_makes : (source target : Path) (flags : ℕ) (next : Table) → after_mount (row_at world.site.rows) table source target flags ≡ Ok next
       → effect_of (host_of world) (caller_of world process) (Mount source target flags) ≡ SetTable (map plain next)
   mount_makes source target flags next e =
-      ap (λ b. cond {A = Effect} b (cond (has process.creds.effective 21) (table_effect (mounts_after_mount (row_at world.site.rows) (mounts_of world process.namespace) source target flags)) (Refuse 1)) (Refuse 1)) can.owns
-      ∙ ap (λ b. cond {A = Effect} b (table_effect (mounts_after_mount (row_at world.site.rows) (mounts_of world process.namespace) source target flags)) (Refuse 1)) can.admin
-      ∙ ap (λ (t : Mounts). table_effect (mounts_after_mount (row_at world.site.rows) t source target flags)) mounts_are ∙ ap table_effect (mount_entries (row_at world.site.rows) table source target flags ∙ ap plain_answer e)
+      ap (λ b. cond {A = Effect} b
+      (cond (has process.creds.effective 21)
+      (table_effect (mounts_after_mount (row_at world.site.rows) (mounts_of world process.namespace) source target flags)) (Refuse 1))
+      (Refuse 1)) can.owns
+      ∙ ap (λ b. cond {A = Effect} b
+      (table_effect (mounts_after_mount (row_at world.site.rows) (mounts_of world process.namespace) source target flags)) (Refuse 1))
+      can.admin
+      ∙ ap (λ (t : Mounts). table_effect (mounts_after_mount (row_at world.site.rows) t source target flags)) mounts_are
+      ∙ ap table_effect (mount_entries (row_at world.site.rows) table source target flags ∙ ap plain_answer e)
 
-  umount_is : (detach : Bool) (path : Path) (next : Table) → after_umount table path detach ≡ Ok next → umount_answer table path (umount_flags detach) ≡ Ok next
+  umount_is : (detach : Bool) (path : Path) (next : Table) → after_umount table path detach ≡ Ok next
+      → umount_answer table path (umount_flags detach) ≡ Ok next
   umount_is true path next e = e
   umount_is false path next e = e
 
   umount_makes : (path : Path) (detach : Bool) (next : Table) → after_umount table path detach ≡ Ok next
       → effect_of (host_of world) (caller_of world process) (Umount path (umount_flags detach)) ≡ SetTable (map plain next)
   umount_makes path detach next e =
-      ap (λ b. cond {A = Effect} b (cond (has process.creds.effective 21) (table_effect (mounts_umount_answer (mounts_of world process.namespace) path (umount_flags detach))) (Refuse 1)) (Refuse 1)) can.owns
-      ∙ ap (λ b. cond {A = Effect} b (table_effect (mounts_umount_answer (mounts_of world process.namespace) path (umount_flags detach))) (Refuse 1)) can.admin
-      ∙ ap (λ (t : Mounts). table_effect (mounts_umount_answer t path (umount_flags detach))) mounts_are ∙ ap table_effect (umount_answer_entries table path (umount_flags detach) ∙ ap plain_answer (umount_is detach path next e))
+      ap (λ b. cond {A = Effect} b
+      (cond (has process.creds.effective 21)
+      (table_effect (mounts_umount_answer (mounts_of world process.namespace) path (umount_flags detach))) (Refuse 1)) (Refuse 1))
+      can.owns
+      ∙ ap (λ b. cond {A = Effect} b (table_effect (mounts_umount_answer (mounts_of world process.namespace) path (umount_flags detach)))
+      (Refuse 1)) can.admin
+      ∙ ap (λ (t : Mounts). table_effect (mounts_umount_answer t path (umount_flags detach))) mounts_are
+      ∙ ap table_effect (umount_answer_entries table path (umount_flags detach) ∙ ap plain_answer (umount_is detach path next e))
 
   -- and then further calls
-  one_more : (call : Call) (doing : Doing) (next : Table) → AsksFor world pid process call doing → effect_of (host_of world) (caller_of world process) doing ≡ SetTable (map plain next)
+  one_more : (call : Call) (doing : Doing) (next : Table) → AsksFor world pid process call doing
+      → effect_of (host_of world) (caller_of world process) doing ≡ SetTable (map plain next)
       → (calls : List Call) (now : Table) → LeadsTo (after next) pid process calls now → LeadsTo world pid process (call ∷ calls) now
   one_more call doing next asks makes calls now more =
       let is = steps call doing next asks makes in
@@ -93,10 +109,12 @@ module _ (world : World) (pid : ℕ) (process : Process) (table : Table) (can : 
       record { done = subst P (sym is) (tt, more.done); can = subst Q (sym is) more.can }
 
 -- the tables and filters stay, so a call asks for the same later
-later_asks : (world : World) (pid : ℕ) (process : Process) (next : Table) (call : Call) (doing : Doing) → AsksFor world pid process call doing → AsksFor (with_table world process.namespace (map plain next)) pid process call doing
+later_asks : (world : World) (pid : ℕ) (process : Process) (next : Table) (call : Call) (doing : Doing)
+    → AsksFor world pid process call doing → AsksFor (with_table world process.namespace (map plain next)) pid process call doing
 later_asks world pid process next call doing asks = record { caller = asks.caller; through = asks.through; asks = asks.asks }
 
-nothing_more : (world : World) (pid : ℕ) (process : Process) (table : Table) → CanMount world pid process table → LeadsTo world pid process [] table
+nothing_more : (world : World) (pid : ℕ) (process : Process) (table : Table) → CanMount world pid process table
+    → LeadsTo world pid process [] table
 nothing_more world pid process table can = record { done = tt; can = can }
 
 pub mounting_shows_all : MountingShowsAll
@@ -108,13 +126,17 @@ mounting_shows_all world pid process table bind remount flags can is form all ot
     record {
       now = two.last;
       leads = one_more world pid process table can bind (Mount [] proc ms_bind) two.middle asks one (remount ∷ []) two.last
-          (one_more (with_table world process.namespace (map plain two.middle)) pid process two.middle can_again remount (Mount [] proc flags) two.last (later_asks world pid process two.middle remount (Mount [] proc flags) again) next [] two.last
-          (nothing_more (with_table (with_table world process.namespace (map plain two.middle)) process.namespace (map plain two.last)) pid process two.last (still_can (with_table world process.namespace (map plain two.middle)) pid process two.middle can_again two.last)));
+          (one_more (with_table world process.namespace (map plain two.middle)) pid process two.middle can_again remount
+          (Mount [] proc flags) two.last (later_asks world pid process two.middle remount (Mount [] proc flags) again) next [] two.last
+          (nothing_more (with_table (with_table world process.namespace (map plain two.middle)) process.namespace (map plain two.last))
+          pid process two.last (still_can (with_table world process.namespace (map plain two.middle)) pid process two.middle can_again
+          two.last)));
       each_row = two.each_row;
     }
 
 -- the entries stay short, so each can be named
-unmounting : (world : World) (pid : ℕ) (process : Process) {table now : Table} → CanMount world pid process table → StartsAtRoot table → AllByRecursion HasShortPlace table → CanAskToUnmount world pid process
+unmounting : (world : World) (pid : ℕ) (process : Process) {table now : Table} → CanMount world pid process table → StartsAtRoot table
+    → AllByRecursion HasShortPlace table → CanAskToUnmount world pid process
     → Unmounts table now → (calls : List Call) × LeadsTo world pid process calls now
 unmounting world pid process {table = table} can top short asks still = ([], nothing_more world pid process table can)
 unmounting world pid process {table = table} {now = now} can top short asks (then_one {next = next} path detach e more) =
@@ -130,4 +152,5 @@ unmounting world pid process {table = table} {now = now} can top short asks (the
     (call.0 ∷ more'.0, one_more world pid process table can call.0 (Umount path (umount_flags detach)) next call.1 (umount_makes world pid process table can path detach next e) more'.0 now more'.1)
 
 pub unmounting_is_done : UnmountingIsDone
-unmounting_is_done world pid process table now can form asks run = unmounting world pid process can (starts table form.begins_at_root) form.places_are_short asks run
+unmounting_is_done world pid process table now can form asks run =
+    unmounting world pid process can (starts table form.begins_at_root) form.places_are_short asks run

@@ -15,12 +15,14 @@ pub found_path : (rows : List Row) (path : Path) (found : Row) → row_at rows p
 found_path [] path found e = cc
 found_path (first ∷ rows) path found e = by (is_same first.path path) refl e (found_path rows path found)
   where
-    by : (b : Bool) → is_same first.path path ≡ b → cond b (Some first) (row_at rows path) ≡ Some found → (row_at rows path ≡ Some found → found.path ≡ path) → found.path ≡ path
+    by : (b : Bool) → is_same first.path path ≡ b → cond b (Some first) (row_at rows path) ≡ Some found
+        → (row_at rows path ≡ Some found → found.path ≡ path) → found.path ≡ path
     by true is e more = let same : first ≡ found = cc in ap (λ (r : Row). r.path) (sym same) ∙ same_path first.path path is
     by false is e more = more e
 
 -- what holds of each row holds of it
-pub found_all : (P : Row → Type 0) (rows : List Row) (path : Path) (found : Row) → AllByRecursion P rows → row_at rows path ≡ Some found → P found
+pub found_all : (P : Row → Type 0) (rows : List Row) (path : Path) (found : Row) → AllByRecursion P rows → row_at rows path ≡ Some found
+    → P found
 found_all P [] path found all e = cc
 found_all P (first ∷ rows) path found all e = by (is_same first.path path) e (found_all P rows path found all.1)
   where

@@ -1,5 +1,6 @@
 -- The first entry that serves is the first that leads to the row, by its number.
-use Rattle.std.proofs.Common.{◌≡◌, ◌<◌, ℕ, suc, Bool, true, false, [], ◌∷◌, ◌++◌, Option, Some, None, refl, cond, ap, ◌∙◌, sym, subst, ◌+◌, length, arith}
+use Rattle.std.proofs.Common.{◌≡◌, ◌<◌, ℕ, suc, Bool, true, false, [], ◌∷◌, ◌++◌, Option, Some, None, refl, cond, ap, ◌∙◌, sym, subst, ◌+◌}
+use Rattle.std.proofs.Common.{length, arith}
 use Rattle.std.specs.Prelude.{not, ◌||◌}
 use Rattle.std.specs.List.{list_any}
 use Rattle.std.proofs.lemmas.Bool.{and_from}
@@ -47,7 +48,8 @@ module _ (uncover : Bool) (row : Path) (wish : Wish) where
   behind_one entry later at s = record { earlier = entry ∷ s.earlier; entry = s.entry; later = s.later; whole = ap (λ (t : Table). entry ∷ t) s.whole; number = ap suc s.number; served = s.served }
 
   -- one that serves is the first entry, or stands behind it
-  first_or_behind : (entry : MountStep) (later : Table) (at : ℕ) → serves uncover row wish entry later ≡ false → S (entry ∷ later) at → (n : ℕ) × (at ≡ suc n) × S later n
+  first_or_behind : (entry : MountStep) (later : Table) (at : ℕ) → serves uncover row wish entry later ≡ false → S (entry ∷ later) at
+      → (n : ℕ) × (at ≡ suc n) × S later n
   first_or_behind entry later at off s = by s.earlier s.whole s.number
     where
       by : (earlier : Table) → entry ∷ later ≡ earlier ++ s.entry ∷ s.later → at ≡ length earlier → (n : ℕ) × (at ≡ suc n) × S later n
@@ -62,9 +64,11 @@ module _ (uncover : Bool) (row : Path) (wish : Wish) where
 
   first_from : (table : Table) (from : ℕ) → IsFirstFrom (S table) from (reach_from uncover row wish table from)
   first_from [] from = none_of_none
-  first_from (entry ∷ later) from = by (serves uncover row wish entry later) refl (reach_from uncover row wish later (from + 1)) (first_from later (from + 1))
+  first_from (entry ∷ later) from = by (serves uncover row wish entry later) refl (reach_from uncover row wish later (from + 1))
+      (first_from later (from + 1))
     where
-      by : (b : Bool) → serves uncover row wish entry later ≡ b → (more : Option ℕ) → IsFirstFrom (S later) (from + 1) more → IsFirstFrom (S (entry ∷ later)) from (cond b (Some from) more)
+      by : (b : Bool) → serves uncover row wish entry later ≡ b → (more : Option ℕ) → IsFirstFrom (S later) (from + 1) more
+          → IsFirstFrom (S (entry ∷ later)) from (cond b (Some from) more)
       by true e more h = (0, (omega arith), record { earlier = []; entry = entry; later = later; whole = refl; number = refl; served = e }, (λ other below s. omega (arith, below)))
       by false e None h = λ at s. let n = first_or_behind entry later at e s in h n.0 n.2
       by false e (Some place) h = (suc h.0, omega (arith, h.1), behind_one entry later h.0 h.2, (λ other below s. let n = first_or_behind entry later other e s in h.3 n.0 (let m : n.0 < h.0 = omega (arith, below, n.1) in m) n.2))
@@ -79,12 +83,14 @@ module _ (uncover : Bool) (row : Path) (wish : Wish) where
           (subst (S table) same h.2, λ other below s. h.3 other (omega (arith, below, same)) s)
 
 -- the first of one kind is the first of another that comes at the same numbers
-pub same_first : (P Q : ℕ → Type 0) → ((at : ℕ) → P at → Q at) → ((at : ℕ) → Q at → P at) → (place : Option ℕ) → IsFirst P place → IsFirst Q place
+pub same_first : (P Q : ℕ → Type 0) → ((at : ℕ) → P at → Q at) → ((at : ℕ) → Q at → P at) → (place : Option ℕ) → IsFirst P place
+    → IsFirst Q place
 same_first P Q there back None h = λ at q. h at (back at q)
 same_first P Q there back (Some at) h = (there at h.0, λ other below q. h.1 other below (back other q))
 
 -- ---- what it means that an entry serves
-serves_if : (uncover : Bool) (row : Path) (wish : Wish) (entry : MountStep) (later : Table) → Served uncover row wish entry later → serves uncover row wish entry later ≡ true
+serves_if : (uncover : Bool) (row : Path) (wish : Wish) (entry : MountStep) (later : Table) → Served uncover row wish entry later
+    → serves uncover row wish entry later ≡ true
 serves_if uncover row wish entry later s =
     let prefix : is_prefix s.source row ≡ true = ap (is_prefix s.source) s.row_is ∙ prefix-append s.source s.rest in
     let own : rest_of s.source row ≡ s.rest = ap (rest_of s.source) s.row_is ∙ rest-append s.source s.rest in
@@ -107,7 +113,8 @@ module _ (table : Table) (row : Path) (wish : Wish) (at : ℕ) where
         later = l.split.later;
         whole = is.whole;
         number = h.number;
-        served = serves_if false row wish l.split.entry l.split.later (record { source = l.source; host = l.host; rest = l.rest; row_is = l.row_is; flags = l.flags; clear = ap not clear });
+        served = serves_if false row wish l.split.entry l.split.later
+            (record { source = l.source; host = l.host; rest = l.rest; row_is = l.row_is; flags = l.flags; clear = ap not clear });
       }
 
   -- with umount2: whatever covers it
@@ -123,16 +130,22 @@ module _ (table : Table) (row : Path) (wish : Wish) (at : ℕ) where
     later = s.later;
     whole = s.whole;
     number = s.number;
-    served = serves_if true row wish s.entry s.later (record { source = s.source; host = s.host; rest = s.rest; row_is = s.row_is; flags = s.flags; clear = refl });
+    served = serves_if true row wish s.entry s.later
+        (record { source = s.source; host = s.host; rest = s.rest; row_is = s.row_is; flags = s.flags; clear = refl });
   }
 
 -- the answer is the first entry that leads to the row, at each power
-pub first_by_power : (power : Power) (table : Table) (row : Path) (wish : Wish) → IsFirstByPower power table row wish (reach power table row wish)
+pub first_by_power : (power : Power) (table : Table) (row : Path) (wish : Wish)
+    → IsFirstByPower power table row wish (reach power table row wish)
 first_by_power Nowise table row wish =
-    same_first (Serving false row wish table) (LeadsBy table row wish) (leads_by table row wish) (by_leads table row wish) (reach_from false row wish table 0) (first_serving false row wish table)
+    same_first (Serving false row wish table) (LeadsBy table row wish) (leads_by table row wish) (by_leads table row wish)
+    (reach_from false row wish table 0) (first_serving false row wish table)
 first_by_power Unmounting table row wish =
-    same_first (Serving true row wish table) (Shows table row wish) (shows table row wish) (by_shows table row wish) (reach_from true row wish table 0) (first_serving true row wish table)
+    same_first (Serving true row wish table) (Shows table row wish) (shows table row wish) (by_shows table row wish)
+    (reach_from true row wish table 0) (first_serving true row wish table)
 first_by_power Mounting table row wish = refl
 
-pub first_answered : (power : Power) (table : Table) (row : Path) (wish : Wish) (answer : Option ℕ) → answer ≡ reach power table row wish → IsFirstByPower power table row wish answer
-first_answered power table row wish answer is = subst (λ (o : Option ℕ). IsFirstByPower power table row wish o) (sym is) (first_by_power power table row wish)
+pub first_answered : (power : Power) (table : Table) (row : Path) (wish : Wish) (answer : Option ℕ) → answer ≡ reach power table row wish
+    → IsFirstByPower power table row wish answer
+first_answered power table row wish answer is = subst (λ (o : Option ℕ). IsFirstByPower power table row wish o) (sym is)
+    (first_by_power power table row wish)

@@ -23,7 +23,8 @@ use Rattle.kernel_laws.specs.kernel_model.declared.process.Process.{Process}
 use Rattle.reach_paths.specs.Finding.{dirs_of}
 use Rattle.reach_paths.specs.Mounting.{IsBelowProc}
 
--- the process lives, has the capability in the user namespace that its mount namespace belongs to, and this is its table, of mounts that are not locked and keep nothing
+-- the process lives, has the capability in the user namespace that its mount namespace belongs to, and this is its table, of mounts that
+-- are not locked and keep nothing
 pub record CanMount (world : World) (pid : ℕ) (process : Process) (table : Table) : Type 0 where
   pub lives : living_of world pid ≡ Some process
   pub admin : has process.creds.effective cap_sys_admin ≡ true
@@ -61,7 +62,8 @@ umount_flags false = 0
 
 -- the process has a call for each path that it can name
 abbrev pub CanAskToUnmount : World → ℕ → Process → Type 0
-CanAskToUnmount world pid process = (path : Path) (detach : Bool) → IsPath path → (call : Call) × AsksFor world pid process call (Umount path (umount_flags detach))
+CanAskToUnmount world pid process = (path : Path) (detach : Bool) → IsPath path
+    → (call : Call) × AsksFor world pid process call (Umount path (umount_flags detach))
 
 -- whatever calls of umount2(2) make of the table, a process that may unmount makes of it, each call done
 abbrev pub UnmountingIsDone : Type 0

@@ -21,7 +21,9 @@ told_whole (Refused refusal) = refl
 
 module _ {S : Type 0} (asks : S → ShelfCall → S → Type 0) (told : Option Files) (wanted : Files → List Ask) (a b : S) where
   -- what is prepared is launched and printed, or memory ran out
-  pub order_started : (prepared : Prepared) (ended : Ending) (output : Output) → FinishesStarted prepared ended output → AsksInOrder asks told wanted a b Whole → AsksInOrder asks told wanted a b (course_of_run ended)
+  pub order_started : (prepared : Prepared) (ended : Ending) (output : Output) → FinishesStarted prepared ended output
+      → AsksInOrder asks told wanted a b Whole → AsksInOrder asks told wanted a b (course_of_run ended)
   order_started prepared ended output (inl printed) made =
-      order_printed asks told wanted a b (ending_of printed.replay) (text_of printed.replay) ended output (told_whole printed.replay.launch) printed.prints made
+      order_printed asks told wanted a b (ending_of printed.replay) (text_of printed.replay) ended output
+      (told_whole printed.replay.launch) printed.prints made
   order_started prepared ended output (inr out) made = order_out asks told wanted a b ended out.0 made

@@ -1,5 +1,6 @@
 -- Runs of lists that stand one behind the other, and their texts.
-use Rattle.std.proofs.Common.{◌≡◌, ℕ, suc, ◌+◌, ◌<◌, List, [], ◌∷◌, ◌++◌, length, get_or, take, drop, Option, Result, Ok, Err, refl, sym, ap, ◌∙◌, subst, arith, append_assoc, append-nil, inl, inr}
+use Rattle.std.proofs.Common.{◌≡◌, ℕ, suc, ◌+◌, ◌<◌, List, [], ◌∷◌, ◌++◌, length, get_or, take, drop, Option, Result, Ok, Err, refl, sym}
+use Rattle.std.proofs.Common.{ap, ◌∙◌, subst, arith, append_assoc, append-nil, inl, inr}
 use Rattle.std.specs.Prelude.{flat_map, IsErr}
 use Rattle.std.proofs.Math.Seq.{drop-cons}
 use Rattle.std.proofs.lemmas.List.{take_more, take-append-drop}
@@ -20,12 +21,14 @@ pub run_behind : (world : World) (some others : List Call) → run world (some +
 run_behind world [] others = refl
 run_behind world (call ∷ some) others = run_behind (step world call).1 some others
 
-moments_behind : (world : World) (some others : List Call) → moments world (some ++ others) ≡ moments world some ++ moments (run world some) others
+moments_behind : (world : World) (some others : List Call) → moments world (some ++ others)
+    ≡ moments world some ++ moments (run world some) others
 moments_behind world [] others = refl
 moments_behind world (call ∷ some) others = ap (λ rest. moment_at world call ∷ rest) (moments_behind (step world call).1 some others)
 
 module _ (table : Table) where
-  pub text_behind : (world : World) (some others : List Call) → run_text table world (some ++ others) ≡ run_text table world some ++ run_text table (run world some) others
+  pub text_behind : (world : World) (some others : List Call)
+      → run_text table world (some ++ others) ≡ run_text table world some ++ run_text table (run world some) others
   text_behind world some others =
       ap (flat_map (moment_line table)) (moments_behind world some others)
       ∙ flat_map-append (moment_line table) (moments world some) (moments (run world some) others)
@@ -39,38 +42,57 @@ module _ (table : Table) where
     more lt is = ap (λ one. take i script ++ one ∷ []) is ∙ sym (take_more script i d lt)
 
     whole : i < length script → call ≡ get_or script i d → take i script ++ (call ∷ drop (suc i) script) ≡ script
-    whole lt is = ap (λ one. take i script ++ (one ∷ drop (suc i) script)) is ∙ ap (λ l. take i script ++ l) (sym (drop-cons script i d lt)) ∙ take-append-drop i script
+    whole lt is = ap (λ one. take i script ++ (one ∷ drop (suc i) script)) is
+        ∙ ap (λ l. take i script ++ l) (sym (drop-cons script i d lt)) ∙ take-append-drop i script
 
-    pub one_more_run : i < length script → call ≡ get_or script i d → (step (run world (take i script)) call).1 ≡ run world (take (i + 1) script)
+    pub one_more_run : i < length script → call ≡ get_or script i d
+        → (step (run world (take i script)) call).1 ≡ run world (take (i + 1) script)
     one_more_run lt is = sym (run_behind world (take i script) (call ∷ [])) ∙ ap (run world) (more lt is)
 
-    pub one_more_text : i < length script → call ≡ get_or script i d → run_text table world (take i script) ++ moment_line table (moment_at (run world (take i script)) call) ≡ run_text table world (take (i + 1) script)
+    pub one_more_text : i < length script → call ≡ get_or script i d
+        → run_text table world (take i script) ++ moment_line table (moment_at (run world (take i script)) call)
+        ≡ run_text table world (take (i + 1) script)
     one_more_text lt is =
         ap (λ l. run_text table world (take i script) ++ l) (text_of_one (run world (take i script)) call)
         ∙ sym (text_behind world (take i script) (call ∷ []))
         ∙ ap (run_text table world) (more lt is)
 
-    text_of_rest : i < length script → call ≡ get_or script i d → (run_text table world (take i script) ++ moment_line table (moment_at (run world (take i script)) call)) ++ run_text table (step (run world (take i script)) call).1 (drop (suc i) script) ≡ run_text table world script
+    text_of_rest : i < length script → call ≡ get_or script i d
+        → (run_text table world (take i script) ++ moment_line table (moment_at (run world (take i script)) call)) ++ run_text table
+        (step (run world (take i script)) call).1 (drop (suc i) script) ≡ run_text table world script
     text_of_rest lt is =
-        append_assoc (run_text table world (take i script)) (moment_line table (moment_at (run world (take i script)) call)) (run_text table (step (run world (take i script)) call).1 (drop (suc i) script))
+        append_assoc (run_text table world (take i script)) (moment_line table (moment_at (run world (take i script)) call))
+        (run_text table (step (run world (take i script)) call).1 (drop (suc i) script))
         ∙ sym (text_behind world (take i script) (call ∷ drop (suc i) script))
         ∙ ap (run_text table world) (whole lt is)
 
     module _ (a b c : Option (List ℕ)) where
       -- one line more was taken
-      pub grew_more : i < length script → call ≡ get_or script i d → Grew a b (run_text table world (take i script)) → Grew b c (moment_line table (moment_at (run world (take i script)) call)) → Grew a c (run_text table world (take (i + 1) script))
+      pub grew_more : i < length script → call ≡ get_or script i d → Grew a b (run_text table world (take i script))
+          → Grew b c (moment_line table (moment_at (run world (take i script)) call))
+          → Grew a c (run_text table world (take (i + 1) script))
       grew_more lt is f g =
-          subst (Grew a c) (one_more_text lt is) (text_then a b c (run_text table world (take i script)) (moment_line table (moment_at (run world (take i script)) call)) (Ok _) f g)
+          subst (Grew a c) (one_more_text lt is)
+          (text_then a b c (run_text table world (take i script)) (moment_line table (moment_at (run world (take i script)) call))
+          (Ok _) f g)
 
       -- its line was cut
-      pub text_cut_there : (error : SinkError) → i < length script → call ≡ get_or script i d → Grew a b (run_text table world (take i script)) → TakesText b c (moment_line table (moment_at (run world (take i script)) call)) (Err error) → TakesText a c (run_text table world script) (Err error)
+      pub text_cut_there : (error : SinkError) → i < length script → call ≡ get_or script i d
+          → Grew a b (run_text table world (take i script)) → TakesText b c
+          (moment_line table (moment_at (run world (take i script)) call)) (Err error)
+          → TakesText a c (run_text table world script) (Err error)
       text_cut_there error lt is f takes =
           text_as a c _ (run_text table world script) (Err error) (text_of_rest lt is)
-          (text_cut a c (run_text table world (take i script) ++ moment_line table (moment_at (run world (take i script)) call)) (run_text table (step (run world (take i script)) call).1 (drop (suc i) script)) error
-          (text_then a b c (run_text table world (take i script)) (moment_line table (moment_at (run world (take i script)) call)) (Err error) f takes))
+          (text_cut a c (run_text table world (take i script) ++ moment_line table (moment_at (run world (take i script)) call))
+          (run_text table (step (run world (take i script)) call).1 (drop (suc i) script)) error
+          (text_then a b c (run_text table world (take i script)) (moment_line table (moment_at (run world (take i script)) call))
+          (Err error) f takes))
 
       -- the call was made
-      cut_behind_it : (error : SinkError) (left : World) → i < length script → call ≡ get_or script i d → Grew a b (run_text table world (take i script)) → TakesText b c (moment_line table (moment_at (run world (take i script)) call)) (Err error) → left ≡ (step (run world (take i script)) call).1 → IsCut table world script a c left
+      cut_behind_it : (error : SinkError) (left : World) → i < length script → call ≡ get_or script i d
+          → Grew a b (run_text table world (take i script)) → TakesText b c
+          (moment_line table (moment_at (run world (take i script)) call)) (Err error) → left ≡ (step (run world (take i script)) call).1
+          → IsCut table world script a c left
       cut_behind_it error left lt is f (front, behind, line, grew) made = record {
         told = take i script;
         more = call ∷ [];
@@ -85,7 +107,8 @@ module _ (table : Table) where
       }
 
       -- or not
-      cut_before_it : (left : World) → i < length script → call ≡ get_or script i d → Grew a b (run_text table world (take i script)) → left ≡ run world (take i script) → c ≡ b → IsCut table world script a c left
+      cut_before_it : (left : World) → i < length script → call ≡ get_or script i d → Grew a b (run_text table world (take i script))
+          → left ≡ run world (take i script) → c ≡ b → IsCut table world script a c left
       cut_before_it left lt is f same untouched = record {
         told = take i script;
         more = [];
@@ -96,29 +119,46 @@ module _ (table : Table) where
         front = [];
         behind = [];
         of_its_line = refl;
-        taken = subst (λ end. Grew a end (run_text table world (take i script) ++ [])) (sym untouched) (subst (Grew a b) (sym (append-nil (run_text table world (take i script)))) f);
+        taken = subst (λ end. Grew a end (run_text table world (take i script) ++ [])) (sym untouched)
+            (subst (Grew a b) (sym (append-nil (run_text table world (take i script)))) f);
       }
 
-      pub cut_there : (error : SinkError) (left : World) → i < length script → call ≡ get_or script i d → Grew a b (run_text table world (take i script)) → TakesText b c (moment_line table (moment_at (run world (take i script)) call)) (Err error) → Makes (run world (take i script)) call b c (Err error) left → IsCut table world script a c left
+      pub cut_there : (error : SinkError) (left : World) → i < length script → call ≡ get_or script i d
+          → Grew a b (run_text table world (take i script)) → TakesText b c
+          (moment_line table (moment_at (run world (take i script)) call)) (Err error)
+          → Makes (run world (take i script)) call b c (Err error) left → IsCut table world script a c left
       cut_there error left lt is f takes (inl made) = cut_behind_it error left lt is f takes made
       cut_there error left lt is f takes (inr (same, untouched)) = cut_before_it left lt is f same untouched
 
   -- the same, said of the world that stands there
   module _ (world now : World) (script : List Call) (i : ℕ) (d call : Call) (a b c : Option (List ℕ)) where
-    pub more_taken : i < length script → call ≡ get_or script i d → now ≡ run world (take i script) → Grew a b (run_text table world (take i script)) → Grew b c (moment_line table (moment_at now call)) → Grew a c (run_text table world (take (i + 1) script))
-    more_taken lt is stands f g = grew_more world script i d call a b c lt is f (subst (λ w. Grew b c (moment_line table (moment_at w call))) stands g)
+    pub more_taken : i < length script → call ≡ get_or script i d → now ≡ run world (take i script)
+        → Grew a b (run_text table world (take i script)) → Grew b c (moment_line table (moment_at now call))
+        → Grew a c (run_text table world (take (i + 1) script))
+    more_taken lt is stands f g = grew_more world script i d call a b c lt is f
+        (subst (λ w. Grew b c (moment_line table (moment_at w call))) stands g)
 
-    pub more_made : (left : World) → i < length script → call ≡ get_or script i d → now ≡ run world (take i script) → left ≡ (step now call).1 → left ≡ run world (take (i + 1) script)
+    pub more_made : (left : World) → i < length script → call ≡ get_or script i d → now ≡ run world (take i script)
+        → left ≡ (step now call).1 → left ≡ run world (take (i + 1) script)
     more_made left lt is stands made = made ∙ ap (λ w. (step w call).1) stands ∙ one_more_run world script i d call lt is
 
-    pub taken_till : (error : SinkError) → i < length script → call ≡ get_or script i d → now ≡ run world (take i script) → Grew a b (run_text table world (take i script)) → TakesText b c (moment_line table (moment_at now call)) (Err error) → TakesText a c (run_text table world script) (Err error)
-    taken_till error lt is stands f takes = text_cut_there world script i d call a b c error lt is f (subst (λ w. TakesText b c (moment_line table (moment_at w call)) (Err error)) stands takes)
+    pub taken_till : (error : SinkError) → i < length script → call ≡ get_or script i d → now ≡ run world (take i script)
+        → Grew a b (run_text table world (take i script)) → TakesText b c (moment_line table (moment_at now call)) (Err error)
+        → TakesText a c (run_text table world script) (Err error)
+    taken_till error lt is stands f takes = text_cut_there world script i d call a b c error lt is f
+        (subst (λ w. TakesText b c (moment_line table (moment_at w call)) (Err error)) stands takes)
 
-    cut_till : (error : SinkError) (left : World) → i < length script → call ≡ get_or script i d → now ≡ run world (take i script) → Grew a b (run_text table world (take i script)) → TakesText b c (moment_line table (moment_at now call)) (Err error) → Makes now call b c (Err error) left → IsCut table world script a c left
+    cut_till : (error : SinkError) (left : World) → i < length script → call ≡ get_or script i d → now ≡ run world (take i script)
+        → Grew a b (run_text table world (take i script)) → TakesText b c (moment_line table (moment_at now call)) (Err error)
+        → Makes now call b c (Err error) left → IsCut table world script a c left
     cut_till error left lt is stands f takes makes =
-        cut_there world script i d call a b c error left lt is f (subst (λ w. TakesText b c (moment_line table (moment_at w call)) (Err error)) stands takes)
+        cut_there world script i d call a b c error left lt is f
+        (subst (λ w. TakesText b c (moment_line table (moment_at w call)) (Err error)) stands takes)
         (subst (λ w. Makes w call b c (Err error) left) stands makes)
 
-    pub performed_till : (error : SinkError) (put : Result (Unit {0}) SinkError) (left : World) → IsErr put → i < length script → call ≡ get_or script i d → now ≡ run world (take i script) → Grew a b (run_text table world (take i script)) → TakesText b c (moment_line table (moment_at now call)) (Err error) → Makes now call b c (Err error) left → Performs table world script a c put left
+    pub performed_till : (error : SinkError) (put : Result (Unit {0}) SinkError) (left : World) → IsErr put → i < length script
+        → call ≡ get_or script i d → now ≡ run world (take i script) → Grew a b (run_text table world (take i script))
+        → TakesText b c (moment_line table (moment_at now call)) (Err error) → Makes now call b c (Err error) left
+        → Performs table world script a c put left
     performed_till error (Ok u) left is_err lt is stands f takes makes = cc
     performed_till error (Err other) left is_err lt is stands f takes makes = cut_till error left lt is stands f takes makes

@@ -44,7 +44,8 @@ ends_so (Launched service) = inl refl
 ends_so (Refused refusal) = inr refl
 
 -- the replies rest on no programs
-replies_go_on : (table : Table) (site : Site) (settings : Settings) (plan : List MountStep) (script : List Call) (launch : UnitLaunch) → AreCalls script → ComesTo table site settings plan launch → RepliesAlike table site settings plan script launch
+replies_go_on : (table : Table) (site : Site) (settings : Settings) (plan : List MountStep) (script : List Call) (launch : UnitLaunch)
+    → AreCalls script → ComesTo table site settings plan launch → RepliesAlike table site settings plan script launch
 replies_go_on table site settings plan script (Launched service) are launched =
     λ programs codes others.
     let both = launched.whichever_programs programs codes others in
@@ -52,7 +53,8 @@ replies_go_on table site settings plan script (Launched service) are launched =
 replies_go_on table site settings plan script (Refused refusal) are refused = tt
 
 -- what is started prints what the files say
-prints_it : (told : Option Files) (unit path : List ℕ) (prepared : Prepared) (replay : Replay) → IsStarted prepared replay → CanBeStarted prepared
+prints_it : (told : Option Files) (unit path : List ℕ) (prepared : Prepared) (replay : Replay) → IsStarted prepared replay
+    → CanBeStarted prepared
     → IfSome told (λ files. Prepares (IsPrepared files unit path) (replay_refusals files unit path) (Ok prepared))
     → IfSome told (λ files. AcceptsFiles (replay_laws unit path) files × PrintsReplay files unit path (ending_of replay) (text_of replay))
 prints_it None unit path prepared replay started can is = tt
@@ -69,7 +71,8 @@ prints_it (Some files) unit path prepared replay started can is = (
     is_plan = is.1.plan;
     launch = replay.launch;
     comes_to = started.comes_to;
-    replies_alike = replies_go_on (inputs_in prepared).calls (inputs_in prepared).site prepared.unit.settings.value prepared.plan prepared.script replay.launch can.calls started.comes_to;
+    replies_alike = replies_go_on (inputs_in prepared).calls
+        (inputs_in prepared).site prepared.unit.settings.value prepared.plan prepared.script replay.launch can.calls started.comes_to;
     is_its_text =
         ap (λ (table : Table). replay_text table replay.script.now replay.launch) started.calls
         ∙ ap (λ (script : List Call). replay_text (inputs_in prepared).calls script replay.launch) started.script;
@@ -79,11 +82,14 @@ prints_it (Some files) unit path prepared replay started can is = (
 
 module _ (told : Option Files) (unit path : List ℕ) (outside : Outside) (ended : Ending) where
   -- a replay that is prepared
-  pub ran_prepared : (prepared : Prepared) → CanBeStarted prepared → IfSome told (λ files. Prepares (IsPrepared files unit path) (replay_refusals files unit path) (Ok prepared))
-      → HasReadCause outside.shelf_before outside.shelf_after (Ok prepared) → FinishesStarted prepared ended outside.sink → IsRun (laws_over told (replay_laws unit path)) ended outside
+  pub ran_prepared : (prepared : Prepared) → CanBeStarted prepared
+      → IfSome told (λ files. Prepares (IsPrepared files unit path) (replay_refusals files unit path) (Ok prepared))
+      → HasReadCause outside.shelf_before outside.shelf_after (Ok prepared) → FinishesStarted prepared ended outside.sink
+      → IsRun (laws_over told (replay_laws unit path)) ended outside
   ran_prepared prepared can is cause (inl printed) =
       ran (laws_over told (replay_laws unit path)) (together told unit path) outside ending_of text_of (Ok printed.replay) ended
-      (ready_is_admitted (replay_laws unit path) ending_of text_of told printed.replay (ends_so printed.replay.launch) (prints_it told unit path prepared printed.replay printed.started can is))
+      (ready_is_admitted (replay_laws unit path) ending_of text_of told printed.replay (ends_so printed.replay.launch)
+      (prints_it told unit path prepared printed.replay printed.started can is))
       (λ e. cc) (quiet outside.shelf_before outside.shelf_after (Ok printed.replay) cause.no_other_fault (λ e. cc)) printed.prints
   ran_prepared prepared can is cause (inr out) =
       ran (laws_over told (replay_laws unit path)) (together told unit path) outside ending_of text_of (Err stop.Memory) ended

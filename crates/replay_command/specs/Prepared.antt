@@ -15,7 +15,8 @@ use Rattle.replay_command.specs.declared.preparing.Prepared.{Prepared}
 
 -- what is refused behind the inputs: the script, then the settings, and then the paths
 abbrev pub refusals_behind : Files → List ℕ → List ℕ → Inputs → List (Option (List ℕ))
-refusals_behind files unit path inputs = refusal_in (script_in files path inputs.calls) ∷ (refusals_of unit inputs ++ refused_paths unit inputs)
+refusals_behind files unit path inputs = refusal_in (script_in files path inputs.calls) ∷
+    (refusals_of unit inputs ++ refused_paths unit inputs)
 
 -- the order of refusals: the inputs, and what is refused behind them
 abbrev pub replay_refusals : Files → List ℕ → List ℕ → List (Option (List ℕ))

@@ -35,7 +35,8 @@ use Rattle.replay_command.specs.Texts.{ending_behind, replay_text}
 abbrev pub RepliesAlike : calls.Table → Site → Settings → List MountStep → List Call → UnitLaunch → Type 0
 RepliesAlike table site settings plan script (Launched service) =
     (programs : List (List ℕ)) (codes : List (List Insn)) → AreOthers settings programs codes
-    → ((other : World) × (launch_with table site settings plan programs ≡ ends.Launched other service.steps) × SameReplies service.world other script) × HasRoomByBounds settings codes
+    → ((other : World) × (launch_with table site settings plan programs ≡ ends.Launched other service.steps) × SameReplies service.world
+    other script) × HasRoomByBounds settings codes
 RepliesAlike table site settings plan script (Refused refusal) = Unit {0}
 
 -- the replay of a script: by the inputs of the unit, its settings and the plan of its mounts the unit is launched; then the

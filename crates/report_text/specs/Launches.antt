@@ -12,7 +12,9 @@ yes_or_no false = codes "no"
 -- a launch that ended well: the user and the group of the program, whether no_new_privs is on, and how many steps it took
 abbrev pub launched_line : Launched → List ℕ
 launched_line launched =
-    codes "launched uid " ++ (decimal launched.uid ++ (codes " gid " ++ (decimal launched.gid ++ (codes " nnp " ++ (yes_or_no launched.no_new_privs ++ (codes " steps " ++ (decimal launched.steps ++ 10 ∷ [])))))))
+    codes "launched uid " ++ (decimal launched.uid ++
+    (codes " gid " ++ (decimal launched.gid ++
+    (codes " nnp " ++ (yes_or_no launched.no_new_privs ++ (codes " steps " ++ (decimal launched.steps ++ 10 ∷ [])))))))
 
 -- the first step that the kernel refuses, counted from 1, and its error number
 abbrev pub refused_line : ℕ → ℕ → List ℕ

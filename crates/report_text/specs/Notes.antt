@@ -18,4 +18,5 @@ path_at files at = option_map_or (λ file. file.path) (slice_get files at) []
 -- the file, the line, and why something there has no effect
 abbrev pub note_line : List UnitFile → FileNote → List ℕ
 note_line files note =
-    codes "note " ++ (escaped_word (path_at files note.place.file) ++ (codes " " ++ (decimal note.place.line ++ (codes " " ++ (cause_text note.cause ++ 10 ∷ [])))))
+    codes "note " ++ (escaped_word (path_at files note.place.file) ++
+    (codes " " ++ (decimal note.place.line ++ (codes " " ++ (cause_text note.cause ++ 10 ∷ [])))))

@@ -11,7 +11,9 @@ skip_line id = codes "skip " ++ (escaped_word id ++ 10 ∷ [])
 -- the numbers of a test: how bad the service is by it, the policy's range and weight, and the part of the weight that counts
 abbrev pub numbers_of : ScoreRow → List ℕ
 numbers_of row =
-    codes " badness " ++ (decimal row.badness ++ (codes " range " ++ (decimal row.range ++ (codes " weight " ++ (decimal row.weight ++ (codes " term " ++ (decimal row.term ++ 10 ∷ [])))))))
+    codes " badness " ++ (decimal row.badness ++
+    (codes " range " ++ (decimal row.range ++
+    (codes " weight " ++ (decimal row.weight ++ (codes " term " ++ (decimal row.term ++ 10 ∷ [])))))))
 
 abbrev pub test_line : ScoreRow → List ℕ
 test_line row = codes "test " ++ (escaped_word row.id ++ numbers_of row)

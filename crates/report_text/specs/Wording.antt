@@ -10,11 +10,15 @@ use Rattle.exposure_score.specs.site_table.declared.row.Row.{Row}
 use Rattle.exposure_score.specs.site_table.Table.{Site}
 use Rattle.exposure_score.specs.text_forms.Escaped.{escaped_word}
 use Rattle.questions.specs.kernel_laws.declared.question_types.wish.Wish.{Wish}
-use Rattle.questions.specs.kernel_laws.declared.question_types.wish.Wish.TheVariants.{See as ToSee, Read as ToRead, Write as ToWrite, Exec as ToExec}
+use Rattle.questions.specs.kernel_laws.declared.question_types.wish.Wish.TheVariants.{See as ToSee, Read as ToRead, Write as ToWrite}
+use Rattle.questions.specs.kernel_laws.declared.question_types.wish.Wish.TheVariants.{Exec as ToExec}
 use Rattle.questions.specs.filter_settings.declared.filter_rules.namespace_types.NamespaceType.{NamespaceType}
-use Rattle.questions.specs.filter_settings.declared.filter_rules.namespace_types.NamespaceType.TheVariants.{Cgroup, Ipc, Net, Mnt, Pid, User, Uts}
+use Rattle.questions.specs.filter_settings.declared.filter_rules.namespace_types.NamespaceType.TheVariants.{Cgroup, Ipc, Net, Mnt, Pid}
+use Rattle.questions.specs.filter_settings.declared.filter_rules.namespace_types.NamespaceType.TheVariants.{User, Uts}
 use Rattle.questions.specs.kernel_laws.declared.question_types.question.Question.{Question}
-use Rattle.questions.specs.kernel_laws.declared.question_types.question.Question.TheVariants.{Path as ByPath, Call, Socket, Namespace as Ns, MapWx, ProtectX, ShmX, Realtime, Personality, SuidBit, Cap, Uid, Gid}
+use Rattle.questions.specs.kernel_laws.declared.question_types.question.Question.TheVariants.{Path as ByPath, Call, Socket, Namespace as Ns}
+use Rattle.questions.specs.kernel_laws.declared.question_types.question.Question.TheVariants.{MapWx, ProtectX, ShmX, Realtime, Personality}
+use Rattle.questions.specs.kernel_laws.declared.question_types.question.Question.TheVariants.{SuidBit, Cap, Uid, Gid}
 
 abbrev pub wish_word : Wish → List ℕ
 wish_word ToSee = codes "see"

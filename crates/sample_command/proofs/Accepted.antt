@@ -11,7 +11,8 @@ use Rattle.judge_command.specs.kernel_model.kern_files.Looking.{flags_by}
 use Rattle.judge_command.specs.kern_mounts.declared.step.MountStep.{MountStep}
 use Rattle.judge_command.specs.asked_service.launched_units.Launching.{IsNotLaunched, IsRefusedUnit, RefusesPath}
 use Rattle.judge_command.specs.asked_service.declared.launched_units.refusal.UnitRefusal.{UnitRefusal}
-use Rattle.judge_command.specs.asked_service.declared.launched_units.refusal.UnitRefusal.TheVariants.{Settings as InSettings, Plan, Launch, Memory}
+use Rattle.judge_command.specs.asked_service.declared.launched_units.refusal.UnitRefusal.TheVariants.{Settings as InSettings, Plan, Launch}
+use Rattle.judge_command.specs.asked_service.declared.launched_units.refusal.UnitRefusal.TheVariants.{Memory}
 use Rattle.judge_command.specs.mount_plan.Host.{host_of}
 use Rattle.judge_command.specs.mount_plan.declared.error.PlanError.{PlanError}
 use Rattle.judge_command.specs.mount_plan.declared.error.PlanError.TheVariants as plan
@@ -48,7 +49,8 @@ shows site steps found = record {
 }
 
 -- what is never refused has no refusal
-never : (table : calls.Table) (site : Site) (settings : Settings) (steps : List MountStep) → IsNeverRefused table site settings steps → (why : LaunchRefusal) → IsRefused table site settings steps why → ⊥
+never : (table : calls.Table) (site : Site) (settings : Settings) (steps : List MountStep) → IsNeverRefused table site settings steps
+    → (why : LaunchRefusal) → IsRefused table site settings steps why → ⊥
 never table site settings steps n (refusal.Privileged path) is = n.not_privileged path is
 never table site settings steps n (refusal.Refused step errno) is = n.not_refused step errno is
 never table site settings steps n (refusal.Killed step) is = n.not_killed step is
@@ -59,15 +61,18 @@ module _ (n : ℕ) (unit : Resolved) (table : calls.Table) (site : Site) (says :
   no_path law (plan.Kind path) is = (let both = sym (law n unit site says has_rows).1 ∙ is in cc)
   no_path law plan.Memory is = is
 
-  no_launch : IsWhole table → SettingsAreTheSamples → ProgramsAreFound → PlainSettingsAreLaunched → (why : LaunchRefusal) → IsRefusedUnit unit table site why → ⊥
+  no_launch : IsWhole table → SettingsAreTheSamples → ProgramsAreFound → PlainSettingsAreLaunched → (why : LaunchRefusal)
+      → IsRefusedUnit unit table site why → ⊥
   no_launch whole settled found law why is =
       let own = settled n unit table site is.settings says has_rows is.are_settings in
       never table site is.settings is.plan
       (law table site is.settings is.plan whole is.fits.can_be_mounted (are_plain n is.settings own)
-      (subst (ShowsProgram site is.plan) (sym own.launches) (shows site is.plan (found n unit site is.is_plan.0 is.plan says has_rows is.is_plan.1 is.is_plan.2))))
+      (subst (ShowsProgram site is.plan) (sym own.launches)
+      (shows site is.plan (found n unit site is.is_plan.0 is.plan says has_rows is.is_plan.1 is.is_plan.2))))
       why is.refused
 
-  pub never_refused : IsWhole table → SettingsAreNotRefused → SettingsAreTheSamples → PathsAreNotRefused → ProgramsAreFound → PlainSettingsAreLaunched → sample.IsNeverRefused unit table site
+  pub never_refused : IsWhole table → SettingsAreNotRefused → SettingsAreTheSamples → PathsAreNotRefused → ProgramsAreFound
+      → PlainSettingsAreLaunched → sample.IsNeverRefused unit table site
   never_refused whole accepted settled paths found law (InSettings error) ne is = (let both = sym (accepted n unit table site says has_rows) ∙ is in cc)
   never_refused whole accepted settled paths found law (Plan error) ne is = no_path paths error is.1
   never_refused whole accepted settled paths found law (Launch why) ne is = no_launch whole settled found law why is

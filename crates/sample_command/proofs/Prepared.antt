@@ -24,7 +24,8 @@ together n = record {
 
 -- over the tables that the world was launched with
 pub prints_it : (n : ℕ) (unit : Resolved) (table : calls.Table) (site : Site) (service : Service) (counts : Sampled)
-    → IsSample n unit table site → IsLaunchedUnit unit table site service → CountsAnswers n service.world service.program counts → AnswersAreTrue → PrintsSample n (sampled_text counts)
+    → IsSample n unit table site → IsLaunchedUnit unit table site service → CountsAnswers n service.world service.program counts
+    → AnswersAreTrue → PrintsSample n (sampled_text counts)
 prints_it n unit table site service counts sample is counted answers =
     let left = is.launched.leaves_one_process.leaves.is in
     let tables : service.world.calls ≡ table = ap (λ made. made.calls) left in

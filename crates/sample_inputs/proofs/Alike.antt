@@ -31,16 +31,20 @@ same_twice n = omega arith
 
 -- each unit that says a sample is one of the four
 pub unit_is : (n : ℕ) (unit : Resolved) → SaysSample n unit → unit ≡ unit_by unit (n % 4)
-unit_is n unit says = ap (λ files. record unit { files = files }) says.files ∙ ap (λ said. record unit { files = record { path = unit_path; text = said } ∷ [] }) (same_said n (n % 4) (same_twice n))
+unit_is n unit says = ap (λ files. record unit { files = files }) says.files
+    ∙ ap (λ said. record unit { files = record { path = unit_path; text = said } ∷ [] }) (same_said n (n % 4) (same_twice n))
 
 pub site_is : (site : Site) → HasSampleRows site → site ≡ site_by site
-site_is site has = ap (λ users. record site { users = users }) has.users ∙ ap (λ groups. record site { users = site_accounts; groups = groups }) has.groups
+site_is site has = ap (λ users. record site { users = users }) has.users
+    ∙ ap (λ groups. record site { users = site_accounts; groups = groups }) has.groups
 
 module _ (n m : ℕ) (same : n % 4 ≡ m % 4) where
-  same_of : (ks : List ℕ) → flat_map (λ k. folder_mentions_by ((k + n) % 4) (folder k)) ks ≡ flat_map (λ k. folder_mentions_by ((k + m) % 4) (folder k)) ks
+  same_of : (ks : List ℕ) → flat_map (λ k. folder_mentions_by ((k + n) % 4) (folder k)) ks
+      ≡ flat_map (λ k. folder_mentions_by ((k + m) % 4) (folder k)) ks
   same_of [] = refl
   same_of (k ∷ ks) =
-      ap (λ turn. folder_mentions_by turn (folder k) ++ flat_map (λ k. folder_mentions_by ((k + n) % 4) (folder k)) ks) (same_turn n m same k)
+      ap (λ turn. folder_mentions_by turn (folder k) ++ flat_map (λ k. folder_mentions_by ((k + n) % 4) (folder k)) ks)
+      (same_turn n m same k)
       ∙ ap (λ rest. folder_mentions_by ((k + m) % 4) (folder k) ++ rest) (same_of ks)
 
   pub same_mentions : sample_mentions n ≡ sample_mentions m

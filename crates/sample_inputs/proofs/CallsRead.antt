@@ -11,5 +11,6 @@ use Rattle.sample_inputs.specs.Calls.{calls_text, calls_lines}
 use Rattle.sample_inputs.specs.CallTable.{sample_table, sample_calls, sample_families, sample_groups}
 
 pub calls_read : table_of calls_text ≡ Ok sample_table
-unfolding calls_text calls_lines sample_calls sample_families sample_groups table_of is_version line_kind missing_call entry_fault group_fault arch_of number_of cap_of decimal_value numeral_value known_call is_utf8 chars encode
+unfolding calls_text calls_lines sample_calls sample_families sample_groups table_of is_version line_kind missing_call entry_fault
+    group_fault arch_of number_of cap_of decimal_value numeral_value known_call is_utf8 chars encode
 calls_read = refl

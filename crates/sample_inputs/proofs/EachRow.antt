@@ -5,7 +5,8 @@ use Rattle.std.specs.List.{list_all}
 use Rattle.std.proofs.lemmas.Bool.{cases_Bool}
 use Rattle.std.proofs.lemmas.List.Folds.{list_all-append}
 use Rattle.toml.specs.Data.{Data}
-use Rattle.sample_inputs.specs.Site.{numbers_from, folder_path, object_path, dir_row, exe_row, file_row, setuid_row, numbered_row, object_row, folder_rows, site_rows}
+use Rattle.sample_inputs.specs.Site.{numbers_from, folder_path, object_path, dir_row, exe_row, file_row, setuid_row, numbered_row}
+use Rattle.sample_inputs.specs.Site.{object_row, folder_rows, site_rows}
 
 pub record PassesKinds (test : Data → Bool) : Type 0 where
   pub dirs : (path : List ℕ) → test (dir_row path) ≡ true
@@ -26,19 +27,24 @@ numbered test passes i path =
       ])
     ]
 
-objects : (test : Data → Bool) → PassesKinds test → (n k first count : ℕ) → list_all test (map (object_row n k) (numbers_from first count)) ≡ true
+objects : (test : Data → Bool) → PassesKinds test → (n k first count : ℕ)
+    → list_all test (map (object_row n k) (numbers_from first count)) ≡ true
 objects test passes n k first zero = refl
 objects test passes n k first (suc count) =
-    two_true (test (object_row n k first)) (list_all test (map (object_row n k) (numbers_from (first + 1) count))) (numbered test passes (64 * k + first + n) (object_path k first)) (objects test passes n k (first + 1) count)
+    two_true (test (object_row n k first)) (list_all test (map (object_row n k) (numbers_from (first + 1) count)))
+    (numbered test passes (64 * k + first + n) (object_path k first)) (objects test passes n k (first + 1) count)
 
 folder : (test : Data → Bool) → PassesKinds test → (n k : ℕ) → list_all test (folder_rows n k) ≡ true
-folder test passes n k = two_true (test (dir_row (folder_path k))) (list_all test (map (object_row n k) (numbers_from 0 64))) (passes.dirs (folder_path k)) (objects test passes n k 0 64)
+folder test passes n k = two_true (test (dir_row (folder_path k))) (list_all test (map (object_row n k) (numbers_from 0 64)))
+    (passes.dirs (folder_path k)) (objects test passes n k 0 64)
 
-folders : (test : Data → Bool) → PassesKinds test → (n first count : ℕ) → list_all test (flat_map (folder_rows n) (numbers_from first count)) ≡ true
+folders : (test : Data → Bool) → PassesKinds test → (n first count : ℕ)
+    → list_all test (flat_map (folder_rows n) (numbers_from first count)) ≡ true
 folders test passes n first zero = refl
 folders test passes n first (suc count) =
     list_all-append test (folder_rows n first) (flat_map (folder_rows n) (numbers_from (first + 1) count))
-    ∙ two_true (list_all test (folder_rows n first)) (list_all test (flat_map (folder_rows n) (numbers_from (first + 1) count))) (folder test passes n first) (folders test passes n (first + 1) count)
+    ∙ two_true (list_all test (folder_rows n first)) (list_all test (flat_map (folder_rows n) (numbers_from (first + 1) count)))
+    (folder test passes n first) (folders test passes n (first + 1) count)
 
 pub each_row : (test : Data → Bool) → PassesKinds test → (n : ℕ) → list_all test (site_rows n) ≡ true
 unfolding site_rows

@@ -12,7 +12,8 @@ use Rattle.launcher.specs.kern_mounts.Launch.{CanBeMounted}
 use Rattle.launcher.specs.kern_mounts.Split.{Table}
 use Rattle.launcher.specs.kernel_model.World.{World, start_world}
 use Rattle.launcher.specs.Answers.{EndsAs, EndsWithAll, launch_with, wanted_of}
-use Rattle.launcher.specs.Launch.{Wanted, LaunchStep, Ending, Launched, StepRefused, StepKilled, PrivilegedProgram, launch, launch_from, launch_steps, mount_steps, with_unshare, identity_steps, filter_steps, program_steps, is_privileged_row}
+use Rattle.launcher.specs.Launch.{Wanted, LaunchStep, Ending, Launched, StepRefused, StepKilled, PrivilegedProgram, launch, launch_from}
+use Rattle.launcher.specs.Launch.{launch_steps, mount_steps, with_unshare, identity_steps, filter_steps, program_steps, is_privileged_row}
 use Rattle.launcher.specs.Matching.{AreMatching}
 use Rattle.launcher.proofs.HostRoot.{begins_at_host}
 use Rattle.launcher.proofs.LaunchCalls.{launch_calls}
@@ -24,7 +25,8 @@ use Rattle.launcher.proofs.Caps.Members.{within_through}
 use Rattle.launcher.specs.mount_plan.Host.{host_of}
 use Rattle.launcher.specs.site_table.Kinds.{is_exe}
 use Rattle.launcher.specs.site_table.Table.{Site, row_at}
-use Rattle.sample_inputs.specs.sample_launch.EndsWell.{ShowsProgram, IsPlain, PlainLaunchEndsWell, ArePlain, IsNeverRefused, PlainSettingsAreLaunched}
+use Rattle.sample_inputs.specs.sample_launch.EndsWell.{ShowsProgram, IsPlain, PlainLaunchEndsWell, ArePlain, IsNeverRefused}
+use Rattle.sample_inputs.specs.sample_launch.EndsWell.{PlainSettingsAreLaunched}
 use Rattle.sample_inputs.proofs.Going.{goes_on, leads_append, leads_launch}
 use Rattle.sample_inputs.proofs.MadeSteps.{goes_mounts, runs_program}
 use Rattle.sample_inputs.proofs.Launching.{Root, Any, goes_identity}
@@ -36,7 +38,8 @@ from_nothing count = omega arith
 
 -- the steps of a launch without filters
 unfiltered : (lines : _) (wanted : Wanted) (plan : Table) → wanted.programs ≡ []
-    → launch_steps lines wanted plan ≡ (with_unshare lines (mount_steps plan) ++ identity_steps lines wanted) ++ program_steps lines wanted.program
+    → launch_steps lines wanted plan ≡ (with_unshare lines (mount_steps plan) ++ identity_steps lines wanted) ++ program_steps lines
+    wanted.program
 unfiltered lines wanted plan none' =
     let mounting = with_unshare lines (mount_steps plan) in
     let identity = identity_steps lines wanted in

@@ -1,5 +1,6 @@
 -- Calls of process 1, which has no programs: a step that its rule does not refuse is done.
-use Rattle.std.proofs.Common.{◌≡◌, ℕ, Bool, true, false, cond, codes, List, [], ◌∷◌, ◌++◌, Option, Some, Result, Ok, Err, refl, ap, ◌∙◌, sym, subst}
+use Rattle.std.proofs.Common.{◌≡◌, ℕ, Bool, true, false, cond, codes, List, [], ◌∷◌, ◌++◌, Option, Some, Result, Ok, Err, refl, ap, ◌∙◌}
+use Rattle.std.proofs.Common.{sym, subst}
 use Rattle.std.specs.Prelude.{map, not}
 use Rattle.launcher.specs.abs_path.Paths.{Path}
 use Rattle.launcher.specs.call_table.declared.call_names.rule.CallRule.TheVariants as known
@@ -32,7 +33,8 @@ use Rattle.launcher.specs.kernel_model.declared.reply.Reply.{Reply}
 use Rattle.launcher.specs.kernel_model.Runs.{IsDone}
 use Rattle.launcher.specs.kernel_model.Step.{step, applied, answered}
 use Rattle.launcher.specs.kernel_model.World.{World, start_world, host_of, caller_of}
-use Rattle.launcher.specs.Launch.{LaunchStep, Mounts, number_of, first_call, makes, launch_step, mount_steps, with_unshare, has_flags, new_mounts, program_steps}
+use Rattle.launcher.specs.Launch.{LaunchStep, Mounts, number_of, first_call, makes, launch_step, mount_steps, with_unshare, has_flags}
+use Rattle.launcher.specs.Launch.{new_mounts, program_steps}
 use Rattle.launcher.specs.Launches.{HasLaunchCalls}
 use Rattle.launcher.proofs.HostRoot.{BeginsAtHostRoot}
 use Rattle.launcher.proofs.Leading.{Leads}
@@ -45,10 +47,13 @@ use Rattle.sample_inputs.proofs.Going.{Goes, goes_once}
 use Rattle.sample_inputs.proofs.Granted.{full, exec_granted}
 
 module _ (table : calls.Table) (site : Site) where
-  passes : (creds : Creds) (namespace : ℕ) (tables : List MountList) (nr : ℕ) (args : List ℕ) (payload : Payload) (rule' : Rule) (doing : Doing)
+  passes : (creds : Creds) (namespace : ℕ) (tables : List MountList) (nr : ℕ) (args : List ℕ) (payload : Payload) (rule' : Rule)
+      (doing : Doing)
       → rule_at table.calls nr ≡ Some rule' → doing_by rule' args payload ≡ Some doing
       → step (solo table site creds [] namespace tables) (record { pid = 1; abi = 0; nr = nr; args = args; payload = payload })
-      ≡ applied (solo table site creds [] namespace tables) 1 (only table site creds [] namespace) (effect_of (host_of (solo table site creds [] namespace tables)) (caller_of (solo table site creds [] namespace tables) (only table site creds [] namespace)) doing)
+      ≡ applied (solo table site creds [] namespace tables) 1 (only table site creds [] namespace)
+      (effect_of (host_of (solo table site creds [] namespace tables))
+      (caller_of (solo table site creds [] namespace tables) (only table site creds [] namespace)) doing)
   passes creds namespace tables nr args payload rule' doing by_rule is =
       let own : World = solo table site creds [] namespace tables in
       let call : Call = record { pid = 1; abi = 0; nr = nr; args = args; payload = payload } in
@@ -56,20 +61,27 @@ module _ (table : calls.Table) (site : Site) where
       ∙ ap (λ (o : Option Doing). answered own 1 (only table site creds [] namespace) (asked_if o)) is
 
   -- a call that changes credentials, where its rule grants it
-  pub goes_creds : (Q R : Creds → Type 0) (name : List ℕ) (one two three : ℕ) (payload : Payload) (rule' : Rule) (doing : Doing) (answer : Creds → Result Creds ℕ) (made : Creds → Creds)
-      → rule_at table.calls (number_of table.calls name) ≡ Some rule' → doing_by rule' (one ∷ two ∷ three ∷ 0 ∷ 0 ∷ 0 ∷ []) payload ≡ Some doing
-      → ((host : Host) (process : Process) (mounts : MountList) (owns : Bool) → effect_of host (record { creds = process.creds; stack = process.stack; table = mounts; newer = false; owns = owns }) doing ≡ creds_effect (answer process.creds))
+  pub goes_creds : (Q R : Creds → Type 0) (name : List ℕ) (one two three : ℕ) (payload : Payload) (rule' : Rule) (doing : Doing)
+      (answer : Creds → Result Creds ℕ) (made : Creds → Creds)
+      → rule_at table.calls (number_of table.calls name) ≡ Some rule'
+      → doing_by rule' (one ∷ two ∷ three ∷ 0 ∷ 0 ∷ 0 ∷ []) payload ≡ Some doing
+      → ((host : Host) (process : Process) (mounts : MountList) (owns : Bool)
+      → effect_of host (record { creds = process.creds; stack = process.stack; table = mounts; newer = false; owns = owns }) doing
+      ≡ creds_effect (answer process.creds))
       → ((creds : Creds) → Q creds → answer creds ≡ Ok (made creds)) → ((creds : Creds) → Q creds → R (made creds))
-      → (plan : Table) (world : World) → At table site Q [] plan world → Goes (At table site R [] plan) world (makes table.calls name one two three payload ∷ [])
+      → (plan : Table) (world : World) → At table site Q [] plan world
+      → Goes (At table site R [] plan) world (makes table.calls name one two three payload ∷ [])
   goes_creds Q R name one two three payload rule' doing answer made by_rule is effect may to plan world at =
       let own : World = solo table site at.creds [] at.namespace at.tables in
       let process : Process = only table site at.creds [] at.namespace in
       let call : Call = first_call table.calls name (one ∷ two ∷ three ∷ 0 ∷ 0 ∷ 0 ∷ []) payload in
       let stepped = ap (λ (v : World). step v call) at.is
       ∙ passes at.creds at.namespace at.tables call.nr call.args payload rule' doing by_rule is
-      ∙ ap (λ (e : Effect). applied own 1 process e) (effect (host_of own) process (caller_of own process).table (caller_of own process).owns)
+      ∙ ap (λ (e : Effect). applied own 1 process e)
+      (effect (host_of own) process (caller_of own process).table (caller_of own process).owns)
       ∙ ap (λ (a : Result Creds ℕ). applied own 1 process (creds_effect a)) (may at.creds at.as_asked) in
-      goes_once (At table site R [] plan) world (makes table.calls name one two three payload) (subst (λ (out : Reply × World). IsDone out.0) (sym stepped) tt)
+      goes_once (At table site R [] plan) world (makes table.calls name one two three payload)
+      (subst (λ (out : Reply × World). IsDone out.0) (sym stepped) tt)
       (record {
         creds = made at.creds;
         namespace = at.namespace;
@@ -109,11 +121,13 @@ module _ (table : calls.Table) (site : Site) where
     planned [] = (start_world table site, refl)
     planned (first ∷ rest) = by (has_flags first.flags)
       where
-        by : (b : Bool) → (last : World) × Leads (start_world table site) (with_unshare table.calls (if_so b (Mounts first) ++ map Mounts rest)) last
+        by : (b : Bool) → (last : World) × Leads (start_world table site)
+            (with_unshare table.calls (if_so b (Mounts first) ++ map Mounts rest)) last
         by true = behind (first ∷ rest)
         by false = behind rest
 
-    pub goes_mounts : (Q : Creds → Type 0) (plan : Table) → BeginsAtHostRoot plan → Q creds.start → Goes (At table site Q [] plan) (start_world table site) (with_unshare table.calls (mount_steps plan))
+    pub goes_mounts : (Q : Creds → Type 0) (plan : Table) → BeginsAtHostRoot plan → Q creds.start
+        → Goes (At table site Q [] plan) (start_world table site) (with_unshare table.calls (mount_steps plan))
     goes_mounts Q plan begins starts =
         let start : At table site Q [] mounts.start (start_world table site) = record { creds = creds.start; namespace = 1; tables = first_mounts ∷ []; as_asked = starts; is = refl; own = refl } in
         let made = planned plan in
@@ -121,23 +135,31 @@ module _ (table : calls.Table) (site : Site) where
 
     -- ---- the program
     runs : (creds : Creds) (plan : Table) (program : Path) (shows : ShowsProgram site plan program)
-        → exec_answer creds (flags_at plan program) (finds (row_at site.rows) plan program) ≡ Ok (exec_done creds (marks_of shows.program) (flags_at plan program).no_suid)
+        → exec_answer creds (flags_at plan program) (finds (row_at site.rows) plan program)
+        ≡ Ok (exec_done creds (marks_of shows.program) (flags_at plan program).no_suid)
     runs creds plan program shows =
         let flags : Flags = flags_at plan program in
         let file = marks_of shows.program in
         ap (exec_answer creds flags) shows.found
-        ∙ ap (λ b. executed creds (cond {A = Result Program ℕ} (not b) (Err eacces) (cond flags.no_exec (Err eacces) (Ok (record { file = file; no_suid = flags.no_suid }))))) shows.exe
-        ∙ ap (λ b. executed creds (cond {A = Result Program ℕ} b (Err eacces) (Ok (record { file = file; no_suid = flags.no_suid })))) shows.runs
+        ∙ ap (λ b. executed creds
+        (cond {A = Result Program ℕ} (not b) (Err eacces)
+        (cond flags.no_exec (Err eacces) (Ok (record { file = file; no_suid = flags.no_suid }))))) shows.exe
+        ∙ ap (λ b. executed creds (cond {A = Result Program ℕ} b (Err eacces) (Ok (record { file = file; no_suid = flags.no_suid }))))
+        shows.runs
         ∙ exec_granted creds file flags.no_suid shows.plain
 
-    pub runs_program : (Q : Creds → Type 0) (plan : Table) (program : Path) (world : World) → ShowsProgram site plan program → At table site Q [] plan world
+    pub runs_program : (Q : Creds → Type 0) (plan : Table) (program : Path) (world : World) → ShowsProgram site plan program
+        → At table site Q [] plan world
         → (last : World) × Leads world (program_steps table.calls program) last
     runs_program Q plan program world shows at =
         let own : World = solo table site at.creds [] at.namespace at.tables in
         let process : Process = only table site at.creds [] at.namespace in
         let call : Call = first_call table.calls (codes "execve") (0 ∷ 0 ∷ 0 ∷ 0 ∷ 0 ∷ 0 ∷ []) (OnePath program) in
         let stepped = ap (λ (v : World). step v call) at.is
-        ∙ passes at.creds at.namespace at.tables call.nr call.args (OnePath program) (rule.Known known.Execve) (d.Execve program) calls'.execve refl
-        ∙ ap (λ (t : Table). applied own 1 process (creds_effect (exec_answer at.creds (flags_at t program) (finds (row_at site.rows) t program)))) (own_table table site at.creds [] at.namespace at.tables plan at.own)
+        ∙ passes at.creds at.namespace at.tables call.nr call.args (OnePath program) (rule.Known known.Execve)
+        (d.Execve program) calls'.execve refl
+        ∙ ap (λ (t : Table). applied own 1 process
+        (creds_effect (exec_answer at.creds (flags_at t program) (finds (row_at site.rows) t program))))
+        (own_table table site at.creds [] at.namespace at.tables plan at.own)
         ∙ ap (λ (a : Result Creds ℕ). applied own 1 process (creds_effect a)) (runs at.creds plan program shows) in
         ((step world call).1, (subst (λ (out : Reply × World). IsDone out.0) (sym stepped) tt, refl))

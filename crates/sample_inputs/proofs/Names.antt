@@ -1,5 +1,7 @@
--- The names of folders and of objects: each is a part of a path, short, and has its own number in it. They are few, and are tried one by one.
-use Rattle.std.proofs.Common.{◌≡◌, ℕ, zero, suc, ◌+◌, ◌<◌, ◌≤◌, ◌==◌, ◌&&◌, not, nat_le, Bool, true, false, List, length, drop, codes, refl, subst, inl, inr, arith}
+-- The names of folders and of objects: each is a part of a path, short, and has its own number in it. They are few, and are tried one by
+-- one.
+use Rattle.std.proofs.Common.{◌≡◌, ℕ, zero, suc, ◌+◌, ◌<◌, ◌≤◌, ◌==◌, ◌&&◌, not, nat_le, Bool, true, false, List, length, drop, codes, refl}
+use Rattle.std.proofs.Common.{subst, inl, inr, arith}
 use Rattle.std.specs.List.{list_all}
 use Rattle.std.specs.Fmt.{digits}
 use Rattle.std.specs.Str.{bytes_eq}
@@ -19,7 +21,8 @@ abbrev is_proc : List ℕ → Bool
 is_proc name = bytes_eq name (codes "proc")
 
 abbrev is_named : (ℕ → List ℕ) → ℕ → Bool
-is_named name number = is_part (name number) && (nat_le (length (name number)) 3 && (number_in (name number) == number && (not (is_usr (name number)) && not (is_proc (name number)))))
+is_named name number = is_part (name number) &&
+    (nat_le (length (name number)) 3 && (number_in (name number) == number && (not (is_usr (name number)) && not (is_proc (name number)))))
 
 -- what holds of each
 pub record IsName (name : List ℕ) (number : ℕ) : Type 0 where
@@ -38,7 +41,8 @@ unfolding digits
 objects = refl
 
 -- what holds of some numbers holds of each
-of_numbers : (test : ℕ → Bool) (first count number : ℕ) → list_all test (numbers_from first count) ≡ true → first ≤ number → number < first + count → test number ≡ true
+of_numbers : (test : ℕ → Bool) (first count number : ℕ) → list_all test (numbers_from first count) ≡ true → first ≤ number
+    → number < first + count → test number ≡ true
 of_numbers test first zero number all low high = absurd (omega arith)
 of_numbers test first (suc count) number all low high =
     let (here, more) = and_parts (test first) (list_all test (numbers_from (first + 1) count)) all in

@@ -9,7 +9,8 @@ length_numbers first (suc count) = omega (arith, length_numbers (first + 1) coun
 one_more : (first count : ℕ) → numbers_from first (suc count) ≡ numbers_from first count ++ (first + count) ∷ []
 one_more first zero = ap (λ number. number ∷ []) (omega arith)
 one_more first (suc count) =
-    ap (λ numbers. first ∷ numbers) (one_more (first + 1) count) ∙ ap (λ number. first ∷ (numbers_from (first + 1) count ++ number ∷ [])) (omega arith)
+    ap (λ numbers. first ∷ numbers) (one_more (first + 1) count)
+    ∙ ap (λ number. first ∷ (numbers_from (first + 1) count ++ number ∷ [])) (omega arith)
 
 pub numbers_last : (first count : ℕ) → numbers_from first (count + 1) ≡ numbers_from first count ++ (first + count) ∷ []
 numbers_last first count = let same : count + 1 ≡ suc count = omega arith in ap (numbers_from first) same ∙ one_more first count

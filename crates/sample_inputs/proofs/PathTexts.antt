@@ -1,5 +1,6 @@
 -- The paths of a site's rows: what their texts are read as.
-use Rattle.std.proofs.Common.{◌≡◌, ℕ, ◌<◌, ◌≤◌, ◌&&◌, Bool, true, cond, nat_le, Option, Some, None, [], ◌∷◌, ◌++◌, length, is_none, refl, sym, ap, ◌∙◌, arith, le-leb, append-nil, append_assoc, length-append}
+use Rattle.std.proofs.Common.{◌≡◌, ℕ, ◌<◌, ◌≤◌, ◌&&◌, Bool, true, cond, nat_le, Option, Some, None, [], ◌∷◌, ◌++◌, length, is_none, refl}
+use Rattle.std.proofs.Common.{sym, ap, ◌∙◌, arith, le-leb, append-nil, append_assoc, length-append}
 use Rattle.std.specs.Fmt.{decimal}
 use Rattle.launcher.specs.abs_path.Paths.{Path, text_of, parts_of, is_normal, is_part}
 use Rattle.launcher.specs.abs_path.declared.error.PathError.{PathError}
@@ -43,4 +44,5 @@ object_reads k j low small =
     let short : length (text_of (folder_name k ∷ object_name j ∷ [])) ≤ 250 =
     omega (arith, length-append (47 ∷ folder_name k) ((47 ∷ object_name j) ++ []), length-append (47 ∷ object_name j) [], folder.short, object.short) in
     ap short_path (sym written)
-    ∙ reads (folder_name k ∷ object_name j ∷ []) (two_true (is_part (folder_name k)) _ folder.part (two_true (is_part (object_name j)) true object.part refl)) short
+    ∙ reads (folder_name k ∷ object_name j ∷ [])
+    (two_true (is_part (folder_name k)) _ folder.part (two_true (is_part (object_name j)) true object.part refl)) short

@@ -1,5 +1,6 @@
 -- The plan of a sample, which computes: the host enters it at the folders alone.
-use Rattle.std.proofs.Common.{◌≡◌, ◌∙◌, ℕ, ◌<◌, Bool, true, cond, Option, Some, None, List, [], ◌∷◌, map, refl, sym, ap, subst, ltb, ◌+◌, ◌%◌}
+use Rattle.std.proofs.Common.{◌≡◌, ◌∙◌, ℕ, ◌<◌, Bool, true, cond, Option, Some, None, List, [], ◌∷◌, map, refl, sym, ap, subst, ltb, ◌+◌}
+use Rattle.std.proofs.Common.{◌%◌}
 use Rattle.std.specs.Prelude.{Ok, Result, ◌==◌, not, filter, flat_map, slice_get, option_map, option_and_then}
 use Rattle.std.specs.List.{list_all}
 use Rattle.std.specs.Fmt.{digits}
@@ -56,7 +57,8 @@ keeps root m h = below_four (λ m. kept_of (all_dirs root) (sample_mentions m) �
 -- their table asks for the root too, where nothing is hidden
 asks_the_root_and_folders : (m : ℕ) → m < 4 → beneath_places (kept_mentions m) (places_of (kept_mentions m)) ≡ [] ∷ map folder (said_of m)
 unfolding digits
-asks_the_root_and_folders m h = below_four (λ m. beneath_places (kept_mentions m) (places_of (kept_mentions m)) ≡ [] ∷ map folder (said_of m)) refl refl refl refl m h
+asks_the_root_and_folders m h =
+    below_four (λ m. beneath_places (kept_mentions m) (places_of (kept_mentions m)) ≡ [] ∷ map folder (said_of m)) refl refl refl refl m h
 
 starts_whole : (root : Option Bool) (m : ℕ) → m < 4 → slice_get (table_of (all_dirs root) (kept_mentions m)) 0 ≡ Some whole_host
 unfolding digits
@@ -64,12 +66,14 @@ starts_whole root m h = below_four (λ m. slice_get (table_of (all_dirs root) (k
 
 finds_whole : (root : Option Bool) (m : ℕ) → m < 4 → entry_of (table_of (all_dirs root) (kept_mentions m)) program ≡ Some whole_host
 unfolding digits
-finds_whole root m h = below_four (λ m. entry_of (table_of (all_dirs root) (kept_mentions m)) program ≡ Some whole_host) refl refl refl refl m h
+finds_whole root m h = below_four (λ m. entry_of (table_of (all_dirs root) (kept_mentions m)) program ≡ Some whole_host) refl refl refl
+    refl m h
 
 -- no mention is a bind
 sourceless : (row_at other : Host) (m : ℕ) → m < 4 → AreSameSources row_at other (sample_mentions m)
 unfolding digits
-sourceless row_at other m h = no_binds row_at other (sample_mentions m) (below_four (λ m. list_all (λ mention. not (is_bind mention.kind)) (sample_mentions m) ≡ true) refl refl refl refl m h)
+sourceless row_at other m h = no_binds row_at other (sample_mentions m)
+    (below_four (λ m. list_all (λ mention. not (is_bind mention.kind)) (sample_mentions m) ≡ true) refl refl refl refl m h)
   where
     by_kind : (kind : Kind) → not (is_bind kind) ≡ true → source_of kind ≡ None
     by_kind Ro e = refl
@@ -80,7 +84,8 @@ sourceless row_at other m h = no_binds row_at other (sample_mentions m) (below_f
     by_kind (Tmp read_only) e = refl
     by_kind (Bind source read_only) e = cc
 
-    no_binds : (row_at other : Host) (mentions : List Mention) → list_all (λ mention. not (is_bind mention.kind)) mentions ≡ true → AreSameSources row_at other mentions
+    no_binds : (row_at other : Host) (mentions : List Mention) → list_all (λ mention. not (is_bind mention.kind)) mentions ≡ true
+        → AreSameSources row_at other mentions
     no_binds row_at other [] e = tt
     no_binds row_at other (mention ∷ mentions) e =
         let no_source = by_kind mention.kind (and_parts _ _ e).0 in
@@ -111,9 +116,11 @@ module _ (site : Site) (has : HasSampleRows site) where
   same_table : (m : ℕ) → m < 4 → table_of (host_of site) (kept_mentions m) ≡ table_of (all_dirs root) (kept_mentions m)
   same_table m h =
       plan_rests (all_dirs root) (host_of site) (kept_mentions m)
-      (subst (AreSame (all_dirs root) (host_of site)) (sym (asks_the_root_and_folders m h)) (refl, same_at_folders (said_of m) (said_below m h)))
+      (subst (AreSame (all_dirs root) (host_of site)) (sym (asks_the_root_and_folders m h))
+      (refl, same_at_folders (said_of m) (said_below m h)))
 
-  of_whole : (table : List MountStep) → slice_get table 0 ≡ Some whole_host → entry_of table program ≡ Some whole_host → FindsItsProgram site table
+  of_whole : (table : List MountStep) → slice_get table 0 ≡ Some whole_host → entry_of table program ≡ Some whole_host
+      → FindsItsProgram site table
   of_whole table first entry = record {
     first = first;
     entry = entry;
@@ -121,7 +128,8 @@ module _ (site : Site) (has : HasSampleRows site) where
   }
 
   finds_here : (m : ℕ) → m < 4 → FindsItsProgram site (table_of (host_of site) (kept_mentions m))
-  finds_here m h = subst (FindsItsProgram site) (sym (same_table m h)) (of_whole (table_of (all_dirs root) (kept_mentions m)) (starts_whole root m h) (finds_whole root m h))
+  finds_here m h = subst (FindsItsProgram site) (sym (same_table m h))
+      (of_whole (table_of (all_dirs root) (kept_mentions m)) (starts_whole root m h) (finds_whole root m h))
 
   module _ (n : ℕ) (unit : Resolved) (says : SaysSample n unit) where
     keeps_of : kept_of (host_of site) (unit_mentions unit site) ≡ Ok (kept_mentions (n % 4))
@@ -130,7 +138,8 @@ module _ (site : Site) (has : HasSampleRows site) where
         ∙ ap (kept_of (host_of site)) (mentioned unit site (n % 4) (turn_below n))
         ∙ keeps_here (n % 4) (turn_below n)
 
-    finds_of : (kept : List Mention) (table : List MountStep) → kept_of (host_of site) (unit_mentions unit site) ≡ Ok kept → table ≡ table_of (host_of site) kept → FindsItsProgram site table
+    finds_of : (kept : List Mention) (table : List MountStep) → kept_of (host_of site) (unit_mentions unit site) ≡ Ok kept
+        → table ≡ table_of (host_of site) kept → FindsItsProgram site table
     finds_of kept table are is =
         let same : kept_mentions (n % 4) ≡ kept = same_kept _ _ _ keeps_of are in
         subst (FindsItsProgram site) (sym (is ∙ ap (table_of (host_of site)) (sym same))) (finds_here (n % 4) (turn_below n))

@@ -11,8 +11,10 @@ use Rattle.sample_inputs.proofs.Numbers.{numbers_last}
 use Rattle.std.specs.Prelude.{codes}
 
 -- one more value at the end
-pub pushed : (values new : List Value) (value : Value) (row : Data) → new ≡ values ++ value ∷ [] → view value ≡ row → map view new ≡ map view values ++ row ∷ []
-pushed values new value row more seen = ap (map view) more ∙ map-append view values (value ∷ []) ∙ ap (λ row. map view values ++ row ∷ []) seen
+pub pushed : (values new : List Value) (value : Value) (row : Data) → new ≡ values ++ value ∷ [] → view value ≡ row
+    → map view new ≡ map view values ++ row ∷ []
+pushed values new value row more seen = ap (map view) more ∙ map-append view values (value ∷ [])
+    ∙ ap (λ row. map view values ++ row ∷ []) seen
 
 -- the rows of a folder with its first objects
 pub objects_so_far : ℕ → ℕ → ℕ → List Data

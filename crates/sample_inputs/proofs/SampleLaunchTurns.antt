@@ -3,12 +3,14 @@ use Rattle.std.proofs.Common.{◌≡◌, ◌∙◌, ℕ, Bool, cond, codes, ◌+
 use Rattle.std.specs.Prelude.{◌==◌}
 use Rattle.std.proofs.Math.Nat.{add-mod-mod}
 use Rattle.sample_inputs.specs.Site.{folder_path, numbers_from}
-use Rattle.sample_inputs.specs.Unit.{Setting, assignments_from, folder_settings, folder_settings_by, privilege_settings, unit_said, unit_settings}
+use Rattle.sample_inputs.specs.Unit.{Setting, assignments_from, folder_settings, folder_settings_by, privilege_settings, unit_said}
+use Rattle.sample_inputs.specs.Unit.{unit_settings}
 
 -- the settings of a unit, with those of privileges and those of folders
 abbrev with_settings : List Setting → List Setting → List Setting
 with_settings privileges folders =
-    record { key = codes "ExecStart"; value = codes "/usr/bin/app" } ∷ record { key = codes "User"; value = codes "app" } ∷ (privileges ++ folders)
+    record { key = codes "ExecStart"; value = codes "/usr/bin/app" } ∷ record { key = codes "User"; value = codes "app" } ∷
+    (privileges ++ folders)
 
 abbrev privileges : Bool → List Setting
 privileges even = cond even (record { key = codes "NoNewPrivileges"; value = codes "yes" } ∷ []) []
@@ -25,7 +27,8 @@ module _ (n m : ℕ) (same : n % 4 ≡ m % 4) where
 
   same_folders : (ks : List ℕ) → flat_map (folder_settings n) ks ≡ flat_map (folder_settings m) ks
   same_folders [] = refl
-  same_folders (k ∷ ks) = ap (λ one. one ++ flat_map (folder_settings n) ks) (same_folder k) ∙ ap (λ rest. folder_settings m k ++ rest) (same_folders ks)
+  same_folders (k ∷ ks) = ap (λ one. one ++ flat_map (folder_settings n) ks) (same_folder k)
+      ∙ ap (λ rest. folder_settings m k ++ rest) (same_folders ks)
 
   same_settings : unit_settings n ≡ unit_settings m
   same_settings =

@@ -1,5 +1,6 @@
 -- The site that is read has the rows of the sample.
-use Rattle.std.proofs.Common.{◌≡◌, ℕ, zero, suc, ◌+◌, ◌<◌, ◌≤◌, cond, Option, Some, None, Ok, unwrap_or, List, [], ◌∷◌, codes, inl, inr, refl, sym, ap, ◌∙◌, subst, arith}
+use Rattle.std.proofs.Common.{◌≡◌, ℕ, zero, suc, ◌+◌, ◌<◌, ◌≤◌, cond, Option, Some, None, Ok, unwrap_or, List, [], ◌∷◌, codes, inl, inr}
+use Rattle.std.proofs.Common.{refl, sym, ap, ◌∙◌, subst, arith}
 use Rattle.std.specs.Prelude.{flat_map}
 use Rattle.std.specs.List.{Contains}
 use Rattle.std.proofs.lemmas.Bool.{cases_eq}
@@ -21,26 +22,31 @@ use Rattle.sample_inputs.specs.Site.{numbers_from, folder_path, dir_row, exe_row
 use Rattle.sample_inputs.proofs.PathTexts.{folder_reads}
 use Rattle.sample_inputs.proofs.SiteRead.{same_elements, site_reads}
 
-folder_among : (n k first count : ℕ) → first ≤ k → k < first + count → Contains (flat_map (folder_rows n) (numbers_from first count)) (dir_row (folder_path k))
+folder_among : (n k first count : ℕ) → first ≤ k → k < first + count
+    → Contains (flat_map (folder_rows n) (numbers_from first count)) (dir_row (folder_path k))
 folder_among n k first zero above below = absurd (omega arith)
 folder_among n k first (suc count) above below =
     elim (cases_eq first k) [
-      | inl same ↦ Contains-append_left (folder_rows n first) (flat_map (folder_rows n) (numbers_from (first + 1) count)) (dir_row (folder_path k))
+      | inl same ↦ Contains-append_left (folder_rows n first) (flat_map (folder_rows n) (numbers_from (first + 1) count))
+          (dir_row (folder_path k))
           (subst (λ (at : ℕ). Contains (folder_rows n at) (dir_row (folder_path k))) (sym same) (0, omega arith, refl))
-      | inr other ↦ Contains-append_right (folder_rows n first) (flat_map (folder_rows n) (numbers_from (first + 1) count)) (dir_row (folder_path k))
+      | inr other ↦ Contains-append_right (folder_rows n first) (flat_map (folder_rows n) (numbers_from (first + 1) count))
+          (dir_row (folder_path k))
           (folder_among n k (first + 1) count (omega arith) (omega arith))
     ]
 
 folder_listed : (n k : ℕ) → k < 16 → Contains (site_rows n) (dir_row (folder_path k))
 unfolding site_rows
 folder_listed n k low =
-    Contains-append_right (dir_row (codes "/usr") ∷ dir_row (codes "/usr/bin") ∷ exe_row (codes "/usr/bin/app") ∷ []) (flat_map (folder_rows n) (numbers_from 0 16)) (dir_row (folder_path k))
+    Contains-append_right (dir_row (codes "/usr") ∷ dir_row (codes "/usr/bin") ∷ exe_row (codes "/usr/bin/app") ∷ [])
+    (flat_map (folder_rows n) (numbers_from 0 16)) (dir_row (folder_path k))
     (folder_among n k 0 16 (omega arith) (omega arith))
 
 program_listed : (n : ℕ) → Contains (site_rows n) (exe_row (codes "/usr/bin/app"))
 unfolding site_rows
 program_listed n =
-    Contains-append_left (dir_row (codes "/usr") ∷ dir_row (codes "/usr/bin") ∷ exe_row (codes "/usr/bin/app") ∷ []) (flat_map (folder_rows n) (numbers_from 0 16)) (exe_row (codes "/usr/bin/app"))
+    Contains-append_left (dir_row (codes "/usr") ∷ dir_row (codes "/usr/bin") ∷ exe_row (codes "/usr/bin/app") ∷ [])
+    (flat_map (folder_rows n) (numbers_from 0 16)) (exe_row (codes "/usr/bin/app"))
     (2, omega arith, refl)
 
 in_site : (n : ℕ) (row : Data) → Contains (site_rows n) row → Contains (rows_in (table (site_tree n))) row
@@ -63,8 +69,11 @@ sample_rows n text site tree read =
     let said : site ≡ site_in (table (site_tree n)) = cc in
     record {
       dynamic_uid = ap (λ (site : Site). site.dynamic_uid) said;
-      folders = λ k low. exact.as_listed (dir_row (folder_path k)) (folder k) (in_site n (dir_row (folder_path k)) (folder_listed n k low)) (folder_reads k low) ∙ ap Some (dir_said (folder_path k) (folder k) (folder_reads k low));
-      program = exact.as_listed (exe_row (codes "/usr/bin/app")) program (in_site n (exe_row (codes "/usr/bin/app")) (program_listed n)) refl;
+      folders = λ k low. exact.as_listed (dir_row (folder_path k)) (folder k)
+          (in_site n (dir_row (folder_path k)) (folder_listed n k low)) (folder_reads k low)
+          ∙ ap Some (dir_said (folder_path k) (folder k) (folder_reads k low));
+      program = exact.as_listed (exe_row (codes "/usr/bin/app")) program
+          (in_site n (exe_row (codes "/usr/bin/app")) (program_listed n)) refl;
       users = ap (λ site. site.users) said;
       groups = ap (λ site. site.groups) said;
     }

@@ -24,7 +24,8 @@ use Rattle.launcher.specs.exec_settings.Groups.{missing_group}
 use Rattle.launcher.specs.exec_settings.Keys.{keys}
 use Rattle.launcher.specs.exec_settings.Mounts.{paths_refusal, unit_mentions, unit_switches}
 use Rattle.launcher.specs.exec_settings.Profile.{outside_key}
-use Rattle.launcher.specs.exec_settings.Refusals.{command_refusal, first_reason, group_refusal, identity_reason, identity_refusal, refusal_of}
+use Rattle.launcher.specs.exec_settings.Refusals.{command_refusal, first_reason, group_refusal, identity_reason, identity_refusal}
+use Rattle.launcher.specs.exec_settings.Refusals.{refusal_of}
 use Rattle.launcher.specs.exec_settings.Settings.{unit_program}
 use Rattle.launcher.specs.exec_settings.declared.errors.SettingsError.{SettingsError}
 use Rattle.launcher.specs.exec_settings.declared.errors.SettingsError.TheVariants.{MissingGroup}
@@ -81,31 +82,39 @@ or_false false = refl
 -- ---- the four units, part by part
 
 launches : (unit : Resolved) (m : ℕ) → m < 4 → unit_program (unit_by unit m) ≡ Some program
-unfolding unit_program unit_command command_of program_of service_assignments words_of words_in text_only closed_only mark_of open_after escape_of symbols_of is_utf8 chars encode
+unfolding unit_program unit_command command_of program_of service_assignments words_of words_in text_only closed_only mark_of open_after
+    escape_of symbols_of is_utf8 chars encode
 launches unit m h = below_four (λ m. unit_program (unit_by unit m) ≡ Some program) refl refl refl refl m h
 
 command_passes : (unit : Resolved) (m : ℕ) → m < 4 → command_refusal (unit_by unit m) ≡ None
-unfolding command_refusal outside_key keys unit_command command_of program_of unit_written service_assignments digits words_of words_in text_only closed_only mark_of open_after escape_of symbols_of is_utf8 chars encode
+unfolding command_refusal outside_key keys unit_command command_of program_of unit_written service_assignments digits words_of words_in
+    text_only closed_only mark_of open_after escape_of symbols_of is_utf8 chars encode
 command_passes unit m h = below_four (λ m. command_refusal (unit_by unit m) ≡ None) refl refl refl refl m h
 
-user_passes : (unit : Resolved) (site : Site) (m : ℕ) → m < 4 → identity_of (unit_by unit m) (site_by site) (is_dynamic (unit_by unit m)) ≡ Ok app
+user_passes : (unit : Resolved) (site : Site) (m : ℕ) → m < 4
+    → identity_of (unit_by unit m) (site_by site) (is_dynamic (unit_by unit m)) ≡ Ok app
 unfolding is_dynamic identity_of unit_last unit_last_text unit_words service_assignments is_utf8 chars encode
-user_passes unit site m h = below_four (λ m. identity_of (unit_by unit m) (site_by site) (is_dynamic (unit_by unit m)) ≡ Ok app) refl refl refl refl m h
+user_passes unit site m h = below_four (λ m. identity_of (unit_by unit m) (site_by site) (is_dynamic (unit_by unit m)) ≡ Ok app) refl refl
+    refl refl m h
 
 unfiltered : (unit : Resolved) (table : Table) (m : ℕ) → m < 4 → unit_filters (unit_by unit m) table ≡ bare
-unfolding unit_filters is_dynamic unit_call_list unit_family_list unit_namespaces unit_refuses_second unit_last unit_listed service_assignments
+unfolding unit_filters is_dynamic unit_call_list unit_family_list unit_namespaces unit_refuses_second unit_last unit_listed
+    service_assignments
 unfiltered unit table m h =
-    below_four (λ m. unit_filters (unit_by unit m) table ≡ bare_but (is_some table.second && false)) refl refl refl refl m h ∙ ap bare_but (and_right (is_some table.second) false refl)
+    below_four (λ m. unit_filters (unit_by unit m) table ≡ bare_but (is_some table.second && false)) refl refl refl refl m h
+    ∙ ap bare_but (and_right (is_some table.second) false refl)
 
 unfiltered_installs : (unit : Resolved) (table : Table) (m : ℕ) → m < 4 → installed (unit_filters (unit_by unit m) table) table ≡ []
 unfiltered_installs unit table m h = ap (λ settings. installed settings table) (unfiltered unit table m h) ∙ none_installed table.second
 
 paths_pass : (unit : Resolved) (m : ℕ) → m < 4 → paths_refusal (unit_by unit m) ≡ None
-unfolding paths_refusal unit_written service_assignments digits words_of words_in text_only closed_only mark_of open_after escape_of symbols_of is_utf8 chars encode
+unfolding paths_refusal unit_written service_assignments digits words_of words_in text_only closed_only mark_of open_after escape_of
+    symbols_of is_utf8 chars encode
 paths_pass unit m h = below_four (λ m. paths_refusal (unit_by unit m) ≡ None) refl refl refl refl m h
 
 pub mentioned : (unit : Resolved) (site : Site) (m : ℕ) → m < 4 → unit_mentions (unit_by unit m) site ≡ sample_mentions m
-unfolding unit_mentions mentions_of implied unit_switches is_dynamic unit_protections unit_written unit_last service_assignments digits words_of words_in text_only closed_only mark_of open_after escape_of symbols_of is_utf8 chars encode
+unfolding unit_mentions mentions_of implied unit_switches is_dynamic unit_protections unit_written unit_last service_assignments digits
+    words_of words_in text_only closed_only mark_of open_after escape_of symbols_of is_utf8 chars encode
 mentioned unit site m h = below_four (λ m. unit_mentions (unit_by unit m) site ≡ sample_mentions m) refl refl refl refl m h
 
 bounded : (unit : Resolved) (m : ℕ) → m < 4 → bounding_of (unit_by unit m) ≡ all
@@ -135,7 +144,8 @@ none_of_four a b c d not_a not_b not_c not_d =
 
 no_refusal : (unit : Resolved) (table : Table) (site : Site) (m : ℕ) → m < 4 → refusal_of (unit_by unit m) table (site_by site) ≡ None
 unfolding refusal_of identity_refusal
-no_refusal unit table site m h = none_of_four _ _ _ _ (command_passes unit m h) (ap identity_reason (user_passes unit site m h)) (group_passes unit table m h) (paths_pass unit m h)
+no_refusal unit table site m h = none_of_four _ _ _ _ (command_passes unit m h) (ap identity_reason (user_passes unit site m h))
+    (group_passes unit table m h) (paths_pass unit m h)
 
 pub are_not_refused : SettingsAreNotRefused
 are_not_refused n unit table site says has =
@@ -158,7 +168,8 @@ module _ (unit : Resolved) (table : Table) (site : Site) (made : Settings) (m : 
 
   its_bounding : made.bounding ≡ all
   unfolding taken_caps all minus union none
-  its_bounding = are.bounding_without_what_is_taken ∙ ap (λ set. left_of set (unit_filters (unit_by unit m) table)) (bounded unit m h) ∙ ap (left_of all) (unfiltered unit table m h)
+  its_bounding = are.bounding_without_what_is_taken ∙ ap (λ set. left_of set (unit_filters (unit_by unit m) table)) (bounded unit m h)
+      ∙ ap (left_of all) (unfiltered unit table m h)
 
   its_filters : made.filters.items ≡ []
   its_filters = no_names made.filters.items (are.filters_as_wanted.exactly_those_on ∙ unfiltered_installs unit table m h)
@@ -166,7 +177,8 @@ module _ (unit : Resolved) (table : Table) (site : Site) (made : Settings) (m : 
   its_privileges : made.no_new_privs ≡ (m % 2 == 0)
   its_privileges =
       are.new_privileges
-      ∙ ap (λ places. is_in_effect (sets_new_privileges (unit_by unit m)) (not (length places == 0)) made.uid (ambient_of (unit_by unit m))) (unfiltered_installs unit table m h)
+      ∙ ap (λ places. is_in_effect (sets_new_privileges (unit_by unit m)) (not (length places == 0)) made.uid
+      (ambient_of (unit_by unit m))) (unfiltered_installs unit table m h)
       ∙ ap (λ on. on || false) (set_by_halves unit m h)
       ∙ or_false (m % 2 == 0)
 
@@ -201,4 +213,5 @@ pub are_the_samples : SettingsAreTheSamples
 are_the_samples n unit table site made says has are =
     of_its_turn n (n % 4) made (same_twice n)
     (are_of_four unit table site made (n % 4) (turn_below n)
-    (subst (λ one. AreSettings (unit_by unit (n % 4)) table one made) (site_is site has) (subst (λ one. AreSettings one table site made) (unit_is n unit says) are)))
+    (subst (λ one. AreSettings (unit_by unit (n % 4)) table one made) (site_is site has)
+    (subst (λ one. AreSettings one table site made) (unit_is n unit says) are)))

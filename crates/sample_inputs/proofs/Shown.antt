@@ -23,7 +23,8 @@ use Rattle.launcher.specs.path_settings.view_map.View.{is_read_only, is_no_exec,
 use Rattle.sample_inputs.specs.sample_launch.Shown.{ShownByTheView, AreElsewhere, ShownBesideMentions}
 
 -- what an entry of the host's shows
-host_shown : (rows : Path → Option Row) (what' : What) (own path place : Path) (program : Row) → shown_by what' own path ≡ on_host place → rows place ≡ Some program → found_by rows what' own path ≡ row program
+host_shown : (rows : Path → Option Row) (what' : What) (own path place : Path) (program : Row) → shown_by what' own path ≡ on_host place
+    → rows place ≡ Some program → found_by rows what' own path ≡ row program
 host_shown rows (what.Host source) own path place program is there =
     let same : source ++ rest_of own path ≡ place = cc in
     ap (λ (p : Path). row_or_nothing (rows p)) same ∙ ap row_or_nothing there
@@ -37,7 +38,8 @@ shown_by_the_view site kept plan path place program as_view at runs there is =
     let agrees : Agrees kept path step = entry.2 in
     record {
       program = program;
-      found = ap (found_at (row_at site.rows) path) entry.1 ∙ host_shown (row_at site.rows) step.what step.place path place program (agrees.origin ∙ at) there;
+      found = ap (found_at (row_at site.rows) path) entry.1 ∙ host_shown (row_at site.rows) step.what step.place path place program
+          (agrees.origin ∙ at) there;
       exe = is.exe;
       plain = is.plain;
       runs = ap (λ (o : Option MountStep). (flags_by o).no_exec) entry.1
@@ -50,14 +52,16 @@ none_left : {X : Type 0} (p : X → Bool) (xs : List X) → AllByRecursion (λ x
 none_left p [] none' = refl
 none_left p (x ∷ xs) none' = ap (λ b. cond b (x ∷ filter p xs) (filter p xs)) none'.0 ∙ none_left p xs none'.1
 
-kept_elsewhere : (path : Path) (mentions kept : List Mention) → AllByRecursion (Contains mentions) kept → AreElsewhere path mentions → AreElsewhere path kept
+kept_elsewhere : (path : Path) (mentions kept : List Mention) → AllByRecursion (Contains mentions) kept → AreElsewhere path mentions
+    → AreElsewhere path kept
 kept_elsewhere path mentions [] among away = tt
 kept_elsewhere path mentions (one ∷ kept) among away =
     (All-contains (λ (mention : Mention). is_prefix mention.path path ≡ false) mentions one (All-from_recursion (λ mention. is_prefix mention.path path ≡ false) mentions away) among.0, kept_elsewhere path mentions kept among.1 away)
 
 none_leads : (path : Path) (kept : List Mention) → AreElsewhere path kept → leading_to path kept ≡ []
 none_leads path kept away =
-    none_left (λ (one : ℕ × Mention). is_prefix one.1.path path) (enumerate_from 0 kept) (all_enumerated (λ mention. is_prefix mention.path path ≡ false) 0 kept away)
+    none_left (λ (one : ℕ × Mention). is_prefix one.1.path path) (enumerate_from 0 kept)
+    (all_enumerated (λ mention. is_prefix mention.path path ≡ false) 0 kept away)
 
 pub shown_beside_mentions : ShownBesideMentions
 shown_beside_mentions site mentions kept plan path program keeps as_view away there is =

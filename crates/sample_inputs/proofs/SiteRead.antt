@@ -1,5 +1,6 @@
 -- The tree of a site is read: nothing is wrong at its top, with its rows, its users or its groups.
-use Rattle.std.proofs.Common.{◌≡◌, ℕ, ◌≤◌, true, false, pos, Some, Ok, List, [], ◌∷◌, ◌++◌, length, codes, refl, ap, ◌∙◌, arith, nat_lt, le-ltb}
+use Rattle.std.proofs.Common.{◌≡◌, ℕ, ◌≤◌, true, false, pos, Some, Ok, List, [], ◌∷◌, ◌++◌, length, codes, refl, ap, ◌∙◌, arith, nat_lt}
+use Rattle.std.proofs.Common.{le-ltb}
 use Rattle.std.specs.List.{list_all}
 use Rattle.toml.specs.Data.{Data, Members, integer, array, table, no_members, member}
 use Rattle.toml.specs.View.{items_of}
@@ -31,7 +32,8 @@ no_size rows few =
     let within : nat_lt 2048 (length rows) ≡ false = le-ltb 2048 (length rows) few in
     rw (same_elements rows, within) refl
 
-nothing_wrong : (rows : List Data) → list_all is_table rows ≡ true → length rows ≤ 2048 → row_faults rows ≡ [] → faults_of (table (tree_of_rows rows)) ≡ []
+nothing_wrong : (rows : List Data) → list_all is_table rows ≡ true → length rows ≤ 2048 → row_faults rows ≡ []
+    → faults_of (table (tree_of_rows rows)) ≡ []
 nothing_wrong rows tables few fine =
     ap (λ top. top ++ size_faults (table (tree_of_rows rows)) ++ row_faults (elements (items_of rows)) ++ [] ++ []) (no_top rows tables)
     ∙ ap (λ size. size ++ row_faults (elements (items_of rows)) ++ [] ++ []) (no_size rows few)

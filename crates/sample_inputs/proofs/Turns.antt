@@ -24,9 +24,11 @@ same_privileges n = ap privileges_by (sym (half_of_quarter n))
 
 -- the settings by what they say of privileges and of folders
 abbrev pub settings_with : List Setting → List Setting → List Setting
-settings_with privileges folders = record { key = codes "ExecStart"; value = codes "/usr/bin/app" } ∷ record { key = codes "User"; value = codes "app" } ∷ (privileges ++ folders)
+settings_with privileges folders = record { key = codes "ExecStart"; value = codes "/usr/bin/app" } ∷ record
+    { key = codes "User"; value = codes "app" } ∷ (privileges ++ folders)
 
 pub same_settings : (n : ℕ) → unit_settings n ≡ unit_settings (n % 4)
 same_settings n =
     ap (λ privileges. settings_with privileges (flat_map (folder_settings n) (numbers_from 0 16))) (same_privileges n)
-    ∙ ap (settings_with (privilege_settings (n % 4))) (flat_map_alike (folder_settings n) (folder_settings (n % 4)) (same_folder_settings n) (numbers_from 0 16))
+    ∙ ap (settings_with (privilege_settings (n % 4)))
+    (flat_map_alike (folder_settings n) (folder_settings (n % 4)) (same_folder_settings n) (numbers_from 0 16))

@@ -42,7 +42,8 @@ folder_more n count =
     let before = folders n count in
     let last = folder_settings n (0 + count) in
     ap (λ numbers. lines (settings_with privileges (flat_map (folder_settings n) numbers))) (numbers_last 0 count)
-    ∙ ap (λ settings. lines (settings_with privileges settings)) (flat_map-append (folder_settings n) (numbers_from 0 count) ((0 + count) ∷ []))
+    ∙ ap (λ settings. lines (settings_with privileges settings))
+    (flat_map-append (folder_settings n) (numbers_from 0 count) ((0 + count) ∷ []))
     ∙ ap (λ settings. lines (first_two settings)) (sym (append_assoc privileges before (last ++ [])))
     ∙ more (settings_with privileges before) (last ++ [])
     ∙ ap (λ others. lines (settings_with privileges before) ++ text_of_lines (map line_of others)) (append-nil last)

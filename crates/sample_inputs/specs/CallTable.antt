@@ -70,7 +70,8 @@ sample_groups =
 
 unfoldable pub sample_families : List CallLine
 sample_families =
-    plain (codes "AF_UNIX") 1 ∷ plain (codes "AF_INET") 2 ∷ plain (codes "AF_INET6") 10 ∷ plain (codes "AF_NETLINK") 16 ∷ capable (codes "AF_PACKET") 17 cap_net_raw ∷ []
+    plain (codes "AF_UNIX") 1 ∷ plain (codes "AF_INET") 2 ∷ plain (codes "AF_INET6") 10 ∷ plain (codes "AF_NETLINK") 16 ∷ capable
+    (codes "AF_PACKET") 17 cap_net_raw ∷ []
 
 -- AUDIT_ARCH_X86_64 (linux/audit.h), and no second ABI
 abbrev pub sample_table : Table

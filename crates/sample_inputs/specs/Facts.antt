@@ -24,12 +24,14 @@ abbrev pub plain_exe : Path → Row
 plain_exe path = record { path = path; kind = Exe; setuid = None; setgid = None; caps = none; effective = false }
 
 abbrev pub site_accounts : List User
-site_accounts = record { name = codes "root"; uid = 0; gid = 0; groups = [] } ∷ record { name = codes "app"; uid = 100; gid = 100; groups = [] } ∷ []
+site_accounts = record { name = codes "root"; uid = 0; gid = 0; groups = [] } ∷ record
+    { name = codes "app"; uid = 100; gid = 100; groups = [] } ∷ []
 
 abbrev pub site_account_groups : List Group
 site_account_groups = record { name = codes "root"; gid = 0 } ∷ record { name = codes "app"; gid = 100 } ∷ []
 
--- the uid of services with a dynamic user (systemd.exec(5), DynamicUser=), the sixteen folders and the program as rows, and the users and groups
+-- the uid of services with a dynamic user (systemd.exec(5), DynamicUser=), the sixteen folders and the program as rows, and the users and
+-- groups
 pub record HasSampleRows (site : Site) : Type 0 where
   pub dynamic_uid : site.dynamic_uid ≡ 61184
   pub folders : (k : ℕ) → k < 16 → row_at site.rows (folder k) ≡ Some (plain_dir (folder k))

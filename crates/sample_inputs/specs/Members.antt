@@ -8,4 +8,5 @@ use Rattle.toml.specs.Data.{Data, Members, no_members, member}
 abbrev pub with_member : List ℕ → Data → Members → Members
 with_member key value no_members = member key value no_members
 with_member key value (member first other members) =
-    match_ordering (slice_cmp nat_cmp key first) (member key value (member first other members)) (member first value members) (member first other (with_member key value members))
+    match_ordering (slice_cmp nat_cmp key first) (member key value (member first other members)) (member first value members)
+    (member first other (with_member key value members))

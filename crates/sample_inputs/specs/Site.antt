@@ -29,7 +29,9 @@ abbrev pub plain_row : List ℕ → List ℕ → Data
 plain_row kind path = table (member (codes "kind") (string kind) (member (codes "path") (string path) no_members))
 
 abbrev pub setuid_row : List ℕ → ℕ → Data
-setuid_row path owner = table (member (codes "kind") (string (codes "exe")) (member (codes "path") (string path) (member (codes "setuid") (integer (pos owner)) no_members)))
+setuid_row path owner = table
+    (member (codes "kind") (string (codes "exe"))
+    (member (codes "path") (string path) (member (codes "setuid") (integer (pos owner)) no_members)))
 
 abbrev pub dir_row : List ℕ → Data
 dir_row path = plain_row (codes "dir") path
@@ -61,7 +63,8 @@ site_rows n =
     flat_map (folder_rows n) (numbers_from 0 16)
 
 abbrev pub user_row : List ℕ → ℕ → Data
-user_row name id = table (member (codes "gid") (integer (pos id)) (member (codes "name") (string name) (member (codes "uid") (integer (pos id)) no_members)))
+user_row name id = table (member (codes "gid") (integer (pos id))
+    (member (codes "name") (string name) (member (codes "uid") (integer (pos id)) no_members)))
 
 abbrev pub group_row : List ℕ → ℕ → Data
 group_row name id = table (member (codes "gid") (integer (pos id)) (member (codes "name") (string name) no_members))

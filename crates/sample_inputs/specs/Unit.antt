@@ -33,7 +33,8 @@ folder_settings_by turn path =
 
 -- the key of a turn
 abbrev pub folder_key : ℕ → Option (List ℕ)
-folder_key turn = cond (turn == 0) (Some (codes "ReadOnlyPaths")) (cond (turn == 1) (Some (codes "InaccessiblePaths")) (cond (turn == 2) (Some (codes "NoExecPaths")) None))
+folder_key turn = cond (turn == 0) (Some (codes "ReadOnlyPaths"))
+    (cond (turn == 1) (Some (codes "InaccessiblePaths")) (cond (turn == 2) (Some (codes "NoExecPaths")) None))
 
 abbrev pub folder_settings : ℕ → ℕ → List Setting
 folder_settings n k = folder_settings_by ((k + n) % 4) (folder_path k)
@@ -57,7 +58,8 @@ unit_text n = text_of_lines (codes "[Service]" ∷ map line_of (unit_settings n)
 -- what they are read as: an assignment of each line behind the header's, and nothing to note
 abbrev pub assignments_from : ℕ → List Setting → List Assignment
 assignments_from line [] = []
-assignments_from line (setting ∷ settings) = record { section = codes "Service"; key = setting.key; value = setting.value; line = line } ∷ assignments_from (line + 1) settings
+assignments_from line (setting ∷ settings) = record { section = codes "Service"; key = setting.key; value = setting.value; line = line } ∷
+    assignments_from (line + 1) settings
 
 abbrev pub unit_said : ℕ → UnitText
 unit_said n = record { assignments = assignments_from 2 (unit_settings n); notes = [] }

@@ -12,8 +12,11 @@ use Rattle.sandbox_cli.specs.Running.{EndsWords, asked_by}
 module _ {S K : Type 0} {asks : S → ShelfCall → S → Type 0} {told : Option Files} {stored : StoredTests} {wishes : Wishes} {outside : Outside} {shelf_before shelf_after : S} {sink_before sink_after : K} {ending : Ending} {lent words : List (List ℕ)} where
   pub words_ran : lent ≡ words → DoesWhatIsAsked asks (asked_by lent told stored wishes) outside shelf_before shelf_after ending
       → EndsWords asks (asked_by words told stored wishes) outside shelf_before shelf_after sink_before sink_after ending
-  words_ran same ran = inl (subst (λ own. DoesWhatIsAsked asks (asked_by own told stored wishes) outside shelf_before shelf_after ending) same ran)
+  words_ran same ran = inl (subst (λ own. DoesWhatIsAsked asks (asked_by own told stored wishes) outside shelf_before shelf_after ending)
+      same ran)
 
-  pub words_ended : lent ≡ words → EndsWords asks (asked_by lent told stored wishes) outside shelf_before shelf_after sink_before sink_after ending
+  pub words_ended : lent ≡ words → EndsWords asks (asked_by lent told stored wishes) outside shelf_before shelf_after sink_before
+      sink_after ending
       → EndsWords asks (asked_by words told stored wishes) outside shelf_before shelf_after sink_before sink_after ending
-  words_ended same ended = subst (λ own. EndsWords asks (asked_by own told stored wishes) outside shelf_before shelf_after sink_before sink_after ending) same ended
+  words_ended same ended = subst
+      (λ own. EndsWords asks (asked_by own told stored wishes) outside shelf_before shelf_after sink_before sink_after ending) same ended

@@ -26,7 +26,8 @@ asked_by words told stored wishes = record { words = words; told = told; stored 
 -- it does what is asked; or there was no memory for as much as the words, and nothing was read or written
 abbrev pub EndsWords : {S K : Type 0} → (S → ShelfCall → S → Type 0) → Asked → Outside → S → S → K → K → Ending → Type 0
 EndsWords asks asked outside shelf_before shelf_after sink_before sink_after ending =
-    DoesWhatIsAsked asks asked outside shelf_before shelf_after ending ⊎ ((ending ≡ OutOfMemory) × (shelf_after ≡ shelf_before) × (sink_after ≡ sink_before))
+    DoesWhatIsAsked asks asked outside shelf_before shelf_after ending ⊎
+    ((ending ≡ OutOfMemory) × (shelf_after ≡ shelf_before) × (sink_after ≡ sink_before))
 
 -- the exit status is that of an ending
 abbrev pub ExitsBy : (Ending → Type 0) → ExitCode → Type 0

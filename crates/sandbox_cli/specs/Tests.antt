@@ -14,5 +14,6 @@ module _ {T : Type 0} (id_of : T → List ℕ) (range_of : T → ℕ) (may_answe
   -- how many ambient capabilities there are, of 41 at most; and how many paths are written or bound, the words in force of
   -- ReadWritePaths= and BindPaths=, of 128 at most
   abbrev pub AreProgramTests : List T → Type 0
-  AreProgramTests (one ∷ other ∷ []) = IsTest (codes "AmbientCount") 41 ambient_count one × IsTest (codes "WritablePaths") 128 writable_paths other
+  AreProgramTests (one ∷ other ∷ []) = IsTest (codes "AmbientCount") 41 ambient_count one × IsTest
+      (codes "WritablePaths") 128 writable_paths other
   AreProgramTests tests = ⊥

@@ -1,5 +1,6 @@
 -- What is ready, and the line of a refusal, are what the definitions admit.
-use Rattle.std.proofs.Common.{◌≡◌, ◌∙◌, ℕ, Bool, true, false, Option, Some, None, List, [], ◌∷◌, Result, Ok, Err, refl, sym, ap, subst, inl, inr}
+use Rattle.std.proofs.Common.{◌≡◌, ◌∙◌, ℕ, Bool, true, false, Option, Some, None, List, [], ◌∷◌, Result, Ok, Err, refl, sym, ap, subst, inl}
+use Rattle.std.proofs.Common.{inr}
 use Rattle.std.specs.Prelude.{◌⊎◌, nat_lt, IfSome, IsErrOf, IsTrue}
 use Rattle.unit_inputs.specs.host_io.Files.{Files}
 use Rattle.report_text.specs.exposure_score.Rows.{counted_weight}
@@ -39,47 +40,72 @@ module _ (told : Option Files) (unit path : List ℕ) (threshold : ℕ) (stored 
   together = go_together (score_laws unit path threshold stored) told answered
 
 -- a score ends as done, or is above the threshold
-one_of_two : (above : Bool) (score : Score) (threshold : ℕ) → nat_lt threshold score.exposure ≡ above → (ending_by score threshold ≡ Done) ⊎ (ending_by score threshold ≡ AboveThreshold)
+one_of_two : (above : Bool) (score : Score) (threshold : ℕ) → nat_lt threshold score.exposure ≡ above
+    → (ending_by score threshold ≡ Done) ⊎ (ending_by score threshold ≡ AboveThreshold)
 one_of_two true score threshold is = inr cc
 one_of_two false score threshold is = inl cc
 
 module _ (told : Option Files) (unit path : List ℕ) (threshold : ℕ) (stored : StoredTests) where
   -- something is refused before anything is weighed
-  pub stops_before_weighing : (stop : Stop) → IfSome told (λ files. Prepares (IsPrepared files unit path) (read_refusals files unit path) (Err stop)) → IsAdmitted (laws_over told (score_laws unit path threshold stored)) ending_of scored_text (Err stop)
-  stops_before_weighing stop said = stop_is_admitted (score_laws unit path threshold stored) ending_of scored_text (λ (prepared : Prepared). Unit {0}) told stop (refused told said)
+  pub stops_before_weighing : (stop : Stop)
+      → IfSome told (λ files. Prepares (IsPrepared files unit path) (read_refusals files unit path) (Err stop))
+      → IsAdmitted (laws_over told (score_laws unit path threshold stored)) ending_of scored_text (Err stop)
+  stops_before_weighing stop said = stop_is_admitted (score_laws unit path threshold stored) ending_of scored_text
+      (λ (prepared : Prepared). Unit {0}) told stop (refused told said)
     where
-      refused : (told : Option Files) → IfSome told (λ files. Prepares (IsPrepared files unit path) (read_refusals files unit path) (Err stop)) → IfSome told (λ files. Prepares (λ (prepared : Prepared). Unit {0}) (score_refusals files unit path stored) (Err stop))
+      refused : (told : Option Files)
+          → IfSome told (λ files. Prepares (IsPrepared files unit path) (read_refusals files unit path) (Err stop))
+          → IfSome told (λ files. Prepares (λ (prepared : Prepared). Unit {0}) (score_refusals files unit path stored) (Err stop))
       refused None said = tt
-      refused (Some files) said = stops_before (IsPrepared files unit path) (λ (prepared : Prepared). Unit {0}) stop (read_refusals files unit path) (refusals_by (weight_refusals files path stored) (inputs_of files unit)) said
+      refused (Some files) said = stops_before (IsPrepared files unit path) (λ (prepared : Prepared). Unit {0}) stop
+          (read_refusals files unit path) (refusals_by (weight_refusals files path stored) (inputs_of files unit)) said
 
   module _ (prepared : Prepared) (facts : Facts) (are : AreFacts (inputs_in prepared).unit (inputs_in prepared).calls prepared.unit.settings.value facts) where
     -- what the facts leave of the weights is what the table of tests leaves
     refused_as : (files : Files) → (first_refusal (read_refusals files unit path) ≡ None) × IsPrepared files unit path prepared
-        → first_refusal (score_refusals files unit path stored) ≡ first_refusal (weight_refusal path (counted_weight stored.id_of facts.tests stored.tests prepared.policy) ∷ [])
+        → first_refusal (score_refusals files unit path stored)
+        ≡ first_refusal (weight_refusal path (counted_weight stored.id_of facts.tests stored.tests prepared.policy) ∷ [])
     refused_as files is =
         refusals_with files unit (read_refusals files unit path) (weight_refusals files path stored) (inputs_in prepared) is.0 is.1.inputs
-        ∙ ap (λ (policy : Result (List PolicyTest) (List ℕ)). first_refusal (weights_in path (inputs_in prepared).calls stored policy)) is.1.policy
-        ∙ ap (λ weight. first_refusal (weight_refusal path weight ∷ [])) (sym (weighs_alike (inputs_in prepared).unit (inputs_in prepared).calls prepared.unit.settings.value facts stored prepared.policy are))
+        ∙ ap (λ (policy : Result (List PolicyTest) (List ℕ)). first_refusal (weights_in path (inputs_in prepared).calls stored policy))
+        is.1.policy
+        ∙ ap (λ weight. first_refusal (weight_refusal path weight ∷ []))
+        (sym (weighs_alike (inputs_in prepared).unit (inputs_in prepared).calls prepared.unit.settings.value facts stored
+        prepared.policy are))
 
     -- the policy weighs nothing
-    pub stops_at_weights : (P : Score → Type 0) (stop : Stop) → IfSome told (λ files. Prepares (IsPrepared files unit path) (read_refusals files unit path) (Ok prepared))
-        → Prepares P (weight_refusal path (counted_weight stored.id_of facts.tests stored.tests prepared.policy) ∷ []) (Err stop) → IsAdmitted (laws_over told (score_laws unit path threshold stored)) ending_of scored_text (Err stop)
-    stops_at_weights P stop is said = stop_is_admitted (score_laws unit path threshold stored) ending_of scored_text P told stop (refused told is)
+    pub stops_at_weights : (P : Score → Type 0) (stop : Stop)
+        → IfSome told (λ files. Prepares (IsPrepared files unit path) (read_refusals files unit path) (Ok prepared))
+        → Prepares P (weight_refusal path (counted_weight stored.id_of facts.tests stored.tests prepared.policy) ∷ []) (Err stop)
+        → IsAdmitted (laws_over told (score_laws unit path threshold stored)) ending_of scored_text (Err stop)
+    stops_at_weights P stop is said = stop_is_admitted (score_laws unit path threshold stored) ending_of scored_text P told stop
+        (refused told is)
       where
-        refused : (told : Option Files) → IfSome told (λ files. Prepares (IsPrepared files unit path) (read_refusals files unit path) (Ok prepared)) → IfSome told (λ files. Prepares P (score_refusals files unit path stored) (Err stop))
+        refused : (told : Option Files)
+            → IfSome told (λ files. Prepares (IsPrepared files unit path) (read_refusals files unit path) (Ok prepared))
+            → IfSome told (λ files. Prepares P (score_refusals files unit path stored) (Err stop))
         refused None is = tt
-        refused (Some files) is = stops_as P stop (weight_refusal path (counted_weight stored.id_of facts.tests stored.tests prepared.policy) ∷ []) (score_refusals files unit path stored) (refused_as files is) said
+        refused (Some files) is =
+            stops_as P stop (weight_refusal path (counted_weight stored.id_of facts.tests stored.tests prepared.policy) ∷ [])
+            (score_refusals files unit path stored) (refused_as files is) said
 
     -- the score is ready
-    pub ready : (score : Score) → CanBeWeighed prepared → IfSome told (λ files. Prepares (IsPrepared files unit path) (read_refusals files unit path) (Ok prepared))
-        → Prepares (IsScoreOf stored facts prepared.policy) (weight_refusal path (counted_weight stored.id_of facts.tests stored.tests prepared.policy) ∷ []) (Ok score)
-        → IsAdmitted (laws_over told (score_laws unit path threshold stored)) ending_of scored_text (Ok (record { score = score; threshold = threshold }))
+    pub ready : (score : Score) → CanBeWeighed prepared → IfSome told
+        (λ files. Prepares (IsPrepared files unit path) (read_refusals files unit path) (Ok prepared))
+        → Prepares (IsScoreOf stored facts prepared.policy)
+        (weight_refusal path (counted_weight stored.id_of facts.tests stored.tests prepared.policy) ∷ []) (Ok score)
+        → IsAdmitted (laws_over told (score_laws unit path threshold stored)) ending_of scored_text
+        (Ok (record { score = score; threshold = threshold }))
     ready score can is weighed =
-        ready_is_admitted (score_laws unit path threshold stored) ending_of scored_text told (record { score = score; threshold = threshold })
+        ready_is_admitted (score_laws unit path threshold stored) ending_of scored_text told
+        (record { score = score; threshold = threshold })
         (one_of_two (nat_lt threshold score.exposure) score threshold refl) (prints_it told is)
       where
-        prints_it : (told : Option Files) → IfSome told (λ files. Prepares (IsPrepared files unit path) (read_refusals files unit path) (Ok prepared))
-            → IfSome told (λ files. AcceptsFiles (score_laws unit path threshold stored) files × PrintsScore files unit path threshold stored (ending_of (record { score = score; threshold = threshold })) (scored_text (record { score = score; threshold = threshold })))
+        prints_it : (told : Option Files)
+            → IfSome told (λ files. Prepares (IsPrepared files unit path) (read_refusals files unit path) (Ok prepared))
+            → IfSome told (λ files. AcceptsFiles (score_laws unit path threshold stored) files × PrintsScore files unit path threshold
+            stored (ending_of (record { score = score; threshold = threshold }))
+            (scored_text (record { score = score; threshold = threshold })))
         prints_it None is = tt
         prints_it (Some files) is = (
           refused_as files is ∙ weighed.0,

@@ -24,16 +24,20 @@ use Rattle.score_command.specs.Prepared.{CanBeWeighed, IsPrepared}
 use Rattle.score_command.specs.Refusals.{read_refusals, refusals_behind}
 
 -- an input is refused
-pub stops_at_inputs : (P : UnitInputs → Type 0) (told : Option Files) (unit path : List ℕ) (stop : Stop) → IfSome told (λ files. Prepares P (input_refusals files unit) (Err stop)) → IfSome told (λ files. Prepares (IsPrepared files unit path) (read_refusals files unit path) (Err stop))
+pub stops_at_inputs : (P : UnitInputs → Type 0) (told : Option Files) (unit path : List ℕ) (stop : Stop)
+    → IfSome told (λ files. Prepares P (input_refusals files unit) (Err stop))
+    → IfSome told (λ files. Prepares (IsPrepared files unit path) (read_refusals files unit path) (Err stop))
 stops_at_inputs P told unit path stop said =
-    steps.stops_at_inputs (λ files. P) (λ files. IsPrepared files unit path) told unit (λ files. refusals_by (refusals_behind files unit path) (inputs_of files unit)) stop said
+    steps.stops_at_inputs (λ files. P) (λ files. IsPrepared files unit path) told unit
+    (λ files. refusals_by (refusals_behind files unit path) (inputs_of files unit)) stop said
 
 -- behind inputs that are read
 module _ (files : Files) (unit path : List ℕ) (inputs : UnitInputs) (read : AreRead files unit inputs) where
   behind_inputs : first_refusal (read_refusals files unit path) ≡ first_refusal (refusals_behind files unit path (inputs_view inputs))
   behind_inputs = refusals_with files unit (input_refusals files unit) (refusals_behind files unit path) (inputs_view inputs) read.0 read.1
 
-  behind_policy : (policy : List PolicyTest) → policy_in files path ≡ Ok policy → first_refusal (read_refusals files unit path) ≡ first_refusal (refusals_of unit (inputs_view inputs))
+  behind_policy : (policy : List PolicyTest) → policy_in files path ≡ Ok policy
+      → first_refusal (read_refusals files unit path) ≡ first_refusal (refusals_of unit (inputs_view inputs))
   behind_policy policy is = behind_inputs ∙ passes (policy_in files path) policy (refusals_of unit (inputs_view inputs)) is
 
 -- the policy is refused
@@ -45,8 +49,10 @@ stops_at_policy None now unit path inputs stop same read said = tt
 stops_at_policy (Some files) now unit path inputs stop same read said =
     let refused : IsAnswer {T = List PolicyTest} (λ policy. policy) (Err stop) (policy_in files path) =
     subst (λ own. IfSome own (λ files. IsAnswer {T = List PolicyTest} (λ policy. policy) (Err stop) (policy_in files path))) same said in
-    stops_as (IsPrepared files unit path) stop (refusals_behind files unit path (inputs_view inputs)) (read_refusals files unit path) (behind_inputs files unit path inputs read)
-    (stops (λ (policy : List PolicyTest). policy) (IsPrepared files unit path) (policy_in files path) stop (refusals_of unit (inputs_view inputs)) refused)
+    stops_as (IsPrepared files unit path) stop (refusals_behind files unit path (inputs_view inputs)) (read_refusals files unit path)
+    (behind_inputs files unit path inputs read)
+    (stops (λ (policy : List PolicyTest). policy) (IsPrepared files unit path) (policy_in files path) stop
+    (refusals_of unit (inputs_view inputs)) refused)
 
 -- the policy that was read
 abbrev pub IsPolicyOf : Option Files → List ℕ → List PolicyTest → Type 0
@@ -59,26 +65,31 @@ policy_is (Some files) now path policy same said =
     subst (λ own. IfSome own (λ files. IsAnswer (λ (policy : List PolicyTest). policy) (Ok policy) (policy_in files path))) same said
 
 -- what stops rests on no value
-as_prepared : {T U : Type 0} (Q : U → Type 0) (refusals : List (Option (List ℕ))) (P : T → Type 0) (why : Stop) → Prepares P refusals (Err why) → Prepares Q refusals (Err why)
+as_prepared : {T U : Type 0} (Q : U → Type 0) (refusals : List (Option (List ℕ))) (P : T → Type 0) (why : Stop)
+    → Prepares P refusals (Err why) → Prepares Q refusals (Err why)
 as_prepared Q refusals P (stop.Refused line) said = said
 as_prepared Q refusals P stop.ReadFault said = tt
 as_prepared Q refusals P stop.Memory said = tt
 
 -- a setting is refused
-pub stops_at_settings : (P : SettledUnit → Type 0) (told : Option Files) (unit path : List ℕ) (inputs : UnitInputs) (policy : List PolicyTest) (why : Stop)
+pub stops_at_settings : (P : SettledUnit → Type 0) (told : Option Files) (unit path : List ℕ) (inputs : UnitInputs)
+    (policy : List PolicyTest) (why : Stop)
     → IfSome told (λ files. AreRead files unit inputs) → IsPolicyOf told path policy
     → Prepares P (refusals_of unit (inputs_view inputs)) (Err why)
     → IfSome told (λ files. Prepares (IsPrepared files unit path) (read_refusals files unit path) (Err why))
 stops_at_settings P None unit path inputs policy why read is said = tt
 stops_at_settings P (Some files) unit path inputs policy why read is said =
     stops_as (IsPrepared files unit path) why (refusals_of unit (inputs_view inputs)) (read_refusals files unit path)
-    (behind_policy files unit path inputs read policy is) (as_prepared (IsPrepared files unit path) (refusals_of unit (inputs_view inputs)) P why said)
+    (behind_policy files unit path inputs read policy is)
+    (as_prepared (IsPrepared files unit path) (refusals_of unit (inputs_view inputs)) P why said)
 
 -- nothing is refused
-pub is_prepared : (told : Option Files) (unit path : List ℕ) (inputs : UnitInputs) (policy : List PolicyTest) (one : SettledUnit) → one.inputs ≡ inputs
+pub is_prepared : (told : Option Files) (unit path : List ℕ) (inputs : UnitInputs) (policy : List PolicyTest) (one : SettledUnit)
+    → one.inputs ≡ inputs
     → first_refusal (refusals_of unit (inputs_view inputs)) ≡ None
     → IfSome told (λ files. AreRead files unit inputs) → IsPolicyOf told path policy
-    → IfSome told (λ files. Prepares (IsPrepared files unit path) (read_refusals files unit path) (Ok (record { unit = one; policy = policy })))
+    → IfSome told (λ files. Prepares (IsPrepared files unit path) (read_refusals files unit path)
+    (Ok (record { unit = one; policy = policy })))
 is_prepared None unit path inputs policy one same none read is = tt
 is_prepared (Some files) unit path inputs policy one same none read is = (
   behind_policy files unit path inputs read policy is ∙ none,
@@ -86,12 +97,14 @@ is_prepared (Some files) unit path inputs policy one same none read is = (
 )
 
 -- what is not refused is not there
-not_refused : (unit : List ℕ) (refusal : Option SettingsError) → first_refusal (option_map (settings_line unit) refusal ∷ []) ≡ None → refusal ≡ None
+not_refused : (unit : List ℕ) (refusal : Option SettingsError) → first_refusal (option_map (settings_line unit) refusal ∷ []) ≡ None
+    → refusal ≡ None
 not_refused unit None none = refl
 not_refused unit (Some error) none = cc
 
 -- what is prepared can be weighed
-pub can_weigh : (unit : List ℕ) (inputs : UnitInputs) (policy : List PolicyTest) (one : SettledUnit) → one.inputs ≡ inputs → AreSettled (inputs_view inputs) one.settings.value
+pub can_weigh : (unit : List ℕ) (inputs : UnitInputs) (policy : List PolicyTest) (one : SettledUnit) → one.inputs ≡ inputs
+    → AreSettled (inputs_view inputs) one.settings.value
     → first_refusal (refusals_of unit (inputs_view inputs)) ≡ None → CanBeWeighed (record { unit = one; policy = policy })
 can_weigh unit inputs policy one same settled none = record {
   settled = subst (λ own. AreSettled (inputs_view own) one.settings.value) (sym same) settled;

@@ -27,4 +27,5 @@ abbrev pub weight_refusals : Files → List ℕ → StoredTests → Inputs → L
 weight_refusals files path stored inputs = weights_in path inputs.calls stored (policy_in files path)
 
 abbrev pub score_refusals : Files → List ℕ → List ℕ → StoredTests → List (Option (List ℕ))
-score_refusals files unit path stored = read_refusals files unit path ++ refusals_by (weight_refusals files path stored) (inputs_of files unit)
+score_refusals files unit path stored = read_refusals files unit path ++ refusals_by (weight_refusals files path stored)
+    (inputs_of files unit)

@@ -1,5 +1,6 @@
 -- Words of either ABI, and what a table says of the calls of each.
-use Rattle.std.proofs.Common.{◌≡◌, ℕ, zero, suc, ◌+◌, false, List, [], ◌∷◌, ◌++◌, length, get_or, Option, Some, None, IfSome, IsSome, refl, sym, ap, ◌∙◌, arith, eq-eqb, length-append}
+use Rattle.std.proofs.Common.{◌≡◌, ℕ, zero, suc, ◌+◌, false, List, [], ◌∷◌, ◌++◌, length, get_or, Option, Some, None, IfSome, IsSome, refl}
+use Rattle.std.proofs.Common.{sym, ap, ◌∙◌, arith, eq-eqb, length-append}
 use Rattle.std.specs.Prelude.{◌==◌, option_and_then, slice_get}
 use Rattle.std.specs.Option.{option_map_or, option_to_list}
 use Rattle.std.proofs.lemmas.Bool.{false≢true}
@@ -20,18 +21,21 @@ lacks mark word h i small e =
     absurd (false≢true (sym (All-from_recursion (λ byte. (byte == mark) ≡ false) word h i 0 small) ∙ eq-eqb (get_or word i 0) mark e))
 
 -- a word of an ABI names what it names among the calls of that ABI
-pub names_there : (table : Table) (abi : ℕ) (word : List ℕ) (named : Named) → HasOtherName table → IsSome (abi_at table abi) → HasNo 58 word → named_in table abi word ≡ Some named → named_call table (spelling table abi word) ≡ Some named
+pub names_there : (table : Table) (abi : ℕ) (word : List ℕ) (named : Named) → HasOtherName table → IsSome (abi_at table abi)
+    → HasNo 58 word → named_in table abi word ≡ Some named → named_call table (spelling table abi word) ≡ Some named
 unfolding named_call
 names_there table abi word named other there h e = by (abi_at table abi) refl there
   where
     by : (o : Option Abi) → abi_at table abi ≡ o → IsSome o → named_call table (spelling table abi word) ≡ Some named
     by None at none = absurd (false≢true none)
-    by (Some found) at some = ap (option_and_then (λ call. named_in table call.0 call.1)) (read_back table other abi found word at (lacks 58 word h)) ∙ e
+    by (Some found) at some = ap (option_and_then (λ call. named_in table call.0 call.1))
+        (read_back table other abi found word at (lacks 58 word h)) ∙ e
 
 longer : (front word : List ℕ) → (length word == 0) ≡ false → (length (front ++ word) == 0) ≡ false
 longer front word h = let long : length (front ++ word) ≡ length front + length word = length-append front word in grind (arith, nat_tests, long, h)
 
-pub spelling_shown : (table : Table) (abi : ℕ) (word : List ℕ) → IfSome table.second (λ second. IsWord second.name) → IsWord word → IsWord (spelling table abi word)
+pub spelling_shown : (table : Table) (abi : ℕ) (word : List ℕ) → IfSome table.second (λ second. IsWord second.name) → IsWord word
+    → IsWord (spelling table abi word)
 spelling_shown table zero word second w = w
 spelling_shown table (suc abi) word second w = by table.second second
   where
@@ -52,7 +56,8 @@ pub each_once : (table : Table) → IsTable table → (abi : ℕ) → AreOnce (c
 each_once table is zero = is.calls.once
 each_once table is (suc abi) = by table.second abi is.second
   where
-    by : (o : Option Abi) (abi : ℕ) → IfSome o (IsSecond table) → AreOnce (option_map_or (λ found. found.calls) (slice_get (option_to_list o) abi) [])
+    by : (o : Option Abi) (abi : ℕ) → IfSome o (IsSecond table)
+        → AreOnce (option_map_or (λ found. found.calls) (slice_get (option_to_list o) abi) [])
     by None abi h = none_once
     by (Some second) zero h = h.calls.once
     by (Some second) (suc abi) h = none_once

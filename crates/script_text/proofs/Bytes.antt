@@ -17,11 +17,13 @@ no_text table bytes = by (is_text bytes)
     by true h = absurd (none-some bytes h)
     by false h = refl
 
-pub of_text : (table : Table) (bytes text : List ℕ) (lines : List Line) (result : Result (List Call) ScriptError) → Some text ≡ text_of bytes → lines ≡ lines_of text
+pub of_text : (table : Table) (bytes text : List ℕ) (lines : List Line) (result : Result (List Call) ScriptError)
+    → Some text ≡ text_of bytes → lines ≡ lines_of text
     → ReadsScript (script_of_lines table lines) result → ReadsScript (script_of table bytes) result
 unfolding script_of text_of
 of_text table bytes text lines result told e h = by (is_text bytes) told
   where
-    by : (b : Bool) → Some text ≡ cond b (Some bytes) None → ReadsScript (cond b (script_of_lines table (lines_of bytes)) (Err NotText)) result
+    by : (b : Bool) → Some text ≡ cond b (Some bytes) None → ReadsScript
+        (cond b (script_of_lines table (lines_of bytes)) (Err NotText)) result
     by true t = subst (λ (ls : List Line). ReadsScript (script_of_lines table ls) result) (e ∙ ap lines_of (same_Some text bytes t)) h
     by false t = absurd (none-some text (sym t))

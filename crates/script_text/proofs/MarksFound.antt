@@ -23,7 +23,8 @@ none_behind mark (byte ∷ rest) h =
 pub behind_mark : (mark : ℕ) (rest : List ℕ) → behind mark (mark ∷ rest) ≡ Some rest
 behind_mark mark rest = ap (λ b. cond b (Some rest) None) (same_itself mark)
 
-pub behind_known : (mark : ℕ) (word : List ℕ) (r : Option (Bor (List ℕ))) → MatchOption r ((rest : List ℕ) → word ≢ mark ∷ rest) (λ x. word ≡ mark ∷ x.now) → option_map (λ x. x.now) r ≡ behind mark word
+pub behind_known : (mark : ℕ) (word : List ℕ) (r : Option (Bor (List ℕ)))
+    → MatchOption r ((rest : List ℕ) → word ≢ mark ∷ rest) (λ x. word ≡ mark ∷ x.now) → option_map (λ x. x.now) r ≡ behind mark word
 behind_known mark word None h = sym (none_behind mark word h)
 behind_known mark word (Some x) h = sym (ap (behind mark) h ∙ behind_mark mark x.now)
 
@@ -37,9 +38,12 @@ none_before mark [] h = refl
 none_before mark (byte ∷ []) h =
     elim (eqb byte mark) as (λ v. eqb byte mark ≡ v → cond {A = Option (List ℕ)} v (Some []) None ≡ None)
     [ true ↦ λ e. absurd (h [] (ap (λ b. b ∷ []) (same_number byte mark e))) | false ↦ λ e. refl ] refl
-none_before mark (byte ∷ other ∷ rest) h = ap (with_byte byte) (none_before mark (other ∷ rest) (λ front e. h (byte ∷ front) (ap (λ bs. byte ∷ bs) e)))
+none_before mark (byte ∷ other ∷ rest) h = ap (with_byte byte)
+    (none_before mark (other ∷ rest) (λ front e. h (byte ∷ front) (ap (λ bs. byte ∷ bs) e)))
 
-pub before_known : (mark : ℕ) (word : List ℕ) (r : Option (Bor (List ℕ))) → MatchOption r ((front : List ℕ) → word ≢ front ++ mark ∷ []) (λ x. word ≡ x.now ++ mark ∷ []) → option_map (λ x. x.now) r ≡ before mark word
+pub before_known : (mark : ℕ) (word : List ℕ) (r : Option (Bor (List ℕ)))
+    → MatchOption r ((front : List ℕ) → word ≢ front ++ mark ∷ []) (λ x. word ≡ x.now ++ mark ∷ [])
+    → option_map (λ x. x.now) r ≡ before mark word
 before_known mark word None h = sym (none_before mark word h)
 before_known mark word (Some x) h = sym (ap (before mark) h ∙ before_mark mark x.now)
 

@@ -1,5 +1,6 @@
 -- Numbers that are printed, read again.
-use Rattle.std.proofs.Common.{◌≡◌, ℕ, ◌<◌, ◌≤◌, ◌^◌, Bool, true, false, cond, List, [], ◌∷◌, length, map, Some, None, refl, ap, ◌∙◌, arith, decimal}
+use Rattle.std.proofs.Common.{◌≡◌, ℕ, ◌<◌, ◌≤◌, ◌^◌, Bool, true, false, cond, List, [], ◌∷◌, length, map, Some, None, refl, ap, ◌∙◌, arith}
+use Rattle.std.proofs.Common.{decimal}
 use Rattle.std.specs.Prelude.{◌==◌, nat_lt, nat_le, option_and_then}
 use Rattle.std.specs.Char.{digit_value}
 use Rattle.std.specs.List.{AllByRecursion}
@@ -46,7 +47,8 @@ pub pid_again : (pid : ℕ) → 1 ≤ pid → pid < 2 ^ 32 → pid_of (decimal p
 unfolding pid_of
 pid_again pid some small =
     ap (λ o. option_and_then some_pid o) (decimal_again pid (omega (arith, small)))
-    ∙ ap (λ b. cond b (Some pid) None) (and_from (nat_lt 0 pid) (nat_lt pid (2 ^ 32)) (grind (arith, nat_tests, some)) (grind (arith, nat_tests, small)))
+    ∙ ap (λ b. cond b (Some pid) None)
+    (and_from (nat_lt 0 pid) (nat_lt pid (2 ^ 32)) (grind (arith, nat_tests, some)) (grind (arith, nat_tests, small)))
 
 pub number_again : (number : ℕ) → number < 2 ^ 32 → number_of (decimal number) ≡ Some number
 unfolding number_of
@@ -63,9 +65,11 @@ set_again set small =
 numbers_again : (numbers : List ℕ) → AllByRecursion (λ number. number < 2 ^ 64) numbers → numbers_of (map decimal numbers) ≡ Some numbers
 numbers_again [] h = refl
 numbers_again (number ∷ numbers) h =
-    ap (λ o. option_and_then (λ first. with_front first (numbers_of (map decimal numbers))) o) (decimal_read number h.0) ∙ ap (with_front number) (numbers_again numbers h.1)
+    ap (λ o. option_and_then (λ first. with_front first (numbers_of (map decimal numbers))) o) (decimal_read number h.0)
+    ∙ ap (with_front number) (numbers_again numbers h.1)
 
-pub arguments_again : (args : List ℕ) → AllByRecursion (λ arg. arg < 2 ^ 64) args → numbers_of (argument_words args) ≡ Some (without_last_zeros args)
+pub arguments_again : (args : List ℕ) → AllByRecursion (λ arg. arg < 2 ^ 64) args
+    → numbers_of (argument_words args) ≡ Some (without_last_zeros args)
 arguments_again args h = numbers_again (without_last_zeros args) (zeros_of (λ arg. arg < 2 ^ 64) args h)
 
 pub arguments_shown : (args : List ℕ) → AllByRecursion (λ arg. arg < 2 ^ 64) args → AllByRecursion IsWord (argument_words args)
@@ -89,7 +93,8 @@ pub six_again : (args : List ℕ) → length args ≡ 6 → six_words (without_l
 six_again args h =
     ap6 (same_word args 0) (same_word args 1) (same_word args 2) (same_word args 3) (same_word args 4) (same_word args 5) ∙ six_of args h
   where
-    ap6 : {a b c d e f a' b' c' d' e' f' : ℕ} → a ≡ a' → b ≡ b' → c ≡ c' → d ≡ d' → e ≡ e' → f ≡ f' → ◌≡◌ {A = List ℕ} (a ∷ b ∷ c ∷ d ∷ e ∷ f ∷ []) (a' ∷ b' ∷ c' ∷ d' ∷ e' ∷ f' ∷ [])
+    ap6 : {a b c d e f a' b' c' d' e' f' : ℕ} → a ≡ a' → b ≡ b' → c ≡ c' → d ≡ d' → e ≡ e' → f ≡ f'
+        → ◌≡◌ {A = List ℕ} (a ∷ b ∷ c ∷ d ∷ e ∷ f ∷ []) (a' ∷ b' ∷ c' ∷ d' ∷ e' ∷ f' ∷ [])
     ap6 p q r s t u = cc
 
 pub six_at_most : (args : List ℕ) → length args ≡ 6 → nat_le (length (without_last_zeros args)) 6 ≡ true

@@ -1,5 +1,6 @@
 -- Payloads that are printed, read again.
-use Rattle.std.proofs.Common.{◌≡◌, ℕ, zero, suc, ◌*◌, ◌/◌, ◌%◌, ◌<◌, ◌^◌, Bool, true, false, cond, List, [], ◌∷◌, ◌++◌, length, map, slice_index, Some, None, refl, sym, ap, ◌∙◌, arith, decimal, append-nil}
+use Rattle.std.proofs.Common.{◌≡◌, ℕ, zero, suc, ◌*◌, ◌/◌, ◌%◌, ◌<◌, ◌^◌, Bool, true, false, cond, List, [], ◌∷◌, ◌++◌, length, map}
+use Rattle.std.proofs.Common.{slice_index, Some, None, refl, sym, ap, ◌∙◌, arith, decimal, append-nil}
 use Rattle.std.specs.Prelude.{◌==◌, ◌&&◌, not, is_none, codes, option_and_then}
 use Rattle.std.specs.Option.{option_map}
 use Rattle.std.specs.Result.{result_ok}
@@ -24,7 +25,8 @@ use Rattle.kernel_model.proofs.TextForms.Escapes.{escaped_read, no_white}
 use Rattle.script_text.specs.Escapes.{text_only, escaped_text}
 use Rattle.script_text.specs.Marks.{before, between_commas}
 use Rattle.script_text.specs.Numbers.{all_read, with_front}
-use Rattle.script_text.specs.Payloads.{faultless_path, path_of, set_of, ids_of, is_code, code_of, with_words, two_paths, three_sets, payload_of}
+use Rattle.script_text.specs.Payloads.{faultless_path, path_of, set_of, ids_of, is_code, code_of, with_words, two_paths, three_sets}
+use Rattle.script_text.specs.Payloads.{payload_of}
 use Rattle.script_text.specs.Printed.{has_form, each_number, with_commas, ids_word, code_word, payload_words}
 use Rattle.script_text.specs.PrintedAgain.{HasTexts, IsText, IsWord}
 use Rattle.script_text.proofs.MarksFound.{behind_mark, before_mark}
@@ -40,25 +42,32 @@ path_again path p text =
     ∙ ap (λ o. cond (is_none o) (Some (parts_of (text_of path))) None) (text_no_fault path p.normal p.short)
     ∙ ap Some (text_parts path p.normal)
 
-paths_again : (source target : Path) → IsPath source × IsPath target → IsText (text_of source) × IsText (text_of target) → two_paths (escaped_word (text_of source)) (escaped_word (text_of target)) ≡ Some (TwoPaths source target)
+paths_again : (source target : Path) → IsPath source × IsPath target → IsText (text_of source) × IsText (text_of target)
+    → two_paths (escaped_word (text_of source)) (escaped_word (text_of target)) ≡ Some (TwoPaths source target)
 paths_again source target p utf8 =
-    ap (λ o. option_and_then (λ from. option_map (λ to. TwoPaths from to) o) (path_of (escaped_word (text_of source)))) (path_again target p.1 utf8.1)
+    ap (λ o. option_and_then (λ from. option_map (λ to. TwoPaths from to) o) (path_of (escaped_word (text_of source))))
+    (path_again target p.1 utf8.1)
     ∙ ap (λ o. option_and_then (λ from. Some (TwoPaths from target)) o) (path_again source p.0 utf8.0)
 
 -- sets
-sets_again : (permitted effective inheritable : ℕ) → (permitted < 2 ^ 41) × (effective < 2 ^ 41) × (inheritable < 2 ^ 41) → three_sets (decimal permitted) (decimal effective) (decimal inheritable) ≡ Some (Sets permitted effective inheritable)
+sets_again : (permitted effective inheritable : ℕ) → (permitted < 2 ^ 41) × (effective < 2 ^ 41) × (inheritable < 2 ^ 41)
+    → three_sets (decimal permitted) (decimal effective) (decimal inheritable) ≡ Some (Sets permitted effective inheritable)
 sets_again permitted effective inheritable f =
-    ap (λ o. option_and_then (λ p. option_and_then (λ e. option_map (λ i. Sets p e i) o) (set_of (decimal effective))) (set_of (decimal permitted))) (set_again inheritable f.2)
-    ∙ ap (λ o. option_and_then (λ p. option_and_then (λ e. Some (Sets p e inheritable)) o) (set_of (decimal permitted))) (set_again effective f.1)
+    ap (λ o. option_and_then (λ p. option_and_then (λ e. option_map (λ i. Sets p e i) o) (set_of (decimal effective)))
+    (set_of (decimal permitted))) (set_again inheritable f.2)
+    ∙ ap (λ o. option_and_then (λ p. option_and_then (λ e. Some (Sets p e inheritable)) o) (set_of (decimal permitted)))
+    (set_again effective f.1)
     ∙ ap (λ o. option_and_then (λ p. Some (Sets p effective inheritable)) o) (set_again permitted f.0)
 
 -- ids
 each_id : (ids : List ℕ) → AllByRecursion (λ id. id < 2 ^ 32) ids → all_read number_of (map decimal ids) ≡ Some ids
 each_id [] h = refl
 each_id (id ∷ ids) h =
-    ap (λ o. option_and_then (λ first. with_front first (all_read number_of (map decimal ids))) o) (number_again id h.0) ∙ ap (with_front id) (each_id ids h.1)
+    ap (λ o. option_and_then (λ first. with_front first (all_read number_of (map decimal ids))) o) (number_again id h.0)
+    ∙ ap (with_front id) (each_id ids h.1)
 
-cut : (id : ℕ) (ids : List ℕ) → AllByRecursion (λ id. id < 2 ^ 32) (id ∷ ids) → slice_split (λ byte. byte == 44) (decimal id ++ each_number (codes ",") ids) ≡ map decimal (id ∷ ids)
+cut : (id : ℕ) (ids : List ℕ) → AllByRecursion (λ id. id < 2 ^ 32) (id ∷ ids)
+    → slice_split (λ byte. byte == 44) (decimal id ++ each_number (codes ",") ids) ≡ map decimal (id ∷ ids)
 cut id [] h =
     ap (slice_split (λ byte. byte == 44)) (append-nil (decimal id))
     ∙ slice_split_none (λ byte. byte == 44) (decimal id) (All-from_recursion (λ byte. (byte == 44) ≡ false) (decimal id) (number_has_no 44 id (omega arith) (let small : id < 2 ^ 32 = h.0 in omega (arith, small))))
@@ -84,7 +93,8 @@ commas_again (id ∷ ids) h =
 ids_again : (ids : List ℕ) → AllByRecursion (λ id. id < 2 ^ 32) ids → ids_of (ids_word ids) ≡ Some ids
 unfolding ids_of
 ids_again ids h =
-    ap (λ o. option_and_then (λ text. all_read number_of (between_commas text)) (option_and_then (before 93) o)) (behind_mark 91 (with_commas ids ++ 93 ∷ []))
+    ap (λ o. option_and_then (λ text. all_read number_of (between_commas text)) (option_and_then (before 93) o))
+    (behind_mark 91 (with_commas ids ++ 93 ∷ []))
     ∙ ap (λ o. option_and_then (λ text. all_read number_of (between_commas text)) o) (before_mark 93 (with_commas ids)) ∙ commas_again ids h
 
 -- programs
@@ -97,7 +107,8 @@ lower : (digit : ℕ) → digit < 16 → is_lower_hex (slice_index lower_digits 
 lower digit small = all digit 0 (omega (arith, small))
   where
     all : All (λ byte. is_lower_hex byte ≡ true) lower_digits
-    all = All-from_recursion (λ byte. is_lower_hex byte ≡ true) lower_digits (refl, (refl, (refl, (refl, (refl, (refl, (refl, (refl, (refl, (refl, (refl, (refl, (refl, (refl, (refl, (refl, tt))))))))))))))))
+    all = All-from_recursion (λ byte. is_lower_hex byte ≡ true) lower_digits
+        (refl, (refl, (refl, (refl, (refl, (refl, (refl, (refl, (refl, (refl, (refl, (refl, (refl, (refl, (refl, (refl, tt))))))))))))))))
 
 all_lower : (bytes : List ℕ) → AllByRecursion (λ byte. byte < 2 ^ 8) bytes → list_all is_lower_hex (encode_lower bytes) ≡ true
 unfolding encode_with
@@ -123,21 +134,27 @@ two_digits_are_no_dash (a ∷ b ∷ word) n h = by (a == 45)
     by true = refl
     by false = refl
 
-code_again : (bytes : List ℕ) → AllByRecursion (λ byte. byte < 2 ^ 8) bytes → (length bytes % 8 == 0) ≡ true → code_of (code_word bytes) ≡ Some bytes
+code_again : (bytes : List ℕ) → AllByRecursion (λ byte. byte < 2 ^ 8) bytes → (length bytes % 8 == 0) ≡ true
+    → code_of (code_word bytes) ≡ Some bytes
 unfolding code_of
 code_again [] h whole = refl
 code_again (byte ∷ bytes) h whole =
     let word = encode_lower (byte ∷ bytes) in
     let is : is_code word ≡ true = and_from _ _ (ap not (no_dash bytes byte)) (and_from _ _ (whole_lines (byte ∷ bytes) whole) (all_lower (byte ∷ bytes) h)) in
-    ap (λ b. cond b (Some []) (cond (is_code word) (result_ok (decode_of word)) None)) (two_digits_are_no_dash word (length (byte ∷ bytes)) (length-encode_with lower_digits (byte ∷ bytes)))
-    ∙ ap (λ b. cond b (result_ok (decode_of word)) None) is ∙ ap result_ok (decode_of-encode_lower (byte ∷ bytes) (are_bytes (byte ∷ bytes) h))
+    ap (λ b. cond b (Some []) (cond (is_code word) (result_ok (decode_of word)) None))
+    (two_digits_are_no_dash word (length (byte ∷ bytes)) (length-encode_with lower_digits (byte ∷ bytes)))
+    ∙ ap (λ b. cond b (result_ok (decode_of word)) None) is ∙ ap result_ok
+    (decode_of-encode_lower (byte ∷ bytes) (are_bytes (byte ∷ bytes) h))
 
 -- a payload of the form is taken back, with what stands behind it
-pub payload_again : (form' : PayloadForm) (payload : Payload) (rest : List (List ℕ)) → has_form form' payload ≡ true → FitsPayload payload → HasTexts payload → payload_of form' (payload_words payload ++ rest) ≡ Some (payload, rest)
+pub payload_again : (form' : PayloadForm) (payload : Payload) (rest : List (List ℕ)) → has_form form' payload ≡ true → FitsPayload payload
+    → HasTexts payload → payload_of form' (payload_words payload ++ rest) ≡ Some (payload, rest)
 payload_again form.Nothing Nothing rest h fits texts = refl
 payload_again form.OnePath (OnePath path) rest h fits texts = ap (option_map (λ path. (OnePath path, rest))) (path_again path fits texts)
-payload_again form.TwoPaths (TwoPaths source target) rest h fits texts = ap (option_map (with_words rest)) (paths_again source target fits texts)
-payload_again form.Sets (Sets permitted effective inheritable) rest h fits texts = ap (option_map (with_words rest)) (sets_again permitted effective inheritable fits)
+payload_again form.TwoPaths (TwoPaths source target) rest h fits texts =
+    ap (option_map (with_words rest)) (paths_again source target fits texts)
+payload_again form.Sets (Sets permitted effective inheritable) rest h fits texts =
+    ap (option_map (with_words rest)) (sets_again permitted effective inheritable fits)
 payload_again form.Ids (Ids ids) rest h fits texts = ap (option_map (λ ids. (Ids ids, rest))) (ids_again ids fits)
 payload_again form.Family (Family family) rest h fits texts = ap (option_map (λ family. (Family family, rest))) (number_again family fits)
 payload_again form.Program (Code bytes) rest h fits texts = ap (option_map (λ bytes. (Code bytes, rest))) (code_again bytes fits h)
@@ -155,7 +172,8 @@ some_byte byte rest = by (is_coded byte)
 escaped_shown : (path : Path) → IsWord (escaped_word (text_of path))
 escaped_shown path = record {
   some = some (text_of path) (some_path path);
-  plain = plain (escaped_word (text_of path)) (recursion_from_All (λ byte. 32 < byte) (escaped_word (text_of path)) (no_white (text_of path)));
+  plain = plain (escaped_word (text_of path))
+      (recursion_from_All (λ byte. 32 < byte) (escaped_word (text_of path)) (no_white (text_of path)));
 }
   where
     some_path : (path : Path) → (length (text_of path) == 0) ≡ false
@@ -194,7 +212,8 @@ lower_plain (byte ∷ word) h = (other byte (and_parts (is_lower_hex byte) (list
 
 code_shown : (bytes : List ℕ) → AllByRecursion (λ byte. byte < 2 ^ 8) bytes → IsWord (code_word bytes)
 code_shown [] h = record { some = refl; plain = (refl, tt) }
-code_shown (byte ∷ bytes) h = record { some = no_dash bytes byte; plain = lower_plain (encode_lower (byte ∷ bytes)) (all_lower (byte ∷ bytes) h) }
+code_shown (byte ∷ bytes) h =
+    record { some = no_dash bytes byte; plain = lower_plain (encode_lower (byte ∷ bytes)) (all_lower (byte ∷ bytes) h) }
 
 ids_shown : (ids : List ℕ) → AllByRecursion (λ id. id < 2 ^ 32) ids → IsWord (ids_word ids)
 ids_shown ids h = record {
@@ -206,7 +225,8 @@ pub payload_shown : (payload : Payload) → FitsPayload payload → AllByRecursi
 payload_shown Nothing h = tt
 payload_shown (OnePath path) h = (escaped_shown path, tt)
 payload_shown (TwoPaths source target) h = (escaped_shown source, (escaped_shown target, tt))
-payload_shown (Sets permitted effective inheritable) h = (small_set permitted h.0, (small_set effective h.1, (small_set inheritable h.2, tt)))
+payload_shown (Sets permitted effective inheritable) h =
+    (small_set permitted h.0, (small_set effective h.1, (small_set inheritable h.2, tt)))
 payload_shown (Ids ids) h = (ids_shown ids h, tt)
 payload_shown (Family family) h = (number_shown family (let small : family < 2 ^ 32 = h in omega (arith, small)), tt)
 payload_shown (Code bytes) h = (code_shown bytes h, tt)

@@ -1,5 +1,6 @@
 -- The calls of a table that was read have names of the letters of names, and the name of its second ABI is a word.
-use Rattle.std.proofs.Common.{◌≡◌, ℕ, zero, suc, Bool, true, false, cond, List, [], ◌∷◌, Option, Some, None, IfSome, Ok, refl, sym, ap, ◌∙◌, subst, codes}
+use Rattle.std.proofs.Common.{◌≡◌, ℕ, zero, suc, Bool, true, false, cond, List, [], ◌∷◌, Option, Some, None, IfSome, Ok, refl, sym, ap, ◌∙◌}
+use Rattle.std.proofs.Common.{subst, codes}
 use Rattle.std.specs.Prelude.{◌==◌, not, length, slice_get, option_and_then}
 use Rattle.std.specs.Option.{option_map, option_map_or, option_or, option_to_list}
 use Rattle.std.specs.List.{AllByRecursion, cons_option, filter, filter_map, onto_first, slice_split}
@@ -7,7 +8,8 @@ use Rattle.std.proofs.lemmas.List.Splits.{slice_split-cons_yes, slice_split-cons
 use Rattle.std.specs.Str.{bytes_eq}
 use Rattle.kernel_model.specs.text_forms.line_text.Lines.{Line, words_of}
 use Rattle.kernel_model.proofs.CallTable.Meant.{meaning}
-use Rattle.kernel_model.specs.call_table.Kinds.{Entry, Kind, abi, call, family, group, malformed, abi_line, entry_of, call_line, family_line, named_group, group_line, kind_of}
+use Rattle.kernel_model.specs.call_table.Kinds.{Entry, Kind, abi, call, family, group, malformed, abi_line, entry_of, call_line}
+use Rattle.kernel_model.specs.call_table.Kinds.{family_line, named_group, group_line, kind_of}
 use Rattle.kernel_model.specs.call_table.Names.{is_name, behind_at}
 use Rattle.kernel_model.specs.call_table.Numbers.{cap_of, number_of}
 use Rattle.kernel_model.specs.call_table.Reading.{line_kind, call_of, calls_of, native_lines, opened_by, second_of, table_of}
@@ -16,7 +18,8 @@ use Rattle.kernel_model.specs.call_table.declared.listed.CallLine.{CallLine}
 use Rattle.script_text.specs.PrintedAgain.{AreNamed, IsWord}
 use Rattle.script_text.proofs.Spaced.{HasNo}
 
-entry_by : (name digits : List ℕ) (cap_word : Option (List ℕ)) (entry : Entry) (b : Bool) → is_name name ≡ b → cond b (Some (record { name = name; digits = digits; cap_word = cap_word })) None ≡ Some entry → is_name entry.name ≡ true
+entry_by : (name digits : List ℕ) (cap_word : Option (List ℕ)) (entry : Entry) (b : Bool) → is_name name ≡ b
+    → cond b (Some (record { name = name; digits = digits; cap_word = cap_word })) None ≡ Some entry → is_name entry.name ≡ true
 entry_by name digits cap_word entry true n e = let same : name ≡ entry.name = ap (λ (o : Option Entry). name_of o) e in ap is_name (sym same) ∙ n
   where
     name_of : Option Entry → List ℕ
@@ -59,7 +62,9 @@ of_call None entry e = cc
 of_call (Some other) entry e = cc
 
 by_word : (words : List (List ℕ)) (entry : Entry) (is_call is_group is_family is_abi : Bool)
-    → cond is_call (call_line (entry_of words)) (cond is_group (group_line words) (cond is_family (family_line (entry_of words)) (cond is_abi (abi_line words) malformed))) ≡ call entry → is_name entry.name ≡ true
+    → cond is_call (call_line (entry_of words))
+    (cond is_group (group_line words) (cond is_family (family_line (entry_of words)) (cond is_abi (abi_line words) malformed)))
+    ≡ call entry → is_name entry.name ≡ true
 by_word words entry true is_group is_family is_abi e = entry_named words entry (of_call (entry_of words) entry e)
 by_word words entry false true is_family is_abi e = absurd (no_group words entry e)
 by_word words entry false false true is_abi e = absurd (no_family (entry_of words) entry e)
@@ -68,9 +73,12 @@ by_word words entry false false false false e = cc
 
 kind_named : (words : List (List ℕ)) (entry : Entry) → kind_of words ≡ call entry → is_name entry.name ≡ true
 kind_named [] entry e = cc
-kind_named (word ∷ words) entry e = by_word words entry (bytes_eq word (codes "call")) (bytes_eq word (codes "group")) (bytes_eq word (codes "family")) (bytes_eq word (codes "abi")) e
+kind_named (word ∷ words) entry e = by_word words entry (bytes_eq word (codes "call")) (bytes_eq word (codes "group"))
+    (bytes_eq word (codes "family")) (bytes_eq word (codes "abi")) e
 
-listed_named : (place : ℕ) (entry : Entry) (line : CallLine) (o : Option ℕ) → option_map (λ number. record { name = entry.name; number = number; cap = option_and_then cap_of entry.cap_word; abi = place }) o ≡ Some line → line.name ≡ entry.name
+listed_named : (place : ℕ) (entry : Entry) (line : CallLine) (o : Option ℕ)
+    → option_map (λ number. record { name = entry.name; number = number; cap = option_and_then cap_of entry.cap_word; abi = place }) o
+    ≡ Some line → line.name ≡ entry.name
 listed_named place entry line None e = cc
 listed_named place entry line (Some number) e = sym (ap name_of e)
   where
@@ -78,18 +86,21 @@ listed_named place entry line (Some number) e = sym (ap name_of e)
     name_of None = []
     name_of (Some line) = line.name
 
-given_named : (place : ℕ) (kind : Kind) (line : CallLine) → ((entry : Entry) → kind ≡ call entry → is_name entry.name ≡ true) → call_of place kind ≡ Some line → is_name line.name ≡ true
+given_named : (place : ℕ) (kind : Kind) (line : CallLine) → ((entry : Entry) → kind ≡ call entry → is_name entry.name ≡ true)
+    → call_of place kind ≡ Some line → is_name line.name ≡ true
 given_named place (abi name digits) line h e = cc
 given_named place (family entry) line h e = cc
 given_named place (group name members) line h e = cc
 given_named place malformed line h e = cc
 given_named place (call entry) line h e = ap is_name (listed_named place entry line (number_of entry.digits) e) ∙ h entry refl
 
-each_given : {X Y : Type 0} (f : X → Option Y) (P : Y → Type 0) → ((x : X) (y : Y) → f x ≡ Some y → P y) → (xs : List X) (at : ℕ) (y : Y) → slice_get (filter_map f xs) at ≡ Some y → P y
+each_given : {X Y : Type 0} (f : X → Option Y) (P : Y → Type 0) → ((x : X) (y : Y) → f x ≡ Some y → P y) → (xs : List X) (at : ℕ) (y : Y)
+    → slice_get (filter_map f xs) at ≡ Some y → P y
 each_given f P h [] at y e = cc
 each_given {X = X} {Y = Y} f P h (x ∷ xs) at y e = by (f x) refl at e (λ at. each_given f P h xs at y)
   where
-    by : (o : Option Y) → f x ≡ o → (at : ℕ) → slice_get (cons_option o (filter_map f xs)) at ≡ Some y → ((at : ℕ) → slice_get (filter_map f xs) at ≡ Some y → P y) → P y
+    by : (o : Option Y) → f x ≡ o → (at : ℕ) → slice_get (cons_option o (filter_map f xs)) at ≡ Some y
+        → ((at : ℕ) → slice_get (filter_map f xs) at ≡ Some y → P y) → P y
     by None is at e rest = rest at e
     by (Some first) is zero e rest = h x y (is ∙ e)
     by (Some first) is (suc at) e rest = rest at e
@@ -103,10 +114,12 @@ abbrev AreCalled : List CallLine → Type 0
 AreCalled calls = (at : ℕ) (line : CallLine) → slice_get calls at ≡ Some line → is_name line.name ≡ true
 
 lines_called : (place : ℕ) (lines : List Line) → AreCalled (calls_of place lines)
-lines_called place lines at line there = each_given (λ line. call_of place (line_kind line)) (λ (line : CallLine). is_name line.name ≡ true) (line_named place) lines at line there
+lines_called place lines at line there = each_given (λ line. call_of place (line_kind line))
+    (λ (line : CallLine). is_name line.name ≡ true) (line_named place) lines at line there
 
 -- the words of a line stand between spaces
-with_first : (byte : ℕ) (pieces : List (List ℕ)) → (byte == 32) ≡ false → AllByRecursion (HasNo 32) pieces → AllByRecursion (HasNo 32) (onto_first byte pieces)
+with_first : (byte : ℕ) (pieces : List (List ℕ)) → (byte == 32) ≡ false → AllByRecursion (HasNo 32) pieces
+    → AllByRecursion (HasNo 32) (onto_first byte pieces)
 with_first byte [] other h = ((other, tt), tt)
 with_first byte (piece ∷ pieces) other h = ((other, h.0), h.1)
 
@@ -114,16 +127,20 @@ pieces_plain : (text : List ℕ) → AllByRecursion (HasNo 32) (slice_split (λ 
 pieces_plain [] = (tt, tt)
 pieces_plain (byte ∷ text) = by (byte == 32) refl (pieces_plain text)
   where
-    by : (b : Bool) → (byte == 32) ≡ b → AllByRecursion (HasNo 32) (slice_split (λ byte. byte == 32) text) → AllByRecursion (HasNo 32) (slice_split (λ byte. byte == 32) (byte ∷ text))
+    by : (b : Bool) → (byte == 32) ≡ b → AllByRecursion (HasNo 32) (slice_split (λ byte. byte == 32) text)
+        → AllByRecursion (HasNo 32) (slice_split (λ byte. byte == 32) (byte ∷ text))
     by true is rest = subst (AllByRecursion (HasNo 32)) (sym (slice_split-cons_yes (λ byte. byte == 32) byte text is)) (tt, rest)
-    by false is rest = subst (AllByRecursion (HasNo 32)) (sym (slice_split-cons_no (λ byte. byte == 32) byte text is)) (with_first byte (slice_split (λ byte. byte == 32) text) is rest)
+    by false is rest = subst (AllByRecursion (HasNo 32)) (sym (slice_split-cons_no (λ byte. byte == 32) byte text is))
+        (with_first byte (slice_split (λ byte. byte == 32) text) is rest)
 
-filled_words : (pieces : List (List ℕ)) → AllByRecursion (HasNo 32) pieces → AllByRecursion IsWord (filter (λ word. not (length word == 0)) pieces)
+filled_words : (pieces : List (List ℕ)) → AllByRecursion (HasNo 32) pieces
+    → AllByRecursion IsWord (filter (λ word. not (length word == 0)) pieces)
 filled_words [] h = tt
 filled_words (piece ∷ pieces) h = by (length piece == 0) refl (filled_words pieces h.1)
   where
     by : (b : Bool) → (length piece == 0) ≡ b → AllByRecursion IsWord (filter (λ word. not (length word == 0)) pieces)
-        → AllByRecursion IsWord (cond (not b) (piece ∷ filter (λ word. not (length word == 0)) pieces) (filter (λ word. not (length word == 0)) pieces))
+        → AllByRecursion IsWord (cond (not b) (piece ∷ filter (λ word. not (length word == 0)) pieces)
+        (filter (λ word. not (length word == 0)) pieces))
     by true is rest = rest
     by false is rest = (record { some = is; plain = h.0 }, rest)
 
@@ -136,7 +153,8 @@ no_family_abi : (o : Option Entry) (name digits : List ℕ) → family_line o �
 no_family_abi None name digits e = cc
 no_family_abi (Some entry) name digits e = cc
 
-no_named_group_abi : (members : List (List ℕ)) (called : Option (List ℕ)) (name digits : List ℕ) → named_group members called ≡ abi name digits → ⊥
+no_named_group_abi : (members : List (List ℕ)) (called : Option (List ℕ)) (name digits : List ℕ)
+    → named_group members called ≡ abi name digits → ⊥
 no_named_group_abi members None name digits e = cc
 no_named_group_abi members (Some called) name digits e = by (is_name called) e
   where
@@ -156,7 +174,9 @@ of_abi (one ∷ other ∷ []) name digits h e = let same : one ≡ name = cc in 
 of_abi (one ∷ other ∷ more ∷ words) name digits h e = cc
 
 abi_by : (words : List (List ℕ)) (name digits : List ℕ) (is_call is_group is_family is_abi : Bool) → AllByRecursion IsWord words
-    → cond is_call (call_line (entry_of words)) (cond is_group (group_line words) (cond is_family (family_line (entry_of words)) (cond is_abi (abi_line words) malformed))) ≡ abi name digits → IsWord name
+    → cond is_call (call_line (entry_of words))
+    (cond is_group (group_line words) (cond is_family (family_line (entry_of words)) (cond is_abi (abi_line words) malformed)))
+    ≡ abi name digits → IsWord name
 abi_by words name digits true is_group is_family is_abi h e = absurd (no_call_abi (entry_of words) name digits e)
 abi_by words name digits false true is_family is_abi h e = absurd (no_group_abi words name digits e)
 abi_by words name digits false false true is_abi h e = absurd (no_family_abi (entry_of words) name digits e)
@@ -165,11 +185,13 @@ abi_by words name digits false false false false h e = cc
 
 abi_kind : (words : List (List ℕ)) (name digits : List ℕ) → AllByRecursion IsWord words → kind_of words ≡ abi name digits → IsWord name
 abi_kind [] name digits h e = cc
-abi_kind (word ∷ words) name digits h e = abi_by words name digits (bytes_eq word (codes "call")) (bytes_eq word (codes "group")) (bytes_eq word (codes "family")) (bytes_eq word (codes "abi")) h.1 e
+abi_kind (word ∷ words) name digits h e = abi_by words name digits (bytes_eq word (codes "call")) (bytes_eq word (codes "group"))
+    (bytes_eq word (codes "family")) (bytes_eq word (codes "abi")) h.1 e
 
 abi_named : (line : Line) (name digits : List ℕ) → line_kind line ≡ abi name digits → IsWord name
 unfolding line_kind
-abi_named line name digits e = abi_kind (words_of line.text) name digits (filled_words (slice_split (λ byte. byte == 32) line.text) (pieces_plain line.text)) e
+abi_named line name digits e = abi_kind (words_of line.text) name digits
+    (filled_words (slice_split (λ byte. byte == 32) line.text) (pieces_plain line.text)) e
 
 -- a second ABI
 record IsNamedAbi (second : Abi) : Type 0 where
@@ -180,7 +202,8 @@ second_named : (lines : List Line) → IfSome (second_of lines) IsNamedAbi
 second_named [] = tt
 second_named (line ∷ lines) = by (line_kind line) refl (second_named lines)
   where
-    by : (kind : Kind) → line_kind line ≡ kind → IfSome (second_of lines) IsNamedAbi → IfSome (option_or (opened_by kind lines) (second_of lines)) IsNamedAbi
+    by : (kind : Kind) → line_kind line ≡ kind → IfSome (second_of lines) IsNamedAbi
+        → IfSome (option_or (opened_by kind lines) (second_of lines)) IsNamedAbi
     by (abi name digits) is rest = record { word = abi_named line name digits is; calls = lines_called 1 lines }
     by (call entry) is rest = rest
     by (family entry) is rest = rest
@@ -198,7 +221,8 @@ each_called : (table : Table) → AreCalled table.calls → IfSome table.second 
 each_called table own second zero = own
 each_called table own second (suc place) = by table.second place second
   where
-    by : (o : Option Abi) (place : ℕ) → IfSome o IsNamedAbi → AreCalled (option_map_or (λ found. found.calls) (slice_get (option_to_list o) place) [])
+    by : (o : Option Abi) (place : ℕ) → IfSome o IsNamedAbi → AreCalled
+        (option_map_or (λ found. found.calls) (slice_get (option_to_list o) place) [])
     by None place h = none_called
     by (Some second) zero h = h.calls
     by (Some second) (suc place) h = none_called

@@ -1,5 +1,6 @@
 -- Escaped words read byte by byte.
-use Rattle.std.proofs.Common.{◌≡◌, ℕ, ◌+◌, ◌*◌, Bool, true, false, cond, List, [], ◌∷◌, ◌++◌, Option, Some, None, length, refl, sym, ap, ◌∙◌, subst, arith, append-nil}
+use Rattle.std.proofs.Common.{◌≡◌, ℕ, ◌+◌, ◌*◌, Bool, true, false, cond, List, [], ◌∷◌, ◌++◌, Option, Some, None, length, refl, sym, ap}
+use Rattle.std.proofs.Common.{◌∙◌, subst, arith, append-nil}
 use Rattle.std.specs.Prelude.{◌==◌, ◌&&◌}
 use Rattle.std.specs.Char.{is_digit, digit_value}
 use Rattle.std.proofs.lemmas.Bool.{and_from}
@@ -28,26 +29,33 @@ no_low word high (byte ∷ rest) e h = absurd (omega (arith, h))
 digits_decide : ℕ → ℕ → List ℕ → Bool → Option (List ℕ)
 digits_decide high low word both = cond both (with_byte (digit_value high * 16 + digit_value low) (word_read word)) None
 
-code_of_two : (high low : ℕ) (rest : List ℕ) → code_read (high ∷ low ∷ rest) ≡ digits_decide high low rest (is_digit high 16 && is_digit low 16)
+code_of_two : (high low : ℕ) (rest : List ℕ) → code_read (high ∷ low ∷ rest)
+    ≡ digits_decide high low rest (is_digit high 16 && is_digit low 16)
 unfolding code_read digits_decide
 code_of_two high low rest = refl
 
-behind_two : (word : List ℕ) (high : ℕ) (behind : List ℕ) (low : ℕ) (rest : List ℕ) → word ≡ high ∷ behind → behind ≡ low ∷ rest → code_read word ≡ digits_decide high low rest (is_digit high 16 && is_digit low 16)
+behind_two : (word : List ℕ) (high : ℕ) (behind : List ℕ) (low : ℕ) (rest : List ℕ) → word ≡ high ∷ behind → behind ≡ low ∷ rest
+    → code_read word ≡ digits_decide high low rest (is_digit high 16 && is_digit low 16)
 behind_two word high behind low rest e f = ap code_read (e ∙ ap (λ bs. high ∷ bs) f) ∙ code_of_two high low rest
 
-pub bad_high : (word : List ℕ) (high : ℕ) (behind : List ℕ) (low : ℕ) (rest : List ℕ) → word ≡ high ∷ behind → behind ≡ low ∷ rest → is_digit high 16 ≡ false → code_read word ≡ None
+pub bad_high : (word : List ℕ) (high : ℕ) (behind : List ℕ) (low : ℕ) (rest : List ℕ) → word ≡ high ∷ behind → behind ≡ low ∷ rest
+    → is_digit high 16 ≡ false → code_read word ≡ None
 unfolding digits_decide
-bad_high word high behind low rest e f h = behind_two word high behind low rest e f ∙ ap (λ b. digits_decide high low rest (b && is_digit low 16)) h
+bad_high word high behind low rest e f h = behind_two word high behind low rest e f
+    ∙ ap (λ b. digits_decide high low rest (b && is_digit low 16)) h
 
-pub bad_low : (word : List ℕ) (high : ℕ) (behind : List ℕ) (low : ℕ) (rest : List ℕ) → word ≡ high ∷ behind → behind ≡ low ∷ rest → is_digit low 16 ≡ false → code_read word ≡ None
+pub bad_low : (word : List ℕ) (high : ℕ) (behind : List ℕ) (low : ℕ) (rest : List ℕ) → word ≡ high ∷ behind → behind ≡ low ∷ rest
+    → is_digit low 16 ≡ false → code_read word ≡ None
 unfolding digits_decide
-bad_low word high behind low rest e f h = behind_two word high behind low rest e f ∙ ap (λ b. digits_decide high low rest (is_digit high 16 && b)) h ∙ by (is_digit high 16)
+bad_low word high behind low rest e f h = behind_two word high behind low rest e f
+    ∙ ap (λ b. digits_decide high low rest (is_digit high 16 && b)) h ∙ by (is_digit high 16)
   where
     by : (b : Bool) → digits_decide high low rest (b && false) ≡ None
     by true = refl
     by false = refl
 
-pub two_digits : (word : List ℕ) (high : ℕ) (behind : List ℕ) (low : ℕ) (rest : List ℕ) (a b : ℕ) → word ≡ high ∷ behind → behind ≡ low ∷ rest → is_digit high 16 ≡ true → is_digit low 16 ≡ true
+pub two_digits : (word : List ℕ) (high : ℕ) (behind : List ℕ) (low : ℕ) (rest : List ℕ) (a b : ℕ) → word ≡ high ∷ behind
+    → behind ≡ low ∷ rest → is_digit high 16 ≡ true → is_digit low 16 ≡ true
     → a ≡ digit_value high → b ≡ digit_value low → code_read word ≡ with_byte (a * 16 + b) (word_read rest)
 unfolding digits_decide
 two_digits word high behind low rest a b e f h l p q =
@@ -58,7 +66,8 @@ word_by : (byte : ℕ) (rest : List ℕ) → word_read (byte ∷ rest) ≡ cond 
 unfolding word_read
 word_by byte rest = refl
 
-pub coded : (word : List ℕ) (byte : ℕ) (rest : List ℕ) (taken : Taken) → word ≡ byte ∷ rest → byte ≡ 37 → GivesCode rest taken → GivesByte word taken
+pub coded : (word : List ℕ) (byte : ℕ) (rest : List ℕ) (taken : Taken) → word ≡ byte ∷ rest → byte ≡ 37 → GivesCode rest taken
+    → GivesByte word taken
 coded word byte rest taken e h g = by taken g
   where
     same : word_read word ≡ code_read rest
@@ -68,8 +77,10 @@ coded word byte rest taken e h g = by taken g
     by None g = same ∙ g
     by (Some taken) g = same ∙ g
 
-pub as_it_stands : (word : List ℕ) (byte : ℕ) (rest : List ℕ) → word ≡ byte ∷ rest → (byte ≡ 37 → ⊥) → word_read word ≡ with_byte byte (word_read rest)
-as_it_stands word byte rest e h = ap word_read e ∙ word_by byte rest ∙ ap (λ b. cond b (code_read rest) (with_byte byte (word_read rest))) other
+pub as_it_stands : (word : List ℕ) (byte : ℕ) (rest : List ℕ) → word ≡ byte ∷ rest → (byte ≡ 37 → ⊥)
+    → word_read word ≡ with_byte byte (word_read rest)
+as_it_stands word byte rest e h = ap word_read e ∙ word_by byte rest
+    ∙ ap (λ b. cond b (code_read rest) (with_byte byte (word_read rest))) other
   where
     other : (byte == 37) ≡ false
     other = grind (arith, nat_tests, h)

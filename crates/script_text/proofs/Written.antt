@@ -1,5 +1,6 @@
 -- What is read can be written again.
-use Rattle.std.proofs.Common.{◌≡◌, inl, inr, ℕ, ◌*◌, ◌%◌, ◌≤◌, ◌^◌, Bool, true, false, cond, List, [], ◌∷◌, length, Option, Some, None, Result, Ok, Err, refl, sym, ap, ◌∙◌, subst, arith}
+use Rattle.std.proofs.Common.{◌≡◌, inl, inr, ℕ, ◌*◌, ◌%◌, ◌≤◌, ◌^◌, Bool, true, false, cond, List, [], ◌∷◌, length, Option, Some, None}
+use Rattle.std.proofs.Common.{Result, Ok, Err, refl, sym, ap, ◌∙◌, subst, arith}
 use Rattle.std.specs.Prelude.{◌==◌, ◌&&◌, not, codes, slice_get, nat_le, nat_lt, option_and_then, IsSome}
 use Rattle.std.specs.Option.{option_map}
 use Rattle.std.specs.Result.{IfOk, result_ok}
@@ -34,7 +35,8 @@ use Rattle.script_text.specs.Numbers.{some_pid, pid_of, numbers_of, six_words}
 use Rattle.script_text.specs.Payloads.{Taken, path_of, set_of, ids_of, is_code, code_of, with_words, payload_of}
 use Rattle.script_text.specs.Printed.{has_form}
 use Rattle.script_text.specs.PrintedAgain.{IsWritten}
-use Rattle.script_text.specs.Reading.{Named, bare_number, call_named, form_of_name, named_by, named_in, named_call, with_numbers, with_payload, with_name, with_pid, call_of}
+use Rattle.script_text.specs.Reading.{Named, bare_number, call_named, form_of_name, named_by, named_in, named_call, with_numbers}
+use Rattle.script_text.specs.Reading.{with_payload, with_name, with_pid, call_of}
 use Rattle.script_text.specs.Progress.{ReadsScript}
 use Rattle.script_text.specs.Scripts.{line_call, fault_of, calls_of, unless_fault, script_of_lines, script_of}
 use Rattle.script_text.specs.declared.error.ScriptCause.{ScriptCause}
@@ -54,39 +56,46 @@ pid_from_one word pid e = option_and_then_some some_pid (decimal_value word) pid
 -- by its number it carries nothing, and by its name what the name carries
 data IsNamed (table : Table) (call : Named) : Type 0 where
   by_number : call.form ≡ form.Nothing → IsNamed table call
-  by_name : (line : CallLine) → numbered call.nr (calls_in table call.abi) ≡ Some line → call.form ≡ form_of_name line.name → IsNamed table call
+  by_name : (line : CallLine) → numbered call.nr (calls_in table call.abi) ≡ Some line → call.form ≡ form_of_name line.name
+      → IsNamed table call
 
 its_name : (calls : List CallLine) (word : List ℕ) (line : CallLine) → named word calls ≡ Some line → word ≡ line.name
 its_name [] word line e = cc
 its_name (first ∷ calls) word line e = by (has_name word first) refl e (its_name calls word line)
   where
-    by : (b : Bool) → has_name word first ≡ b → cond b (Some first) (named word calls) ≡ Some line → (named word calls ≡ Some line → word ≡ line.name) → word ≡ line.name
+    by : (b : Bool) → has_name word first ≡ b → cond b (Some first) (named word calls) ≡ Some line
+        → (named word calls ≡ Some line → word ≡ line.name) → word ≡ line.name
     by true h e rest = let same : first ≡ line = cc in (bytes_eq-Decides word first.name).0 h ∙ ap (λ (l : CallLine). l.name) same
     by false h e rest = rest e
 
-line_found : (calls : List CallLine) (word : List ℕ) (line : CallLine) → AreOnce calls → named word calls ≡ Some line → numbered line.number calls ≡ Some line
+line_found : (calls : List CallLine) (word : List ℕ) (line : CallLine) → AreOnce calls → named word calls ≡ Some line
+    → numbered line.number calls ≡ Some line
 line_found calls word line once e =
     let at = position_or_len (has_name word) calls in
     let there : slice_get calls at ≡ Some line = sym (find_at (has_name word) calls) ∙ e in
-    find_at (has_number line.number) calls ∙ ap (slice_get calls) (place_is (has_number line.number) calls at (once.by_number at line there)).0 ∙ there
+    find_at (has_number line.number) calls ∙ ap (slice_get calls)
+    (place_is (has_number line.number) calls at (once.by_number at line there)).0 ∙ there
 
 same_named : (one other : Named) → Some one ≡ Some other → (one.abi ≡ other.abi) × (one.nr ≡ other.nr) × (one.form ≡ other.form)
 same_named one other e = let same = same_Some one other e in (ap (λ (n : Named). n.abi) same, ap (λ (n : Named). n.nr) same, ap (λ (n : Named). n.form) same)
 
 -- the call of an ABI
-in_abi : (table : Table) (abi : ℕ) (word : List ℕ) (call : Named) → AreOnce (calls_in table abi) → named_in table abi word ≡ Some call → (call.abi ≡ abi) × IsNamed table call
+in_abi : (table : Table) (abi : ℕ) (word : List ℕ) (call : Named) → AreOnce (calls_in table abi) → named_in table abi word ≡ Some call
+    → (call.abi ≡ abi) × IsNamed table call
 in_abi table abi word call once e = by (behind_hash word) e
   where
     by_digits : (o : Option ℕ) → option_map (bare_number abi) o ≡ Some call → (call.abi ≡ abi) × IsNamed table call
     by_digits None e = cc
     by_digits (Some nr) e = let same = same_named (bare_number abi nr) call e in (sym same.0, by_number (sym same.2))
 
-    by_line : (o : Option CallLine) → named word (calls_in table abi) ≡ o → option_map (call_named abi word) o ≡ Some call → (call.abi ≡ abi) × IsNamed table call
+    by_line : (o : Option CallLine) → named word (calls_in table abi) ≡ o → option_map (call_named abi word) o ≡ Some call
+        → (call.abi ≡ abi) × IsNamed table call
     by_line None is e = cc
     by_line (Some line) is e =
         let same = same_named (call_named abi word line) call e in (
           sym same.0,
-          by_name line (ap (λ k. numbered call.nr (calls_in table k)) (sym same.0) ∙ ap (λ n. numbered n (calls_in table abi)) (sym same.1) ∙ line_found (calls_in table abi) word line once is)
+          by_name line (ap (λ k. numbered call.nr (calls_in table k)) (sym same.0)
+              ∙ ap (λ n. numbered n (calls_in table abi)) (sym same.1) ∙ line_found (calls_in table abi) word line once is)
               (sym same.2 ∙ ap form_of_name (its_name (calls_in table abi) word line is)),
         )
 
@@ -106,7 +115,8 @@ of_table : (table : Table) (word : List ℕ) (call : Named) → EachOnce table �
 unfolding named_call
 of_table table word call once e = by (spelled table word) refl e
   where
-    by : (o : Option (ℕ × List ℕ)) → spelled table word ≡ o → option_and_then (λ found. named_in table found.0 found.1) o ≡ Some call → IsOfTable table call
+    by : (o : Option (ℕ × List ℕ)) → spelled table word ≡ o → option_and_then (λ found. named_in table found.0 found.1) o ≡ Some call
+        → IsOfTable table call
     by None is e = cc
     by (Some found) is e =
         let known = in_abi table found.0 found.1 call (once found.0) e in
@@ -132,10 +142,12 @@ code_whole word bytes e = by (bytes_eq word (codes "-")) e
     by true e = let none : [] ≡ bytes = same_Some [] bytes e in ap (λ bs. length bs % 8 == 0) (sym none)
     by false e = by_code (is_code word) refl e
 
-taken_form : (form' : PayloadForm) (made : Payload) (words : List (List ℕ)) (taken : Taken) → Some (made, words) ≡ Some taken → has_form form' made ≡ true → has_form form' taken.0 ≡ true
+taken_form : (form' : PayloadForm) (made : Payload) (words : List (List ℕ)) (taken : Taken) → Some (made, words) ≡ Some taken
+    → has_form form' made ≡ true → has_form form' taken.0 ≡ true
 taken_form form' made words taken e h = ap (λ (t : Taken). has_form form' t.0) (sym (same_Some {A = Taken} (made, words) taken e)) ∙ h
 
-has_its_form : (form' : PayloadForm) (words : List (List ℕ)) (taken : Taken) → payload_of form' words ≡ Some taken → has_form form' taken.0 ≡ true
+has_its_form : (form' : PayloadForm) (words : List (List ℕ)) (taken : Taken) → payload_of form' words ≡ Some taken
+    → has_form form' taken.0 ≡ true
 has_its_form form.Nothing words taken e = taken_form form.Nothing Nothing words taken e refl
 has_its_form form.OnePath [] taken e = cc
 has_its_form form.OnePath (word ∷ words) taken e = by (path_of word) e
@@ -147,7 +159,8 @@ has_its_form form.TwoPaths [] taken e = cc
 has_its_form form.TwoPaths (word ∷ []) taken e = cc
 has_its_form form.TwoPaths (source ∷ target ∷ words) taken e = by (path_of source) (path_of target) e
   where
-    by : (from to : Option Path) → option_map (with_words words) (option_and_then (λ from. option_map (λ to. TwoPaths from to) to) from) ≡ Some taken → has_form form.TwoPaths taken.0 ≡ true
+    by : (from to : Option Path) → option_map (with_words words) (option_and_then (λ from. option_map (λ to. TwoPaths from to) to) from)
+        ≡ Some taken → has_form form.TwoPaths taken.0 ≡ true
     by None to e = cc
     by (Some from) None e = cc
     by (Some from) (Some to) e = taken_form form.TwoPaths (TwoPaths from to) words taken e refl
@@ -156,7 +169,8 @@ has_its_form form.Sets (one ∷ []) taken e = cc
 has_its_form form.Sets (one ∷ two ∷ []) taken e = cc
 has_its_form form.Sets (one ∷ two ∷ three ∷ words) taken e = by (set_of one) (set_of two) (set_of three) e
   where
-    by : (p e i : Option ℕ) → option_map (with_words words) (option_and_then (λ p. option_and_then (λ e. option_map (λ i. Sets p e i) i) e) p) ≡ Some taken → has_form form.Sets taken.0 ≡ true
+    by : (p e i : Option ℕ) → option_map (with_words words)
+        (option_and_then (λ p. option_and_then (λ e. option_map (λ i. Sets p e i) i) e) p) ≡ Some taken → has_form form.Sets taken.0 ≡ true
     by None two three e = cc
     by (Some p) None three e = cc
     by (Some p) (Some e') None e = cc
@@ -176,7 +190,8 @@ has_its_form form.Family (word ∷ words) taken e = by (number_of word) e
 has_its_form form.Program [] taken e = cc
 has_its_form form.Program (word ∷ words) taken e = by (code_of word) refl e
   where
-    by : (o : Option (List ℕ)) → code_of word ≡ o → option_map (λ bytes. (Code bytes, words)) o ≡ Some taken → has_form form.Program taken.0 ≡ true
+    by : (o : Option (List ℕ)) → code_of word ≡ o → option_map (λ bytes. (Code bytes, words)) o ≡ Some taken
+        → has_form form.Program taken.0 ≡ true
     by None is e = cc
     by (Some bytes) is e = taken_form form.Program (Code bytes) words taken e (code_whole word bytes is)
 
@@ -205,17 +220,21 @@ parts_of_line : (table : Table) (words : List (List ℕ)) (call : Call) → Each
 parts_of_line table [] call once e = cc
 parts_of_line table (word ∷ words) call once e = by_pid (pid_of word) words refl e
   where
-    by_numbers : (pid : ℕ) (n : Named) (payload : Payload) (numbers : Option (List ℕ)) → with_numbers pid n payload numbers ≡ Ok call → IsMadeOf pid n payload call
+    by_numbers : (pid : ℕ) (n : Named) (payload : Payload) (numbers : Option (List ℕ)) → with_numbers pid n payload numbers ≡ Ok call
+        → IsMadeOf pid n payload call
     by_numbers pid n payload None e = cc
     by_numbers pid n payload (Some numbers) e = by (nat_le (length numbers) 6) e
       where
-        by : (b : Bool) → cond {A = Result Call ScriptCause} b (Ok (record { pid = pid; abi = n.abi; nr = n.nr; args = six_words numbers; payload = payload })) (Err Words) ≡ Ok call → IsMadeOf pid n payload call
+        by : (b : Bool) → cond {A = Result Call ScriptCause} b
+            (Ok (record { pid = pid; abi = n.abi; nr = n.nr; args = six_words numbers; payload = payload })) (Err Words) ≡ Ok call
+            → IsMadeOf pid n payload call
         by true e =
             let same : record { pid = pid; abi = n.abi; nr = n.nr; args = six_words numbers; payload = payload } ≡ call = cc in
             (ap (λ (c : Call). c.pid) same, ap (λ (c : Call). c.abi) same, ap (λ (c : Call). c.nr) same, ap (λ (c : Call). c.payload) same)
         by false e = cc
 
-    by_payload : (pid : ℕ) (n : Named) (behind : List (List ℕ)) (taken : Option Taken) → payload_of n.form behind ≡ taken → 1 ≤ pid → IsOfTable table n → with_payload pid n taken ≡ Ok call → Parts table call
+    by_payload : (pid : ℕ) (n : Named) (behind : List (List ℕ)) (taken : Option Taken) → payload_of n.form behind ≡ taken → 1 ≤ pid
+        → IsOfTable table n → with_payload pid n taken ≡ Ok call → Parts table call
     by_payload pid n behind None t p i e = cc
     by_payload pid n behind (Some taken) t p i e =
         let same = by_numbers pid n taken.0 (numbers_of taken.1) e in
@@ -228,7 +247,8 @@ parts_of_line table (word ∷ words) call once e = by_pid (pid_of word) words re
           form' = ap (has_form n.form) (sym same.3) ∙ has_its_form n.form behind taken t;
         }
 
-    by_name' : (pid : ℕ) (name : List ℕ) (behind : List (List ℕ)) (n : Option Named) → named_call table name ≡ n → 1 ≤ pid → with_name pid behind n ≡ Ok call → Parts table call
+    by_name' : (pid : ℕ) (name : List ℕ) (behind : List (List ℕ)) (n : Option Named) → named_call table name ≡ n → 1 ≤ pid
+        → with_name pid behind n ≡ Ok call → Parts table call
     by_name' pid name behind None is p e = cc
     by_name' pid name behind (Some n) is p e = by_payload pid n behind (payload_of n.form behind) refl p (of_table table name n once is) e
 
@@ -244,13 +264,15 @@ written table call p = by p.is_named.is_named
     there = subst (λ (k : ℕ). IsSome (abi_at table k)) p.abi p.is_named.there
 
     by : IsNamed table p.named' → IsWritten table call
-    by (by_number none) = record { pid = p.pid; abi = there; payload = inl (nothing_only call.payload (ap (λ f. has_form f call.payload) (sym none) ∙ p.form')) }
+    by (by_number none) = record
+        { pid = p.pid; abi = there; payload = inl (nothing_only call.payload (ap (λ f. has_form f call.payload) (sym none) ∙ p.form')) }
     by (by_name line found is) = record {
       pid = p.pid;
       abi = there;
       payload = inr (record {
         line = line;
-        in_table = ap (λ k. numbered call.nr (calls_in table k)) (sym p.abi) ∙ ap (λ n. numbered n (calls_in table p.named'.abi)) (sym p.nr) ∙ found;
+        in_table = ap (λ k. numbered call.nr (calls_in table k)) (sym p.abi)
+            ∙ ap (λ n. numbered n (calls_in table p.named'.abi)) (sym p.nr) ∙ found;
         form = ap (λ f. has_form f call.payload) (sym is) ∙ p.form';
       });
     }
@@ -261,11 +283,13 @@ unfolding line_call
 each_written table once [] = tt
 each_written table once (line ∷ lines) = by (line_call table line) refl (each_written table once lines)
   where
-    by : (r : Result Call ScriptCause) → line_call table line ≡ r → AllByRecursion (IsWritten table) (calls_of table lines) → AllByRecursion (IsWritten table) (cons_option (result_ok r) (calls_of table lines))
+    by : (r : Result Call ScriptCause) → line_call table line ≡ r → AllByRecursion (IsWritten table) (calls_of table lines)
+        → AllByRecursion (IsWritten table) (cons_option (result_ok r) (calls_of table lines))
     by (Ok call) is rest = (written table call (parts_of_line table (words_of line.text) call once is), rest)
     by (Err cause) is rest = rest
 
-script_written : (table : Table) (bytes : List ℕ) (script : List Call) → EachOnce table → script_of table bytes ≡ Ok script → All (IsWritten table) script
+script_written : (table : Table) (bytes : List ℕ) (script : List Call) → EachOnce table → script_of table bytes ≡ Ok script
+    → All (IsWritten table) script
 unfolding script_of
 script_written table bytes script once e = by (is_text bytes) e
   where
@@ -277,6 +301,7 @@ script_written table bytes script once e = by (is_text bytes) e
     by true e = by_fault (fault_of table (lines_of bytes)) e
     by false e = cc
 
-pub answer_written : (table : Table) (bytes : List ℕ) (answer : Result (List Call) ScriptError) → EachOnce table → ReadsScript (script_of table bytes) answer → IfOk answer (λ script. All (IsWritten table) script)
+pub answer_written : (table : Table) (bytes : List ℕ) (answer : Result (List Call) ScriptError) → EachOnce table
+    → ReadsScript (script_of table bytes) answer → IfOk answer (λ script. All (IsWritten table) script)
 answer_written table bytes (Ok script) once h = script_written table bytes script once h
 answer_written table bytes (Err error) once h = tt

@@ -1,5 +1,6 @@
 -- The numbers of a script: of a process, of a call, of ids, of words and of sets.
-use Rattle.std.specs.Prelude.{ℕ, ◌==◌, ◌&&◌, ◌^◌, nat_lt, if◌then◌else◌, Bool, Option, Some, None, option_and_then, List, [], ◌∷◌, slice_index}
+use Rattle.std.specs.Prelude.{ℕ, ◌==◌, ◌&&◌, ◌^◌, nat_lt, if◌then◌else◌, Bool, Option, Some, None, option_and_then, List, [], ◌∷◌}
+use Rattle.std.specs.Prelude.{slice_index}
 use Rattle.std.specs.Option.{option_map}
 use Rattle.std.specs.List.{list_all}
 use Rattle.kernel_model.specs.text_forms.Numbers.{decimal_value, number_value}
@@ -27,7 +28,8 @@ numbers_of words = all_read number_value words
 -- six words, of which those that are not written are 0
 abbrev pub six_words : List ℕ → List ℕ
 six_words numbers =
-    slice_index numbers 0 ∷ slice_index numbers 1 ∷ slice_index numbers 2 ∷ slice_index numbers 3 ∷ slice_index numbers 4 ∷ slice_index numbers 5 ∷ []
+    slice_index numbers 0 ∷ slice_index numbers 1 ∷ slice_index numbers 2 ∷ slice_index numbers 3 ∷ slice_index numbers 4 ∷ slice_index
+    numbers 5 ∷ []
 
 abbrev pub is_zero : ℕ → Bool
 is_zero number = number == 0

@@ -1,5 +1,6 @@
 -- What a script writes for the pointers among a call's words.
-use Rattle.std.specs.Prelude.{ℕ, ◌==◌, ◌&&◌, ◌%◌, ◌^◌, not, nat_lt, cond, if◌then◌else◌, Bool, Option, Some, None, option_and_then, is_none, List, [], ◌∷◌, length, codes}
+use Rattle.std.specs.Prelude.{ℕ, ◌==◌, ◌&&◌, ◌%◌, ◌^◌, not, nat_lt, cond, if◌then◌else◌, Bool, Option, Some, None, option_and_then, is_none}
+use Rattle.std.specs.Prelude.{List, [], ◌∷◌, length, codes}
 use Rattle.std.specs.Option.{option_map}
 use Rattle.std.specs.Result.{result_ok}
 use Rattle.std.specs.List.{list_all}
@@ -63,7 +64,8 @@ abbrev pub payload_of : PayloadForm → List (List ℕ) → Option Taken
 payload_of form.Nothing words = Some (Nothing, words)
 payload_of form.OnePath (word ∷ words) = option_map (λ path. (OnePath path, words)) (path_of word)
 payload_of form.TwoPaths (source ∷ target ∷ words) = option_map (with_words words) (two_paths source target)
-payload_of form.Sets (permitted ∷ effective ∷ inheritable ∷ words) = option_map (with_words words) (three_sets permitted effective inheritable)
+payload_of form.Sets (permitted ∷ effective ∷ inheritable ∷ words) =
+    option_map (with_words words) (three_sets permitted effective inheritable)
 payload_of form.Ids (word ∷ words) = option_map (λ ids. (Ids ids, words)) (ids_of word)
 payload_of form.Family (word ∷ words) = option_map (λ family. (Family family, words)) (number_of word)
 payload_of form.Program (word ∷ words) = option_map (λ bytes. (Code bytes, words)) (code_of word)

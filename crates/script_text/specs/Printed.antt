@@ -69,7 +69,8 @@ numbered_words table call = spelling table call.abi (hash_word call.nr) ∷ []
 -- a call of the table whose payload is of its form goes by its name and has its payload; any other goes by its number
 abbrev pub named_words : Table → Call → Option CallLine → List (List ℕ)
 named_words table call None = numbered_words table call
-named_words table call (Some line) = cond (has_form (form_of_name line.name) call.payload) (spelling table call.abi line.name ∷ payload_words call.payload) (numbered_words table call)
+named_words table call (Some line) = cond (has_form (form_of_name line.name) call.payload)
+    (spelling table call.abi line.name ∷ payload_words call.payload) (numbered_words table call)
 
 -- the words of the call's words, in decimal, without the zeros at the end
 abbrev pub argument_words : List ℕ → List (List ℕ)

@@ -62,7 +62,8 @@ pub record IsHeld (call : Call) : Type 0 where
 -- a printed call has one reading, the call itself, where the names of the ABIs, and the names and numbers of the calls of its
 -- ABI, stand once
 abbrev pub ReadsBack : Type 0
-ReadsBack = (table : Table) (call : Call) → HasOtherName table → AreOnce (calls_in table call.abi) → AreNamed table → IsHeld call → IsWritten table call
+ReadsBack = (table : Table) (call : Call) → HasOtherName table → AreOnce (calls_in table call.abi) → AreNamed table → IsHeld call
+    → IsWritten table call
     → call_of table (words_of (call_text table call)) ≡ Ok call
 
 -- the same of a text that was made of a call

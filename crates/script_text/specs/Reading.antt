@@ -55,7 +55,8 @@ named_call table word = option_and_then (λ call. named_in table call.0 call.1) 
 abbrev pub with_numbers : ℕ → Named → Payload → Option (List ℕ) → Result Call ScriptCause
 with_numbers pid named payload None = Err cause.Number
 with_numbers pid named payload (Some numbers) =
-    cond (nat_le (length numbers) 6) (Ok (record { pid = pid; abi = named.abi; nr = named.nr; args = six_words numbers; payload = payload })) (Err cause.Words)
+    cond (nat_le (length numbers) 6)
+    (Ok (record { pid = pid; abi = named.abi; nr = named.nr; args = six_words numbers; payload = payload })) (Err cause.Words)
 
 abbrev pub with_payload : ℕ → Named → Option Taken → Result Call ScriptCause
 with_payload pid named None = Err cause.Payload

@@ -12,7 +12,8 @@ and_parts true c e = (refl, e)
 and_parts false c e = cc
 
 -- a number with one bit that is set is a power of two
-by_lowest : (n lowest : ℕ) → n % 2 ≡ lowest → lowest < 2 → count_ones (n / 2) + count_ones (n % 2) ≡ 1 → (count_ones (n / 2) ≡ 1 → IsPowerOfTwo (n / 2)) → IsPowerOfTwo n
+by_lowest : (n lowest : ℕ) → n % 2 ≡ lowest → lowest < 2 → count_ones (n / 2) + count_ones (n % 2) ≡ 1
+    → (count_ones (n / 2) ≡ 1 → IsPowerOfTwo (n / 2)) → IsPowerOfTwo n
 unfolding lib.Count.ones
 by_lowest n zero is lt ones half =
     let none : count_ones (n % 2) ≡ 0 = ap count_ones is in
@@ -43,4 +44,5 @@ times_bit (suc bit) power le some =
 -- of a word and a bit all of the bit is left, or nothing
 pub one_bit : (word k : ℕ) → (bit_and word (2 ^ k) == 2 ^ k) ≡ not (bit_and word (2 ^ k) == 0)
 one_bit word k =
-    subst (λ n. (n == 2 ^ k) ≡ not (n == 0)) (sym (and_pow word k)) (times_bit (bit_at word k) (2 ^ k) (omega (arith, bit_at-lt word k)) (pow_pos k))
+    subst (λ n. (n == 2 ^ k) ≡ not (n == 0)) (sym (and_pow word k))
+    (times_bit (bit_at word k) (2 ^ k) (omega (arith, bit_at-lt word k)) (pow_pos k))

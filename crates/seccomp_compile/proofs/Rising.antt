@@ -1,5 +1,6 @@
 -- Lists whose numbers rise, and what holds of each member of a list.
-use Rattle.std.proofs.Common.{◌≡◌, suc, ℕ, ◌+◌, ◌<◌, ◌≤◌, Bool, true, false, eqb, cond, find, Option, Some, None, Result, Ok, Err, List, [], ◌∷◌, ◌++◌, length, map, refl, ap, ◌∙◌, subst, arith}
+use Rattle.std.proofs.Common.{◌≡◌, suc, ℕ, ◌+◌, ◌<◌, ◌≤◌, Bool, true, false, eqb, cond, find, Option, Some, None, Result, Ok, Err, List, []}
+use Rattle.std.proofs.Common.{◌∷◌, ◌++◌, length, map, refl, ap, ◌∙◌, subst, arith}
 use Rattle.std.specs.Prelude.{slice_index, ◌||◌, IfOk}
 use Rattle.std.specs.List.{All, list_any, sum_by}
 use Rattle.std.specs.List.Sorted.{IsStrictlyIncreasing}
@@ -69,14 +70,18 @@ or_false : (b c d : Bool) → (c ≡ false → d ≡ false) → (b || c) ≡ fal
 or_false true c d f h = h
 or_false false c d f h = f h
 
-any_last : (ns : List ℕ) (last word : ℕ) → eqb word last ≡ false → list_any (λ n. eqb word n) ns ≡ false → list_any (λ n. eqb word n) (ns ++ last ∷ []) ≡ false
+any_last : (ns : List ℕ) (last word : ℕ) → eqb word last ≡ false → list_any (λ n. eqb word n) ns ≡ false
+    → list_any (λ n. eqb word n) (ns ++ last ∷ []) ≡ false
 any_last [] last word e h = ap (λ b. b || false) e
-any_last (n ∷ ns) last word e h = or_false (eqb word n) (list_any (λ n. eqb word n) ns) (list_any (λ n. eqb word n) (ns ++ last ∷ [])) (any_last ns last word e) h
+any_last (n ∷ ns) last word e h = or_false (eqb word n) (list_any (λ n. eqb word n) ns) (list_any (λ n. eqb word n) (ns ++ last ∷ []))
+    (any_last ns last word e) h
 
-pub none_above : (ns : List ℕ) (last word : ℕ) → Each (λ n. n < last) ns → last < word → list_any (λ n. eqb word n) (ns ++ last ∷ []) ≡ false
+pub none_above : (ns : List ℕ) (last word : ℕ) → Each (λ n. n < last) ns → last < word
+    → list_any (λ n. eqb word n) (ns ++ last ∷ []) ≡ false
 none_above ns last word h lt = any_last ns last word (different word last lt) (none_of ns last word h (omega arith))
 
-pub none_below : (ns : List ℕ) (last word : ℕ) → word < last → list_any (λ n. eqb word n) ns ≡ false → list_any (λ n. eqb word n) (ns ++ last ∷ []) ≡ false
+pub none_below : (ns : List ℕ) (last word : ℕ) → word < last → list_any (λ n. eqb word n) ns ≡ false
+    → list_any (λ n. eqb word n) (ns ++ last ∷ []) ≡ false
 none_below ns last word lt h = any_last ns last word (different_too word last lt) h
 
 pub sum_last : {X : Type 0} (f : X → ℕ) (xs : List X) (x : X) → sum_by f (xs ++ x ∷ []) ≡ sum_by f xs + f x
@@ -88,14 +93,16 @@ each_after P [] ys h = h
 each_after P (x ∷ xs) ys h = each_after P xs ys h.1
 
 -- no member has a number that is not listed
-none_first : {X : Type 0} (b : Bool) (x : X) (found : Option X) (others : Bool) → (b || others) ≡ false → (others ≡ false → found ≡ None) → cond b (Some x) found ≡ None
+none_first : {X : Type 0} (b : Bool) (x : X) (found : Option X) (others : Bool) → (b || others) ≡ false → (others ≡ false → found ≡ None)
+    → cond b (Some x) found ≡ None
 none_first true x found others e h = cc
 none_first false x found others e h = h e
 
 eqb_comm : (a b : ℕ) → eqb a b ≡ eqb b a
 eqb_comm a b = grind (arith, nat_tests)
 
-pub find_none : {X : Type 0} (f : X → ℕ) (xs : List X) (word : ℕ) → list_any (λ n. eqb word n) (map f xs) ≡ false → find (λ x. eqb (f x) word) xs ≡ None
+pub find_none : {X : Type 0} (f : X → ℕ) (xs : List X) (word : ℕ) → list_any (λ n. eqb word n) (map f xs) ≡ false
+    → find (λ x. eqb (f x) word) xs ≡ None
 find_none f [] word e = refl
 find_none f (x ∷ xs) word e =
     ap (λ b. cond b (Some x) (find (λ x. eqb (f x) word) xs)) (eqb_comm (f x) word)
@@ -105,10 +112,12 @@ pub same_self : (n : ℕ) → eqb n n ≡ true
 same_self n = grind (arith, nat_tests)
 
 -- the member with the number, where those before it have lower ones
-pub find_here : {X : Type 0} (f : X → ℕ) (before after : List X) (x : X) → Each (λ n. n < f x) (map f before) → find (λ y. eqb (f y) (f x)) (before ++ x ∷ after) ≡ Some x
+pub find_here : {X : Type 0} (f : X → ℕ) (before after : List X) (x : X) → Each (λ n. n < f x) (map f before)
+    → find (λ y. eqb (f y) (f x)) (before ++ x ∷ after) ≡ Some x
 find_here f [] after x h = ap (λ b. cond b (Some x) (find (λ y. eqb (f y) (f x)) after)) (same_self (f x))
 find_here f (y ∷ before) after x h =
-    ap (λ b. cond b (Some y) (find (λ y. eqb (f y) (f x)) (before ++ x ∷ after))) (different_too (f y) (f x) h.0) ∙ find_here f before after x h.1
+    ap (λ b. cond b (Some y) (find (λ y. eqb (f y) (f x)) (before ++ x ∷ after))) (different_too (f y) (f x) h.0)
+    ∙ find_here f before after x h.1
 
 pub map_last : {X : Type 0} (f : X → ℕ) (xs : List X) (x : X) → map f (xs ++ x ∷ []) ≡ map f xs ++ f x ∷ []
 map_last f [] x = refl

@@ -1,5 +1,6 @@
 -- Runs that are added one below the other.
-use Rattle.std.proofs.Common.{◌≡◌, suc, ℕ, ◌+◌, ◌-◌, ◌^◌, ◌<◌, ◌≤◌, ◌⊎◌, inl, inr, cond, eqb, false, List, [], ◌∷◌, ◌++◌, length, take, drop, Option, Some, refl, sym, ap, ◌∙◌, subst, arith, length-append, append_assoc}
+use Rattle.std.proofs.Common.{◌≡◌, suc, ℕ, ◌+◌, ◌-◌, ◌^◌, ◌<◌, ◌≤◌, ◌⊎◌, inl, inr, cond, eqb, false, List, [], ◌∷◌, ◌++◌, length, take}
+use Rattle.std.proofs.Common.{drop, Option, Some, refl, sym, ap, ◌∙◌, subst, arith, length-append, append_assoc}
 use Rattle.std.specs.Prelude.{slice_get}
 use Rattle.std.specs.Option.{option_to_list}
 use Rattle.std.specs.List.{list_any}
@@ -11,7 +12,8 @@ use Rattle.call_rules.specs.declared.actions.Action.{Action}
 use Rattle.seccomp_compile.specs.declared.runs.Run.{Run}
 use Rattle.seccomp_compile.specs.declared.tree.Comparison.TheVariants.{AtLeast, Equal}
 use Rattle.seccomp_compile.specs.Decisions.{Decision, splits, decide}
-use Rattle.seccomp_compile.specs.Runs.{floor_of, run_decision, AddsRun, below, merged, enclosed, Encloses, extended, Extends, Fills, filled, fills, AddsNumber, Joins, one, two, JoinsLowest, Closes}
+use Rattle.seccomp_compile.specs.Runs.{floor_of, run_decision, AddsRun, below, merged, enclosed, Encloses, extended, Extends, Fills, filled}
+use Rattle.seccomp_compile.specs.Runs.{fills, AddsNumber, Joins, one, two, JoinsLowest, Closes}
 use Rattle.seccomp_compile.specs.Rules.{Wanted, DecidesFrom}
 use Rattle.seccomp_compile.proofs.Rising.{Each, each_last, none_above, none_below}
 
@@ -25,12 +27,14 @@ floor_last to (first ∷ second ∷ runs) run e =
     let back : length (first ∷ second ∷ runs) - 1 ≡ suc (length (second ∷ runs) - 1) = omega arith in
     floor_last first.from (second ∷ runs) run (sym (ap (slice_get (first ∷ second ∷ runs)) back) ∙ e)
 
-pub take_others : (runs others : List Run) (run : Run) (count : ℕ) → runs ≡ others ++ run ∷ [] → count ≡ length runs → take (count - 1) runs ≡ others
+pub take_others : (runs others : List Run) (run : Run) (count : ℕ) → runs ≡ others ++ run ∷ [] → count ≡ length runs
+    → take (count - 1) runs ≡ others
 take_others runs others run count e n =
     let longer = ap length e in
     ap (take (count - 1)) e ∙ take_at others (run ∷ []) (count - 1) (omega (arith, longer, length-append others (run ∷ [])))
 
-pub popped : (runs after : List Run) (o : Option Run) (run : Run) → runs ≡ after ++ option_to_list o → o ≡ Some run → runs ≡ after ++ run ∷ []
+pub popped : (runs after : List Run) (o : Option Run) (run : Run) → runs ≡ after ++ option_to_list o → o ≡ Some run
+    → runs ≡ after ++ run ∷ []
 popped runs after o run e is = e ∙ ap (λ o. after ++ option_to_list o) is
 
 last_same : (runs others : List Run) (run other : Run) → runs ++ run ∷ [] ≡ others ++ other ∷ [] → (runs ≡ others) × (run ≡ other)
@@ -42,8 +46,11 @@ last_same (first ∷ runs) (second ∷ others) run other e =
     let rest = last_same runs others run other (ap (drop 1) e) in
     (ap (λ runs. first ∷ runs) rest.0 ∙ ap (λ run. run ∷ others) same, rest.1)
 
-pub enclosed_added : (runs fewer least after : List Run) (run joined middle : Run) (o : Option Run) (count : ℕ) (around : Encloses runs run) → runs ≡ fewer ++ option_to_list o → o ≡ Some middle → count ≡ length fewer → least ≡ take (count - 1) fewer →
-    joined.from ≡ run.from → run_decision joined ≡ splits Equal middle.from (run_decision run) (run_decision middle) → after ≡ least ++ joined ∷ [] → AddsRun runs run after
+pub enclosed_added : (runs fewer least after : List Run) (run joined middle : Run) (o : Option Run) (count : ℕ)
+    (around : Encloses runs run) → runs ≡ fewer ++ option_to_list o → o ≡ Some middle → count ≡ length fewer
+    → least ≡ take (count - 1) fewer →
+    joined.from ≡ run.from → run_decision joined ≡ splits Equal middle.from (run_decision run) (run_decision middle)
+    → after ≡ least ++ joined ∷ [] → AddsRun runs run after
 enclosed_added runs fewer least after run joined middle o count around e is counted taken from d added =
     let same = last_same fewer (around.others ++ around.above ∷ []) middle around.middle
     (sym (popped runs fewer o middle e is) ∙ around.lowest ∙ sym (append_assoc around.others (around.above ∷ []) (around.middle ∷ []))) in
@@ -52,19 +59,23 @@ enclosed_added runs fewer least after run joined middle o count around e is coun
     ∙ ap (λ ending. splits Equal around.middle.from ending (run_decision around.middle)) around.run_ends)
     (added ∙ ap (λ runs. runs ++ joined ∷ []) (taken ∙ take_others fewer around.others around.above count same.0 counted))
 
-pub extended_added : (runs fewer after : List Run) (run joined lowest : Run) (o : Option Run) (more : Extends runs run) → runs ≡ fewer ++ option_to_list o → o ≡ Some lowest → joined.from ≡ run.from → run_decision joined ≡ run_decision lowest →
+pub extended_added : (runs fewer after : List Run) (run joined lowest : Run) (o : Option Run) (more : Extends runs run)
+    → runs ≡ fewer ++ option_to_list o → o ≡ Some lowest → joined.from ≡ run.from → run_decision joined ≡ run_decision lowest →
     after ≡ fewer ++ joined ∷ [] → AddsRun runs run after
 extended_added runs fewer after run joined lowest o more e is from d added =
     let same = last_same fewer more.others lowest more.lowest_run (sym (popped runs fewer o lowest e is) ∙ more.lowest) in
     extended runs after run joined more from (d ∙ ap run_decision same.1) (added ∙ ap (λ runs. runs ++ joined ∷ []) same.0)
 
-pub joined_lowest : (runs middle after : List Run) (count low_count high_count : ℕ) (low high run : Run) → JoinsLowest runs middle low_count low → JoinsLowest middle after high_count high →
-    low_count ≤ high_count → high_count ≤ low_count + 1 → low_count + high_count ≡ count → run.from ≡ low.from → run_decision run ≡ splits AtLeast high.from (run_decision low) (run_decision high) → JoinsLowest runs after count run
+pub joined_lowest : (runs middle after : List Run) (count low_count high_count : ℕ) (low high run : Run)
+    → JoinsLowest runs middle low_count low → JoinsLowest middle after high_count high →
+    low_count ≤ high_count → high_count ≤ low_count + 1 → low_count + high_count ≡ count → run.from ≡ low.from
+    → run_decision run ≡ splits AtLeast high.from (run_decision low) (run_decision high) → JoinsLowest runs after count run
 joined_lowest runs middle after count low_count high_count low high run l h le more all from decides = record {
   taken = h.taken ++ l.taken;
   split = l.split ∙ ap (λ runs. runs ++ l.taken) h.split ∙ append_assoc after h.taken l.taken;
   counted = omega (arith, l.counted, h.counted, length-append h.taken l.taken);
-  joined = two h.taken l.taken high low run h.joined l.joined (omega (arith, l.counted, h.counted)) (omega (arith, l.counted, h.counted)) from decides;
+  joined = two h.taken l.taken high low run h.joined l.joined (omega (arith, l.counted, h.counted))
+      (omega (arith, l.counted, h.counted)) from decides;
 }
 
 -- The runs stand one below the other, from one number up to the other, each for its own words.
@@ -86,16 +97,20 @@ module _ (wanted : Wanted) where
   tile_floor [] from to h = sym h
   tile_floor (run ∷ runs) from to h = tile_floor runs from run.from h.1
 
-  tile_split : (runs more : List Run) (from to : ℕ) → Tile wanted (runs ++ more) from to → (mid : ℕ) × Tile wanted runs mid to × Tile wanted more from mid
+  tile_split : (runs more : List Run) (from to : ℕ) → Tile wanted (runs ++ more) from to
+      → (mid : ℕ) × Tile wanted runs mid to × Tile wanted more from mid
   tile_split [] more from to h = (to, refl, h)
   tile_split (run ∷ runs) more from to h = let s = tile_split runs more from run.from h.1 in (s.0, (h.0, s.1), s.2)
 
-  tile_last : (runs : List Run) (run : Run) (low to : ℕ) → Tile wanted runs low to → DecidesFrom wanted run.from low (run_decision run) → Tile wanted (runs ++ run ∷ []) run.from to
+  tile_last : (runs : List Run) (run : Run) (low to : ℕ) → Tile wanted runs low to → DecidesFrom wanted run.from low (run_decision run)
+      → Tile wanted (runs ++ run ∷ []) run.from to
   tile_last [] run low to h k = (subst (λ to. DecidesFrom wanted run.from to (run_decision run)) h k, refl)
   tile_last (first ∷ runs) run low to h k = (h.0, tile_last runs run low first.from h.1 k)
 
-  adds_tile : (runs after : List Run) (run : Run) (low to : ℕ) → AddsRun runs run after → Tile wanted runs low to → DecidesFrom wanted run.from low (run_decision run) → Tile wanted after run.from to
-  adds_tile _ _ _ low to (below runs after run e) h k = subst (λ after. Tile wanted after run.from to) (sym e) (tile_last runs run low to h k)
+  adds_tile : (runs after : List Run) (run : Run) (low to : ℕ) → AddsRun runs run after → Tile wanted runs low to
+      → DecidesFrom wanted run.from low (run_decision run) → Tile wanted after run.from to
+  adds_tile _ _ _ low to (below runs after run e) h k = subst (λ after. Tile wanted after run.from to) (sym e)
+      (tile_last runs run low to h k)
   adds_tile _ _ _ low to (merged runs after run alike e) h k =
       let s = tile_split alike.others (alike.above ∷ []) low to (subst (λ runs. Tile wanted runs low to) alike.lowest h) in
       let same = alike.run_ends ∙ sym alike.above_ends in
@@ -138,7 +153,8 @@ module _ (wanted : Wanted) where
         | inr higher ↦ s.2.0 input word (let start = s.2.1 in omega arith) lt
       ])))
 
-  fills_tile : (runs after : List Run) (from : ℕ) (rest : Action) (low : ℕ) → Fills runs from rest after → low ≤ 2 ^ 32 → Tile wanted runs low (2 ^ 32) → from ≤ low →
+  fills_tile : (runs after : List Run) (from : ℕ) (rest : Action) (low : ℕ) → Fills runs from rest after → low ≤ 2 ^ 32
+      → Tile wanted runs low (2 ^ 32) → from ≤ low →
       ((input : CallData) (word : ℕ) → from ≤ word → word < low → wanted input word ≡ rest) → Tile wanted after from (2 ^ 32)
   fills_tile _ _ _ _ low (filled runs after from rest e is) few h le k =
       let there = tile_floor runs low (2 ^ 32) h in
@@ -148,16 +164,20 @@ module _ (wanted : Wanted) where
       subst (λ from. Tile wanted after from (2 ^ 32)) at
       (adds_tile runs after gap low (2 ^ 32) adds h (λ input word above under. ap (λ decision. decide decision input word) e ∙ sym (k input word (let start = at in omega arith) under)))
 
-  number_tile : (runs after : List Run) (number : ℕ) (rest : Action) (low : ℕ) (decision : Decision) → AddsNumber runs number decision rest after → low ≤ 2 ^ 32 → Tile wanted runs low (2 ^ 32) → number < low →
-      ((input : CallData) (word : ℕ) → number < word → word < low → wanted input word ≡ rest) → ((input : CallData) → decide decision input number ≡ wanted input number) → Tile wanted after number (2 ^ 32)
+  number_tile : (runs after : List Run) (number : ℕ) (rest : Action) (low : ℕ) (decision : Decision)
+      → AddsNumber runs number decision rest after → low ≤ 2 ^ 32 → Tile wanted runs low (2 ^ 32) → number < low →
+      ((input : CallData) (word : ℕ) → number < word → word < low → wanted input word ≡ rest)
+      → ((input : CallData) → decide decision input number ≡ wanted input number) → Tile wanted after number (2 ^ 32)
   number_tile runs after number rest low decision added few h lt gap here =
       let full = fills_tile runs added.filled_runs (number + 1) rest low added.fill few h (omega arith) (λ input word le below. gap input word (omega arith) below) in
       subst (λ from. Tile wanted after from (2 ^ 32)) added.from
       (adds_tile added.filled_runs after added.run (number + 1) (2 ^ 32) added.adds full (λ input word le below.
       let only : word ≡ number = let start = added.from in omega arith in
-      ap (λ decision. decide decision input word) added.decides ∙ ap (decide decision input) only ∙ here input ∙ ap (wanted input) (sym only)))
+      ap (λ decision. decide decision input word) added.decides ∙ ap (decide decision input) only ∙ here input
+      ∙ ap (wanted input) (sym only)))
 
-  joins_decide : (runs : List Run) (run : Run) (from to : ℕ) → Joins runs run → Tile wanted runs from to → (run.from ≡ from) × DecidesFrom wanted run.from to (run_decision run)
+  joins_decide : (runs : List Run) (run : Run) (from to : ℕ) → Joins runs run → Tile wanted runs from to
+      → (run.from ≡ from) × DecidesFrom wanted run.from to (run_decision run)
   joins_decide _ _ from to (one run) h = (sym h.1, h.0)
   joins_decide _ _ from to (two highs lows high low run highs_join lows_join le more at e) h =
       let s = tile_split highs lows from to h in
@@ -167,7 +187,8 @@ module _ (wanted : Wanted) where
         λ input word above under.
             ap (λ decision. decide decision input word) e
             ∙ elim (leb_tells high.from word) [
-              | inl t ↦ ap (λ b. cond b (decide (run_decision high) input word) (decide (run_decision low) input word)) t.0 ∙ upper.1 input word t.1 under
+              | inl t ↦ ap (λ b. cond b (decide (run_decision high) input word) (decide (run_decision low) input word)) t.0
+                  ∙ upper.1 input word t.1 under
               | inr f ↦ ap (λ b. cond b (decide (run_decision high) input word) (decide (run_decision low) input word)) f.0
                   ∙ lower.1 input word (let start = at in omega arith) (let start = upper.0 in let beyond = f.1 in omega arith)
             ],
@@ -181,22 +202,28 @@ pub record Covers (wanted : Wanted) (rest : Action) (left : List ℕ) (runs : Li
   pub above : (low ≡ 2 ^ 32) ⊎ Each (λ n. n < low) left
   pub others : (input : CallData) (word : ℕ) → word < low → list_any (λ n. eqb word n) left ≡ false → wanted input word ≡ rest
 
-pub covers_none : (wanted : Wanted) (rest : Action) (left : List ℕ) → ((input : CallData) (word : ℕ) → list_any (λ n. eqb word n) left ≡ false → wanted input word ≡ rest) → Covers wanted rest left []
-covers_none wanted rest left h = record { low = 2 ^ 32; few = omega arith; tile = refl; above = inl refl; others = λ input word lt none. h input word none }
+pub covers_none : (wanted : Wanted) (rest : Action) (left : List ℕ)
+    → ((input : CallData) (word : ℕ) → list_any (λ n. eqb word n) left ≡ false → wanted input word ≡ rest) → Covers wanted rest left []
+covers_none wanted rest left h =
+    record { low = 2 ^ 32; few = omega arith; tile = refl; above = inl refl; others = λ input word lt none. h input word none }
 
-pub covers_more : (wanted : Wanted) (rest : Action) (number : ℕ) (left : List ℕ) (runs after : List Run) (decision : Decision) → number < 2 ^ 32 → Each (λ n. n < number) left →
-    Covers wanted rest (left ++ number ∷ []) runs → AddsNumber runs number decision rest after → ((input : CallData) → decide decision input number ≡ wanted input number) → Covers wanted rest left after
+pub covers_more : (wanted : Wanted) (rest : Action) (number : ℕ) (left : List ℕ) (runs after : List Run) (decision : Decision)
+    → number < 2 ^ 32 → Each (λ n. n < number) left →
+    Covers wanted rest (left ++ number ∷ []) runs → AddsNumber runs number decision rest after
+    → ((input : CallData) → decide decision input number ≡ wanted input number) → Covers wanted rest left after
 covers_more wanted rest number left runs after decision fits rising c added here =
     let lt : number < c.low = elim c.above [ inl all ↦ omega arith | inr each ↦ each_last (λ n. n < c.low) left number each ] in
     record {
       low = number;
       few = omega arith;
-      tile = number_tile wanted runs after number rest c.low decision added c.few c.tile lt (λ input word above under. c.others input word under (none_above left number word rising above)) here;
+      tile = number_tile wanted runs after number rest c.low decision added c.few c.tile lt
+          (λ input word above under. c.others input word under (none_above left number word rising above)) here;
       above = inr rising;
       others = λ input word under none. c.others input word (omega arith) (none_below left number word under none);
     }
 
-pub closes_decides : (wanted : Wanted) (rest : Action) (runs : List Run) (decision : Decision) → Covers wanted rest [] runs → Closes runs rest decision → DecidesFrom wanted 0 (2 ^ 32) decision
+pub closes_decides : (wanted : Wanted) (rest : Action) (runs : List Run) (decision : Decision) → Covers wanted rest [] runs
+    → Closes runs rest decision → DecidesFrom wanted 0 (2 ^ 32) decision
 closes_decides wanted rest runs decision c closed =
     let all = fills_tile wanted runs closed.all 0 rest c.low closed.fill c.few c.tile (omega arith) (λ input word le lt. c.others input word lt refl) in
     let joined = joins_decide wanted closed.all closed.run 0 (2 ^ 32) closed.joined all in

@@ -25,7 +25,8 @@ fine_if_sound : (code : List Insn) → AreSound code → AreFine code
 fine_if_sound [] h = tt
 fine_if_sound (insn ∷ code) h = (h.0, fine_if_sound code h.2)
 
-no_load : (code : List Insn) (at : ℕ) (insn : Insn) → AreSound code → slice_get code at ≡ Some insn → is_scratch_load (op_of insn.code) ≡ false
+no_load : (code : List Insn) (at : ℕ) (insn : Insn) → AreSound code → slice_get code at ≡ Some insn
+    → is_scratch_load (op_of insn.code) ≡ false
 no_load [] at insn h e = cc
 no_load (x ∷ code) zero insn h e = let same : x ≡ insn = cc in subst (λ insn. is_scratch_load (op_of insn.code) ≡ false) same h.1
 no_load (x ∷ code) (suc at) insn h e = no_load code at insn h.2 e
@@ -42,7 +43,8 @@ sound_accepted code some short sound = record {
   stored = λ at insn e is path. let h = no_load code at insn sound.fine e in cc;
 }
 
-pub placed_program : (decision : Decision) (code : List Insn) (place : ℕ) → most_of decision ≤ 4096 → All Fits code → Placed decision [] code place → IsProgram code
+pub placed_program : (decision : Decision) (code : List Insn) (place : ℕ) → most_of decision ≤ 4096 → All Fits code
+    → Placed decision [] code place → IsProgram code
 placed_program decision code place few fits p =
     fitting_program code fits (sound_accepted code (omega (arith, p.some, p.inside)) (omega (arith, p.short, few)) p.sound)
 
@@ -56,19 +58,23 @@ some_path (splits comparison number miss hit) =
     (m.0 + h.0 + 2, (m.0 + h.0, path_more miss m.0 (m.0 + h.0) (omega arith) m.1, path_more hit h.0 (m.0 + h.0) (omega arith) h.1, omega arith))
 some_path (both first second action otherwise) = let o = some_path otherwise in (o.0 + 7, (o.0, o.1, omega arith, omega arith))
 
-whole_ends : (rules : RuleSet) (decision : Decision) (code : List Insn) (place limit : ℕ) (input : CallData) → is_end decision ≡ false → Placed decision [] code place → DecidesRules rules decision → IsCallData input → PathWithin limit decision →
+whole_ends : (rules : RuleSet) (decision : Decision) (code : List Insn) (place limit : ℕ) (input : CallData) → is_end decision ≡ false
+    → Placed decision [] code place → DecidesRules rules decision → IsCallData input → PathWithin limit decision →
     EndsWithin code input start_regs (case_action rules input) limit
 whole_ends rules decision code place limit input tree p d fits path =
     subst (λ answer. EndsWithin code input start_regs answer limit) (d.decides input 0 fits.nr)
-    (subst (λ code. EndsWithin code input start_regs (decide decision input 0) limit) (from_place-all code place (p.front tree)) (p.does input start_regs limit path))
+    (subst (λ code. EndsWithin code input start_regs (decide decision input 0) limit) (from_place-all code place (p.front tree))
+    (p.does input start_regs limit path))
 
-pub placed_decides : (rules : RuleSet) (decision : Decision) (code : List Insn) (place : ℕ) → is_end decision ≡ false → Placed decision [] code place → DecidesRules rules decision → Decides code rules
+pub placed_decides : (rules : RuleSet) (decision : Decision) (code : List Insn) (place : ℕ) → is_end decision ≡ false
+    → Placed decision [] code place → DecidesRules rules decision → Decides code rules
 placed_decides rules decision code place tree p d input fits =
     let path = some_path decision in
     let e = whole_ends rules decision code place path.0 input tree p d fits path.1 in
     answers_by_run code input (word_of (case_action rules input)) e.steps e.ends
 
-pub placed_within : (rules : RuleSet) (decision : Decision) (code : List Insn) (place : ℕ) → is_end decision ≡ false → Placed decision [] code place → DecidesRules rules decision → HaveShortCases rules → DecidesWithin longest_path code rules
+pub placed_within : (rules : RuleSet) (decision : Decision) (code : List Insn) (place : ℕ) → is_end decision ≡ false
+    → Placed decision [] code place → DecidesRules rules decision → HaveShortCases rules → DecidesWithin longest_path code rules
 placed_within rules decision code place tree p d short input fits =
     let e = whole_ends rules decision code place longest_path input tree p d fits (d.path short) in
     answers_within_by_run code input (word_of (case_action rules input)) e.steps longest_path e.within e.ends

@@ -1,5 +1,6 @@
 -- Decision trees without the pointers that hold them together, and what they mean.
-use Rattle.std.specs.Prelude.{◌≡◌, ℕ, ◌/◌, ◌%◌, ◌^◌, ◌<◌, ◌≤◌, ◌==◌, ◌&&◌, nat_le, not, Bool, true, false, if◌then◌else◌, slice_index, bit_and, Option, Some, None, is_some}
+use Rattle.std.specs.Prelude.{◌≡◌, ℕ, ◌/◌, ◌%◌, ◌^◌, ◌<◌, ◌≤◌, ◌==◌, ◌&&◌, nat_le, not, Bool, true, false, if◌then◌else◌, slice_index}
+use Rattle.std.specs.Prelude.{bit_and, Option, Some, None, is_some}
 use Rattle.call_rules.specs.bpf_code.declared.machine.CallData.{CallData}
 use Rattle.call_rules.specs.bpf_code.Effects.{words_of}
 use Rattle.call_rules.specs.Tested.{Tested}
@@ -49,7 +50,8 @@ tested_word input test = masked (slice_index input.args test.arg % 2 ^ 32) (mask
 abbrev pub decide : Decision → CallData → ℕ → Action
 decide (ends action) input word = action
 decide (looks offset mask next) input word = decide next input (masked (slice_index (words_of input) (offset / 4)) mask)
-decide (splits comparison number miss hit) input word = if compares comparison word number then decide hit input word else decide miss input word
+decide (splits comparison number miss hit) input word = if compares comparison word number then decide hit input word else decide miss
+    input word
 decide (both first second action otherwise) input word =
     if test_holds input first
     then (if test_holds input second then action else decide otherwise input (tested_word input second))

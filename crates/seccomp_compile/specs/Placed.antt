@@ -44,7 +44,8 @@ NoneStands action code = NoneBefore action code most_in_front
 -- it does what the tree says of A, within every bound of the tree's paths
 abbrev pub Does : Decision → List Insn → Type 0
 Does decision code =
-    (input : CallData) (regs : Regs) (limit : ℕ) → PathWithin limit decision → EndsWithin code input regs (decide decision input regs.a) limit
+    (input : CallData) (regs : Regs) (limit : ℕ) → PathWithin limit decision
+    → EndsWithin code input regs (decide decision input regs.a) limit
 
 -- the code from this place on, which is counted from the end
 abbrev pub from_place : ℕ → List Insn → List Insn

@@ -1,5 +1,6 @@
 -- The decisions that rules come to.
-use Rattle.std.specs.Prelude.{◌≡◌, ℕ, ◌+◌, ◌*◌, ◌^◌, ◌<◌, ◌≤◌, ◌==◌, ◌&&◌, Bool, true, false, find, List, [], ◌∷◌, length, Option, Some, None, sum_by}
+use Rattle.std.specs.Prelude.{◌≡◌, ℕ, ◌+◌, ◌*◌, ◌^◌, ◌<◌, ◌≤◌, ◌==◌, ◌&&◌, Bool, true, false, find, List, [], ◌∷◌, length, Option, Some}
+use Rattle.std.specs.Prelude.{None, sum_by}
 use Rattle.std.specs.Option.{option_map_or}
 use Rattle.std.specs.List.{All, list_all, list_any}
 use Rattle.call_rules.specs.bpf_code.declared.machine.CallData.{CallData}

@@ -1,5 +1,6 @@
 -- Rows that come behind their folders.
-use Rattle.std.proofs.Common.{◌≡◌, ℕ, ◌+◌, Bool, true, false, cond, List, [], ◌∷◌, take, drop, Option, Some, None, refl, sym, ap, ◌∙◌, subst}
+use Rattle.std.proofs.Common.{◌≡◌, ℕ, ◌+◌, Bool, true, false, cond, List, [], ◌∷◌, take, drop, Option, Some, None, refl, sym, ap, ◌∙◌}
+use Rattle.std.proofs.Common.{subst}
 use Rattle.std.specs.Prelude.{◌||◌, ◌&&◌, not, option_map}
 use Rattle.std.specs.List.{AllByRecursion}
 use Rattle.std.specs.Option.{option_map_or}
@@ -25,7 +26,8 @@ use Rattle.site_table.proofs.Said.{is_right, kind_is}
 -- the texts of the paths of the listed directories
 abbrev listed_texts : List Data → List (List ℕ)
 listed_texts [] = []
-listed_texts (row ∷ rows) = cond (option_map_or is_dir (kind_of row) false) (option_map_or (λ path. tail_of path ∷ listed_texts rows) (path_of row) (listed_texts rows)) (listed_texts rows)
+listed_texts (row ∷ rows) = cond (option_map_or is_dir (kind_of row) false)
+    (option_map_or (λ path. tail_of path ∷ listed_texts rows) (path_of row) (listed_texts rows)) (listed_texts rows)
 
 has_listed : (rows : List Data) (text : List ℕ) → has_text (listed_texts rows) text ≡ has_folder rows text
 has_listed [] text = refl
@@ -54,9 +56,11 @@ either : (b c d : Bool) → (b ≡ true → d ≡ true) → (c ≡ true → d �
 either true c d f g h = f refl
 either false c d f g h = g h
 
-dir_listed : (rows : List Data) (ordered : List Row) (text : List ℕ) → AllByRecursion (IsListed rows) ordered → has_dir_row ordered text ≡ true → has_folder rows text ≡ true
+dir_listed : (rows : List Data) (ordered : List Row) (text : List ℕ) → AllByRecursion (IsListed rows) ordered
+    → has_dir_row ordered text ≡ true → has_folder rows text ≡ true
 dir_listed rows [] text all h = absurd (false≢true h)
-dir_listed rows (row ∷ ordered) text all h = either (is_dir row.kind && bytes_eq text (tail_of row.path)) (has_dir_row ordered text) (has_folder rows text) (all.0 text) (dir_listed rows ordered text all.1) h
+dir_listed rows (row ∷ ordered) text all h = either (is_dir row.kind && bytes_eq text (tail_of row.path)) (has_dir_row ordered text)
+    (has_folder rows text) (all.0 text) (dir_listed rows ordered text all.1) h
 
 or_middle : (b c d : Bool) → c ≡ true → (b || (c || d)) ≡ true
 or_middle true c d h = refl
@@ -79,13 +83,15 @@ or_into true b c f h = refl
 or_into false b c f h = f h
 
 -- a folder among the rows is one of the listed
-stands_listed : (rows : List Data) (ordered : List Row) (path : Path) → AllByRecursion (IsListed rows) ordered → stands_behind ordered path ≡ true → stands_in (listed_texts rows) path ≡ true
+stands_listed : (rows : List Data) (ordered : List Row) (path : Path) → AllByRecursion (IsListed rows) ordered
+    → stands_behind ordered path ≡ true → stands_in (listed_texts rows) path ≡ true
 stands_listed rows ordered path all h = by (option_map tail_of (parent_of path)) h
   where
     by : (parent : Option (List ℕ)) → option_map_or (λ text. is_always_dir_text text || has_dir_row ordered text) parent true ≡ true
         → option_map_or (λ text. is_always_dir_text text || has_text (listed_texts rows) text) parent true ≡ true
     by None h = refl
-    by (Some text) h = or_into (is_always_dir_text text) (has_dir_row ordered text) (has_text (listed_texts rows) text) (λ found. has_listed rows text ∙ dir_listed rows ordered text all found) h
+    by (Some text) h = or_into (is_always_dir_text text) (has_dir_row ordered text) (has_text (listed_texts rows) text)
+        (λ found. has_listed rows text ∙ dir_listed rows ordered text all found) h
 
 none_applies : (double stands : Bool) → double ≡ false → stands ≡ true → first_of ((double, Duplicate) ∷ (not stands, NoParent) ∷ []) ≡ None
 none_applies true stands h g = absurd (false≢true (sym h))
@@ -96,9 +102,11 @@ pub behind_none : (rows : List Data) (ordered : List Row) → ordered ≡ [] →
 behind_none rows ordered none placed = record { placed = placed; dirs = subst (AllByRecursion (IsListed rows)) (sym none) tt }
 
 -- one more row
-pub behind_more : (rows : List Data) (i : ℕ) (ordered : List Row) (row : Data) (placed : List Row) → RowsBehind rows i ordered → StandsAt rows i row → PlacesBehind ordered row placed → RowsBehind rows (i + 1) placed
+pub behind_more : (rows : List Data) (i : ℕ) (ordered : List Row) (row : Data) (placed : List Row) → RowsBehind rows i ordered
+    → StandsAt rows i row → PlacesBehind ordered row placed → RowsBehind rows (i + 1) placed
 behind_more rows i ordered row placed so_far at places = record {
   placed = row_more rows (listed_texts rows) i ordered row (row_of row) placed (knows_listed rows) so_far.placed at (places.0, refl)
       (none_applies (has_row ordered (row_of row).path) (stands_in (listed_texts rows) (row_of row).path) places.2 (stands_listed rows ordered (row_of row).path so_far.dirs places.3), places.1);
-  dirs = subst (AllByRecursion (IsListed rows)) (sym places.1) (all_placed (IsListed rows) (row_of row) ordered (is_listed rows i row at places.0) so_far.dirs);
+  dirs = subst (AllByRecursion (IsListed rows)) (sym places.1)
+      (all_placed (IsListed rows) (row_of row) ordered (is_listed rows i row at places.0) so_far.dirs);
 }

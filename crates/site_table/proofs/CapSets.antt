@@ -23,27 +23,33 @@ or_assoc : (a b c : Bool) → ((a || b) || c) ≡ (a || (b || c))
 or_assoc true b c = refl
 or_assoc false b c = refl
 
-has_folded : (set : ℕ) (numbers : List ℕ) (number : ℕ) → has (fold (λ set n. union set (single n)) set numbers) number ≡ (has set number || list_any (λ n. number == n) numbers)
+has_folded : (set : ℕ) (numbers : List ℕ) (number : ℕ) → has (fold (λ set n. union set (single n)) set numbers) number
+    ≡ (has set number || list_any (λ n. number == n) numbers)
 has_folded set [] number = or_none (has set number)
 has_folded set (n ∷ numbers) number =
     has_folded (union set (single n)) numbers number
-    ∙ ap (λ b. b || list_any (λ m. number == m) numbers) (has_with set n number) ∙ or_assoc (has set number) (number == n) (list_any (λ m. number == m) numbers)
+    ∙ ap (λ b. b || list_any (λ m. number == m) numbers) (has_with set n number)
+    ∙ or_assoc (has set number) (number == n) (list_any (λ m. number == m) numbers)
 
 abbrev is_number : ℕ → Option ℕ → Bool
 is_number number found = option_map_or (λ n. number == n) found false
 
-filtered : (values : List Data) (number : ℕ) → list_any (λ n. number == n) (filter_map as_cap values) ≡ list_any (λ value. is_number number (as_cap value)) values
+filtered : (values : List Data) (number : ℕ) → list_any (λ n. number == n) (filter_map as_cap values)
+    ≡ list_any (λ value. is_number number (as_cap value)) values
 filtered [] number = refl
 filtered (value ∷ values) number = by (as_cap value) (filtered values number)
   where
-    by : (found : Option ℕ) → list_any (λ n. number == n) (filter_map as_cap values) ≡ list_any (λ value. is_number number (as_cap value)) values
-        → list_any (λ n. number == n) (cons_option found (filter_map as_cap values)) ≡ (is_number number found || list_any (λ value. is_number number (as_cap value)) values)
+    by : (found : Option ℕ) → list_any (λ n. number == n) (filter_map as_cap values)
+        ≡ list_any (λ value. is_number number (as_cap value)) values
+        → list_any (λ n. number == n) (cons_option found (filter_map as_cap values))
+        ≡ (is_number number found || list_any (λ value. is_number number (as_cap value)) values)
     by None e = e
     by (Some n) e = ap (λ b. (number == n) || b) e
 
 has_caps : (values : List Data) (number : ℕ) → has (caps_of values) number ≡ list_any (λ value. is_number number (as_cap value)) values
 has_caps values number =
-    has_folded none (filter_map as_cap values) number ∙ ap (λ b. b || list_any (λ n. number == n) (filter_map as_cap values)) (has_none number) ∙ filtered values number
+    has_folded none (filter_map as_cap values) number ∙ ap (λ b. b || list_any (λ n. number == n) (filter_map as_cap values))
+    (has_none number) ∙ filtered values number
 
 cap_named : (name : List ℕ) (number : ℕ) → cap_of name ≡ Some number → (number < 41) × (name ≡ name_of number)
 unfolding name_of
@@ -54,7 +60,8 @@ cap_named name number e =
 value_names : (number : ℕ) (value : Data) → is_number number (as_cap value) ≡ true → (number < 41) × (as_str value ≡ Some (name_of number))
 value_names number value h = by (as_str value) refl h
   where
-    by : (text : Option (List ℕ)) → as_str value ≡ text → is_number number (option_and_then cap_of text) ≡ true → (number < 41) × (as_str value ≡ Some (name_of number))
+    by : (text : Option (List ℕ)) → as_str value ≡ text → is_number number (option_and_then cap_of text) ≡ true
+        → (number < 41) × (as_str value ≡ Some (name_of number))
     by None e h = absurd (false≢true h)
     by (Some name) e h = found (cap_of name) refl h
       where

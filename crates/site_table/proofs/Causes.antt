@@ -10,12 +10,14 @@ first_of-append ((true, cause) ∷ causes) more h = absurd (cc)
 first_of-append ((false, cause) ∷ causes) more h = first_of-append causes more h
 
 -- where one of the first applies, the others do not matter
-pub first_of-found : (causes more : List (Bool × RowCause)) (cause : RowCause) → first_of causes ≡ Some cause → first_of (causes ++ more) ≡ Some cause
+pub first_of-found : (causes more : List (Bool × RowCause)) (cause : RowCause) → first_of causes ≡ Some cause
+    → first_of (causes ++ more) ≡ Some cause
 first_of-found [] more cause h = absurd (cc)
 first_of-found ((true, first) ∷ causes) more cause h = h
 first_of-found ((false, first) ∷ causes) more cause h = first_of-found causes more cause h
 
 -- no cause applies: neither the first, nor another
-pub first_of-none : (applies : Bool) (cause : RowCause) (causes : List (Bool × RowCause)) → first_of ((applies, cause) ∷ causes) ≡ None → (applies ≡ false) × (first_of causes ≡ None)
+pub first_of-none : (applies : Bool) (cause : RowCause) (causes : List (Bool × RowCause)) → first_of ((applies, cause) ∷ causes) ≡ None
+    → (applies ≡ false) × (first_of causes ≡ None)
 first_of-none true cause causes h = absurd (cc)
 first_of-none false cause causes h = (refl, h)

@@ -1,5 +1,6 @@
 -- Byte order of a text and of two others, one behind the other.
-use Rattle.std.proofs.Common.{◌≡◌, ℕ, ◌<◌, ◌≤◌, List, [], ◌∷◌, ◌++◌, length, take, drop, nat_cmp, Ordering, Less, Equal, Greater, refl, ap, ◌∙◌, arith}
+use Rattle.std.proofs.Common.{◌≡◌, ℕ, ◌<◌, ◌≤◌, List, [], ◌∷◌, ◌++◌, length, take, drop, nat_cmp, Ordering, Less, Equal, Greater, refl, ap}
+use Rattle.std.proofs.Common.{◌∙◌, arith}
 use Rattle.std.specs.Ordering.{ordering_then}
 use Rattle.std.specs.Cmp.Lexicographic.{slice_cmp}
 
@@ -8,7 +9,8 @@ then_assoc Less b c = refl
 then_assoc Equal b c = refl
 then_assoc Greater b c = refl
 
-pub shorter_order : (text front rest : List ℕ) → length text < length front → slice_cmp nat_cmp text (front ++ rest) ≡ ordering_then (slice_cmp nat_cmp text (take (length text) front)) Less
+pub shorter_order : (text front rest : List ℕ) → length text < length front
+    → slice_cmp nat_cmp text (front ++ rest) ≡ ordering_then (slice_cmp nat_cmp text (take (length text) front)) Less
 shorter_order text [] rest h = absurd (omega arith)
 shorter_order [] (y ∷ front) rest h = refl
 shorter_order (x ∷ text) (y ∷ front) rest h =
@@ -16,7 +18,8 @@ shorter_order (x ∷ text) (y ∷ front) rest h =
     ∙ then_assoc (nat_cmp x y) (slice_cmp nat_cmp text (take (length text) front)) Less
 
 pub longer_order : (text front rest : List ℕ) → length front ≤ length text
-    → slice_cmp nat_cmp text (front ++ rest) ≡ ordering_then (slice_cmp nat_cmp (take (length front) text) front) (slice_cmp nat_cmp (drop (length front) text) rest)
+    → slice_cmp nat_cmp text (front ++ rest) ≡ ordering_then (slice_cmp nat_cmp (take (length front) text) front)
+    (slice_cmp nat_cmp (drop (length front) text) rest)
 longer_order text [] rest h = refl
 longer_order [] (y ∷ front) rest h = absurd (omega arith)
 longer_order (x ∷ text) (y ∷ front) rest h =

@@ -1,5 +1,6 @@
 -- The rows of a site are exactly those of its list.
-use Rattle.std.proofs.Common.{◌≡◌, ℕ, zero, suc, ◌<◌, Bool, true, false, cond, List, [], ◌∷◌, map, length, get_or, Some, Ok, refl, sym, ap, ◌∙◌, subst, arith}
+use Rattle.std.proofs.Common.{◌≡◌, ℕ, zero, suc, ◌<◌, Bool, true, false, cond, List, [], ◌∷◌, map, length, get_or, Some, Ok, refl, sym, ap}
+use Rattle.std.proofs.Common.{◌∙◌, subst, arith}
 use Rattle.std.specs.Prelude.{◌||◌}
 use Rattle.std.specs.List.{AllByRecursion, list_any, Contains}
 use Rattle.std.specs.Option.{option_map_or}
@@ -26,10 +27,12 @@ use Rattle.site_table.proofs.SiteHolds.{apart_from, rows_faultless}
 
 -- ---- one directory more
 
-has_dir : (rows : List Row) (more path : Path) → is_normal more ≡ true → AreNormal rows → has_row (dir_placed more rows) path ≡ (is_same more path || has_row rows path)
+has_dir : (rows : List Row) (more path : Path) → is_normal more ≡ true → AreNormal rows
+    → has_row (dir_placed more rows) path ≡ (is_same more path || has_row rows path)
 has_dir rows more path clean all = by (has_row rows more) refl
   where
-    by : (b : Bool) → has_row rows more ≡ b → has_row (cond b rows (row_placed (plain_dir more) rows)) path ≡ (is_same more path || has_row rows path)
+    by : (b : Bool) → has_row rows more ≡ b → has_row (cond b rows (row_placed (plain_dir more) rows)) path
+        ≡ (is_same more path || has_row rows path)
     by true e = there (is_same more path) refl
       where
         there : (b : Bool) → is_same more path ≡ b → has_row rows path ≡ (b || has_row rows path)
@@ -37,7 +40,8 @@ has_dir rows more path clean all = by (has_row rows more) refl
         there false f = refl
     by false e = has_placed (plain_dir more) rows path clean all
 
-kept : (rows : List Row) (more path : Path) (row : Row) → is_normal more ≡ true → AreNormal rows → row_at rows path ≡ Some row → row_at (dir_placed more rows) path ≡ Some row
+kept : (rows : List Row) (more path : Path) (row : Row) → is_normal more ≡ true → AreNormal rows → row_at rows path ≡ Some row
+    → row_at (dir_placed more rows) path ≡ Some row
 kept rows more path row clean all here = by (has_row rows more) refl
   where
     by : (b : Bool) → has_row rows more ≡ b → row_at (cond b rows (row_placed (plain_dir more) rows)) path ≡ Some row
@@ -48,23 +52,27 @@ kept rows more path row clean all here = by (has_row rows more) refl
         apart true f = let none = none_at rows path (ap (has_row rows) (sym (same_path more path f)) ∙ e) in cc
         apart false f = here
 
-plain_at : (rows : List Row) (path : Path) → is_normal path ≡ true → AreNormal rows → has_row rows path ≡ false → row_at (dir_placed path rows) path ≡ Some (plain_dir path)
+plain_at : (rows : List Row) (path : Path) → is_normal path ≡ true → AreNormal rows → has_row rows path ≡ false
+    → row_at (dir_placed path rows) path ≡ Some (plain_dir path)
 plain_at rows path clean all e =
     ap (λ b. row_at (cond b rows (row_placed (plain_dir path) rows)) path) e
     ∙ row_at-placed (plain_dir path) rows path clean all e ∙ ap (λ b. cond b (Some (plain_dir path)) (row_at rows path)) (same_itself path)
 
 -- ---- listed rows
 
-row_found : (rows : List Row) (k : ℕ) (d : Row) → AreApart rows → k < length rows → row_at rows (get_or rows k d).path ≡ Some (get_or rows k d)
+row_found : (rows : List Row) (k : ℕ) (d : Row) → AreApart rows → k < length rows
+    → row_at rows (get_or rows k d).path ≡ Some (get_or rows k d)
 row_found [] k d apart lt = absurd (omega arith)
 row_found (row ∷ rows) zero d apart lt = ap (λ b. cond b (Some row) (row_at rows row.path)) (same_itself row.path)
 row_found (row ∷ rows) (suc k) d apart lt =
     let low : k < length rows = omega arith in
     let other : is_same (get_or rows k d).path row.path ≡ false =
     false_from_ne_true (is_same (get_or rows k d).path row.path) (λ t. false≢true (sym apart.0 ∙ list_any_at (λ one. is_same one.path row.path) rows k d low t)) in
-    ap (λ b. cond b (Some row) (row_at rows (get_or rows k d).path)) (is_same-swap row.path (get_or rows k d).path ∙ other) ∙ row_found rows k d apart.1 low
+    ap (λ b. cond b (Some row) (row_at rows (get_or rows k d).path)) (is_same-swap row.path (get_or rows k d).path ∙ other)
+    ∙ row_found rows k d apart.1 low
 
-listed_has : (rows : List Data) (path : Path) → AllByRecursion (λ row. path_of row ≡ Some (row_of row).path) rows → has_row (map row_of rows) path ≡ list_any (is_row_at path) rows
+listed_has : (rows : List Data) (path : Path) → AllByRecursion (λ row. path_of row ≡ Some (row_of row).path) rows
+    → has_row (map row_of rows) path ≡ list_any (is_row_at path) rows
 listed_has [] path all = refl
 listed_has (row ∷ rows) path all =
     ap (λ b. b || has_row (map row_of rows) path) (sym (ap (λ found. option_map_or (λ own. is_same own path) found false) all.0))
@@ -97,7 +105,8 @@ module _ (rows : List Data) (right : row_faults rows ≡ []) where
 
   folded : AllByRecursion (λ row. path_of row ≡ Some (row_of row).path) rows
   folded = all_faultless (row_fault rows) (λ row. path_of row ≡ Some (row_of row).path) [] rows
-      (λ number before row none. has_path row (own_faultless rows before row (cause_from_fault rows before number row none))) (no_faults (row_fault rows) rows right)
+      (λ number before row none. has_path row (own_faultless rows before row (cause_from_fault rows before number row none)))
+      (no_faults (row_fault rows) rows right)
 
   has_sorted : (path : Path) → has_row (rows_in_order (map row_of rows)) path ≡ list_any (is_row_at path) rows
   has_sorted path = has_in_order (map row_of rows) path normal ∙ listed_has rows path folded
@@ -108,15 +117,18 @@ module _ (rows : List Data) (right : row_faults rows ≡ []) where
   with_root_normal : AreNormal (dir_placed root (rows_in_order (map row_of rows)))
   with_root_normal = normal_dir (rows_in_order (map row_of rows)) root refl sorted_normal
 
-  paths : (path : Path) → has_row (fixed_placed (rows_in_order (map row_of rows))) path ≡ (list_any (is_row_at path) rows || is_always_dir path)
+  paths : (path : Path) → has_row (fixed_placed (rows_in_order (map row_of rows))) path
+      ≡ (list_any (is_row_at path) rows || is_always_dir path)
   paths path =
       has_dir (dir_placed root (rows_in_order (map row_of rows))) proc path refl with_root_normal
-      ∙ ap (λ b. is_same proc path || b) (has_dir (rows_in_order (map row_of rows)) root path refl sorted_normal ∙ ap (λ b. is_same root path || b) (has_sorted path))
+      ∙ ap (λ b. is_same proc path || b) (has_dir (rows_in_order (map row_of rows)) root path refl sorted_normal
+      ∙ ap (λ b. is_same root path || b) (has_sorted path))
       ∙ turned (is_same proc path) (is_same root path) (list_any (is_row_at path) rows)
       ∙ ap (λ b. list_any (is_row_at path) rows || (b || is_same proc path)) (is_same-swap root path)
       ∙ ap (λ b. list_any (is_row_at path) rows || (is_same path root || b)) (is_same-swap proc path)
 
-  as_listed : (row : Data) (path : Path) → Contains rows row → path_of row ≡ Some path → row_at (fixed_placed (rows_in_order (map row_of rows))) path ≡ Some (row_of row)
+  as_listed : (row : Data) (path : Path) → Contains rows row → path_of row ≡ Some path
+      → row_at (fixed_placed (rows_in_order (map row_of rows))) path ≡ Some (row_of row)
   as_listed row path there e =
       let k : ℕ = there.0 in
       let lt : k < length rows = there.1 in
@@ -129,32 +141,40 @@ module _ (rows : List Data) (right : row_faults rows ≡ []) where
       subst (λ (r : Row). row_at (map row_of rows) path ≡ Some r) here
       (subst (λ (p : Path). row_at (map row_of rows) p ≡ Some (get_or (map row_of rows) k (row_of row))) (ap (λ (r : Row). r.path) here ∙ same) (row_found (map row_of rows) k (row_of row) apart low)) in
       kept (dir_placed root (rows_in_order (map row_of rows))) proc path (row_of row) refl with_root_normal
-      (kept (rows_in_order (map row_of rows)) root path (row_of row) refl sorted_normal (row_at-in_order (map row_of rows) path normal apart ∙ found))
+      (kept (rows_in_order (map row_of rows)) root path (row_of row) refl sorted_normal
+      (row_at-in_order (map row_of rows) path normal apart ∙ found))
 
   root_plain : list_any (is_row_at root) rows ≡ false → row_at (fixed_placed (rows_in_order (map row_of rows))) root ≡ Some (plain_dir root)
-  root_plain none = kept (dir_placed root (rows_in_order (map row_of rows))) proc root (plain_dir root) refl with_root_normal (plain_at (rows_in_order (map row_of rows)) root refl sorted_normal (has_sorted root ∙ none))
+  root_plain none = kept (dir_placed root (rows_in_order (map row_of rows))) proc root (plain_dir root) refl with_root_normal
+      (plain_at (rows_in_order (map row_of rows)) root refl sorted_normal (has_sorted root ∙ none))
 
   proc_plain : list_any (is_row_at proc) rows ≡ false → row_at (fixed_placed (rows_in_order (map row_of rows))) proc ≡ Some (plain_dir proc)
   proc_plain none =
       plain_at (dir_placed root (rows_in_order (map row_of rows))) proc refl with_root_normal
       (has_dir (rows_in_order (map row_of rows)) root proc refl sorted_normal ∙ has_sorted proc ∙ none)
 
-  as_always : (path : Path) → is_always_dir path ≡ true → list_any (is_row_at path) rows ≡ false → row_at (fixed_placed (rows_in_order (map row_of rows))) path ≡ Some (plain_dir path)
+  as_always : (path : Path) → is_always_dir path ≡ true → list_any (is_row_at path) rows ≡ false
+      → row_at (fixed_placed (rows_in_order (map row_of rows))) path ≡ Some (plain_dir path)
   as_always path always none = by (is_same path root) (is_same path proc) refl refl always
     where
-      by : (b c : Bool) → is_same path root ≡ b → is_same path proc ≡ c → (b || c) ≡ true → row_at (fixed_placed (rows_in_order (map row_of rows))) path ≡ Some (plain_dir path)
+      by : (b c : Bool) → is_same path root ≡ b → is_same path proc ≡ c → (b || c) ≡ true
+          → row_at (fixed_placed (rows_in_order (map row_of rows))) path ≡ Some (plain_dir path)
       by true c e f h =
           let same = same_path path root e in
-          subst (λ (p : Path). row_at (fixed_placed (rows_in_order (map row_of rows))) p ≡ Some (plain_dir p)) (sym same) (root_plain (ap (λ p. list_any (is_row_at p) rows) (sym same) ∙ none))
+          subst (λ (p : Path). row_at (fixed_placed (rows_in_order (map row_of rows))) p ≡ Some (plain_dir p)) (sym same)
+          (root_plain (ap (λ p. list_any (is_row_at p) rows) (sym same) ∙ none))
       by false true e f h =
           let same = same_path path proc f in
-          subst (λ (p : Path). row_at (fixed_placed (rows_in_order (map row_of rows))) p ≡ Some (plain_dir p)) (sym same) (proc_plain (ap (λ p. list_any (is_row_at p) rows) (sym same) ∙ none))
+          subst (λ (p : Path). row_at (fixed_placed (rows_in_order (map row_of rows))) p ≡ Some (plain_dir p)) (sym same)
+          (proc_plain (ap (λ p. list_any (is_row_at p) rows) (sym same) ∙ none))
       by false false e f h = absurd (false≢true h)
 
   pub exactly : AreExactly rows (rows_in_order (with_fixed (map row_of rows)))
   exactly = subst (AreExactly rows) table_is (record { paths = paths; as_listed = as_listed; as_always = as_always })
 
-pub exact_rows : (bytes : List ℕ) (members : Members) (site : Site) → tree_of bytes ≡ Some members → site_of bytes ≡ Ok site → AreExactly (rows_in (table members)) site.rows
+pub exact_rows : (bytes : List ℕ) (members : Members) (site : Site) → tree_of bytes ≡ Some members → site_of bytes ≡ Ok site
+    → AreExactly (rows_in (table members)) site.rows
 exact_rows bytes members site e h =
     let read = accepted (faults_of (table members)) (site_in (table members)) site (ap site_of_tree (sym e) ∙ h) in
-    subst (λ (s : Site). AreExactly (rows_in (table members)) s.rows) read.1 (exactly (rows_in (table members)) (rows_faultless (table members) read.0))
+    subst (λ (s : Site). AreExactly (rows_in (table members)) s.rows) read.1
+    (exactly (rows_in (table members)) (rows_faultless (table members) read.0))

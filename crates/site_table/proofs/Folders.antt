@@ -1,5 +1,6 @@
 -- The folder that a path is in, by the texts.
-use Rattle.std.proofs.Common.{◌≡◌, ◌≢◌, ℕ, ◌+◌, ◌-◌, ◌<◌, ◌≤◌, Bool, true, false, inl, inr, eqb, Some, None, List, [], ◌∷◌, ◌++◌, length, take, drop, get_or, zero, suc, refl, sym, ap, ◌∙◌, arith, lit<, append_assoc, append-nil}
+use Rattle.std.proofs.Common.{◌≡◌, ◌≢◌, ℕ, ◌+◌, ◌-◌, ◌<◌, ◌≤◌, Bool, true, false, inl, inr, eqb, Some, None, List, [], ◌∷◌, ◌++◌, length}
+use Rattle.std.proofs.Common.{take, drop, get_or, zero, suc, refl, sym, ap, ◌∙◌, arith, lit<, append_assoc, append-nil}
 use Rattle.std.specs.List.{list_any}
 use Rattle.std.specs.Option.{option_map}
 use Rattle.std.specs.Str.{NoCharPasses}
@@ -24,7 +25,8 @@ part_slashless part h = not-true _ (and_parts _ _ (and_parts _ _ h).0).0
 
 -- a path that is not the root is its folder and one part more
 pub folder_and_last : (part : List ℕ) (parts : Path) → is_normal (part ∷ parts) ≡ true
-    → (last : List ℕ) × (list_any is_slash last ≡ false) × (tail_of (part ∷ parts) ≡ tail_of (take (length parts) (part ∷ parts)) ++ 47 ∷ last)
+    → (last : List ℕ) × (list_any is_slash last ≡ false) × (tail_of (part ∷ parts)
+    ≡ tail_of (take (length parts) (part ∷ parts)) ++ 47 ∷ last)
 folder_and_last part [] h = (part, part_slashless part (and_parts (is_part part) true h).0, append-nil (47 ∷ part))
 folder_and_last part (next ∷ parts) h =
     let more = folder_and_last next parts (and_parts (is_part part) (is_normal (next ∷ parts)) h).1 in
@@ -46,7 +48,8 @@ none_at (x ∷ text) zero clean lt = λ e. false≢true (sym (or_parts (is_slash
 none_at (x ∷ text) (suc k) clean lt = none_at text k (or_parts (is_slash x) (list_any is_slash text) clean).1 (omega arith)
 
 -- the last slash stands where the last part without one begins
-last_slash : (front last : List ℕ) (i : ℕ) → list_any is_slash last ≡ false → get_or (front ++ 47 ∷ last) i 0 ≡ 47 → i < length (front ++ 47 ∷ last)
+last_slash : (front last : List ℕ) (i : ℕ) → list_any is_slash last ≡ false → get_or (front ++ 47 ∷ last) i 0 ≡ 47
+    → i < length (front ++ 47 ∷ last)
     → ((k : ℕ) → i < k → k < length (front ++ 47 ∷ last) → get_or (front ++ 47 ∷ last) k 0 ≢ 47) → take i (front ++ 47 ∷ last) ≡ front
 last_slash front last i clean here within after =
     elim (cases_lt i (length front)) [
@@ -55,14 +58,16 @@ last_slash front last i clean here within after =
         | inl behind ↦
             let k : ℕ = i - length front - 1 in
             let place : length front + suc k ≡ i = omega arith in
-            absurd (none_at last k clean (omega (arith, length-append front (47 ∷ last))) (sym (behind_seam front 47 last k) ∙ ap (λ n. get_or (front ++ 47 ∷ last) n 0) place ∙ here))
+            absurd (none_at last k clean (omega (arith, length-append front (47 ∷ last)))
+            (sym (behind_seam front 47 last k) ∙ ap (λ n. get_or (front ++ 47 ∷ last) n 0) place ∙ here))
         | inr not_behind ↦ let place : i ≡ length front = omega arith in ap (λ n. take n (front ++ 47 ∷ last)) place ∙ take-append_seam front (47 ∷ last)
       ]
     ]
 
 -- what `rsplit_once` answers at a slash
 pub before_last : (path : Path) (text : List ℕ) (front back : Bor (List ℕ)) → is_normal path ≡ true → text ≡ tail_of path
-    → (i : ℕ) × (j : ℕ) × RFindsChar 47 text (Some (i, j)) × (front.now ≡ take i text) × (back.now ≡ drop j text) × (i ≤ j) × (length front.now ≡ i) × (length back.now + j ≡ length text)
+    → (i : ℕ) × (j : ℕ) × RFindsChar 47 text (Some (i, j)) × (front.now ≡ take i text) × (back.now ≡ drop j text) × (i ≤ j) ×
+    (length front.now ≡ i) × (length back.now + j ≡ length text)
     → Some front.now ≡ option_map tail_of (parent_of path)
 before_last [] text front back normal same h =
     let ends : h.1 ≡ h.0 + 1 = h.2.1.ends in
@@ -79,13 +84,15 @@ before_last (part ∷ parts) text front back normal same h =
     let whole : text ≡ tail_of (take (length parts) (part ∷ parts)) ++ 47 ∷ split.0 = same ∙ split.2 in
     let size : length text ≡ length (tail_of (take (length parts) (part ∷ parts)) ++ 47 ∷ split.0) = ap length whole in
     ap Some (h.3 ∙ ap (take i) whole
-    ∙ last_slash (tail_of (take (length parts) (part ∷ parts))) split.0 i split.1 (ap (λ t. get_or t i 0) (sym whole) ∙ here) (omega (arith, h.7))
+    ∙ last_slash (tail_of (take (length parts) (part ∷ parts))) split.0 i split.1 (ap (λ t. get_or t i 0) (sym whole) ∙ here)
+    (omega (arith, h.7))
     (λ k low high e.
     let place : j + (k - j) ≡ k = omega arith in
     NoCharPasses-char 47 (drop j text) (k - j) after_it (lit< tt) (omega (arith, length-drop j text))
     (get_or-drop j text (k - j) 0 ∙ ap (λ n. get_or text n 0) place ∙ ap (λ t. get_or t k 0) whole ∙ e)))
 
-pub no_slash : (path : Path) (text : List ℕ) → text ≡ tail_of path → NoCharPasses (λ d. eqb d 47) text → None ≡ option_map tail_of (parent_of path)
+pub no_slash : (path : Path) (text : List ℕ) → text ≡ tail_of path → NoCharPasses (λ d. eqb d 47) text
+    → None ≡ option_map tail_of (parent_of path)
 no_slash [] text same none = refl
 no_slash (part ∷ parts) text same none =
     let size : length text ≡ length (tail_of (part ∷ parts)) = ap length same in

@@ -26,9 +26,11 @@ row_of_the_place rows path at h = by (ltb (place_or_len rows path) (length rows)
 pub no_place_no_row : (rows : List Row) (path : Path) → place_of rows path ≡ None → row_at rows path ≡ None
 no_place_no_row rows path h = by (ltb (place_or_len rows path) (length rows)) refl h
   where
-    by : (b : Bool) → ltb (place_or_len rows path) (length rows) ≡ b → cond b (Some (place_or_len rows path)) None ≡ None → row_at rows path ≡ None
+    by : (b : Bool) → ltb (place_or_len rows path) (length rows) ≡ b → cond b (Some (place_or_len rows path)) None ≡ None
+        → row_at rows path ≡ None
     by true e h = absurd (cc)
-    by false e h = find_at (λ row. is_same row.path path) rows ∙ slice_get_past rows (place_or_len rows path) (ltb-false (place_or_len rows path) (length rows) e)
+    by false e h = find_at (λ row. is_same row.path path) rows
+        ∙ slice_get_past rows (place_or_len rows path) (ltb-false (place_or_len rows path) (length rows) e)
 
 pub accepted_holds : (bytes : List ℕ) (site : Site) → site_of bytes ≡ Ok site → IsSite site
 accepted_holds bytes site h = by (tree_of bytes) h

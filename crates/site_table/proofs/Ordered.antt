@@ -14,10 +14,12 @@ use Rattle.site_table.specs.RowSteps.{is_always_dir_text}
 -- normal paths are the same where their texts are
 pub same_texts : (path own : Path) → is_normal path ≡ true → is_normal own ≡ true → bytes_eq (tail_of path) (tail_of own) ≡ is_same own path
 same_texts path own h g = same_test (bytes_eq (tail_of path) (tail_of own)) (is_same own path)
-    (λ e. subst (λ (p : Path). is_same own p ≡ true) (same_tail own path g h (sym (same_part (tail_of path) (tail_of own) e))) (same_itself own))
+    (λ e. subst (λ (p : Path). is_same own p ≡ true) (same_tail own path g h (sym (same_part (tail_of path) (tail_of own) e)))
+    (same_itself own))
     (λ e. part_itself (tail_of path) (tail_of own) (ap tail_of (sym (same_path own path e))))
 
-pub same_texts_of : (path own : Path) → is_normal path ≡ true → is_normal own ≡ true → bytes_eq (tail_of path) (tail_of own) ≡ is_same path own
+pub same_texts_of : (path own : Path) → is_normal path ≡ true → is_normal own ≡ true
+    → bytes_eq (tail_of path) (tail_of own) ≡ is_same path own
 same_texts_of path own h g = bytes_eq-swap (tail_of path) (tail_of own) ∙ same_texts own path g h
 
 -- `/` and `/proc` by their texts

@@ -1,5 +1,6 @@
 -- Users or groups that have been read.
-use Rattle.std.proofs.Common.{◌≡◌, ℕ, ◌+◌, ◌≤◌, Bool, true, false, cond, List, [], ◌∷◌, ◌++◌, length, take, map, Some, None, Result, Ok, Err, refl, sym, ap, ◌∙◌, subst}
+use Rattle.std.proofs.Common.{◌≡◌, ℕ, ◌+◌, ◌≤◌, Bool, true, false, cond, List, [], ◌∷◌, ◌++◌, length, take, map, Some, None, Result, Ok}
+use Rattle.std.proofs.Common.{Err, refl, sym, ap, ◌∙◌, subst}
 use Rattle.std.specs.Prelude.{◌||◌}
 use Rattle.std.specs.List.{list_any}
 use Rattle.std.specs.Str.{bytes_eq}
@@ -26,36 +27,45 @@ map-append f (x ∷ xs) ys = ap (λ rest. f x ∷ rest) (map-append f xs ys)
 
 -- what was read has the names of its elements
 module _ {T : Type 0} (said_of : Data → T) (called : T → List ℕ) (keeps : (owner : Data) → called (said_of owner) ≡ name_of owner) where
-  names_kept : (name : List ℕ) (before : List Data) → list_any (λ one. bytes_eq name (called one)) (map said_of before) ≡ list_any (λ other. bytes_eq name (name_of other)) before
+  names_kept : (name : List ℕ) (before : List Data) → list_any (λ one. bytes_eq name (called one)) (map said_of before)
+      ≡ list_any (λ other. bytes_eq name (name_of other)) before
   names_kept name [] = refl
   names_kept name (owner ∷ before) = λ j. bytes_eq name (keeps owner j) || names_kept name before j
 
   module _ (is_wrong : Data → Bool) (refusal : ℕ → SiteError) (owners : List Data) (i : ℕ) (read : List T) where
-    doubled : (owner : Data) → OwnersRead is_wrong refusal said_of owners i read → list_any (λ one. bytes_eq (name_of owner) (called one)) read ≡ has_doubled_name (take i owners) owner
-    doubled owner so_far = ap (list_any (λ one. bytes_eq (name_of owner) (called one))) so_far.said ∙ names_kept (name_of owner) (take i owners)
+    doubled : (owner : Data) → OwnersRead is_wrong refusal said_of owners i read
+        → list_any (λ one. bytes_eq (name_of owner) (called one)) read ≡ has_doubled_name (take i owners) owner
+    doubled owner so_far = ap (list_any (λ one. bytes_eq (name_of owner) (called one))) so_far.said
+        ∙ names_kept (name_of owner) (take i owners)
 
     pub owner_more : (owner : Data) (said : T) → OwnersRead is_wrong refusal said_of owners i read → StandsAt owners i owner
-        → (is_wrong owner || list_any (λ one. bytes_eq (name_of owner) (called one)) read) ≡ false → said ≡ said_of owner → OwnersRead is_wrong refusal said_of owners (i + 1) (read ++ said ∷ [])
+        → (is_wrong owner || list_any (λ one. bytes_eq (name_of owner) (called one)) read) ≡ false → said ≡ said_of owner
+        → OwnersRead is_wrong refusal said_of owners (i + 1) (read ++ said ∷ [])
     owner_more owner said so_far at right same = record {
       faultless = faultless_more (owner_fault is_wrong refusal) owners i owner at
-          (ap (λ b. cond (is_wrong owner || b) (Some (refusal (i + 1))) None) (sym (doubled owner so_far)) ∙ ap (λ b. cond b (Some (refusal (i + 1))) None) right) so_far.faultless;
+          (ap (λ b. cond (is_wrong owner || b) (Some (refusal (i + 1))) None) (sym (doubled owner so_far))
+          ∙ ap (λ b. cond b (Some (refusal (i + 1))) None) right) so_far.faultless;
       said = ap (λ xs. xs ++ said ∷ []) so_far.said ∙ ap (λ one. map said_of (take i owners) ++ one ∷ []) same
           ∙ sym (map-append said_of (take i owners) (owner ∷ [])) ∙ ap (map said_of) (sym at.before);
     }
 
     pub owner_found : {V : Type 0} (owner : Data) (answer : V) → OwnersRead is_wrong refusal said_of owners i read → StandsAt owners i owner
-        → (is_wrong owner || list_any (λ one. bytes_eq (name_of owner) (called one)) read) ≡ true → unless_fault (owner_faults is_wrong refusal owners) answer ≡ Err (refusal (i + 1))
+        → (is_wrong owner || list_any (λ one. bytes_eq (name_of owner) (called one)) read) ≡ true
+        → unless_fault (owner_faults is_wrong refusal owners) answer ≡ Err (refusal (i + 1))
     owner_found owner answer so_far at wrong =
         fault_found (owner_fault is_wrong refusal) owners i owner (refusal (i + 1)) answer at
-        (ap (λ b. cond (is_wrong owner || b) (Some (refusal (i + 1))) None) (sym (doubled owner so_far)) ∙ ap (λ b. cond b (Some (refusal (i + 1))) None) wrong) so_far.faultless
+        (ap (λ b. cond (is_wrong owner || b) (Some (refusal (i + 1))) None) (sym (doubled owner so_far))
+        ∙ ap (λ b. cond b (Some (refusal (i + 1))) None) wrong) so_far.faultless
 
-pub owners_all : {T : Type 0} (is_wrong : Data → Bool) (refusal : ℕ → SiteError) (said_of : Data → T) (owners : List Data) (i : ℕ) (read : List T) → OwnersRead is_wrong refusal said_of owners i read → length owners ≤ i
+pub owners_all : {T : Type 0} (is_wrong : Data → Bool) (refusal : ℕ → SiteError) (said_of : Data → T) (owners : List Data) (i : ℕ)
+    (read : List T) → OwnersRead is_wrong refusal said_of owners i read → length owners ≤ i
     → unless_fault (owner_faults is_wrong refusal owners) (map said_of owners) ≡ Ok read
 owners_all is_wrong refusal said_of owners i read so_far end =
     faultless (owner_fault is_wrong refusal) owners i (map said_of owners) end so_far.faultless
     ∙ ap Ok (ap (map said_of) (sym (take_all i owners end)) ∙ sym so_far.said)
 
-pub owners_none : {T : Type 0} (is_wrong : Data → Bool) (refusal : ℕ → SiteError) (said_of : Data → T) (owners : List Data) (read : List T) → read ≡ [] → OwnersRead is_wrong refusal said_of owners 0 read
+pub owners_none : {T : Type 0} (is_wrong : Data → Bool) (refusal : ℕ → SiteError) (said_of : Data → T) (owners : List Data)
+    (read : List T) → read ≡ [] → OwnersRead is_wrong refusal said_of owners 0 read
 owners_none is_wrong refusal said_of owners read nothing = record { faultless = refl; said = nothing }
 
 -- no name is doubled where the owner is not refused
@@ -64,6 +74,7 @@ not_doubled true twice e = cc
 not_doubled false twice e = e
 
 -- the refusal of an owner
-pub refused : {T V : Type 0} (see : T → V) (kind : OwnerKind) (number : ℕ) (error : SiteError) (wanted : Result V SiteError) → error ≡ refusal_of kind number → wanted ≡ Err (refusal_of kind number) → IsUnlessMemory see (Err error) wanted
+pub refused : {T V : Type 0} (see : T → V) (kind : OwnerKind) (number : ℕ) (error : SiteError) (wanted : Result V SiteError)
+    → error ≡ refusal_of kind number → wanted ≡ Err (refusal_of kind number) → IsUnlessMemory see (Err error) wanted
 refused see User number error wanted e h = subst (λ (told : SiteError). IsUnlessMemory see (Err told) wanted) (sym e) h
 refused see Group number error wanted e h = subst (λ (told : SiteError). IsUnlessMemory see (Err told) wanted) (sym e) h

@@ -1,5 +1,6 @@
 -- What is found among rows in byte order.
-use Rattle.std.proofs.Common.{◌≡◌, ◌+◌, ◌≤◌, Bool, true, false, cond, List, [], ◌∷◌, ◌++◌, map, length, Option, Some, None, refl, sym, ap, ◌∙◌, subst, arith}
+use Rattle.std.proofs.Common.{◌≡◌, ◌+◌, ◌≤◌, Bool, true, false, cond, List, [], ◌∷◌, ◌++◌, map, length, Option, Some, None, refl, sym, ap}
+use Rattle.std.proofs.Common.{◌∙◌, subst, arith}
 use Rattle.std.specs.Prelude.{not, filter, fold, option_map}
 use Rattle.std.specs.List.{AllByRecursion}
 use Rattle.std.proofs.lemmas.List.{length-append}
@@ -34,22 +35,26 @@ paths-placed row (first ∷ rows) = by (is_before row.path first.path) (is_befor
   where
     by : (b c : Bool) → paths_of (row_placed row rows) ≡ placed row.path (paths_of rows)
         → paths_of (cond b (row ∷ first ∷ rows) (cond c (first ∷ row_placed row rows) (first ∷ rows)))
-        ≡ cond b (row.path ∷ first.path ∷ paths_of rows) (cond c (first.path ∷ placed row.path (paths_of rows)) (first.path ∷ paths_of rows))
+        ≡ cond b (row.path ∷ first.path ∷ paths_of rows)
+        (cond c (first.path ∷ placed row.path (paths_of rows)) (first.path ∷ paths_of rows))
     by true c e = refl
     by false true e = ap (λ paths. first.path ∷ paths) e
     by false false e = refl
 
-paths-folded : (sorted rows : List Row) → paths_of (fold (λ sorted row. row_placed row sorted) sorted rows) ≡ fold (λ sorted path. placed path sorted) (paths_of sorted) (paths_of rows)
+paths-folded : (sorted rows : List Row) → paths_of (fold (λ sorted row. row_placed row sorted) sorted rows)
+    ≡ fold (λ sorted path. placed path sorted) (paths_of sorted) (paths_of rows)
 paths-folded sorted [] = refl
 paths-folded sorted (row ∷ rows) =
-    paths-folded (row_placed row sorted) rows ∙ ap (λ paths. fold (λ sorted path. placed path sorted) paths (paths_of rows)) (paths-placed row sorted)
+    paths-folded (row_placed row sorted) rows ∙ ap (λ paths. fold (λ sorted path. placed path sorted) paths (paths_of rows))
+    (paths-placed row sorted)
 
 pub rows_ascend : (rows : List Row) → AreAscending (paths_of (rows_in_order rows))
 rows_ascend rows = subst AreAscending (sym (paths-folded [] rows)) (in_byte_order_ascending (paths_of rows))
 
 -- ---- each row, and how many
 
-all_folded : (P : Row → Type 0) (sorted rows : List Row) → AllByRecursion P sorted → AllByRecursion P rows → AllByRecursion P (fold (λ sorted row. row_placed row sorted) sorted rows)
+all_folded : (P : Row → Type 0) (sorted rows : List Row) → AllByRecursion P sorted → AllByRecursion P rows
+    → AllByRecursion P (fold (λ sorted row. row_placed row sorted) sorted rows)
 all_folded P sorted [] so_far all = so_far
 all_folded P sorted (row ∷ rows) so_far all = all_folded P (row_placed row sorted) rows (all_placed P row sorted all.0 so_far) all.1
 
@@ -58,10 +63,13 @@ all_append P [] ys all more = more
 all_append P (x ∷ xs) ys all more = (all.0, all_append P xs ys all.1 more)
 
 -- what holds of each listed row and of `/` and `/proc` holds of each row of the table
-pub all_in_order : (P : Row → Type 0) (listed : List Row) → AllByRecursion P listed → P (plain_dir root) → P (plain_dir proc) → AllByRecursion P (rows_in_order (with_fixed listed))
-all_in_order P listed all top below = all_folded P [] (with_fixed listed) tt (all_append P listed _ all (by (has_row listed root) (has_row listed proc)))
+pub all_in_order : (P : Row → Type 0) (listed : List Row) → AllByRecursion P listed → P (plain_dir root) → P (plain_dir proc)
+    → AllByRecursion P (rows_in_order (with_fixed listed))
+all_in_order P listed all top below = all_folded P [] (with_fixed listed) tt
+    (all_append P listed _ all (by (has_row listed root) (has_row listed proc)))
   where
-    by : (b c : Bool) → AllByRecursion P (cond (not b) (plain_dir root ∷ cond (not c) (plain_dir proc ∷ []) []) (cond (not c) (plain_dir proc ∷ []) []))
+    by : (b c : Bool) → AllByRecursion P
+        (cond (not b) (plain_dir root ∷ cond (not c) (plain_dir proc ∷ []) []) (cond (not c) (plain_dir proc ∷ []) []))
     by true true = tt
     by true false = (below, tt)
     by false true = (top, tt)
@@ -71,7 +79,8 @@ length-placed : (row : Row) (rows : List Row) → length (row_placed row rows) �
 length-placed row [] = omega arith
 length-placed row (first ∷ rows) = by (is_before row.path first.path) (is_before first.path row.path) (length-placed row rows)
   where
-    by : (b c : Bool) → length (row_placed row rows) ≤ length rows + 1 → length (cond b (row ∷ first ∷ rows) (cond c (first ∷ row_placed row rows) (first ∷ rows))) ≤ length (first ∷ rows) + 1
+    by : (b c : Bool) → length (row_placed row rows) ≤ length rows + 1
+        → length (cond b (row ∷ first ∷ rows) (cond c (first ∷ row_placed row rows) (first ∷ rows))) ≤ length (first ∷ rows) + 1
     by true c e = omega arith
     by false true e = omega arith
     by false false e = omega arith
@@ -88,7 +97,8 @@ length_in_order listed =
     let few = by (has_row listed root) (has_row listed proc) in
     omega arith
   where
-    by : (b c : Bool) → length (cond (not b) (plain_dir root ∷ cond (not c) (plain_dir proc ∷ []) []) (cond (not c) (plain_dir proc ∷ []) [])) ≤ 2
+    by : (b c : Bool) → length
+        (cond (not b) (plain_dir root ∷ cond (not c) (plain_dir proc ∷ []) []) (cond (not c) (plain_dir proc ∷ []) [])) ≤ 2
     by true true = omega arith
     by true false = omega arith
     by false true = omega arith
@@ -101,7 +111,8 @@ abbrev pub AreApart : List Row → Type 0
 AreApart [] = Unit {0}
 AreApart (row ∷ rows) = (has_row rows row.path ≡ false) × AreApart rows
 
-swapped : (b c : Bool) (x y : Row) (rest : Option Row) → (b ≡ true → c ≡ true → ⊥) → cond b (Some x) (cond c (Some y) rest) ≡ cond c (Some y) (cond b (Some x) rest)
+swapped : (b c : Bool) (x y : Row) (rest : Option Row) → (b ≡ true → c ≡ true → ⊥)
+    → cond b (Some x) (cond c (Some y) rest) ≡ cond c (Some y) (cond b (Some x) rest)
 swapped true true x y rest h = absurd (h refl refl)
 swapped true false x y rest h = refl
 swapped false true x y rest h = refl
@@ -128,7 +139,8 @@ row_at-placed row (first ∷ rows) path here all absent =
         ap (λ found. cond (is_same first.path path) (Some first) found) more
         ∙ swapped (is_same first.path path) (is_same row.path path) first row (row_at rows path) (both_same first.path row.path path apart)
     by false false e f apart more =
-        absurd (false≢true (sym apart ∙ subst (λ (p : Path). is_same first.path p ≡ true) (one_path row first here all.0 e f) (same_itself first.path)))
+        absurd (false≢true (sym apart ∙ subst (λ (p : Path). is_same first.path p ≡ true) (one_path row first here all.0 e f)
+        (same_itself first.path)))
 
 abbrev orelse : Option Row → Option Row → Option Row
 orelse (Some row) other = Some row
@@ -146,13 +158,15 @@ none_of path (row ∷ rows) h =
     let both = or_parts (is_same row.path path) (has_row rows path) h in (is_same-swap path row.path ∙ both.0, none_of path rows both.1)
 
 -- the paths of the later rows are new among those that stand and one more
-still_new : (row : Row) (sorted rows : List Row) → is_normal row.path ≡ true → AreNormal sorted → AllByRecursion (λ later. has_row sorted later.path ≡ false) rows → AllByRecursion (λ later. is_same row.path later.path ≡ false) rows
+still_new : (row : Row) (sorted rows : List Row) → is_normal row.path ≡ true → AreNormal sorted
+    → AllByRecursion (λ later. has_row sorted later.path ≡ false) rows → AllByRecursion (λ later. is_same row.path later.path ≡ false) rows
     → AllByRecursion (λ later. has_row (row_placed row sorted) later.path ≡ false) rows
 still_new row sorted [] here all new apart = tt
 still_new row sorted (later ∷ rows) here all new apart =
     (has_placed row sorted later.path here all ∙ or_from _ _ apart.0 new.0, still_new row sorted rows here all new.1 apart.1)
 
-row_at-folded : (sorted rows : List Row) (path : Path) → AreNormal sorted → AreNormal rows → AreApart rows → AllByRecursion (λ row. has_row sorted row.path ≡ false) rows
+row_at-folded : (sorted rows : List Row) (path : Path) → AreNormal sorted → AreNormal rows → AreApart rows
+    → AllByRecursion (λ row. has_row sorted row.path ≡ false) rows
     → row_at (fold (λ sorted row. row_placed row sorted) sorted rows) path ≡ orelse (row_at sorted path) (row_at rows path)
 row_at-folded sorted [] path so_far all apart new = or_none (row_at sorted path)
   where
@@ -166,8 +180,10 @@ row_at-folded sorted (row ∷ rows) path so_far all apart new =
     ∙ by (is_same row.path path) refl
   where
     by : (b : Bool) → is_same row.path path ≡ b
-        → orelse (cond b (Some row) (row_at sorted path)) (row_at rows path) ≡ orelse (row_at sorted path) (cond b (Some row) (row_at rows path))
-    by true e = ap (λ found. orelse found (Some row)) (sym (none_at sorted path (ap (has_row sorted) (sym (same_path row.path path e)) ∙ new.0)))
+        → orelse (cond b (Some row) (row_at sorted path)) (row_at rows path)
+        ≡ orelse (row_at sorted path) (cond b (Some row) (row_at rows path))
+    by true e = ap (λ found. orelse found (Some row))
+        (sym (none_at sorted path (ap (has_row sorted) (sym (same_path row.path path e)) ∙ new.0)))
     by false e = refl
 
 all_new : (rows : List Row) → AllByRecursion (λ row. has_row [] row.path ≡ false) rows
@@ -182,20 +198,24 @@ row_at-in_order rows path all apart = row_at-folded [] rows path tt all apart (a
 abbrev pub IsDirAt : List Row → Path → Type 0
 IsDirAt rows path = kind_at rows path ≡ Some Dir
 
-kind_of-cond : (b : Bool) (row : Row) (rest : Option Row) → row.kind ≡ Dir → option_map (λ r. r.kind) rest ≡ Some Dir → option_map (λ r. r.kind) (cond b (Some row) rest) ≡ Some Dir
+kind_of-cond : (b : Bool) (row : Row) (rest : Option Row) → row.kind ≡ Dir → option_map (λ r. r.kind) rest ≡ Some Dir
+    → option_map (λ r. r.kind) (cond b (Some row) rest) ≡ Some Dir
 kind_of-cond true row rest here there = ap Some here
 kind_of-cond false row rest here there = there
 
 -- a directory stays one when another is placed
-pub dir_kept : (rows : List Row) (more path : Path) → is_normal more ≡ true → AreNormal rows → IsDirAt rows path → IsDirAt (dir_placed more rows) path
+pub dir_kept : (rows : List Row) (more path : Path) → is_normal more ≡ true → AreNormal rows → IsDirAt rows path
+    → IsDirAt (dir_placed more rows) path
 dir_kept rows more path clean all dir = by (has_row rows more) refl
   where
     by : (b : Bool) → has_row rows more ≡ b → kind_at (cond b rows (row_placed (plain_dir more) rows)) path ≡ Some Dir
     by true e = dir
-    by false e = ap (option_map (λ r. r.kind)) (row_at-placed (plain_dir more) rows path clean all e) ∙ kind_of-cond (is_same more path) (plain_dir more) (row_at rows path) refl dir
+    by false e = ap (option_map (λ r. r.kind)) (row_at-placed (plain_dir more) rows path clean all e)
+        ∙ kind_of-cond (is_same more path) (plain_dir more) (row_at rows path) refl dir
 
 -- a directory is where it is placed, if what stood there was one
-pub dir_here : (rows : List Row) (path : Path) → is_normal path ≡ true → AreNormal rows → (has_row rows path ≡ true → IsDirAt rows path) → IsDirAt (dir_placed path rows) path
+pub dir_here : (rows : List Row) (path : Path) → is_normal path ≡ true → AreNormal rows → (has_row rows path ≡ true → IsDirAt rows path)
+    → IsDirAt (dir_placed path rows) path
 dir_here rows path clean all dir = by (has_row rows path) refl
   where
     by : (b : Bool) → has_row rows path ≡ b → kind_at (cond b rows (row_placed (plain_dir path) rows)) path ≡ Some Dir

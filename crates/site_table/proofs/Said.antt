@@ -16,7 +16,8 @@ use Rattle.site_table.specs.Ids.{id_of, id_at, greatest_id}
 use Rattle.toml_shapes.specs.Keys.{has_keys}
 use Rattle.site_table.specs.Keys.{row_keys}
 use Rattle.site_table.specs.Kinds.{is_dir, is_exe}
-use Rattle.site_table.specs.Rows.{path_of, kind_of, cap_names, has, is_empty, has_exe_key, is_always_dir, may_be, has_wrong_kind, has_wrong_number, has_wrong_caps, has_both, own_causes, first_of, row_of}
+use Rattle.site_table.specs.Rows.{path_of, kind_of, cap_names, has, is_empty, has_exe_key, is_always_dir, may_be, has_wrong_kind}
+use Rattle.site_table.specs.Rows.{has_wrong_number, has_wrong_caps, has_both, own_causes, first_of, row_of}
 use Rattle.site_table.specs.Table.{IsIdIfSome}
 use Rattle.toml_shapes.specs.Tree.{number_at, flag_at, elements_at, elements_of}
 use Rattle.site_table.proofs.Causes.{first_of-none}
@@ -66,7 +67,8 @@ unwrapped_small (Some number) h = h
 pub kind_is : (row : Data) → IsRight row → (kind_of row ≡ Some (row_of row).kind) × (may_be (row_of row).kind row ≡ true)
 kind_is row right = by (kind_of row) (not-false (option_map_or (λ kind. may_be kind row) (kind_of row) false) right.kind)
   where
-    by : (kind : Option RowKind) → option_map_or (λ kind. may_be kind row) kind false ≡ true → (kind ≡ Some (unwrap_or kind Dir)) × (may_be (unwrap_or kind Dir) row ≡ true)
+    by : (kind : Option RowKind) → option_map_or (λ kind. may_be kind row) kind false ≡ true
+        → (kind ≡ Some (unwrap_or kind Dir)) × (may_be (unwrap_or kind Dir) row ≡ true)
     by None h = absurd (false≢true h)
     by (Some kind) h = (refl, h)
 
@@ -78,10 +80,13 @@ dir_if Exe true h e = absurd (false≢true h)
 dir_if Exe false h e = absurd (false≢true e)
 
 -- `/` and `/proc` are directories where they are listed
-pub always_is_dir : (row : Data) → IsRight row → path_of row ≡ Some (row_of row).path → is_always_dir (row_of row).path ≡ true → (row_of row).kind ≡ Dir
+pub always_is_dir : (row : Data) → IsRight row → path_of row ≡ Some (row_of row).path → is_always_dir (row_of row).path ≡ true
+    → (row_of row).kind ≡ Dir
 always_is_dir row right here e =
     let said = kind_is row right in
-    dir_if (row_of row).kind (option_map_or is_always_dir (path_of row) false) (and_parts (is_exe (row_of row).kind || not (has_exe_key row)) (is_dir (row_of row).kind || not (option_map_or is_always_dir (path_of row) false)) said.1).1
+    dir_if (row_of row).kind (option_map_or is_always_dir (path_of row) false)
+    (and_parts (is_exe (row_of row).kind || not (has_exe_key row))
+    (is_dir (row_of row).kind || not (option_map_or is_always_dir (path_of row) false)) said.1).1
     (ap (λ path. option_map_or is_always_dir path false) here ∙ e)
 
 -- ---- what only an executable has
@@ -104,7 +109,8 @@ no_exe_key Dir keys h e = not-true keys e
 no_exe_key File keys h e = not-true keys e
 no_exe_key Exe keys h e = absurd (h refl)
 
-pub exe_alone : (row : Data) → IsRight row → (row_of row).kind ≢ Exe → ((row_of row).setuid ≡ None) × ((row_of row).setgid ≡ None) × ((row_of row).caps ≡ none) × ((row_of row).effective ≡ false)
+pub exe_alone : (row : Data) → IsRight row → (row_of row).kind ≢ Exe
+    → ((row_of row).setuid ≡ None) × ((row_of row).setgid ≡ None) × ((row_of row).caps ≡ none) × ((row_of row).effective ≡ false)
 exe_alone row right other =
     let said = kind_is row right in
     let absent = no_exe_key (row_of row).kind (has_exe_key row) other
@@ -120,7 +126,8 @@ exe_alone row right other =
 
 -- ---- capabilities
 
-present : {X : Type 0} (key : List ℕ) (row : Data) (read : Data → Option X) → IsSome (option_and_then read (get key row)) → has key row ≡ true
+present : {X : Type 0} (key : List ℕ) (row : Data) (read : Data → Option X) → IsSome (option_and_then read (get key row))
+    → has key row ≡ true
 present key row read h = by (get key row) h
   where
     by : (found : Option Data) → IsSome (option_and_then read found) → is_some found ≡ true
@@ -137,7 +144,9 @@ empty_is (name ∷ names) h = absurd (false≢true h)
 
 -- an owner's uid stands without capabilities
 pub owner_or_caps : (row : Data) → IsRight row → IsSome (row_of row).setuid → (row_of row).caps ≡ none
-owner_or_caps row right owner = ap caps_of (empty_is (cap_names row) (by (has (codes "setuid") row) (is_empty (cap_names row)) (read_number (get (codes "setuid") row) owner) right.both))
+owner_or_caps row right owner =
+    ap caps_of (empty_is (cap_names row)
+    (by (has (codes "setuid") row) (is_empty (cap_names row)) (read_number (get (codes "setuid") row) owner) right.both))
   where
     by : (b c : Bool) → b ≡ true → (b && not c) ≡ false → c ≡ true
     by true true e h = refl
@@ -145,9 +154,11 @@ owner_or_caps row right owner = ap caps_of (empty_is (cap_names row) (by (has (c
     by false c e h = absurd (false≢true e)
 
 -- what is in a set stays in it when others are added
-stays : (set number : ℕ) (numbers : List ℕ) → has_cap set number ≡ true → has_cap (fold (λ set number. union set (single number)) set numbers) number ≡ true
+stays : (set number : ℕ) (numbers : List ℕ) → has_cap set number ≡ true
+    → has_cap (fold (λ set number. union set (single number)) set numbers) number ≡ true
 stays set number [] h = h
-stays set number (other ∷ numbers) h = stays (union set (single other)) number numbers (has_union set (single other) number ∙ ap (λ b. b || has_cap (single other) number) h)
+stays set number (other ∷ numbers) h = stays (union set (single other)) number numbers
+    (has_union set (single other) number ∙ ap (λ b. b || has_cap (single other) number) h)
 
 some_cap : (value : Data) (values : List Data) → is_some (as_cap value) ≡ true → caps_of (value ∷ values) ≢ none
 some_cap value values h = by (as_cap value) h
@@ -158,12 +169,15 @@ some_cap value values h = by (as_cap value) h
 
     own : (number : ℕ) → has_cap (union none (single number)) number ≡ true
     own number =
-        has_union none (single number) number ∙ ap (λ b. has_cap none number || b) (has_single number number ∙ eq-eqb number number refl) ∙ or_true (has_cap none number)
+        has_union none (single number) number ∙ ap (λ b. has_cap none number || b) (has_single number number ∙ eq-eqb number number refl)
+        ∙ or_true (has_cap none number)
 
-    by : (found : Option ℕ) → is_some found ≡ true → fold (λ set number. union set (single number)) none (cons_option found (filter_map as_cap values)) ≢ none
+    by : (found : Option ℕ) → is_some found ≡ true → fold (λ set number. union set (single number)) none
+        (cons_option found (filter_map as_cap values)) ≢ none
     by None h = absurd (false≢true h)
     by (Some number) h = λ e.
-        false≢true (sym (has_none number) ∙ ap (λ set. has_cap set number) (sym e) ∙ stays (union none (single number)) number (filter_map as_cap values) (own number))
+        false≢true (sym (has_none number) ∙ ap (λ set. has_cap set number) (sym e)
+        ∙ stays (union none (single number)) number (filter_map as_cap values) (own number))
 
 pub effective_caps : (row : Data) → IsRight row → (row_of row).effective ≡ true → (row_of row).caps ≢ none
 effective_caps row right on = by (cap_names row) both.0 both.1
@@ -173,7 +187,8 @@ effective_caps row right on = by (cap_names row) both.0 both.1
     flagged (Some value) h = refl
 
     both : (are_caps (cap_names row) ≡ true) × (is_empty (cap_names row) ≡ false)
-    both = apart (are_caps (cap_names row)) (has (codes "effective") row) (is_empty (cap_names row)) (flagged (get (codes "effective") row) on) right.caps
+    both = apart (are_caps (cap_names row)) (has (codes "effective") row) (is_empty (cap_names row))
+        (flagged (get (codes "effective") row) on) right.caps
       where
         apart : (a b c : Bool) → b ≡ true → (not a || (b && c)) ≡ false → (a ≡ true) × (c ≡ false)
         apart true true c e h = (refl, h)

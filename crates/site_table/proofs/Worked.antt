@@ -19,17 +19,23 @@ unfolding row rows
 alone = refl
 
 -- the parent may stand later, and counts by its path and kind alone
-later : faults_of (rows (item (row (codes "/a/b") (codes "file") no_members) (item (row (codes "/a//") (codes "dir") (member (codes "x") (boolean true) no_members)) no_items))) ≡ BadRow 2 Key ∷ []
+later : faults_of (rows (item (row (codes "/a/b") (codes "file") no_members)
+    (item (row (codes "/a//") (codes "dir") (member (codes "x") (boolean true) no_members)) no_items))) ≡ BadRow 2 Key ∷ []
 unfolding row rows
 later = refl
 
 -- each row with a fault is told by its first cause; the second row is a file and no folder of the third
-several : faults_of (rows (item (row (codes "/a") (codes "file") no_members) (item (row (codes "//a/.") (codes "dir") no_members) (item (row (codes "/b") (codes "link") no_members) no_items)))) ≡ BadRow 2 Duplicate ∷ BadRow 3 Kind ∷ []
+several : faults_of (rows
+    (item (row (codes "/a") (codes "file") no_members)
+    (item (row (codes "//a/.") (codes "dir") no_members) (item (row (codes "/b") (codes "link") no_members) no_items))))
+    ≡ BadRow 2 Duplicate ∷ BadRow 3 Kind ∷ []
 unfolding row rows
 several = refl
 
 -- `/proc` and `/` are there, and byte order puts `/a-b` before `/a/c`
-in_byte_order : map (λ (r : Row). r.path) (site_in (rows (item (row (codes "/a/c") (codes "file") no_members) (item (row (codes "/a-b") (codes "exe") no_members) (item (row (codes "/a") (codes "dir") no_members) no_items))))).rows
+in_byte_order : map (λ (r : Row). r.path)
+    (site_in (rows (item (row (codes "/a/c") (codes "file") no_members)
+    (item (row (codes "/a-b") (codes "exe") no_members) (item (row (codes "/a") (codes "dir") no_members) no_items))))).rows
     ≡ [] ∷ (codes "a" ∷ []) ∷ (codes "a-b" ∷ []) ∷ (codes "a" ∷ codes "c" ∷ []) ∷ (codes "proc" ∷ []) ∷ []
 unfolding row rows
 in_byte_order = refl

@@ -13,4 +13,5 @@ use Rattle.site_table.specs.Table.{row_at}
 pub record AreExactly (listed : List Data) (rows : List Row) : Type 0 where
   pub paths : (path : Path) → has_row rows path ≡ (list_any (is_row_at path) listed || is_always_dir path)
   pub as_listed : (row : Data) (path : Path) → Contains listed row → path_of row ≡ Some path → row_at rows path ≡ Some (row_of row)
-  pub as_always : (path : Path) → is_always_dir path ≡ true → list_any (is_row_at path) listed ≡ false → row_at rows path ≡ Some (plain_dir path)
+  pub as_always : (path : Path) → is_always_dir path ≡ true → list_any (is_row_at path) listed ≡ false
+      → row_at rows path ≡ Some (plain_dir path)

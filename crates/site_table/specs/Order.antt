@@ -1,5 +1,6 @@
 -- The rows of a table, in byte order of their paths.
-use Rattle.std.specs.Prelude.{◌≡◌, ℕ, ◌<◌, ◌≤◌, Bool, true, false, not, cond, filter, map, List, [], ◌∷◌, ◌++◌, length, slice_index_or, insert, None, Result, Ok, Err}
+use Rattle.std.specs.Prelude.{◌≡◌, ℕ, ◌<◌, ◌≤◌, Bool, true, false, not, cond, filter, map, List, [], ◌∷◌, ◌++◌, length, slice_index_or}
+use Rattle.std.specs.Prelude.{insert, None, Result, Ok, Err}
 use Rattle.std.specs.List.{list_any, fold}
 use Rattle.std.specs.Ordering.{nat_cmp}
 use Rattle.std.specs.declared.cmp.Ordering.TheVariants.{Less, Greater}
@@ -28,7 +29,8 @@ with_fixed listed = listed ++ filter (λ row. not (has_row listed row.path)) (pl
 -- rows in order with one more in its place, unless its path stands there
 abbrev pub row_placed : Row → List Row → List Row
 row_placed row [] = row ∷ []
-row_placed row (first ∷ rows) = cond (is_before row.path first.path) (row ∷ first ∷ rows) (cond (is_before first.path row.path) (first ∷ row_placed row rows) (first ∷ rows))
+row_placed row (first ∷ rows) = cond (is_before row.path first.path) (row ∷ first ∷ rows)
+    (cond (is_before first.path row.path) (first ∷ row_placed row rows) (first ∷ rows))
 
 abbrev pub rows_in_order : List Row → List Row
 rows_in_order rows = fold (λ sorted row. row_placed row sorted) [] rows

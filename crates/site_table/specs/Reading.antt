@@ -1,11 +1,13 @@
 -- Which site the bytes of a file describe, or why they are refused.
-use Rattle.std.specs.Prelude.{◌≡◌, ⊤, ℕ, ◌+◌, nat_lt, ◌||◌, ◌&&◌, Bool, cond, codes, is_some, List, [], ◌∷◌, ◌++◌, map, length, take, Option, Some, None, option_map, unwrap_or, Result, Ok, Err}
+use Rattle.std.specs.Prelude.{◌≡◌, ⊤, ℕ, ◌+◌, nat_lt, ◌||◌, ◌&&◌, Bool, cond, codes, is_some, List, [], ◌∷◌, ◌++◌, map, length, take}
+use Rattle.std.specs.Prelude.{Option, Some, None, option_map, unwrap_or, Result, Ok, Err}
 use Rattle.std.specs.List.{filter_map, enumerate_from}
 use Rattle.std.specs.Str.{is_utf8}
 use Rattle.toml.specs.Data.{Data, Members, table}
 use Rattle.toml.specs.Parse.{parse_document}
 use Rattle.site_table.specs.declared.error.SiteError.{SiteError}
-use Rattle.site_table.specs.declared.error.SiteError.TheVariants.{NotToml, Top, TooMany, Row as BadRow, User as BadUser, Group as BadGroup, Memory}
+use Rattle.site_table.specs.declared.error.SiteError.TheVariants.{NotToml, Top, TooMany, Row as BadRow, User as BadUser, Group as BadGroup}
+use Rattle.site_table.specs.declared.error.SiteError.TheVariants.{Memory}
 use Rattle.site_table.specs.declared.owners.OwnerKind.TheVariants.{User as UserKind, Group as GroupKind}
 use Rattle.toml_shapes.specs.Tree.{elements_at}
 use Rattle.toml_shapes.specs.Keys.{has_keys}
@@ -35,7 +37,8 @@ row_faults rows = faults_among (λ number before row. option_map (BadRow number)
 
 -- an owner is a user or a group: it is wrong by itself, or an earlier one has its name
 abbrev pub owner_faults : (Data → Bool) → (ℕ → SiteError) → List Data → List SiteError
-owner_faults is_wrong refusal owners = faults_among (λ number before owner. cond (is_wrong owner || has_doubled_name before owner) (Some (refusal number)) None) owners
+owner_faults is_wrong refusal owners =
+    faults_among (λ number before owner. cond (is_wrong owner || has_doubled_name before owner) (Some (refusal number)) None) owners
 
 abbrev pub user_faults : List Data → List SiteError
 user_faults users = owner_faults (is_wrong UserKind) BadUser users
@@ -56,7 +59,8 @@ size_faults site = cond (is_too_large site) (TooMany ∷ []) []
 
 -- all that is wrong with a site, in the order in which it is told
 abbrev pub faults_of : Data → List SiteError
-faults_of site = top_faults site ++ size_faults site ++ row_faults (rows_in site) ++ user_faults (users_in site) ++ group_faults (groups_in site)
+faults_of site = top_faults site ++ size_faults site ++ row_faults (rows_in site) ++ user_faults (users_in site) ++ group_faults
+    (groups_in site)
 
 -- what a site says, where nothing is wrong with it
 abbrev pub site_in : Data → Site

@@ -1,5 +1,6 @@
 -- What the steps of reading a row answer.
-use Rattle.std.specs.Prelude.{◌≡◌, ⊤, ℕ, ◌||◌, ◌&&◌, codes, cond, Bool, true, false, not, List, [], ◌∷◌, drop, Option, Some, None, option_map, Result, Ok, Err}
+use Rattle.std.specs.Prelude.{◌≡◌, ⊤, ℕ, ◌||◌, ◌&&◌, codes, cond, Bool, true, false, not, List, [], ◌∷◌, drop, Option, Some, None}
+use Rattle.std.specs.Prelude.{option_map, Result, Ok, Err}
 use Rattle.std.specs.Option.{option_map_or}
 use Rattle.std.specs.List.{list_any}
 use Rattle.std.specs.Str.{bytes_eq}
@@ -12,7 +13,8 @@ use Rattle.site_table.specs.declared.row.Row.{Row}
 use Rattle.site_table.specs.declared.error.RowCause.{RowCause}
 use Rattle.site_table.specs.declared.error.RowCause.TheVariants.{Duplicate, NoParent}
 use Rattle.site_table.specs.declared.error.SiteError.{SiteError}
-use Rattle.site_table.specs.declared.error.SiteError.TheVariants.{NotToml, Top, TooMany, Row as BadRow, User as BadUser, Group as BadGroup, Memory}
+use Rattle.site_table.specs.declared.error.SiteError.TheVariants.{NotToml, Top, TooMany, Row as BadRow, User as BadUser, Group as BadGroup}
+use Rattle.site_table.specs.declared.error.SiteError.TheVariants.{Memory}
 use Rattle.site_table.specs.Paths.{parent_of, root}
 use Rattle.site_table.specs.Rows.{first_of, own_causes, row_of, kind_of, path_of}
 use Rattle.site_table.specs.Order.{has_row, row_placed, plain_dir}
@@ -85,8 +87,10 @@ has_dir_row rows text = list_any (λ row. is_dir row.kind && bytes_eq text (tail
 
 -- the path is the root's, or its folder is always there or one of the rows
 abbrev pub stands_behind : List Row → Path → Bool
-stands_behind rows path = option_map_or (λ text. is_always_dir_text text || has_dir_row rows text) (option_map tail_of (parent_of path)) true
+stands_behind rows path = option_map_or (λ text. is_always_dir_text text || has_dir_row rows text)
+    (option_map tail_of (parent_of path)) true
 
 -- the row has no cause of its own, a new path and its folder among the rows, and is placed among them
 abbrev pub PlacesBehind : List Row → Data → List Row → Type 0
-PlacesBehind rows row placed = (first_of (own_causes row) ≡ None) × (placed ≡ row_placed (row_of row) rows) × (has_row rows (row_of row).path ≡ false) × (stands_behind rows (row_of row).path ≡ true)
+PlacesBehind rows row placed = (first_of (own_causes row) ≡ None) × (placed ≡ row_placed (row_of row) rows) ×
+    (has_row rows (row_of row).path ≡ false) × (stands_behind rows (row_of row).path ≡ true)

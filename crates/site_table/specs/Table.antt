@@ -1,5 +1,6 @@
 -- A site: what its table holds, what holds of each, and what is found in it.
-use Rattle.std.specs.Prelude.{◌≡◌, ◌≢◌, ◌≤◌, ℕ, true, false, List, [], ◌∷◌, map, length, find, position, Option, Some, None, option_map, IfSome, IsSome, ◌==◌}
+use Rattle.std.specs.Prelude.{◌≡◌, ◌≢◌, ◌≤◌, ℕ, true, false, List, [], ◌∷◌, map, length, find, position, Option, Some, None, option_map}
+use Rattle.std.specs.Prelude.{IfSome, IsSome, ◌==◌}
 use Rattle.std.specs.List.{AllByRecursion}
 use Rattle.std.specs.Str.{bytes_eq}
 use Rattle.abs_path.specs.Paths.{Path, tail_of, text_of, is_normal, proc}

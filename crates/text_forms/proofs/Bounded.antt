@@ -24,7 +24,8 @@ decimal_bounded : (number : Option ℕ) → IsSmall (option_and_then small_only 
 decimal_bounded None = tt
 decimal_bounded (Some n) = small_bounded n
 
-beside_bounded : (rows : List (List ℕ × ℕ)) (name : List ℕ) → list_all (λ row. nat_le row.1 4095) rows ≡ true → IsSmall (number_beside rows name)
+beside_bounded : (rows : List (List ℕ × ℕ)) (name : List ℕ) → list_all (λ row. nat_le row.1 4095) rows ≡ true
+    → IsSmall (number_beside rows name)
 unfolding number_beside
 beside_bounded [] name h = tt
 beside_bounded (row ∷ rows) name h = by (bytes_eq row.0 name) (beside_bounded rows name (and_parts _ _ h).1)

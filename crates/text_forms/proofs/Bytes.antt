@@ -15,7 +15,8 @@ has_no_nul bytes = not (list_any (λ byte. eqb byte 0) bytes)
 
 pub not_utf8 : (bytes : List ℕ) → ¬ (IsUtf8 bytes) → text_of bytes ≡ None
 unfolding text_of has_no_nul
-not_utf8 bytes h = ap (λ b. cond (b && has_no_nul bytes) (Some bytes) None) (is_false (is_utf8 bytes) (λ e. h (IsUtf8-from_is_utf8 bytes e)))
+not_utf8 bytes h = ap (λ b. cond (b && has_no_nul bytes) (Some bytes) None)
+    (is_false (is_utf8 bytes) (λ e. h (IsUtf8-from_is_utf8 bytes e)))
 
 pub has_nul : (bytes : List ℕ) → list_any (λ byte. eqb byte 0) bytes ≡ true → text_of bytes ≡ None
 unfolding text_of
@@ -28,4 +29,5 @@ has_nul bytes h = by (is_utf8 bytes)
 pub is_text : (bytes : List ℕ) → IsUtf8 bytes → list_any (λ byte. eqb byte 0) bytes ≡ false → text_of bytes ≡ Some bytes
 unfolding text_of
 is_text bytes u z =
-    ap (λ b. cond (b && not (list_any (λ byte. eqb byte 0) bytes)) (Some bytes) None) (is_utf8-from_IsUtf8 bytes u) ∙ ap (λ b. cond (not b) (Some bytes) None) z
+    ap (λ b. cond (b && not (list_any (λ byte. eqb byte 0) bytes)) (Some bytes) None) (is_utf8-from_IsUtf8 bytes u)
+    ∙ ap (λ b. cond (not b) (Some bytes) None) z

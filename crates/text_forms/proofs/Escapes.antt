@@ -1,5 +1,6 @@
 -- An escaped word read back, and its bytes.
-use Rattle.std.proofs.Common.{◌≡◌, ℕ, suc, ◌+◌, ◌-◌, ◌*◌, ◌/◌, ◌%◌, ◌<◌, ◌≤◌, Bool, true, false, cond, List, [], ◌∷◌, ◌++◌, Some, None, length, take, take_all, drop, get_or, refl, sym, ap, ◌∙◌, append-nil, length-drop, arith}
+use Rattle.std.proofs.Common.{◌≡◌, ℕ, suc, ◌+◌, ◌-◌, ◌*◌, ◌/◌, ◌%◌, ◌<◌, ◌≤◌, Bool, true, false, cond, List, [], ◌∷◌, ◌++◌, Some, None}
+use Rattle.std.proofs.Common.{length, take, take_all, drop, get_or, refl, sym, ap, ◌∙◌, append-nil, length-drop, arith}
 use Rattle.std.specs.Prelude.{◌||◌, ◌==◌, not, nat_le, nat_lt, position}
 use Rattle.std.specs.Char.{digit_value, is_digit}
 use Rattle.std.specs.List.{All, AllByRecursion, position_or_len}
@@ -23,16 +24,22 @@ read_escaped : (byte : ℕ) (word : List ℕ) → byte < 256 → word_read (esca
 unfolding word_read escaped_byte
 read_escaped byte word h = by (is_coded byte) refl
   where
-    coded : is_digit (upper_digit (byte / 16)) 16 ≡ true → is_digit (upper_digit (byte % 16)) 16 ≡ true → digit_value (upper_digit (byte / 16)) * 16 + digit_value (upper_digit (byte % 16)) ≡ byte →
+    coded : is_digit (upper_digit (byte / 16)) 16 ≡ true → is_digit (upper_digit (byte % 16)) 16 ≡ true
+        → digit_value (upper_digit (byte / 16)) * 16 + digit_value (upper_digit (byte % 16)) ≡ byte →
         code_read (upper_digit (byte / 16) ∷ upper_digit (byte % 16) ∷ word) ≡ with_byte byte (word_read word)
-    coded p q e = ap (λ b. cond b (with_byte (digit_value (upper_digit (byte / 16)) * 16 + digit_value (upper_digit (byte % 16))) (word_read word)) None) (and_from _ _ p q) ∙ ap (λ n. with_byte n (word_read word)) e
+    coded p q e = ap (λ b. cond b
+        (with_byte (digit_value (upper_digit (byte / 16)) * 16 + digit_value (upper_digit (byte % 16))) (word_read word)) None)
+        (and_from _ _ p q) ∙ ap (λ n. with_byte n (word_read word)) e
 
-    by : (b : Bool) → is_coded byte ≡ b → word_read (cond b (37 ∷ upper_digit (byte / 16) ∷ upper_digit (byte % 16) ∷ []) (byte ∷ []) ++ word) ≡ with_byte byte (word_read word)
+    by : (b : Bool) → is_coded byte ≡ b
+        → word_read (cond b (37 ∷ upper_digit (byte / 16) ∷ upper_digit (byte % 16) ∷ []) (byte ∷ []) ++ word)
+        ≡ with_byte byte (word_read word)
     by true e =
         let high = digit_of (byte / 16) (omega arith) in
         let low = digit_of (byte % 16) (omega arith) in
         coded (digit_fits (byte / 16) (omega arith)) (digit_fits (byte % 16) (omega arith)) (omega (arith, high, low))
-    by false e = ap (λ b. cond b (code_read word) (with_byte byte (word_read word))) (or_parts (nat_le byte 32 || byte == 127) (byte == 37) e).1
+    by false e = ap (λ b. cond b (code_read word) (with_byte byte (word_read word)))
+        (or_parts (nat_le byte 32 || byte == 127) (byte == 37) e).1
 
 read_back : (text : List ℕ) → AllByRecursion (λ byte. byte < 256) text → word_read (escaped_word text) ≡ Some text
 unfolding word_read
@@ -50,7 +57,8 @@ byte_shows : (byte : ℕ) → AllByRecursion (λ b. 32 < b) (escaped_byte byte)
 unfolding escaped_byte
 byte_shows byte = by (is_coded byte) refl
   where
-    by : (b : Bool) → is_coded byte ≡ b → AllByRecursion (λ b. 32 < b) (cond b (37 ∷ upper_digit (byte / 16) ∷ upper_digit (byte % 16) ∷ []) (byte ∷ []))
+    by : (b : Bool) → is_coded byte ≡ b → AllByRecursion (λ b. 32 < b)
+        (cond b (37 ∷ upper_digit (byte / 16) ∷ upper_digit (byte % 16) ∷ []) (byte ∷ []))
     by true e = (omega arith, (digit_shows (byte / 16), (digit_shows (byte % 16), tt)))
     by false e =
         let small : nat_le byte 32 ≡ false = (or_parts (nat_le byte 32) (byte == 127) (or_parts (nat_le byte 32 || byte == 127) (byte == 37) e).0).0 in
@@ -69,16 +77,20 @@ plain : (byte : ℕ) → is_coded byte ≡ false → escaped_byte byte ≡ byte 
 unfolding escaped_byte
 plain byte h = ap (λ b. cond b (37 ∷ upper_digit (byte / 16) ∷ upper_digit (byte % 16) ∷ []) (byte ∷ [])) h
 
-run : (bytes : List ℕ) → escaped_word bytes ≡ take (position_or_len is_coded bytes) bytes ++ escaped_word (drop (position_or_len is_coded bytes) bytes)
+run : (bytes : List ℕ) → escaped_word bytes ≡ take (position_or_len is_coded bytes) bytes ++ escaped_word
+    (drop (position_or_len is_coded bytes) bytes)
 run [] = refl
 run (byte ∷ bytes) = by (is_coded byte) refl (run bytes)
   where
-    by : (b : Bool) → is_coded byte ≡ b → escaped_word bytes ≡ take (position_or_len is_coded bytes) bytes ++ escaped_word (drop (position_or_len is_coded bytes) bytes) →
-        escaped_word (byte ∷ bytes) ≡ take (cond (not b) (1 + position_or_len is_coded bytes) 0) (byte ∷ bytes) ++ escaped_word (drop (cond (not b) (1 + position_or_len is_coded bytes) 0) (byte ∷ bytes))
+    by : (b : Bool) → is_coded byte ≡ b → escaped_word bytes
+        ≡ take (position_or_len is_coded bytes) bytes ++ escaped_word (drop (position_or_len is_coded bytes) bytes) →
+        escaped_word (byte ∷ bytes) ≡ take (cond (not b) (1 + position_or_len is_coded bytes) 0) (byte ∷ bytes) ++ escaped_word
+        (drop (cond (not b) (1 + position_or_len is_coded bytes) 0) (byte ∷ bytes))
     by true e rest = refl
     by false e rest =
         let next : suc (position_or_len is_coded bytes) ≡ 1 + position_or_len is_coded bytes = omega arith in
-        ap (λ front. front ++ escaped_word bytes) (plain byte e) ∙ ap (λ left. byte ∷ left) rest ∙ ap (λ k. take k (byte ∷ bytes) ++ escaped_word (drop k (byte ∷ bytes))) next
+        ap (λ front. front ++ escaped_word bytes) (plain byte e) ∙ ap (λ left. byte ∷ left) rest
+        ∙ ap (λ k. take k (byte ∷ bytes) ++ escaped_word (drop k (byte ∷ bytes))) next
 
 found_at : (b : Bool) (p i : ℕ) → Some i ≡ cond b (Some p) None → p ≡ i
 found_at true p i e = cc
@@ -103,11 +115,13 @@ pub first_coded : (bytes : List ℕ) (i : ℕ) → Some i ≡ position is_coded 
 first_coded bytes i e = (position-Some is_coded bytes i 0 (sym e)).1
 
 pub coded_parts : (bytes : List ℕ) (i : ℕ) → Some i ≡ position is_coded bytes →
-    escaped_word bytes ≡ take i bytes ++ (escaped_byte (get_or bytes i 0) ++ escaped_word (take (length bytes - (i + 1)) (drop (i + 1) bytes)))
+    escaped_word bytes ≡ take i bytes ++
+    (escaped_byte (get_or bytes i 0) ++ escaped_word (take (length bytes - (i + 1)) (drop (i + 1) bytes)))
 coded_parts bytes i e =
     let within = (position-Some is_coded bytes i 0 (sym e)).0 in
     let whole : take (length bytes - (i + 1)) (drop (i + 1) bytes) ≡ drop (i + 1) bytes = take_all _ _ (omega (arith, length-drop (i + 1) bytes)) in
     run bytes
-    ∙ ap (λ n. take n bytes ++ escaped_word (drop n bytes)) (found_at (nat_lt (position_or_len is_coded bytes) (length bytes)) (position_or_len is_coded bytes) i e)
+    ∙ ap (λ n. take n bytes ++ escaped_word (drop n bytes))
+    (found_at (nat_lt (position_or_len is_coded bytes) (length bytes)) (position_or_len is_coded bytes) i e)
     ∙ ap (λ rest. take i bytes ++ escaped_word rest) (drop_more bytes i 0 within)
     ∙ ap (λ rest. take i bytes ++ (escaped_byte (get_or bytes i 0) ++ escaped_word rest)) (sym whole)

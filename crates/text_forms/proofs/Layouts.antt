@@ -1,5 +1,6 @@
 -- The words of symbols that are laid out as words.
-use Rattle.std.proofs.Common.{◌≡◌, ℕ, ◌<◌, true, false, cond, List, [], ◌∷◌, ◌++◌, Option, Some, None, Result, Ok, Err, length, refl, sym, ap, ◌∙◌, arith, append-nil, length-append}
+use Rattle.std.proofs.Common.{◌≡◌, ℕ, ◌<◌, true, false, cond, List, [], ◌∷◌, ◌++◌, Option, Some, None, Result, Ok, Err, length, refl, sym}
+use Rattle.std.proofs.Common.{ap, ◌∙◌, arith, append-nil, length-append}
 use Rattle.std.specs.Prelude.{◌==◌, IsTrue, is_some}
 use Rattle.std.specs.List.{AllByRecursion, flat_map, slice_split, list_all}
 use Rattle.std.specs.Str.{is_utf8}
@@ -12,12 +13,15 @@ use Rattle.text_forms.specs.declared.splitting.symbols.Symbol.{Symbol}
 use Rattle.text_forms.specs.declared.splitting.symbols.Symbol.TheVariants.{Plain, Escaped}
 use Rattle.text_forms.specs.declared.splitting.marks.Mark.{Mark}
 use Rattle.text_forms.specs.declared.splitting.marks.Mark.TheVariants.{Part as PartOf, Edge, Gap}
-use Rattle.text_forms.specs.Words.{is_white, is_quote, mark_of, open_after, marks_from, open_at_end, is_gap, bytes_of, words_between, words_in, text_only, closed_only, words_by, words_of}
-use Rattle.text_forms.specs.Grammar.{Part, bare, quoted, byte_of, IsNoEnd, IsPart, part_symbols, bytes_in, part_bytes, EndsWord, LaysOut, nothing, white, word, Spells}
+use Rattle.text_forms.specs.Words.{is_white, is_quote, mark_of, open_after, marks_from, open_at_end, is_gap, bytes_of, words_between}
+use Rattle.text_forms.specs.Words.{words_in, text_only, closed_only, words_by, words_of}
+use Rattle.text_forms.specs.Grammar.{Part, bare, quoted, byte_of, IsNoEnd, IsPart, part_symbols, bytes_in, part_bytes, EndsWord, LaysOut}
+use Rattle.text_forms.specs.Grammar.{nothing, white, word, Spells}
 use Rattle.text_forms.proofs.Pieces.{made_of, all_text}
 use Rattle.text_forms.proofs.Spelling.{spells_read}
 
-marks-append : (opened : Option ℕ) (xs ys : List Symbol) → marks_from opened (xs ++ ys) ≡ marks_from opened xs ++ marks_from (open_at_end opened xs) ys
+marks-append : (opened : Option ℕ) (xs ys : List Symbol) → marks_from opened (xs ++ ys)
+    ≡ marks_from opened xs ++ marks_from (open_at_end opened xs) ys
 marks-append opened [] ys = refl
 marks-append opened (x ∷ xs) ys = ap (λ rest. mark_of opened x ∷ rest) (marks-append (open_after opened x) xs ys)
 
@@ -41,7 +45,8 @@ unfolding open_after
 inside_open quote (Plain byte) h = ap (λ b. cond b None (Some quote)) (false_from_ne_true (byte == quote) (λ e. h (eqb-true byte quote e)))
 inside_open quote (Escaped byte) h = refl
 
-inside_marks : (quote : ℕ) (inside : List Symbol) → AllByRecursion (IsNoEnd quote) inside → marks_from (Some quote) inside ≡ part_marks inside
+inside_marks : (quote : ℕ) (inside : List Symbol) → AllByRecursion (IsNoEnd quote) inside
+    → marks_from (Some quote) inside ≡ part_marks inside
 unfolding part_marks
 inside_marks quote [] h = refl
 inside_marks quote (symbol ∷ inside) h =
@@ -71,7 +76,8 @@ marks_of_part (quoted quote inside) = Edge ∷ part_marks inside ++ Edge ∷ []
 
 start_mark : (quote : ℕ) → IsTrue (is_quote quote) → mark_of None (Plain quote) ≡ Edge
 unfolding mark_of
-start_mark quote h = ap (λ b. cond b Gap (cond (is_quote quote) Edge (PartOf quote))) (quote_dark quote h) ∙ ap (λ b. cond b Edge (PartOf quote)) h
+start_mark quote h = ap (λ b. cond b Gap (cond (is_quote quote) Edge (PartOf quote))) (quote_dark quote h)
+    ∙ ap (λ b. cond b Edge (PartOf quote)) h
 
 start_open : (quote : ℕ) → IsTrue (is_quote quote) → open_after None (Plain quote) ≡ Some quote
 unfolding open_after
@@ -109,7 +115,8 @@ part_closed (quoted quote inside) h =
 
 -- ---- a word
 
-parts_seen : (parts : List Part) → AllByRecursion IsPart parts → marks_from None (flat_map part_symbols parts) ≡ flat_map marks_of_part parts
+parts_seen : (parts : List Part) → AllByRecursion IsPart parts
+    → marks_from None (flat_map part_symbols parts) ≡ flat_map marks_of_part parts
 parts_seen [] h = refl
 parts_seen (part ∷ parts) h =
     marks-append None (part_symbols part) (flat_map part_symbols parts)
@@ -120,7 +127,8 @@ parts_seen (part ∷ parts) h =
 parts_closed : (parts : List Part) → AllByRecursion IsPart parts → open_at_end None (flat_map part_symbols parts) ≡ None
 parts_closed [] h = refl
 parts_closed (part ∷ parts) h =
-    open-append None (part_symbols part) (flat_map part_symbols parts) ∙ ap (λ o. open_at_end o (flat_map part_symbols parts)) (part_closed part h.0) ∙ parts_closed parts h.1
+    open-append None (part_symbols part) (flat_map part_symbols parts)
+    ∙ ap (λ o. open_at_end o (flat_map part_symbols parts)) (part_closed part h.0) ∙ parts_closed parts h.1
 
 bytes-append : (xs ys : List Mark) → bytes_of (xs ++ ys) ≡ bytes_of xs ++ bytes_of ys
 bytes-append [] ys = refl
@@ -136,14 +144,18 @@ inside_bytes (symbol ∷ inside) = ap (λ rest. byte_of symbol ∷ rest) (inside
 part_said : (part : Part) → bytes_of (marks_of_part part) ≡ part_bytes part
 unfolding marks_of_part
 part_said (bare symbol) = refl
-part_said (quoted quote inside) = bytes-append (part_marks inside) (Edge ∷ []) ∙ append-nil (bytes_of (part_marks inside)) ∙ inside_bytes inside
+part_said (quoted quote inside) = bytes-append (part_marks inside) (Edge ∷ []) ∙ append-nil (bytes_of (part_marks inside))
+    ∙ inside_bytes inside
 
 parts_said : (parts : List Part) → bytes_of (flat_map marks_of_part parts) ≡ flat_map part_bytes parts
 parts_said [] = refl
 parts_said (part ∷ parts) =
-    bytes-append (marks_of_part part) (flat_map marks_of_part parts) ∙ ap (λ front. front ++ bytes_of (flat_map marks_of_part parts)) (part_said part) ∙ ap (λ rest. part_bytes part ++ rest) (parts_said parts)
+    bytes-append (marks_of_part part) (flat_map marks_of_part parts)
+    ∙ ap (λ front. front ++ bytes_of (flat_map marks_of_part parts)) (part_said part)
+    ∙ ap (λ rest. part_bytes part ++ rest) (parts_said parts)
 
-all_append : (xs ys : List Mark) → AllByRecursion (λ mark. is_gap mark ≡ false) xs → AllByRecursion (λ mark. is_gap mark ≡ false) ys → AllByRecursion (λ mark. is_gap mark ≡ false) (xs ++ ys)
+all_append : (xs ys : List Mark) → AllByRecursion (λ mark. is_gap mark ≡ false) xs → AllByRecursion (λ mark. is_gap mark ≡ false) ys
+    → AllByRecursion (λ mark. is_gap mark ≡ false) (xs ++ ys)
 all_append [] ys h g = g
 all_append (x ∷ xs) ys h g = (h.0, all_append xs ys h.1 g)
 
@@ -179,17 +191,21 @@ gap_closed byte h = bare_open byte (dark byte h)
     dark byte h = grind arith
 
 -- words behind white space are the words
-behind_gap : (byte : ℕ) (symbols : List Symbol) → IsTrue (is_white byte) → words_in (marks_from None (Plain byte ∷ symbols)) ≡ words_in (marks_from None symbols)
+behind_gap : (byte : ℕ) (symbols : List Symbol) → IsTrue (is_white byte)
+    → words_in (marks_from None (Plain byte ∷ symbols)) ≡ words_in (marks_from None symbols)
 unfolding words_in
 behind_gap byte symbols h =
     ap (λ mark. words_in (mark ∷ marks_from (open_after None (Plain byte)) symbols)) (gap_seen byte h)
     ∙ ap (λ o. words_in (Gap ∷ marks_from o symbols)) (gap_closed byte h)
 
 -- a word in front of white space or the end is the first of the words
-in_front : (marks : List Mark) (rest : List Symbol) → AllByRecursion (λ mark. is_gap mark ≡ false) marks → 0 < length marks → EndsWord rest → words_in (marks ++ marks_from None rest) ≡ bytes_of marks ∷ words_in (marks_from None rest)
+in_front : (marks : List Mark) (rest : List Symbol) → AllByRecursion (λ mark. is_gap mark ≡ false) marks → 0 < length marks
+    → EndsWord rest → words_in (marks ++ marks_from None rest) ≡ bytes_of marks ∷ words_in (marks_from None rest)
 unfolding words_in
 in_front marks [] clean there ends =
-    ap words_in (append-nil marks) ∙ ap words_between (slice_split_none is_gap marks (All-from_recursion (λ mark. is_gap mark ≡ false) marks clean)) ∙ made_of marks [] there
+    ap words_in (append-nil marks)
+    ∙ ap words_between (slice_split_none is_gap marks (All-from_recursion (λ mark. is_gap mark ≡ false) marks clean))
+    ∙ made_of marks [] there
 in_front marks (Plain byte ∷ rest) clean there ends =
     let seen : marks_from None (Plain byte ∷ rest) ≡ Gap ∷ marks_from (open_after None (Plain byte)) rest = ap (λ mark. mark ∷ marks_from (open_after None (Plain byte)) rest) (gap_seen byte ends) in
     let tail = marks_from (open_after None (Plain byte)) rest in
@@ -203,7 +219,8 @@ pub laid_closed : (symbols : List Symbol) (words : List (List ℕ)) → LaysOut 
 laid_closed [] [] nothing = refl
 laid_closed _ _ (white byte symbols words h more) = ap (λ o. open_at_end o symbols) (gap_closed byte h) ∙ laid_closed symbols words more
 laid_closed _ _ (word part parts rest words good ends more) =
-    open-append None (flat_map part_symbols (part ∷ parts)) rest ∙ ap (λ o. open_at_end o rest) (parts_closed (part ∷ parts) good) ∙ laid_closed rest words more
+    open-append None (flat_map part_symbols (part ∷ parts)) rest ∙ ap (λ o. open_at_end o rest) (parts_closed (part ∷ parts) good)
+    ∙ laid_closed rest words more
 
 pub laid_words : (symbols : List Symbol) (words : List (List ℕ)) → LaysOut symbols words → words_in (marks_from None symbols) ≡ words
 unfolding words_in
@@ -220,9 +237,11 @@ laid_words _ _ (word part parts rest words good ends more) =
     ∙ ap (λ more. flat_map part_bytes (part ∷ parts) ∷ more) (laid_words rest words more)
 
 -- a text that is written and laid out so is split so
-pub split_as_laid : (text : List ℕ) (symbols : List Symbol) (words : List (List ℕ)) → Spells symbols text → LaysOut symbols words → list_all is_utf8 words ≡ true → words_of text ≡ Ok words
+pub split_as_laid : (text : List ℕ) (symbols : List Symbol) (words : List (List ℕ)) → Spells symbols text → LaysOut symbols words
+    → list_all is_utf8 words ≡ true → words_of text ≡ Ok words
 unfolding words_of closed_only
 split_as_laid text symbols words spelled laid good =
     ap words_by (spells_read symbols text spelled)
-    ∙ ap (λ o. cond {A = Result (List (List ℕ)) WordsError} (is_some o) (Err Quote) (text_only (words_in (marks_from None symbols)))) (laid_closed symbols words laid)
+    ∙ ap (λ o. cond {A = Result (List (List ℕ)) WordsError} (is_some o) (Err Quote) (text_only (words_in (marks_from None symbols))))
+    (laid_closed symbols words laid)
     ∙ ap text_only (laid_words symbols words laid) ∙ all_text words good

@@ -1,5 +1,6 @@
 -- The test of a numeral, and what is read of one.
-use Rattle.std.proofs.Common.{◌≡◌, ◌≢◌, ℕ, ◌<◌, ◌≤◌, ◌^◌, Bool, true, false, cond, List, [], ◌∷◌, length, get_or, drop, Some, None, Result, Ok, Err, refl, sym, ap, ◌∙◌, subst, arith, decimal}
+use Rattle.std.proofs.Common.{◌≡◌, ◌≢◌, ℕ, ◌<◌, ◌≤◌, ◌^◌, Bool, true, false, cond, List, [], ◌∷◌, length, get_or, drop, Some, None, Result}
+use Rattle.std.proofs.Common.{Ok, Err, refl, sym, ap, ◌∙◌, subst, arith, decimal}
 use Rattle.std.specs.Prelude.{◌&&◌, ◌==◌, not, nat_eq, nat_lt, codes}
 use lib.Dec.{eqb}
 use Rattle.std.specs.Result.{OkIff, result_ok}
@@ -33,7 +34,8 @@ passes_numeral radix ds h =
     (grind (arith, nat_tests), pass_digits radix ds both.1)
 
 -- a numeral that fits has its value
-pub numeral_is : (radix : ℕ) (ds : List ℕ) → IsNumeral radix ds → digits_value radix ds < 2 ^ 64 → numeral_value radix ds ≡ Some (digits_value radix ds)
+pub numeral_is : (radix : ℕ) (ds : List ℕ) → IsNumeral radix ds → digits_value radix ds < 2 ^ 64
+    → numeral_value radix ds ≡ Some (digits_value radix ds)
 unfolding numeral_value
 numeral_is radix ds h small =
     let fits : nat_lt (digits_value radix ds) (2 ^ 64) ≡ true = grind (arith, nat_tests) in
@@ -43,7 +45,8 @@ pub no_numeral : (radix : ℕ) (ds : List ℕ) → (IsNumeral radix ds × (digit
 unfolding numeral_value
 no_numeral radix ds h = by (is_numeral radix ds && nat_lt (digits_value radix ds) (2 ^ 64)) refl
   where
-    by : (b : Bool) → (is_numeral radix ds && nat_lt (digits_value radix ds) (2 ^ 64)) ≡ b → cond b (Some (digits_value radix ds)) None ≡ None
+    by : (b : Bool) → (is_numeral radix ds && nat_lt (digits_value radix ds) (2 ^ 64)) ≡ b
+        → cond b (Some (digits_value radix ds)) None ≡ None
     by false e = refl
     by true e =
         let both = and_parts (is_numeral radix ds) (nat_lt (digits_value radix ds) (2 ^ 64)) e in
@@ -54,11 +57,14 @@ not_plus : (ds : List ℕ) → starts_with nat_eq ds (codes "+") ≡ false → g
 not_plus [] h e = omega (arith, e)
 not_plus (c ∷ ds) h e = grind (arith, nat_tests, e, h)
 
-pub parsed : {E : Type 0} (radix : ℕ) (ds : List ℕ) (r : Result ℕ E) → ParsesUnsigned 64 radix ds r → starts_with nat_eq ds (codes "+") ≡ false → result_ok r ≡ numeral_value radix ds
+pub parsed : {E : Type 0} (radix : ℕ) (ds : List ℕ) (r : Result ℕ E) → ParsesUnsigned 64 radix ds r
+    → starts_with nat_eq ds (codes "+") ≡ false → result_ok r ≡ numeral_value radix ds
 parsed {E} radix ds r h plain =
-    by r (subst (λ (l : List ℕ). OkIff r (IsNumeral radix l × (digits_value radix l < 2 ^ 64)) (digits_value radix l)) (without_leading_plus_none ds (not_plus ds plain)) h)
+    by r (subst (λ (l : List ℕ). OkIff r (IsNumeral radix l × (digits_value radix l < 2 ^ 64)) (digits_value radix l))
+    (without_leading_plus_none ds (not_plus ds plain)) h)
   where
-    by : (r : Result ℕ E) → OkIff r (IsNumeral radix ds × (digits_value radix ds < 2 ^ 64)) (digits_value radix ds) → result_ok r ≡ numeral_value radix ds
+    by : (r : Result ℕ E) → OkIff r (IsNumeral radix ds × (digits_value radix ds < 2 ^ 64)) (digits_value radix ds)
+        → result_ok r ≡ numeral_value radix ds
     by (Ok n) k = ap Some k.1 ∙ sym (numeral_is radix ds k.0.0 k.0.1)
     by (Err e) k = sym (no_numeral radix ds k)
 
@@ -88,7 +94,8 @@ unfolding number_value
 decimal_read n h =
     let shown = decimal_is_IsNumeral n h in
     let value = shown.1 in
-    ap (λ digits. number_by digits (decimal n)) (no_hex (decimal n) shown.0.1) ∙ numeral_is 10 (decimal n) shown.0 (omega (arith, value)) ∙ ap Some value
+    ap (λ digits. number_by digits (decimal n)) (no_hex (decimal n) shown.0.1) ∙ numeral_is 10 (decimal n) shown.0 (omega (arith, value))
+    ∙ ap Some value
 
 pub no_leading_zero : (n : ℕ) → 0 < n → n < 2 ^ 64 → get_or (decimal n) 0 0 ≢ 48
 no_leading_zero n some small e = omega (arith, first_decimal n some small, e)

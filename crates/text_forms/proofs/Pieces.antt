@@ -8,7 +8,8 @@ use Rattle.text_forms.specs.declared.error.WordsError.TheVariants.{NotText}
 use Rattle.text_forms.specs.declared.splitting.marks.Mark.{Mark}
 use Rattle.text_forms.specs.Words.{bytes_of, words_between, text_only}
 
-pub made_of : (piece : List Mark) (pieces : List (List Mark)) → 0 < length piece → words_between (piece ∷ pieces) ≡ bytes_of piece ∷ words_between pieces
+pub made_of : (piece : List Mark) (pieces : List (List Mark)) → 0 < length piece
+    → words_between (piece ∷ pieces) ≡ bytes_of piece ∷ words_between pieces
 made_of [] pieces h = absurd (omega arith)
 made_of (mark ∷ piece) pieces h = refl
 
@@ -16,7 +17,8 @@ pub all_text : (words : List (List ℕ)) → list_all is_utf8 words ≡ true →
 unfolding text_only
 all_text words h = ap (λ b. cond {A = Result (List (List ℕ)) WordsError} b (Ok words) (Err NotText)) h
 
-not_all : (front : List (List ℕ)) (bad : List ℕ) (rest : List (List ℕ)) → is_utf8 bad ≡ false → list_all is_utf8 (front ++ bad ∷ rest) ≡ false
+not_all : (front : List (List ℕ)) (bad : List ℕ) (rest : List (List ℕ)) → is_utf8 bad ≡ false
+    → list_all is_utf8 (front ++ bad ∷ rest) ≡ false
 not_all [] bad rest h = ap (λ b. b && list_all is_utf8 rest) h
 not_all (word ∷ front) bad rest h = ap (λ b. is_utf8 word && b) (not_all front bad rest h) ∙ by (is_utf8 word)
   where
@@ -25,6 +27,8 @@ not_all (word ∷ front) bad rest h = ap (λ b. is_utf8 word && b) (not_all fron
     by false = refl
 
 -- a word that is no text is told
-pub no_text : (front : List (List ℕ)) (bad : List ℕ) (rest : List (List ℕ)) → is_utf8 bad ≡ false → text_only (front ++ bad ∷ rest) ≡ Err NotText
+pub no_text : (front : List (List ℕ)) (bad : List ℕ) (rest : List (List ℕ)) → is_utf8 bad ≡ false
+    → text_only (front ++ bad ∷ rest) ≡ Err NotText
 unfolding text_only
-no_text front bad rest h = ap (λ b. cond {A = Result (List (List ℕ)) WordsError} b (Ok (front ++ bad ∷ rest)) (Err NotText)) (not_all front bad rest h)
+no_text front bad rest h = ap (λ b. cond {A = Result (List (List ℕ)) WordsError} b (Ok (front ++ bad ∷ rest)) (Err NotText))
+    (not_all front bad rest h)

@@ -15,7 +15,8 @@ IsLetterEscape byte written = (letter : ℕ) × (written ≡ ascii "\\" ∷ lett
 
 -- `\x` and two hex digits of this byte
 abbrev pub IsHexEscape : ℕ → List ℕ → Type 0
-IsHexEscape byte written = (high low : ℕ) × (written ≡ ascii "\\" ∷ ascii "x" ∷ high ∷ low ∷ []) × (IsTrue (is_hex_digit high) × IsTrue (is_hex_digit low) × (byte ≡ digit_value high * 16 + digit_value low))
+IsHexEscape byte written = (high low : ℕ) × (written ≡ ascii "\\" ∷ ascii "x" ∷ high ∷ low ∷ []) ×
+    (IsTrue (is_hex_digit high) × IsTrue (is_hex_digit low) × (byte ≡ digit_value high * 16 + digit_value low))
 
 -- a byte but for a backslash stands for itself, and any byte may be written by an escape
 abbrev pub IsWritten : Symbol → List ℕ → Type 0
@@ -70,6 +71,8 @@ EndsWord (Escaped byte ∷ symbols) = ⊥
 -- the symbols are these words, each of one part or more and up to white space or the end, among white space
 pub data LaysOut : List Symbol → List (List ℕ) → Type 0 where
   nothing : LaysOut [] []
-  white : (byte : ℕ) (symbols : List Symbol) (words : List (List ℕ)) → IsTrue (is_white byte) → LaysOut symbols words → LaysOut (Plain byte ∷ symbols) words
-  word : (part : Part) (parts : List Part) (rest : List Symbol) (words : List (List ℕ)) → AllByRecursion IsPart (part ∷ parts) → EndsWord rest → LaysOut rest words →
+  white : (byte : ℕ) (symbols : List Symbol) (words : List (List ℕ)) → IsTrue (is_white byte) → LaysOut symbols words
+      → LaysOut (Plain byte ∷ symbols) words
+  word : (part : Part) (parts : List Part) (rest : List Symbol) (words : List (List ℕ)) → AllByRecursion IsPart (part ∷ parts)
+      → EndsWord rest → LaysOut rest words →
       LaysOut (flat_map part_symbols (part ∷ parts) ++ rest) (flat_map part_bytes (part ∷ parts) ∷ words)

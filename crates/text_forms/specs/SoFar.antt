@@ -1,5 +1,6 @@
 -- What a text comes to that is split as far as it is read.
-use Rattle.std.specs.Prelude.{ℕ, if◌then◌else◌, is_some, List, [], ◌∷◌, ◌++◌, map, Vec, String, string_bytes, Option, Some, None, Result, Err}
+use Rattle.std.specs.Prelude.{ℕ, if◌then◌else◌, is_some, List, [], ◌∷◌, ◌++◌, map, Vec, String, string_bytes, Option, Some, None, Result}
+use Rattle.std.specs.Prelude.{Err}
 use Rattle.std.specs.declared.alloc.Global.{Global}
 use Rattle.std.specs.Option.{option_map}
 use Rattle.text_forms.specs.declared.error.WordsError.{WordsError}

@@ -1,6 +1,7 @@
 -- systemd.syntax(7), Quoting: a text is split into words at white space, with quotes and escapes.
 -- First its escapes are read, then its quotes are seen, and then it is cut at the white space that is left.
-use Rattle.std.specs.Prelude.{ℕ, Bool, true, false, ◌==◌, ◌&&◌, ◌||◌, ◌+◌, ◌*◌, if◌then◌else◌, cond, is_some, List, [], ◌∷◌, map, filter, fold, Option, Some, None, Result, Ok, Err}
+use Rattle.std.specs.Prelude.{ℕ, Bool, true, false, ◌==◌, ◌&&◌, ◌||◌, ◌+◌, ◌*◌, if◌then◌else◌, cond, is_some, List, [], ◌∷◌, map, filter}
+use Rattle.std.specs.Prelude.{fold, Option, Some, None, Result, Ok, Err}
 use Rattle.std.specs.Char.{is_digit, digit_value}
 use Rattle.std.specs.List.{list_all, slice_split}
 use Rattle.std.specs.Str.{is_utf8, byte as ascii}
@@ -16,7 +17,8 @@ use Rattle.text_forms.specs.declared.splitting.marks.Mark.TheVariants.{Part, Edg
 abbrev pub is_backslash : ℕ → Bool
 is_backslash byte = byte == ascii "\\"
 
--- the byte behind a backslash, but for `x`: a backslash, a quote or a space is itself, and `s`, `n`, `t` are a space, a line feed (10), a tab (9)
+-- the byte behind a backslash, but for `x`: a backslash, a quote or a space is itself, and `s`, `n`, `t` are a space, a line feed (10), a
+-- tab (9)
 unfoldable pub escape_of : ℕ → Option ℕ
 escape_of letter =
     if (letter == ascii "\\" || letter == ascii "\"") || (letter == ascii "'" || letter == ascii " ") then Some letter

@@ -13,10 +13,12 @@ use Rattle.tighten_command.specs.tightening.Tried.{IsFirst, IsKept, IsShut}
 module _ {X : Type 0} (Good Bad : X → Type 0) (list : List X) where
   -- one more is good
   pub good_more : (at : ℕ) (d : X) → at < length list → Good (get_or list at d) → All Good (take at list) → All Good (take (at + 1) list)
-  good_more at d lt good before = subst (All Good) (sym (take_more list at d lt)) (All-push Good (take at list) (get_or list at d) before good)
+  good_more at d lt good before = subst (All Good) (sym (take_more list at d lt))
+      (All-push Good (take at list) (get_or list at d) before good)
 
   -- the next is bad
-  pub first_at : (at number : ℕ) (d : X) → at < length list → number ≡ at + 1 → Bad (get_or list at d) → All Good (take at list) → IsFirst Good Bad list number
+  pub first_at : (at number : ℕ) (d : X) → at < length list → number ≡ at + 1 → Bad (get_or list at d) → All Good (take at list)
+      → IsFirst Good Bad list number
   first_at at number d lt is bad before = record {
     place = at;
     counted = is;

@@ -31,7 +31,8 @@ use Rattle.asked_service.specs.unit_inputs.declared.command_answers.ready_text.R
 
 -- ---- the file of what is to be kept
 
-pub no_bytes : {T V : Type 0} (see : T → List ℕ) (view : V → List Question) (told : Option Files) (table : Table) (site : Site) (path : List ℕ) (why : Stop) → IfSome told (λ files. IsAnswer see (Err why) (bytes_in files path))
+pub no_bytes : {T V : Type 0} (see : T → List ℕ) (view : V → List Question) (told : Option Files) (table : Table) (site : Site)
+    (path : List ℕ) (why : Stop) → IfSome told (λ files. IsAnswer see (Err why) (bytes_in files path))
     → IfSome told (λ files. IsSaid view (IsKeepIn files table site path) (Err why))
 no_bytes see view None table site path why said = tt
 no_bytes see view (Some files) table site path (stop.Refused line) said = no_file line.items said
@@ -39,10 +40,12 @@ no_bytes see view (Some files) table site path stop.ReadFault said = tt
 no_bytes see view (Some files) table site path stop.Memory said = tt
 
 -- or they say what is to be kept, or not
-pub some_bytes : {V : Type 0} (view : V → List Question) (told : Option Files) (table : Table) (site : Site) (path bytes : List ℕ) (result : Result V Stop) → IfSome told (λ files. bytes_in files path ≡ Ok bytes)
+pub some_bytes : {V : Type 0} (view : V → List Question) (told : Option Files) (table : Table) (site : Site) (path bytes : List ℕ)
+    (result : Result V Stop) → IfSome told (λ files. bytes_in files path ≡ Ok bytes)
     → IsSaid view (IsKeepOf table site path bytes) result → IfSome told (λ files. IsSaid view (IsKeepIn files table site path) result)
 some_bytes view None table site path bytes result are said = tt
-some_bytes view (Some files) table site path bytes result are said = said_as view (IsKeepOf table site path bytes) (IsKeepIn files table site path) (λ found is. of_file bytes found are is) result said
+some_bytes view (Some files) table site path bytes result are said =
+    said_as view (IsKeepOf table site path bytes) (IsKeepIn files table site path) (λ found is. of_file bytes found are is) result said
 
 -- ---- the laws
 module _ (unit : List ℕ) (tried : Tried) where
@@ -69,7 +72,8 @@ unrefused ending (inr (inr launch)) not = subst (λ own. IsTrue (is_answer own))
 module _ (unit path : List ℕ) (wishes : Wishes) where
   admitted_may : (files : Files) (ending : Ending) (text : List ℕ) → Admits files unit path wishes ending text → MayEndUntold ending
   admitted_may files _ _ (refuses line is) = inl refl
-  admitted_may files _ _ (tells inputs keep are is ending text told) = told_may unit (tried_with inputs.unit inputs.calls inputs.site keep wishes) ending text told
+  admitted_may files _ _ (tells inputs keep are is ending text told) =
+      told_may unit (tried_with inputs.unit inputs.calls inputs.site keep wishes) ending text told
 
   pub together : (told : Option Files) → GoTogether (tighten_laws told unit path wishes)
   together None = record {
@@ -80,23 +84,29 @@ module _ (unit path : List ℕ) (wishes : Wishes) where
   together (Some files) = record {
     ends = λ ending text admitted. (text, admitted);
     whole = λ ending may. untold_whole ending (admitted_may files ending may.0 may.1);
-    answers = λ accepts ending may. unrefused ending (admitted_may files ending may.0 may.1) (λ refused. accepts may.0 (subst (λ own. Admits files unit path wishes own may.0) refused may.1));
+    answers = λ accepts ending may. unrefused ending (admitted_may files ending may.0 may.1)
+        (λ refused. accepts may.0 (subst (λ own. Admits files unit path wishes own may.0) refused may.1));
   }
 
 module _ (unit path : List ℕ) (wishes : Wishes) where
   -- an input is refused
-  pub stops_at_inputs : (P : Files → UnitInputs → Type 0) (told : Option Files) (why : Stop) → IfSome told (λ files. Prepares (P files) (input_refusals files unit) (Err why)) → IsAdmitted (tighten_laws told unit path wishes) ending_of text_of (Err why)
+  pub stops_at_inputs : (P : Files → UnitInputs → Type 0) (told : Option Files) (why : Stop)
+      → IfSome told (λ files. Prepares (P files) (input_refusals files unit) (Err why))
+      → IsAdmitted (tighten_laws told unit path wishes) ending_of text_of (Err why)
   stops_at_inputs P None (stop.Refused line) said = inl refl
   stops_at_inputs P (Some files) (stop.Refused line) said = refuses line.items (an_input line.items said)
   stops_at_inputs P told stop.ReadFault said = tt
   stops_at_inputs P told stop.Memory said = tt
 
   -- what is to be kept is refused
-  refused_keep : (files : Files) (inputs : UnitInputs) (line : List ℕ) → AreRead files unit inputs → IsKeepIn files (inputs_view inputs).calls (inputs_view inputs).site path (Err line) → Admits files unit path wishes Refused line
+  refused_keep : (files : Files) (inputs : UnitInputs) (line : List ℕ) → AreRead files unit inputs
+      → IsKeepIn files (inputs_view inputs).calls (inputs_view inputs).site path (Err line) → Admits files unit path wishes Refused line
   refused_keep files inputs line read is = refuses line (the_keep line (inputs_view inputs) read.1 is)
 
-  pub stops_at_keep : {V : Type 0} (view : V → List Question) (told now : Option Files) (inputs : UnitInputs) (table : Table) (site : Site) (why : Stop) → now ≡ told → table ≡ (inputs_view inputs).calls → site ≡ (inputs_view inputs).site
-      → IfSome told (λ files. AreRead files unit inputs) → IfSome now (λ files. IsSaid view (IsKeepIn files table site path) (Err why)) → IsAdmitted (tighten_laws told unit path wishes) ending_of text_of (Err why)
+  pub stops_at_keep : {V : Type 0} (view : V → List Question) (told now : Option Files) (inputs : UnitInputs) (table : Table)
+      (site : Site) (why : Stop) → now ≡ told → table ≡ (inputs_view inputs).calls → site ≡ (inputs_view inputs).site
+      → IfSome told (λ files. AreRead files unit inputs) → IfSome now (λ files. IsSaid view (IsKeepIn files table site path) (Err why))
+      → IsAdmitted (tighten_laws told unit path wishes) ending_of text_of (Err why)
   stops_at_keep view None now inputs table site (stop.Refused line) same calls_are site_is read said = inl refl
   stops_at_keep view (Some files) now inputs table site (stop.Refused line) same calls_are site_is read said =
       refused_keep files inputs line.items read
@@ -107,9 +117,11 @@ module _ (unit path : List ℕ) (wishes : Wishes) where
   stops_at_keep view told now inputs table site stop.Memory same calls_are site_is read said = tt
 
   -- what is told of the unit is admitted
-  module _ {V : Type 0} (view : V → List Question) (told now : Option Files) (inputs : UnitInputs) (table : Table) (site : Site) (value : V) (same : now ≡ told) (calls_are : table ≡ (inputs_view inputs).calls) (site_is : site ≡ (inputs_view inputs).site)
+  module _ {V : Type 0} (view : V → List Question) (told now : Option Files) (inputs : UnitInputs) (table : Table) (site : Site)
+      (value : V) (same : now ≡ told) (calls_are : table ≡ (inputs_view inputs).calls) (site_is : site ≡ (inputs_view inputs).site)
       (read : IfSome told (λ files. AreRead files unit inputs)) (said : IfSome now (λ files. IsSaid view (IsKeepIn files table site path) (Ok value))) where
-    keep_is : (files : Files) → told ≡ Some files → IsKeepIn files (inputs_view inputs).calls (inputs_view inputs).site path (Ok (view value))
+    keep_is : (files : Files) → told ≡ Some files → IsKeepIn files (inputs_view inputs).calls (inputs_view inputs).site path
+        (Ok (view value))
     keep_is files e =
         subst (λ own. IsKeepIn files (inputs_view inputs).calls own path (Ok (view value))) site_is
         (subst (λ own. IsKeepIn files own site path (Ok (view value))) calls_are
@@ -118,28 +130,37 @@ module _ (unit path : List ℕ) (wishes : Wishes) where
     abbrev own_tried : Tried
     own_tried = tried_with (inputs_view inputs).unit (inputs_view inputs).calls (inputs_view inputs).site (view value) wishes
 
-    admits : (own : Option Files) → told ≡ own → (ending : Ending) (text : List ℕ) → TellsTight unit own_tried ending text → (tighten_laws own unit path wishes).admits ending text
+    admits : (own : Option Files) → told ≡ own → (ending : Ending) (text : List ℕ) → TellsTight unit own_tried ending text
+        → (tighten_laws own unit path wishes).admits ending text
     admits None e ending text is = told_may unit own_tried ending text is
-    admits (Some files) e ending text is = tells (inputs_view inputs) (view value) (subst (λ own. IfSome own (λ files. AreRead files unit inputs)) e read).1 (keep_is files e) ending text is
+    admits (Some files) e ending text is = tells (inputs_view inputs) (view value)
+        (subst (λ own. IfSome own (λ files. AreRead files unit inputs)) e read).1 (keep_is files e) ending text is
 
-    answered : (result : Result ReadyText Stop) → IsTold (TellsTight unit own_tried) result → IsAdmitted (tighten_laws told unit path wishes) ending_of text_of result
+    answered : (result : Result ReadyText Stop) → IsTold (TellsTight unit own_tried) result
+        → IsAdmitted (tighten_laws told unit path wishes) ending_of text_of result
     answered (Ok hardening) is = admits told refl hardening.ending hardening.text.items is
     answered (Err (stop.Refused line)) is = admits told refl Refused line.items is
     answered (Err stop.ReadFault) is = tt
     answered (Err stop.Memory) is = tt
 
     -- also where its parts are lent
-    pub answered_as : (own : Resolved) (lent_table : Table) (lent_site : Site) (keep : List Question) (result : Result ReadyText Stop) → own ≡ (inputs_view inputs).unit → lent_table ≡ (inputs_view inputs).calls → lent_site ≡ (inputs_view inputs).site → keep ≡ view value
-        → IsTold (TellsTight unit (tried_with own lent_table lent_site keep wishes)) result → IsAdmitted (tighten_laws told unit path wishes) ending_of text_of result
+    pub answered_as : (own : Resolved) (lent_table : Table) (lent_site : Site) (keep : List Question) (result : Result ReadyText Stop)
+        → own ≡ (inputs_view inputs).unit → lent_table ≡ (inputs_view inputs).calls → lent_site ≡ (inputs_view inputs).site
+        → keep ≡ view value
+        → IsTold (TellsTight unit (tried_with own lent_table lent_site keep wishes)) result
+        → IsAdmitted (tighten_laws told unit path wishes) ending_of text_of result
     answered_as own lent_table lent_site keep result one two three four is =
         answered result
-        (subst (λ these. IsTold (TellsTight unit (tried_with (inputs_view inputs).unit (inputs_view inputs).calls (inputs_view inputs).site these wishes)) result) four
-        (subst (λ these. IsTold (TellsTight unit (tried_with (inputs_view inputs).unit (inputs_view inputs).calls these keep wishes)) result) three
+        (subst (λ these. IsTold (TellsTight unit
+        (tried_with (inputs_view inputs).unit (inputs_view inputs).calls (inputs_view inputs).site these wishes)) result) four
+        (subst (λ these. IsTold (TellsTight unit (tried_with (inputs_view inputs).unit (inputs_view inputs).calls these keep wishes))
+        result) three
         (subst (λ these. IsTold (TellsTight unit (tried_with (inputs_view inputs).unit these lent_site keep wishes)) result) two
         (subst (λ these. IsTold (TellsTight unit (tried_with these lent_table lent_site keep wishes)) result) one is))))
 
 -- what is lent is of the list that is lent
-pub lent_listed : (table own : Table) (site lent_site : Site) (keep lent : List Question) → table ≡ own → site ≡ lent_site → lent ≡ keep → All (λ question. Contains (questions table site) question) keep
+pub lent_listed : (table own : Table) (site lent_site : Site) (keep lent : List Question) → table ≡ own → site ≡ lent_site → lent ≡ keep
+    → All (λ question. Contains (questions table site) question) keep
     → All (λ question. Contains (questions own lent_site) question) lent
 lent_listed table own site lent_site keep lent one two three listed =
     subst (λ (these : Site). All (λ question. Contains (questions own these) question) lent) two

@@ -1,5 +1,6 @@
 -- Sets that were tried.
-use Rattle.std.proofs.Common.{◌≡◌, ◌⊎◌, inl, inr, ℕ, ◌+◌, ◌<◌, ◌≤◌, Bool, true, false, List, ◌∷◌, length, Some, None, refl, sym, ap, ◌∙◌, subst, arith, eqb, eq-eqb}
+use Rattle.std.proofs.Common.{◌≡◌, ◌⊎◌, inl, inr, ℕ, ◌+◌, ◌<◌, ◌≤◌, Bool, true, false, List, ◌∷◌, length, Some, None, refl, sym, ap, ◌∙◌}
+use Rattle.std.proofs.Common.{subst, arith, eqb, eq-eqb}
 use Rattle.std.proofs.lemmas.Bool.{eqb-true}
 use Rattle.tighten_command.specs.tightening.Items.{has, in_order}
 use Rattle.tighten_command.specs.tightening.Searching.{IsHeld, IsMost, IsServing, IsSettled, Tells, TriesItem, TriesItems, outside}
@@ -25,7 +26,8 @@ module _ (tried : Tried) where
       hi : item ≤ 17
       hi = omega (arith, is)
 
-      settled : kept.set.items ≡ set → ((other : ℕ) → 17 < other + count → other ≤ 17 → IsSettled tried set other) → IsSettled tried kept.set.items item → (other : ℕ) → 17 < other + (count + 1) → other ≤ 17 → IsSettled tried set other
+      settled : kept.set.items ≡ set → ((other : ℕ) → 17 < other + count → other ≤ 17 → IsSettled tried set other)
+          → IsSettled tried kept.set.items item → (other : ℕ) → 17 < other + (count + 1) → other ≤ 17 → IsSettled tried set other
       settled same all own other above within = pick (other_or (eqb other item) refl) where
         other_or : (b : Bool) → eqb other item ≡ b → (other ≡ item) ⊎ (17 < other + count)
         other_or true e = inl (eqb-true other item e)
@@ -35,9 +37,12 @@ module _ (tried : Tried) where
         pick (inl equal) = subst (IsSettled tried set) (sym equal) (subst (λ own. IsSettled tried own item) same own)
         pick (inr before) = all other before within
 
-      by : ((kept.set.items ≡ set) × ((other : ℕ) → 17 < other + count → other ≤ 17 → IsSettled tried set other)) ⊎ ((length set < length kept.set.items) × (outside kept.set.items < outside set))
-          → ((next.set.items ≡ kept.set.items) × IsSettled tried kept.set.items item) ⊎ ((next.set.items ≡ item ∷ kept.set.items) × (has kept.set.items item ≡ false))
-          → ((next.set.items ≡ set) × ((other : ℕ) → 17 < other + (count + 1) → other ≤ 17 → IsSettled tried set other)) ⊎ ((length set < length next.set.items) × (outside next.set.items < outside set))
+      by : ((kept.set.items ≡ set) × ((other : ℕ) → 17 < other + count → other ≤ 17 → IsSettled tried set other)) ⊎
+          ((length set < length kept.set.items) × (outside kept.set.items < outside set))
+          → ((next.set.items ≡ kept.set.items) × IsSettled tried kept.set.items item) ⊎
+          ((next.set.items ≡ item ∷ kept.set.items) × (has kept.set.items item ≡ false))
+          → ((next.set.items ≡ set) × ((other : ℕ) → 17 < other + (count + 1) → other ≤ 17 → IsSettled tried set other)) ⊎
+          ((length set < length next.set.items) × (outside next.set.items < outside set))
       by (inl stayed) (inl own) = inl (own.0 ∙ stayed.0, settled stayed.0 stayed.1 own.1)
       by (inr grown) (inl own) = inr (subst (λ these. (length set < length these) × (outside these < outside set)) (sym own.0) grown)
       by (inl stayed) (inr added) =
@@ -56,13 +61,15 @@ module _ (tried : Tried) where
   -- where no item was added, all are settled
   pub most_of : (set : List ℕ) (held : Held) → TriesItems tried set 17 held → length held.set.items ≡ length set → IsMost tried held
   most_of set held one same = record { holds = one.holds; settled = by one.came } where
-    by : ((held.set.items ≡ set) × ((item : ℕ) → 17 < item + 17 → item ≤ 17 → IsSettled tried set item)) ⊎ ((length set < length held.set.items) × (outside held.set.items < outside set))
+    by : ((held.set.items ≡ set) × ((item : ℕ) → 17 < item + 17 → item ≤ 17 → IsSettled tried set item)) ⊎
+        ((length set < length held.set.items) × (outside held.set.items < outside set))
         → (item : ℕ) → 1 ≤ item → item ≤ 17 → IsSettled tried held.set.items item
     by (inl stayed) item lo hi = subst (λ these. IsSettled tried these item) (sym stayed.0) (stayed.1 item (omega (arith, lo)) hi)
     by (inr grown) item lo hi = let first = grown.0 in absurd (omega (arith, first, same))
 
 -- an item that is tried
-module _ (tried : Tried) (held : Held) (item : ℕ) (first lent wider lent_wider : List ℕ) (in_it : Bool) (holds : IsHeld tried held) (lends_first : first ≡ held.set.items) (says : in_it ≡ has first item)
+module _ (tried : Tried) (held : Held) (item : ℕ) (first lent wider lent_wider : List ℕ) (in_it : Bool) (holds : IsHeld tried held)
+    (lends_first : first ≡ held.set.items) (says : in_it ≡ has first item)
     (lends : lent ≡ held.set.items) (made : wider ≡ item ∷ lent) (lends_wider : lent_wider ≡ wider) where
   with_it : lent_wider ≡ item ∷ held.set.items
   with_it = lends_wider ∙ made ∙ ap (λ these. item ∷ these) lends
@@ -75,12 +82,15 @@ module _ (tried : Tried) (held : Held) (item : ℕ) (first lent wider lent_wider
   stays_without stops = record { holds = holds; came = inl (refl, inr (subst (Stops tried) with_it stops)) }
 
   -- it serves
-  pub goes_with : (next : Held) → next.set.items ≡ wider → in_it ≡ false → Tells tried lent_wider (Some next.bounded) → TriesItem tried held.set.items item next
+  pub goes_with : (next : Held) → next.set.items ≡ wider → in_it ≡ false → Tells tried lent_wider (Some next.bounded)
+      → TriesItem tried held.set.items item next
   goes_with next is new serves = record {
     holds = subst (λ these. IsServing tried these next.bounded) (lends_wider ∙ sym is) serves;
     came = inr (is ∙ sym lends_wider ∙ with_it, ap (λ these. has these item) (sym lends_first) ∙ sym says ∙ new);
   }
 
 -- it is in the set already
-pub stays_with : (tried : Tried) (held : Held) (item : ℕ) (first : List ℕ) (in_it : Bool) → IsHeld tried held → first ≡ held.set.items → in_it ≡ has first item → in_it ≡ true → TriesItem tried held.set.items item held
-stays_with tried held item first in_it holds lends says is = record { holds = holds; came = inl (refl, inl (ap (λ these. has these item) (sym lends) ∙ sym says ∙ is)) }
+pub stays_with : (tried : Tried) (held : Held) (item : ℕ) (first : List ℕ) (in_it : Bool) → IsHeld tried held → first ≡ held.set.items
+    → in_it ≡ has first item → in_it ≡ true → TriesItem tried held.set.items item held
+stays_with tried held item first in_it holds lends says is =
+    record { holds = holds; came = inl (refl, inl (ap (λ these. has these item) (sym lends) ∙ sym says ∙ is)) }

@@ -1,5 +1,6 @@
 -- Sets of items, and the numbers that stand in them.
-use Rattle.std.proofs.Common.{◌≡◌, ℕ, zero, suc, ◌+◌, ◌-◌, ◌<◌, ◌≤◌, Bool, true, false, cond, List, [], ◌∷◌, length, filter, Result, Ok, Err, get_or, map, ◌++◌, refl, ap, ◌∙◌, sym, subst, arith, eq-eqb, ne_eqb}
+use Rattle.std.proofs.Common.{◌≡◌, ℕ, zero, suc, ◌+◌, ◌-◌, ◌<◌, ◌≤◌, Bool, true, false, cond, List, [], ◌∷◌, length, filter, Result, Ok}
+use Rattle.std.proofs.Common.{Err, get_or, map, ◌++◌, refl, ap, ◌∙◌, sym, subst, arith, eq-eqb, ne_eqb}
 use Rattle.std.specs.Prelude.{IfOk, not, ◌||◌, ◌==◌}
 use Rattle.std.specs.declared.alloc.AllocError.{AllocError}
 use Rattle.std.specs.List.{All, range_with_len}
@@ -15,17 +16,21 @@ use Rattle.tighten_command.specs.tightening.Items.{drop_in_text, has, in_order, 
 use Rattle.tighten_command.specs.tightening.Searching.{outside}
 
 -- tests that agree on some numbers pass the same ones of them
-filter_same : (p q : ℕ → Bool) (a n : ℕ) → ((x : ℕ) → a ≤ x → x < a + n → p x ≡ q x) → filter p (range_with_len a n) ≡ filter q (range_with_len a n)
+filter_same : (p q : ℕ → Bool) (a n : ℕ) → ((x : ℕ) → a ≤ x → x < a + n → p x ≡ q x)
+    → filter p (range_with_len a n) ≡ filter q (range_with_len a n)
 filter_same p q a zero same = refl
 filter_same p q a (suc n) same =
     ap (λ b. cond b (a ∷ filter p (range_with_len (a + 1) n)) (filter p (range_with_len (a + 1) n))) (same a (omega arith) (omega arith))
-    ∙ ap (λ (these : List ℕ). cond (q a) (a ∷ these) these) (filter_same p q (a + 1) n (λ x lo hi. same x (omega (arith, lo)) (omega (arith, hi))))
+    ∙ ap (λ (these : List ℕ). cond (q a) (a ∷ these) these)
+    (filter_same p q (a + 1) n (λ x lo hi. same x (omega (arith, lo)) (omega (arith, hi))))
 
-pub in_order_same : (one other : List ℕ) → ((item : ℕ) → 1 ≤ item → item ≤ 17 → has one item ≡ has other item) → in_order one ≡ in_order other
+pub in_order_same : (one other : List ℕ) → ((item : ℕ) → 1 ≤ item → item ≤ 17 → has one item ≡ has other item)
+    → in_order one ≡ in_order other
 in_order_same one other same = filter_same (has one) (has other) 1 17 (λ x lo hi. same x lo (omega (arith, hi)))
 
 -- those that pass of one number more
-pub range_more : (p : ℕ → Bool) (n : ℕ) → filter p (range_with_len 1 (n + 1)) ≡ filter p (range_with_len 1 n) ++ cond (p (n + 1)) ((n + 1) ∷ []) []
+pub range_more : (p : ℕ → Bool) (n : ℕ) → filter p (range_with_len 1 (n + 1))
+    ≡ filter p (range_with_len 1 n) ++ cond (p (n + 1)) ((n + 1) ∷ []) []
 range_more p n =
     ap (filter p) (sym (map-id (range_with_len 1 (n + 1))))
     ∙ filter_of_map_range_with_len_more p (λ (k : ℕ). k) 1 n (n + 1) (omega arith)
@@ -35,7 +40,8 @@ range_more p n =
 below : (p : ℕ → Bool) (a n item : ℕ) → item < a → has (filter p (range_with_len a n)) item ≡ false
 below p a zero item lt = refl
 below p a (suc n) item lt = by (p a) (below p (a + 1) n item (omega (arith, lt))) where
-  by : (b : Bool) → has (filter p (range_with_len (a + 1) n)) item ≡ false → has (cond b (a ∷ filter p (range_with_len (a + 1) n)) (filter p (range_with_len (a + 1) n))) item ≡ false
+  by : (b : Bool) → has (filter p (range_with_len (a + 1) n)) item ≡ false
+      → has (cond b (a ∷ filter p (range_with_len (a + 1) n)) (filter p (range_with_len (a + 1) n))) item ≡ false
   by false rest = rest
   by true rest = ap (λ b. b || has (filter p (range_with_len (a + 1) n)) item) (ne_eqb a item (λ e. absurd (omega (arith, e, lt)))) ∙ rest
 
@@ -70,7 +76,8 @@ ordered_set unit set = ap (with_items unit) (in_order_same (in_order set) set (h
 -- and so it is with one more item
 pub ordered_with : (unit : Resolved) (set : List ℕ) (item : ℕ) → tightened unit (item ∷ in_order set) ≡ tightened unit (item ∷ set)
 ordered_with unit set item =
-    ap (with_items unit) (in_order_same (item ∷ in_order set) (item ∷ set) (λ other lo hi. ap (λ b. (item == other) || b) (has_in_order set other lo hi)))
+    ap (with_items unit) (in_order_same (item ∷ in_order set) (item ∷ set)
+    (λ other lo hi. ap (λ b. (item == other) || b) (has_in_order set other lo hi)))
 
 -- a set with an item of the list is not empty
 some_item : (items : List ℕ) (item : ℕ) → has items item ≡ true → 0 < length items
@@ -78,7 +85,8 @@ some_item [] item e = (let both : false ≡ true = e in cc)
 some_item (one ∷ items) item e = omega arith
 
 pub with_some : (set : List ℕ) (item : ℕ) → 1 ≤ item → item ≤ 17 → 0 < length (in_order (item ∷ set))
-with_some set item lo hi = some_item (in_order (item ∷ set)) item (has_in_order (item ∷ set) item lo hi ∙ ap (λ b. b || has set item) (eq-eqb item item refl))
+with_some set item lo hi = some_item (in_order (item ∷ set)) item
+    (has_in_order (item ∷ set) item lo hi ∙ ap (λ b. b || has set item) (eq-eqb item item refl))
 
 -- a unit with some items
 pub with_items_some : (unit : Resolved) (items : List ℕ) → 0 < length items → with_items unit items ≡ with_file unit (drop_in_text items)
@@ -86,7 +94,8 @@ with_items_some unit [] some = absurd (omega arith)
 with_items_some unit (item ∷ items) some = refl
 
 -- the unit is the tightened one
-pub tightened_is : (unit : Resolved) (set items lent text lent_text : List ℕ) (result : Result Resolved AllocError) → items ≡ in_order set → lent ≡ items → text ≡ drop_in_text lent → lent_text ≡ text → 0 < length (in_order set)
+pub tightened_is : (unit : Resolved) (set items lent text lent_text : List ℕ) (result : Result Resolved AllocError) → items ≡ in_order set
+    → lent ≡ items → text ≡ drop_in_text lent → lent_text ≡ text → 0 < length (in_order set)
     → IfOk result (λ longer. longer ≡ with_file unit lent_text) → IfOk result (λ tight. tight ≡ tightened unit set)
 tightened_is unit set items lent text lent_text (Err error) ordered lends said lends_text some is = tt
 tightened_is unit set items lent text lent_text (Ok longer) ordered lends said lends_text some is =
@@ -119,21 +128,24 @@ in_order_within set = some_within (has set) 17 (omega arith)
 few : (p q : ℕ → Bool) → ((x : ℕ) → q x ≡ true → p x ≡ true) → (xs : List ℕ) → length (filter q xs) ≤ length (filter p xs)
 few p q sub [] = omega arith
 few p q sub (x ∷ xs) = by (p x) (q x) refl refl (few p q sub xs) where
-  by : (b c : Bool) → p x ≡ b → q x ≡ c → length (filter q xs) ≤ length (filter p xs) → length (cond c (x ∷ filter q xs) (filter q xs)) ≤ length (cond b (x ∷ filter p xs) (filter p xs))
+  by : (b c : Bool) → p x ≡ b → q x ≡ c → length (filter q xs) ≤ length (filter p xs)
+      → length (cond c (x ∷ filter q xs) (filter q xs)) ≤ length (cond b (x ∷ filter p xs) (filter p xs))
   by true true here one rest = omega (arith, rest)
   by true false here one rest = omega (arith, rest)
   by false false here one rest = rest
   by false true here one rest = (let both : true ≡ false = sym (sub x one) ∙ here in cc)
 
 -- and fewer where it alone fails at one
-fewer : (p q : ℕ → Bool) → ((x : ℕ) → q x ≡ true → p x ≡ true) → (xs : List ℕ) (i d : ℕ) → i < length xs → p (get_or xs i d) ≡ true → q (get_or xs i d) ≡ false → length (filter q xs) < length (filter p xs)
+fewer : (p q : ℕ → Bool) → ((x : ℕ) → q x ≡ true → p x ≡ true) → (xs : List ℕ) (i d : ℕ) → i < length xs → p (get_or xs i d) ≡ true
+    → q (get_or xs i d) ≡ false → length (filter q xs) < length (filter p xs)
 fewer p q sub [] i d lt here gone = absurd (omega arith)
 fewer p q sub (x ∷ xs) zero d lt here gone =
     let rest = few p q sub xs in
     subst (λ c. length (cond c (x ∷ filter q xs) (filter q xs)) < length (filter p (x ∷ xs))) (sym gone)
     (subst (λ b. length (filter q xs) < length (cond b (x ∷ filter p xs) (filter p xs))) (sym here) (omega (arith, rest)))
 fewer p q sub (x ∷ xs) (suc i) d lt here gone = by (p x) (q x) refl refl (fewer p q sub xs i d (omega (arith, lt)) here gone) where
-  by : (b c : Bool) → p x ≡ b → q x ≡ c → length (filter q xs) < length (filter p xs) → length (cond c (x ∷ filter q xs) (filter q xs)) < length (cond b (x ∷ filter p xs) (filter p xs))
+  by : (b c : Bool) → p x ≡ b → q x ≡ c → length (filter q xs) < length (filter p xs)
+      → length (cond c (x ∷ filter q xs) (filter q xs)) < length (cond b (x ∷ filter p xs) (filter p xs))
   by true true one two rest = omega (arith, rest)
   by true false one two rest = omega (arith, rest)
   by false false one two rest = rest
@@ -145,7 +157,8 @@ fewer_outside set item lo hi new =
     let place = item - 1 in
     let back : 1 + place ≡ item = omega (arith, lo) in
     let there : get_or (range_with_len 1 17) place 0 ≡ item = get_or-range_with_len 1 17 place 0 (omega (arith, lo, hi)) ∙ back in
-    fewer (λ one. not (has set one)) (λ one. not (has (item ∷ set) one)) sub (range_with_len 1 17) place 0 (omega (arith, lo, hi, length-range_with_len 1 17))
+    fewer (λ one. not (has set one)) (λ one. not (has (item ∷ set) one)) sub (range_with_len 1 17) place 0
+    (omega (arith, lo, hi, length-range_with_len 1 17))
     (subst (λ one. not (has set one) ≡ true) (sym there) (ap not new))
     (subst (λ one. not (has (item ∷ set) one) ≡ false) (sym there) (ap (λ b. not (b || has set item)) (eq-eqb item item refl)))
   where

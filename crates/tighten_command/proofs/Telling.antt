@@ -16,7 +16,8 @@ use Rattle.asked_service.specs.unit_inputs.declared.command_answers.ready_text.R
 
 module _ (P : Ending → List ℕ → Type 0) where
   -- what is told by one relation is told by another
-  pub told_as : (Q : Ending → List ℕ → Type 0) → ((ending : Ending) (text : List ℕ) → P ending text → Q ending text) → (result : Result ReadyText Stop) → IsTold P result → IsTold Q result
+  pub told_as : (Q : Ending → List ℕ → Type 0) → ((ending : Ending) (text : List ℕ) → P ending text → Q ending text)
+      → (result : Result ReadyText Stop) → IsTold P result → IsTold Q result
   told_as Q as_other (Ok hardening) told = as_other hardening.ending hardening.text.items told
   told_as Q as_other (Err (stop.Refused line)) told = as_other Refused line.items told
   told_as Q as_other (Err stop.ReadFault) told = absurd told
@@ -30,17 +31,21 @@ module _ (P : Ending → List ℕ → Type 0) where
   told_reads_nothing (Err stop.Memory) told is = cc
 
 -- this ending and this text
-as_told : (P : Ending → List ℕ → Type 0) (own ending : Ending) (line text : List ℕ) → (ending ≡ own) × (text ≡ line) → P own line → P ending text
+as_told : (P : Ending → List ℕ → Type 0) (own ending : Ending) (line text : List ℕ) → (ending ≡ own) × (text ≡ line) → P own line
+    → P ending text
 as_told P own ending line text is holds = subst (λ one. P one text) (sym is.0) (subst (P own) (sym is.1) holds)
 
 module _ (unit : List ℕ) (tried : Tried) where
-  pub tells_tight : (tight : Tight) → IsTight tried tight → (ending : Ending) (text : List ℕ) → (ending ≡ Done) × (text ≡ tight_text tight) → TellsTight unit tried ending text
+  pub tells_tight : (tight : Tight) → IsTight tried tight → (ending : Ending) (text : List ℕ)
+      → (ending ≡ Done) × (text ≡ tight_text tight) → TellsTight unit tried ending text
   tells_tight tight is ending text told = as_told (TellsTight unit tried) Done ending _ text told (tightened tight is)
 
-  pub tells_error : (error : TightenError) → Tightens tried (Err error) → (ending : Ending) (text : List ℕ) → TellsError unit error ending text → TellsTight unit tried ending text
+  pub tells_error : (error : TightenError) → Tightens tried (Err error) → (ending : Ending) (text : List ℕ)
+      → TellsError unit error ending text → TellsTight unit tried ending text
   tells_error (error.Settings error) is ending text told = as_told (TellsTight unit tried) Refused ending _ text told (no_settings error is)
   tells_error (error.Plan error) is ending text told = as_told (TellsTight unit tried) Refused ending _ text told (no_plan error is)
-  tells_error (error.Launch refusal) is ending text told = as_told (TellsTight unit tried) LaunchRefused ending _ text told (no_launch refusal is)
+  tells_error (error.Launch refusal) is ending text told = as_told (TellsTight unit tried) LaunchRefused ending _ text told
+      (no_launch refusal is)
   tells_error (error.Keep number) is ending text told = as_told (TellsTight unit tried) Refused ending _ text told (denies number is)
   tells_error (error.Wish number) is ending text told = as_told (TellsTight unit tried) Refused ending _ text told (refuses_wish number is)
   tells_error error.Memory is ending text told = absurd told

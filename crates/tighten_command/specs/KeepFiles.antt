@@ -23,10 +23,12 @@ keep_line path error = refused_line path (keep_cause error)
 
 -- by the bytes of the file: one question of the list a line
 pub data IsKeepOf (table : calls.Table) (site : Site) (path bytes : List ℕ) : Result (List Question) (List ℕ) → Type 0 where
-  no_keep : (error : KeepError) → error ≢ Memory → ReadsKeep table site bytes (Err error) → IsKeepOf table site path bytes (Err (keep_line path error))
+  no_keep : (error : KeepError) → error ≢ Memory → ReadsKeep table site bytes (Err error)
+      → IsKeepOf table site path bytes (Err (keep_line path error))
   a_keep : (keep : List Question) → ReadsKeep table site bytes (Ok keep) → IsKeepOf table site path bytes (Ok keep)
 
 -- over some files: the file is there, and is not too large
 pub data IsKeepIn (files : Files) (table : calls.Table) (site : Site) (path : List ℕ) : Result (List Question) (List ℕ) → Type 0 where
   no_file : (line : List ℕ) → bytes_in files path ≡ Err line → IsKeepIn files table site path (Err line)
-  of_file : (bytes : List ℕ) (said : Result (List Question) (List ℕ)) → bytes_in files path ≡ Ok bytes → IsKeepOf table site path bytes said → IsKeepIn files table site path said
+  of_file : (bytes : List ℕ) (said : Result (List Question) (List ℕ)) → bytes_in files path ≡ Ok bytes
+      → IsKeepOf table site path bytes said → IsKeepIn files table site path said

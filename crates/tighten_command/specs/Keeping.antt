@@ -43,4 +43,5 @@ pub data ReadsLines (table : calls.Table) (site : Site) (lines : List Line) : Re
 -- by the bytes: they are text first; empty lines and lines that begin with `#` do not count
 pub data ReadsKeep (table : calls.Table) (site : Site) (bytes : List ℕ) : Result (List Question) KeepError → Type 0 where
   not_text : is_text bytes ≡ false → ReadsKeep table site bytes (Err error.NotText)
-  text_lines : (said : Result (List Question) KeepError) → is_text bytes ≡ true → ReadsLines table site (lines_of bytes) said → ReadsKeep table site bytes said
+  text_lines : (said : Result (List Question) KeepError) → is_text bytes ≡ true → ReadsLines table site (lines_of bytes) said
+      → ReadsKeep table site bytes said

@@ -16,13 +16,16 @@ use Rattle.tighten_command.specs.Telling.{TellsTight}
 -- what is refused before anything is tried, the first that is: an input of the unit, then what is to be kept
 pub data RefusesBefore (files : Files) (unit path : List ℕ) : List ℕ → Type 0 where
   an_input : (line : List ℕ) → first_refusal (input_refusals files unit) ≡ Some line → RefusesBefore files unit path line
-  the_keep : (line : List ℕ) (inputs : Inputs) → inputs_of files unit ≡ Some inputs → IsKeepIn files inputs.calls inputs.site path (Err line) → RefusesBefore files unit path line
+  the_keep : (line : List ℕ) (inputs : Inputs) → inputs_of files unit ≡ Some inputs
+      → IsKeepIn files inputs.calls inputs.site path (Err line) → RefusesBefore files unit path line
 
 -- that line is printed; or what is told of the unit, where these questions are to be kept
 pub data Admits (files : Files) (unit path : List ℕ) (wishes : Wishes) : Ending → List ℕ → Type 0 where
   refuses : (line : List ℕ) → RefusesBefore files unit path line → Admits files unit path wishes Refused line
-  tells : (inputs : Inputs) (keep : List Question) → inputs_of files unit ≡ Some inputs → IsKeepIn files inputs.calls inputs.site path (Ok keep)
-      → (ending : Ending) (text : List ℕ) → TellsTight unit (tried_with inputs.unit inputs.calls inputs.site keep wishes) ending text → Admits files unit path wishes ending text
+  tells : (inputs : Inputs) (keep : List Question) → inputs_of files unit ≡ Some inputs
+      → IsKeepIn files inputs.calls inputs.site path (Ok keep)
+      → (ending : Ending) (text : List ℕ) → TellsTight unit (tried_with inputs.unit inputs.calls inputs.site keep wishes) ending text
+      → Admits files unit path wishes ending text
 
 -- where the files are not told, only the endings are known
 abbrev pub MayEndUntold : Ending → Type 0

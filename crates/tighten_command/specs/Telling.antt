@@ -24,9 +24,12 @@ use Rattle.asked_service.specs.unit_inputs.declared.command_answers.ready_text.R
 -- of which the last is told with a status of its own; or denies a question that is to be kept; or does not grant a wish.
 pub data TellsTight (unit : List ℕ) (tried : Tried) : Ending → List ℕ → Type 0 where
   tightened : (tight : Tight) → IsTight tried tight → TellsTight unit tried Done (tight_text tight)
-  no_settings : (error : SettingsError) → IsNotLaunched tried.unit tried.table tried.site (refusal.Settings error) → TellsTight unit tried Refused (settings_line unit error)
-  no_plan : (error : PlanError) → IsNotLaunched tried.unit tried.table tried.site (refusal.Plan error) → TellsTight unit tried Refused (error_line unit error)
-  no_launch : (refused : LaunchRefusal) → IsNotLaunched tried.unit tried.table tried.site (refusal.Launch refused) → TellsTight unit tried LaunchRefused (refusal_line refused)
+  no_settings : (error : SettingsError) → IsNotLaunched tried.unit tried.table tried.site (refusal.Settings error)
+      → TellsTight unit tried Refused (settings_line unit error)
+  no_plan : (error : PlanError) → IsNotLaunched tried.unit tried.table tried.site (refusal.Plan error)
+      → TellsTight unit tried Refused (error_line unit error)
+  no_launch : (refused : LaunchRefusal) → IsNotLaunched tried.unit tried.table tried.site (refusal.Launch refused)
+      → TellsTight unit tried LaunchRefused (refusal_line refused)
   denies : (number : ℕ) → Denies tried number → TellsTight unit tried Refused (keep_line unit number)
   refuses_wish : (number : ℕ) → RefusesWish tried number → TellsTight unit tried Refused (wish_line unit number)
 

@@ -15,11 +15,13 @@ pub elements-view : (values : List Value) → elements (items_view values) ≡ m
 elements-view [] = refl
 elements-view (value ∷ values) = ap (λ rest. view value ∷ rest) (elements-view values)
 
-pub each_member-view : (test : List ℕ → Data → Bool) (entries : List (String Global × Value)) → each_member test (members_view entries) ≡ list_all (λ entry. test (string_bytes entry.0) (view entry.1)) entries
+pub each_member-view : (test : List ℕ → Data → Bool) (entries : List (String Global × Value))
+    → each_member test (members_view entries) ≡ list_all (λ entry. test (string_bytes entry.0) (view entry.1)) entries
 each_member-view test [] = refl
 each_member-view test (entry ∷ entries) = ap (λ rest. test (string_bytes entry.0) (view entry.1) && rest) (each_member-view test entries)
 
-pub array_of : (test : Data → Bool) (value : Data) (values : List Value) (answer : Bool) → is_some (as_array value) ≡ true → map view values ≡ elements_of value
+pub array_of : (test : Data → Bool) (value : Data) (values : List Value) (answer : Bool) → is_some (as_array value) ≡ true
+    → map view values ≡ elements_of value
     → answer ≡ list_all (λ one. test (view one)) values → answer ≡ is_array_of test value
 array_of test value values answer array all e =
     e ∙ sym (list_all-map test view values) ∙ ap (list_all test) all ∙ ap (λ b. b && list_all test (elements_of value)) (sym array)
@@ -36,7 +38,8 @@ list_all_same : {X : Type 0} (test other : X → Bool) (xs : List X) → ((x : X
 list_all_same test other [] h = refl
 list_all_same test other (x ∷ xs) h = ap (λ b. b && list_all test xs) (h x) ∙ ap (λ b. other x && b) (list_all_same test other xs h)
 
-pub keys_are : (keys : List HeldKey) (value : Data) (entries : List (String Global × Value)) (first second : Bool) → Some (members_view entries) ≡ as_table value
+pub keys_are : (keys : List HeldKey) (value : Data) (entries : List (String Global × Value)) (first second : Bool)
+    → Some (members_view entries) ≡ as_table value
     → first ≡ list_all (λ entry. is_held keys (string_bytes entry.0) (view entry.1)) entries
     → second ≡ list_all (λ one. has_if_needed one.2 one.0.now value) keys → (first && second) ≡ has_keys (map known keys) value
 keys_are keys value entries first second table e f =
@@ -46,4 +49,5 @@ keys_are keys value entries first second table e f =
     let first_is : first ≡ option_map_or (each_member (is_known (map known keys))) (as_table value) false =
     known_all ∙ ap (λ found. option_map_or (each_member (is_known (map known keys))) found false) table in
     ap (λ b. b && second) first_is
-    ∙ ap (λ b. option_map_or (each_member (is_known (map known keys))) (as_table value) false && b) (f ∙ sym (list_all-map (λ one. has_if_needed one.2 one.0 value) known keys))
+    ∙ ap (λ b. option_map_or (each_member (is_known (map known keys))) (as_table value) false && b)
+    (f ∙ sym (list_all-map (λ one. has_if_needed one.2 one.0 value) known keys))

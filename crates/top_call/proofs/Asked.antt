@@ -15,8 +15,10 @@ use Rattle.top_call.specs.declared.texts.Fixed.{Fixed}
 
 module _ {S : Type 0} (asks : S → ShelfCall → S → Type 0) (told : Option Files) where
   -- a text that is printed as it stands
-  pub asked_fixed : (a : S) (fixed : Fixed) (only : Ending) (ended : Ending) (output : Output) → IsTrue (is_whole only) → fixed.ending ≡ only → Finishes {R = Fixed} ending_of text_of (Ok fixed) ended output
+  pub asked_fixed : (a : S) (fixed : Fixed) (only : Ending) (ended : Ending) (output : Output) → IsTrue (is_whole only)
+      → fixed.ending ≡ only → Finishes {R = Fixed} ending_of text_of (Ok fixed) ended output
       → AsksInOrder asks told (λ files. []) a a (course_of_run ended)
   asked_fixed a fixed only ended output whole ends finished =
-      order_printed asks told (λ files. []) a a (ending_of fixed) (text_of fixed) ended output (subst (λ own. IsTrue (is_whole own)) (sym ends) whole) finished
+      order_printed asks told (λ files. []) a a (ending_of fixed) (text_of fixed) ended output
+      (subst (λ own. IsTrue (is_whole own)) (sym ends) whole) finished
       (asked_so asks told [] a a Whole refl)

@@ -21,19 +21,24 @@ use Rattle.top_call.specs.Requests.{Request, request_in}
 use Rattle.top_call.specs.Texts.{ending_of, text_of}
 use Rattle.top_call.specs.declared.texts.Fixed.{Fixed}
 
-pub ran_fixed : (fixed : Fixed) (only : Ending) (line : List ℕ) (accepted : Type 0) (outside : Outside) (ended : Ending) → IsTrue (is_whole only) → (accepted → IsTrue (is_answer only)) → fixed.ending ≡ only → text_of fixed ≡ line → outside.shelf_after ≡ outside.shelf_before → Finishes {R = Fixed} ending_of text_of (Ok fixed) ended outside.sink → IsRun (fixed_laws only line accepted) ended outside
+pub ran_fixed : (fixed : Fixed) (only : Ending) (line : List ℕ) (accepted : Type 0) (outside : Outside) (ended : Ending)
+    → IsTrue (is_whole only) → (accepted → IsTrue (is_answer only)) → fixed.ending ≡ only → text_of fixed ≡ line
+    → outside.shelf_after ≡ outside.shelf_before → Finishes {R = Fixed} ending_of text_of (Ok fixed) ended outside.sink
+    → IsRun (fixed_laws only line accepted) ended outside
 ran_fixed fixed only line accepted outside ended whole answers ends is same finished =
     ran (fixed_laws only line accepted) (fixed_go_together only line accepted whole answers) outside ending_of text_of (Ok fixed) ended
     (ends, is) (λ e. cc) (quiet outside.shelf_before outside.shelf_after (Ok fixed) same (λ e. cc)) finished
 
 -- What was done for a request was done for the words that ask for it, with the tests and wishes that are lent.
 module _ {S T W : Type 0} (asks : S → ShelfCall → S → Type 0) (told : Option Files) (stored : List T → StoredTests) (wished : List W → Wishes) (outside : Outside) (before after : S) where
-  pub does_for_words : (request : Option Request) (words : List (List ℕ)) (lent tests : List T) (lent_wishes wishes : List W) (ended status : Ending)
+  pub does_for_words : (request : Option Request) (words : List (List ℕ)) (lent tests : List T) (lent_wishes wishes : List W)
+      (ended status : Ending)
       → request ≡ request_in words → lent ≡ tests → lent_wishes ≡ wishes → status ≡ ended
       → IsRun (laws_by request told (stored lent) (wished lent_wishes)) ended outside
       → AsksInOrder asks told (asks_by request (stored lent)) before after (course_of_run ended)
       → (((laws_by request told (stored lent) (wished lent_wishes)).reads → ⊥) → after ≡ before)
-      → DoesWhatIsAsked asks (record { words = words; told = told; stored = stored tests; wishes = wished wishes }) outside before after status
+      → DoesWhatIsAsked asks (record { words = words; told = told; stored = stored tests; wishes = wished wishes }) outside before after
+      status
   does_for_words request words lent tests lent_wishes wishes ended status is lends lends_wishes same run in_order quiet =
       let asked : Asked = record { words = words; told = told; stored = stored tests; wishes = wished wishes } in
       let ran : IsRun (laws_of asked) status outside =

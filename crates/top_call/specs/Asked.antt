@@ -22,7 +22,8 @@ use Rattle.derive_command.specs.unit_inputs.Asking.{asks_with_file, input_asks}
 use Rattle.fleet_command.specs.Asking.{fleet_asks}
 use Rattle.fleet_command.specs.Prints.{fleet_laws}
 use Rattle.sample_command.specs.Prints.{sample_laws}
-use Rattle.top_call.specs.Requests.{Request, HelpAlone, VersionAlone, FilterOf, PlanOf, JudgeOf, ReplayOf, DeriveOf, EffectOf, TightenOf, WhyOf, LinesOf, ScoreOf, CheckOf, FleetOf, SampleOf, request_in}
+use Rattle.top_call.specs.Requests.{Request, HelpAlone, VersionAlone, FilterOf, PlanOf, JudgeOf, ReplayOf, DeriveOf, EffectOf, TightenOf}
+use Rattle.top_call.specs.Requests.{WhyOf, LinesOf, ScoreOf, CheckOf, FleetOf, SampleOf, request_in}
 use Rattle.top_call.specs.Texts.{help_text, version_text, words_line}
 use denote.Ref.{Bor}
 

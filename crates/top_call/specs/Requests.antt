@@ -3,7 +3,8 @@ use Rattle.std.specs.Prelude.{List, [], ◌∷◌, ℕ, ◌≤◌, nat_le, codes
 use Rattle.std.specs.Str.{bytes_eq}
 use Rattle.derive_command.specs.text_forms.Numbers.{decimal_value}
 use Rattle.top_call.specs.declared.request.Request.{Request as Code}
-use Rattle.top_call.specs.declared.request.Request.TheVariants.{Help, Version, Filter, Plan, Judge, Replay, Derive, Effect, Tighten, Why, Lines, Score, Check, Fleet, Sample}
+use Rattle.top_call.specs.declared.request.Request.TheVariants.{Help, Version, Filter, Plan, Judge, Replay, Derive, Effect, Tighten, Why}
+use Rattle.top_call.specs.declared.request.Request.TheVariants.{Lines, Score, Check, Fleet, Sample}
 
 -- what is asked for
 pub data Request : Type 0 where

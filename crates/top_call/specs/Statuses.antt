@@ -1,7 +1,9 @@
 -- The endings of the numbers of the table of statuses.
 use Rattle.std.specs.Prelude.{ℕ, ◌==◌, cond}
 use Rattle.derive_command.specs.unit_inputs.declared.command_answers.ending.Ending.{Ending}
-use Rattle.derive_command.specs.unit_inputs.declared.command_answers.ending.Ending.TheVariants.{Done, AboveThreshold, NoCommand, Refused, ReadFault, WriteFault, OutOfMemory, LaunchRefused, Differs}
+use Rattle.derive_command.specs.unit_inputs.declared.command_answers.ending.Ending.TheVariants.{Done, AboveThreshold, NoCommand, Refused}
+use Rattle.derive_command.specs.unit_inputs.declared.command_answers.ending.Ending.TheVariants.{ReadFault, WriteFault, OutOfMemory}
+use Rattle.derive_command.specs.unit_inputs.declared.command_answers.ending.Ending.TheVariants.{LaunchRefused, Differs}
 
 -- the ending of a number of the table
 abbrev pub ending_of : ℕ → Ending

@@ -1,5 +1,6 @@
 -- Which calls the list of a drop-in allows.
-use Rattle.std.proofs.Common.{◌≡◌, ◌⊎◌, inl, inr, ℕ, zero, suc, ◌+◌, length, Bool, true, false, cond, Option, Some, None, List, [], ◌∷◌, ◌++◌, codes, find, map, reverse, refl, ap, ◌∙◌, sym, arith}
+use Rattle.std.proofs.Common.{◌≡◌, ◌⊎◌, inl, inr, ℕ, zero, suc, ◌+◌, length, Bool, true, false, cond, Option, Some, None, List, [], ◌∷◌}
+use Rattle.std.proofs.Common.{◌++◌, codes, find, map, reverse, refl, ap, ◌∙◌, sym, arith}
 use Rattle.std.specs.Prelude.{not, ◌&&◌, ◌||◌, ◌==◌, is_some, slice_get, option_and_then}
 use Rattle.std.specs.List.{AllByRecursion, cons_option, filter_map, list_all, list_any, position_or_len, before_first, after_first}
 use Rattle.std.specs.Option.{option_map_or}
@@ -45,7 +46,8 @@ module _ (table : Table) where
   pub first_place : (place : ℕ) → is_first_line table place ≡ true → place_named (name_at table place) lines ≡ Some place
   first_place place h = by (place_named (name_at table place) lines) refl h
     where
-      by : (o : Option ℕ) → place_named (name_at table place) lines ≡ o → option_map_or (λ own. own == place) o false ≡ true → place_named (name_at table place) lines ≡ Some place
+      by : (o : Option ℕ) → place_named (name_at table place) lines ≡ o → option_map_or (λ own. own == place) o false ≡ true
+          → place_named (name_at table place) lines ≡ Some place
       by None e h = cc
       by (Some own) e h = e ∙ ap Some (grind (arith, nat_tests))
 
@@ -53,7 +55,8 @@ module _ (table : Table) where
   AreFirst names = AllByRecursion (λ place. is_first_line table place ≡ true) names
 
   -- two first lines of one name are one
-  one_line : (place other : ℕ) → is_first_line table place ≡ true → is_first_line table other ≡ true → name_at table place ≡ name_at table other → place ≡ other
+  one_line : (place other : ℕ) → is_first_line table place ≡ true → is_first_line table other ≡ true
+      → name_at table place ≡ name_at table other → place ≡ other
   one_line place other h k same = same_some (sym (first_place place h) ∙ ap (λ name. place_named name lines) same ∙ first_place other k)
     where
       same_some : {A : Type 0} {x y : A} → Some x ≡ Some y → x ≡ y
@@ -65,7 +68,8 @@ module _ (table : Table) where
     name_is place h =
         let there = (position-Some (has_name (name_at table place)) lines place some_line (first_place place h)).0 in
         let line = slice_get-get_or lines place some_line there in
-        ap (λ (o : Option CallLine). is_name (option_map_or (λ own. own.name) o [])) line ∙ word_at (λ (own : CallLine). is_name own.name) lines place _ named line
+        ap (λ (o : Option CallLine). is_name (option_map_or (λ own. own.name) o [])) line
+        ∙ word_at (λ (own : CallLine). is_name own.name) lines place _ named line
 
     pub names_are : (names : List ℕ) → AreFirst names → are_names (map (name_at table) names) ≡ true
     names_are [] first = refl
@@ -90,14 +94,17 @@ module _ (table : Table) where
     abbrev pub mention_for : List ℕ → Mention
     mention_for word = record { adds = true; name = word; action = None }
 
-    mentioned : (place : ℕ) → is_first_line table place ≡ true → word_mention table Allow true (name_at table place) ≡ Some (mention_for (name_at table place))
+    mentioned : (place : ℕ) → is_first_line table place ≡ true
+        → word_mention table Allow true (name_at table place) ≡ Some (mention_for (name_at table place))
     mentioned place h =
         let is = word_of (name_at table place) (name_is place h) in
         ap (λ sides. mention_of table true (word_of_sides false (name_at table place) sides)) (no_colon (name_at table place) is.bytes)
-        ∙ ap (λ group. cond (is_known_by table (name_at table place) group) (Some (mention_for (name_at table place))) None) (no_group (name_at table place) is)
+        ∙ ap (λ group. cond (is_known_by table (name_at table place) group) (Some (mention_for (name_at table place))) None)
+        (no_group (name_at table place) is)
         ∙ ap (λ found. cond (is_some found) (Some (mention_for (name_at table place))) None) (first_place place h)
 
-    mentions_are : (names : List ℕ) → AreFirst names → filter_map (word_mention table Allow true) (map (name_at table) names) ≡ map mention_for (map (name_at table) names)
+    mentions_are : (names : List ℕ) → AreFirst names → filter_map (word_mention table Allow true) (map (name_at table) names)
+        ≡ map mention_for (map (name_at table) names)
     mentions_are [] first = refl
     mentions_are (place ∷ names) first =
         ap (λ found. cons_option found (filter_map (word_mention table Allow true) (map (name_at table) names))) (mentioned place first.0)
@@ -118,9 +125,12 @@ module _ (table : Table) where
     is_let_through names name = covers table default_word name || is_among names name
 
     module _ (default : Action) (p : Mention → Bool) where
-      found_action : (mentions : List Mention) → list_any (λ mention. not mention.adds) mentions ≡ false → option_map_or (listed_action Allow default) (option_and_then if_adds (find p mentions)) default ≡ cond (list_any p mentions) Allowed default
+      found_action : (mentions : List Mention) → list_any (λ mention. not mention.adds) mentions ≡ false
+          → option_map_or (listed_action Allow default) (option_and_then if_adds (find p mentions)) default
+          ≡ cond (list_any p mentions) Allowed default
       found_action [] adds = refl
-      found_action (mention ∷ mentions) adds = by (p mention) (found_action mentions (or_off (not mention.adds) (list_any (λ mention. not mention.adds) mentions) adds).1)
+      found_action (mention ∷ mentions) adds = by (p mention)
+          (found_action mentions (or_off (not mention.adds) (list_any (λ mention. not mention.adds) mentions) adds).1)
         where
           or_off : (a b : Bool) → (a || b) ≡ false → (a ≡ false) × (b ≡ false)
           or_off true b e = cc
@@ -130,23 +140,30 @@ module _ (table : Table) where
           on true e = refl
           on false e = cc
 
-          by : (b : Bool) → option_map_or (listed_action Allow default) (option_and_then if_adds (find p mentions)) default ≡ cond (list_any p mentions) Allowed default
-              → option_map_or (listed_action Allow default) (option_and_then if_adds (cond b (Some mention) (find p mentions))) default ≡ cond (b || list_any p mentions) Allowed default
-          by true rest = ap (λ adds. option_map_or (listed_action Allow default) (cond adds (Some mention) None) default) (on mention.adds (or_off (not mention.adds) (list_any (λ mention. not mention.adds) mentions) adds).0)
+          by : (b : Bool) → option_map_or (listed_action Allow default) (option_and_then if_adds (find p mentions)) default
+              ≡ cond (list_any p mentions) Allowed default
+              → option_map_or (listed_action Allow default) (option_and_then if_adds (cond b (Some mention) (find p mentions))) default
+              ≡ cond (b || list_any p mentions) Allowed default
+          by true rest = ap (λ adds. option_map_or (listed_action Allow default) (cond adds (Some mention) None) default)
+              (on mention.adds (or_off (not mention.adds) (list_any (λ mention. not mention.adds) mentions) adds).0)
           by false rest = rest
 
       all_add : (words : List (List ℕ)) → list_any (λ mention. not mention.adds) (map mention_for words) ≡ false
       all_add [] = refl
       all_add (word ∷ words) = all_add words
 
-    covers_word : (place : ℕ) (name : List ℕ) → is_first_line table place ≡ true → covers table (name_at table place) name ≡ bytes_eq (name_at table place) name
+    covers_word : (place : ℕ) (name : List ℕ) → is_first_line table place ≡ true
+        → covers table (name_at table place) name ≡ bytes_eq (name_at table place) name
     unfolding covers
-    covers_word place name h = ap (covers_by table (name_at table place) name) (no_group (name_at table place) (word_of (name_at table place) (name_is place h)))
+    covers_word place name h = ap (covers_by table (name_at table place) name)
+        (no_group (name_at table place) (word_of (name_at table place) (name_is place h)))
 
-    covered : (names : List ℕ) (name : List ℕ) → AreFirst names → list_any (λ mention. covers table mention.name name) (map mention_for (map (name_at table) names)) ≡ is_among names name
+    covered : (names : List ℕ) (name : List ℕ) → AreFirst names
+        → list_any (λ mention. covers table mention.name name) (map mention_for (map (name_at table) names)) ≡ is_among names name
     covered [] name first = refl
     covered (place ∷ names) name first =
-        ap (λ b. b || list_any (λ mention. covers table mention.name name) (map mention_for (map (name_at table) names))) (covers_word place name first.0)
+        ap (λ b. b || list_any (λ mention. covers table mention.name name) (map mention_for (map (name_at table) names)))
+        (covers_word place name first.0)
         ∙ ap (λ b. bytes_eq (name_at table place) name || b) (covered names name first.1)
 
     module _ (names : List ℕ) (first : AreFirst names) (default : Action) (name : List ℕ) where
@@ -163,20 +180,29 @@ module _ (table : Table) where
           let p : Mention → Bool = λ mention. covers table mention.name name in
           let turned = IsPermutation-reverse mentions in
           let adds : list_any (λ (mention : Mention). not mention.adds) mentions ≡ false = adds_by b in
-          found_action default p (reverse mentions) (sym (list_any-IsPermutation (λ (mention : Mention). not mention.adds) mentions (reverse mentions) turned) ∙ adds)
+          found_action default p (reverse mentions)
+          (sym (list_any-IsPermutation (λ (mention : Mention). not mention.adds) mentions (reverse mentions) turned) ∙ adds)
           ∙ ap (λ t. cond t Allowed default) (sym (list_any-IsPermutation p mentions (reverse mentions) turned) ∙ any_by b)
         where
-          adds_by : (b : Bool) → list_any (λ (mention : Mention). not mention.adds) (mention_for default_word ∷ (cons_option (cond b (Some (mention_for default_word)) None) own ++ [])) ≡ false
-          adds_by true = ap (list_any (λ (mention : Mention). not mention.adds)) (append-nil own) ∙ all_add default (λ mention. true) (map (name_at table) names)
-          adds_by false = ap (list_any (λ (mention : Mention). not mention.adds)) (append-nil own) ∙ all_add default (λ mention. true) (map (name_at table) names)
+          adds_by : (b : Bool) → list_any (λ (mention : Mention). not mention.adds)
+              (mention_for default_word ∷ (cons_option (cond b (Some (mention_for default_word)) None) own ++ [])) ≡ false
+          adds_by true = ap (list_any (λ (mention : Mention). not mention.adds)) (append-nil own)
+              ∙ all_add default (λ mention. true) (map (name_at table) names)
+          adds_by false = ap (list_any (λ (mention : Mention). not mention.adds)) (append-nil own)
+              ∙ all_add default (λ mention. true) (map (name_at table) names)
 
-          any_by : (b : Bool) → list_any (λ (mention : Mention). covers table mention.name name) (mention_for default_word ∷ (cons_option (cond b (Some (mention_for default_word)) None) own ++ [])) ≡ is_let_through names name
+          any_by : (b : Bool) → list_any (λ (mention : Mention). covers table mention.name name)
+              (mention_for default_word ∷ (cons_option (cond b (Some (mention_for default_word)) None) own ++ []))
+              ≡ is_let_through names name
           any_by true =
-              ap (λ mentions. covers table default_word name || (covers table default_word name || list_any (λ (mention : Mention). covers table mention.name name) mentions)) (append-nil own)
+              ap (λ mentions. covers table default_word name ||
+              (covers table default_word name || list_any (λ (mention : Mention). covers table mention.name name) mentions))
+              (append-nil own)
               ∙ twice (covers table default_word name) (list_any (λ (mention : Mention). covers table mention.name name) own)
               ∙ ap (λ b. covers table default_word name || b) (covered names name first)
           any_by false =
-              ap (λ mentions. covers table default_word name || list_any (λ (mention : Mention). covers table mention.name name) mentions) (append-nil own)
+              ap (λ mentions. covers table default_word name || list_any (λ (mention : Mention). covers table mention.name name) mentions)
+              (append-nil own)
               ∙ ap (λ b. covers table default_word name || b) (covered names name first)
 
       -- what is done to a call of the name
@@ -190,16 +216,19 @@ module _ (table : Table) where
     none_left place [] = refl
     none_left place (one ∷ names) = by (one == place) refl (none_left place names)
       where
-        by : (b : Bool) → (one == place) ≡ b → list_any (λ other. other == place) (without place names) ≡ false → list_any (λ other. other == place) (cond (not b) (one ∷ without place names) (without place names)) ≡ false
+        by : (b : Bool) → (one == place) ≡ b → list_any (λ other. other == place) (without place names) ≡ false
+            → list_any (λ other. other == place) (cond (not b) (one ∷ without place names) (without place names)) ≡ false
         by true e rest = rest
         by false e rest = ap (λ t. t || list_any (λ other. other == place) (without place names)) e ∙ rest
 
     -- a list without the place lacks its name
-    lacks : (place : ℕ) (names : List ℕ) (name : List ℕ) → is_first_line table place ≡ true → AreFirst names → list_any (λ one. one == place) names ≡ false → bytes_eq (name_at table place) name ≡ true → is_among names name ≡ false
+    lacks : (place : ℕ) (names : List ℕ) (name : List ℕ) → is_first_line table place ≡ true → AreFirst names
+        → list_any (λ one. one == place) names ≡ false → bytes_eq (name_at table place) name ≡ true → is_among names name ≡ false
     lacks place [] name h first none is = refl
     lacks place (one ∷ names) name h first none is =
         let parts = or_off (one == place) (list_any (λ one. one == place) names) none in
-        or_on (bytes_eq (name_at table one) name) (is_among names name) (other (bytes_eq (name_at table one) name) refl parts.0) (lacks place names name h first.1 parts.1 is)
+        or_on (bytes_eq (name_at table one) name) (is_among names name) (other (bytes_eq (name_at table one) name) refl parts.0)
+        (lacks place names name h first.1 parts.1 is)
       where
         or_off : (a b : Bool) → (a || b) ≡ false → (a ≡ false) × (b ≡ false)
         or_off true b e = cc
@@ -220,11 +249,14 @@ module _ (table : Table) where
         other false e differs = refl
 
     -- other names stay
-    stays : (place : ℕ) (names : List ℕ) (name : List ℕ) → bytes_eq (name_at table place) name ≡ false → is_among (without place names) name ≡ is_among names name
+    stays : (place : ℕ) (names : List ℕ) (name : List ℕ) → bytes_eq (name_at table place) name ≡ false
+        → is_among (without place names) name ≡ is_among names name
     stays place [] name differs = refl
     stays place (one ∷ names) name differs = by (one == place) refl (stays place names name differs)
       where
-        by : (b : Bool) → (one == place) ≡ b → is_among (without place names) name ≡ is_among names name → is_among (cond (not b) (one ∷ without place names) (without place names)) name ≡ (bytes_eq (name_at table one) name || is_among names name)
+        by : (b : Bool) → (one == place) ≡ b → is_among (without place names) name ≡ is_among names name
+            → is_among (cond (not b) (one ∷ without place names) (without place names)) name
+            ≡ (bytes_eq (name_at table one) name || is_among names name)
         by true e rest =
             let same : one ≡ place = grind (arith, nat_tests) in
             rest ∙ ap (λ t. t || is_among names name) (sym (ap (λ own. bytes_eq (name_at table own) name) same ∙ differs))
@@ -232,15 +264,22 @@ module _ (table : Table) where
 
     module _ (place : ℕ) (h : is_first_line table place ≡ true) (names others : List ℕ) (first : AreFirst (without place names)) (first_others : AreFirst others) where
       -- the list without a name decides each call as with it, or as a list that lacks the name
-      pub as_either : list_any (λ one. one == place) others ≡ false → (name : List ℕ) → (is_let_through (without place names) name ≡ is_let_through names name) ⊎ (is_let_through (without place names) name ≡ is_let_through others name)
+      pub as_either : list_any (λ one. one == place) others ≡ false → (name : List ℕ)
+          → (is_let_through (without place names) name ≡ is_let_through names name) ⊎
+          (is_let_through (without place names) name ≡ is_let_through others name)
       as_either none name = by (bytes_eq (name_at table place) name) refl
         where
-          by : (b : Bool) → bytes_eq (name_at table place) name ≡ b → (is_let_through (without place names) name ≡ is_let_through names name) ⊎ (is_let_through (without place names) name ≡ is_let_through others name)
-          by true e = inr (ap (λ t. covers table default_word name || t) (lacks place (without place names) name h first (none_left place names) e ∙ sym (lacks place others name h first_others none e)))
+          by : (b : Bool) → bytes_eq (name_at table place) name ≡ b
+              → (is_let_through (without place names) name ≡ is_let_through names name) ⊎
+              (is_let_through (without place names) name ≡ is_let_through others name)
+          by true e = inr (ap (λ t. covers table default_word name || t)
+              (lacks place (without place names) name h first (none_left place names) e
+              ∙ sym (lacks place others name h first_others none e)))
           by false e = inl (ap (λ t. covers table default_word name || t) (stays place names name e))
 
       -- and as with it, where `@default` has the name
-      pub as_with_it : covers table default_word (name_at table place) ≡ true → (name : List ℕ) → is_let_through (without place names) name ≡ is_let_through names name
+      pub as_with_it : covers table default_word (name_at table place) ≡ true → (name : List ℕ)
+          → is_let_through (without place names) name ≡ is_let_through names name
       as_with_it has name = by (bytes_eq (name_at table place) name) refl
         where
           by : (b : Bool) → bytes_eq (name_at table place) name ≡ b → is_let_through (without place names) name ≡ is_let_through names name

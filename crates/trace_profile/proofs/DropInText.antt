@@ -1,8 +1,10 @@
 -- What the text of a drop-in says, as a file of a unit.
-use Rattle.std.proofs.Common.{◌≡◌, ℕ, ◌+◌, ◌-◌, Bool, true, false, cond, Some, None, Result, Ok, Err, List, [], ◌∷◌, ◌++◌, codes, length, take, drop, refl, ap, ◌∙◌, map, arith}
+use Rattle.std.proofs.Common.{◌≡◌, ℕ, ◌+◌, ◌-◌, Bool, true, false, cond, Some, None, Result, Ok, Err, List, [], ◌∷◌, ◌++◌, codes, length}
+use Rattle.std.proofs.Common.{take, drop, refl, ap, ◌∙◌, map, arith}
 use Rattle.std.proofs.Math.Seq.{take-append_seam, drop-append-add}
 use Rattle.std.specs.Prelude.{not, ◌||◌, ◌==◌, ◌%◌}
-use Rattle.std.specs.List.{list_all, list_any, slice_split, onto_first, position_or_len, before_first, after_first, suffix_len, cons_option, slice_get}
+use Rattle.std.specs.List.{list_all, list_any, slice_split, onto_first, position_or_len, before_first, after_first, suffix_len, cons_option}
+use Rattle.std.specs.List.{slice_get}
 use Rattle.std.specs.Str.{is_utf8, chars}
 use lib.Utf8.{encode}
 use Rattle.std.proofs.lemmas.Bool.{and_from, and_parts, lt-ltb, eq-eqb}
@@ -18,31 +20,36 @@ use Rattle.asked_service.specs.unit_grammar.declared.unit.Assignment.{Assignment
 use Rattle.asked_service.specs.unit_grammar.declared.unit.UnitText.{UnitText}
 use Rattle.asked_service.specs.unit_grammar.declared.unit.UnitError.{UnitError}
 use Rattle.asked_service.specs.unit_grammar.declared.unit.UnitError.TheVariants.{NotText}
-use Rattle.trace_profile.proofs.TameBytes.{are_names, each_too, is_tame, none_behind_words, of_name, of_tame, tail_of, tame_tail, tame_utf8, unset}
+use Rattle.trace_profile.proofs.TameBytes.{are_names, each_too, is_tame, none_behind_words, of_name, of_tame, tail_of, tame_tail, tame_utf8}
+use Rattle.trace_profile.proofs.TameBytes.{unset}
 
 -- ---- a line at the front
 abbrev is_lf : ℕ → Bool
 is_lf byte = byte == 10
 
-split_front : (front back : List ℕ) → list_all (λ byte. not (is_lf byte)) front ≡ true → slice_split is_lf (front ++ 10 ∷ back) ≡ front ∷ slice_split is_lf back
+split_front : (front back : List ℕ) → list_all (λ byte. not (is_lf byte)) front ≡ true
+    → slice_split is_lf (front ++ 10 ∷ back) ≡ front ∷ slice_split is_lf back
 split_front [] back h = refl
 split_front (byte ∷ front) back h =
     let both = and_parts (not (is_lf byte)) (list_all (λ byte. not (is_lf byte)) front) h in
-    ap (λ b. cond b ([] ∷ slice_split is_lf (front ++ 10 ∷ back)) (onto_first byte (slice_split is_lf (front ++ 10 ∷ back)))) (unset (is_lf byte) both.0)
+    ap (λ b. cond b ([] ∷ slice_split is_lf (front ++ 10 ∷ back)) (onto_first byte (slice_split is_lf (front ++ 10 ∷ back))))
+    (unset (is_lf byte) both.0)
     ∙ ap (onto_first byte) (split_front front back both.1)
 
 -- ---- what stands before the first of a byte
 abbrev is_byte : ℕ → ℕ → Bool
 is_byte byte b = b == byte
 
-first_place : (byte : ℕ) (front back : List ℕ) → list_all (λ b. not (is_byte byte b)) front ≡ true → position_or_len (is_byte byte) (front ++ byte ∷ back) ≡ length front
+first_place : (byte : ℕ) (front back : List ℕ) → list_all (λ b. not (is_byte byte b)) front ≡ true
+    → position_or_len (is_byte byte) (front ++ byte ∷ back) ≡ length front
 first_place byte [] back h = ap (λ b. cond (not b) (1 + position_or_len (is_byte byte) back) 0) (eq-eqb byte byte refl)
 first_place byte (x ∷ front) back h =
     let both = and_parts (not (is_byte byte x)) (list_all (λ b. not (is_byte byte b)) front) h in
     ap (λ b. cond b (1 + position_or_len (is_byte byte) (front ++ byte ∷ back)) 0) both.0
     ∙ omega (arith, first_place byte front back both.1)
 
-cut_front : (byte : ℕ) (front back : List ℕ) → list_all (λ b. not (is_byte byte b)) front ≡ true → cut_at byte (front ++ byte ∷ back) ≡ Some (front, back)
+cut_front : (byte : ℕ) (front back : List ℕ) → list_all (λ b. not (is_byte byte b)) front ≡ true
+    → cut_at byte (front ++ byte ∷ back) ≡ Some (front, back)
 cut_front byte front back h =
     let text = front ++ byte ∷ back in
     let place = first_place byte front back h in
@@ -61,7 +68,8 @@ trim_end_none text none =
 name_not_white : (byte : ℕ) → is_name_byte byte ≡ true → not (is_white byte) ≡ true
 name_not_white byte h =
     let is = of_name byte h in
-    ap (λ b. not ((b || byte == 9) || byte == 13)) is.no_space ∙ ap (λ b. not ((false || b) || byte == 13)) is.tame.no_tab ∙ ap (λ b. not ((false || false) || b)) is.tame.no_return
+    ap (λ b. not ((b || byte == 9) || byte == 13)) is.no_space ∙ ap (λ b. not ((false || b) || byte == 13)) is.tame.no_tab
+    ∙ ap (λ b. not ((false || false) || b)) is.tame.no_return
 
 name_not_backslash : (byte : ℕ) → is_name_byte byte ≡ true → not (is_backslash byte) ≡ true
 name_not_backslash byte h = ap not (of_name byte h).tame.no_backslash
@@ -111,7 +119,8 @@ module _ (words : List (List ℕ)) (named : are_names words ≡ true) where
   lines =
       split_front first_line (second_line ++ 10 ∷ (third_line ++ 10 ∷ [])) refl
       ∙ ap (λ rest. first_line ∷ rest) (split_front second_line (third_line ++ 10 ∷ []) refl)
-      ∙ ap (λ rest. first_line ∷ second_line ∷ rest) (split_front third_line [] (each_too is_tame (λ byte. not (is_lf byte)) tame_not_lf (tail_of words) tame))
+      ∙ ap (λ rest. first_line ∷ second_line ∷ rest)
+      (split_front third_line [] (each_too is_tame (λ byte. not (is_lf byte)) tame_not_lf (tail_of words) tame))
 
   is_a_text : is_text text ≡ true
   is_a_text =
@@ -129,16 +138,19 @@ module _ (words : List (List ℕ)) (named : are_names words ≡ true) where
   joined : joined_lines text ≡ at 1 first_line ∷ at 2 second_line ∷ at 3 third_line ∷ at 4 [] ∷ []
   joined =
       ap (λ parts. map line_of (split_after (λ part. not (continues part.text)) (parts_from 1 parts))) lines
-      ∙ ap (λ b. map line_of ((at 1 first_line ∷ []) ∷ (at 2 second_line ∷ []) ∷ cond (not b) ((at 3 third_line ∷ []) ∷ (at 4 [] ∷ []) ∷ []) (onto_first (at 3 third_line) ((at 4 [] ∷ []) ∷ [])))) ends_whole
+      ∙ ap (λ b. map line_of ((at 1 first_line ∷ []) ∷ (at 2 second_line ∷ []) ∷ cond (not b)
+      ((at 3 third_line ∷ []) ∷ (at 4 [] ∷ []) ∷ []) (onto_first (at 3 third_line) ((at 4 [] ∷ []) ∷ [])))) ends_whole
       ∙ ap (λ own. at 1 first_line ∷ at 2 second_line ∷ at 3 own ∷ at 4 [] ∷ [])
-      (append-nil (cond (continues third_line) (without_last third_line ++ 32 ∷ []) third_line) ∙ ap (λ b. cond b (without_last third_line ++ 32 ∷ []) third_line) ends_whole)
+      (append-nil (cond (continues third_line) (without_last third_line ++ 32 ∷ []) third_line)
+      ∙ ap (λ b. cond b (without_last third_line ++ 32 ∷ []) third_line) ends_whole)
 
   trimmed_value : trim value ≡ value
   trimmed_value = trim_end_none value (none_behind_words is_white name_not_white (codes "@default") words named refl)
 
   third_kind : kind_of third_line ≡ assigns (codes "SystemCallFilter") value
   third_kind =
-      ap trimmed_kind (trim_end_none third_line (none_behind_words is_white name_not_white (codes "SystemCallFilter=@default") words named refl))
+      ap trimmed_kind (trim_end_none third_line
+      (none_behind_words is_white name_not_white (codes "SystemCallFilter=@default") words named refl))
       ∙ ap assigned (cut_front 61 (codes "SystemCallFilter") value refl)
       ∙ ap (assigns (codes "SystemCallFilter")) trimmed_value
 

@@ -19,7 +19,9 @@ tails : (a b : Reply) (xs ys : List Reply) → a ∷ xs ≡ b ∷ ys → xs ≡ 
 tails a b xs ys e = cc
 
 -- the replies, said of the world without the programs
-own_replies : (programs : List (List Insn)) (world : World) (call : Call) (calls : List Call) → replies (above programs world) (call ∷ calls) ≡ (own_step programs world call).0 ∷ replies (above programs (own_step programs world call).1) calls
+own_replies : (programs : List (List Insn)) (world : World) (call : Call) (calls : List Call)
+    → replies (above programs world) (call ∷ calls) ≡ (own_step programs world call).0 ∷ replies
+    (above programs (own_step programs world call).1) calls
 own_replies programs world call calls = ap (λ (out : Reply × World). out.0 ∷ replies out.1 calls) (step_above programs world call)
 
 pub either_replies : EitherReplies
@@ -35,5 +37,6 @@ either_replies both one other base (call ∷ calls) like arch fit nothing e =
     own_replies both base call calls
     ∙ ap (λ (out : Reply × World). out.0 ∷ replies (above both out.1) calls) own
     ∙ ap (λ (rs : List Reply). (own_step one base call).0 ∷ rs)
-    (either_replies both one other next calls like (subst HasWordArchs (sym kept) arch) fit.1 (subst (λ (table : Table). PushNone table calls) (sym kept) nothing.1) rest)
+    (either_replies both one other next calls like (subst HasWordArchs (sym kept) arch) fit.1
+    (subst (λ (table : Table). PushNone table calls) (sym kept) nothing.1) rest)
     ∙ sym (own_replies one base call calls)

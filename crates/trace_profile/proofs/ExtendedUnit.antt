@@ -1,5 +1,6 @@
 -- What a unit says to which a drop-in was added that allows some names.
-use Rattle.std.proofs.Common.{◌≡◌, ℕ, suc, ◌+◌, ◌≤◌, Bool, true, false, cond, Option, Some, None, List, [], ◌∷◌, ◌++◌, codes, flat_map, length, map, refl, ap, ◌∙◌, sym, arith}
+use Rattle.std.proofs.Common.{◌≡◌, ℕ, suc, ◌+◌, ◌≤◌, Bool, true, false, cond, Option, Some, None, List, [], ◌∷◌, ◌++◌, codes, flat_map}
+use Rattle.std.proofs.Common.{length, map, refl, ap, ◌∙◌, sym, arith}
 use Rattle.std.specs.Prelude.{◌==◌, unwrap_or}
 use Rattle.std.specs.List.{AllByRecursion, after_last, cons_option, filter_map, list_all}
 use Rattle.std.specs.Option.{option_map}
@@ -49,7 +50,9 @@ added number (first ∷ files) file =
     let more = added (number + 1) files file in
     record {
       place = more.place;
-      is = ap (λ rest. service_in number first.text.assignments ++ rest) more.is ∙ sym (append_assoc (service_in number first.text.assignments) (service_from (number + 1) files) (service_in more.place file.text.assignments));
+      is = ap (λ rest. service_in number first.text.assignments ++ rest) more.is
+          ∙ sym (append_assoc (service_in number first.text.assignments) (service_from (number + 1) files)
+          (service_in more.place file.text.assignments));
     }
 
 nonzero : (n : ℕ) → (suc n == 0) ≡ false
@@ -98,7 +101,8 @@ module _ (unit : Resolved) (table : Table) (named : list_all (λ (line : CallLin
     no_value : filter_map (given_by unit.name key) two ≡ []
     unfolding two
     no_value =
-        ap (λ b. cons_option (cond b (expanded_at unit.name (place_of 2, reset words are_words)) None) (cons_option (cond b (expanded_at unit.name (place_of 3, allows words are_words)) None) [])) other
+        ap (λ b. cons_option (cond b (expanded_at unit.name (place_of 2, reset words are_words)) None)
+        (cons_option (cond b (expanded_at unit.name (place_of 3, allows words are_words)) None) [])) other
 
     other_values : values_of (extended unit table names) key ≡ values_of unit key
     other_values =
@@ -110,12 +114,15 @@ module _ (unit : Resolved) (table : Table) (named : list_all (λ (line : CallLin
 
     unasked : filter_map asks two ≡ []
     unfolding two
-    unasked = ap (λ b. cons_option (cond b (Some (asks_of [])) None) (cons_option (cond b (Some (asks_of (value words are_words))) None) [])) other
+    unasked = ap (λ b. cons_option (cond b (Some (asks_of [])) None)
+        (cons_option (cond b (Some (asks_of (value words are_words))) None) [])) other
 
     other_asked : is_asked (extended unit table names) key ≡ is_asked unit key
     other_asked =
         ap (λ found. unwrap_or (last_of found) false)
-        (ap (filter_map asks) assigned ∙ filter_map-append asks (service_assignments unit) two ∙ ap (λ rest. filter_map asks (service_assignments unit) ++ rest) unasked ∙ append-nil (filter_map asks (service_assignments unit)))
+        (ap (filter_map asks) assigned ∙ filter_map-append asks (service_assignments unit) two
+        ∙ ap (λ rest. filter_map asks (service_assignments unit) ++ rest) unasked
+        ∙ append-nil (filter_map asks (service_assignments unit)))
 
   no_path : filter_map (assigned_by unit.name) two ≡ []
   unfolding two
@@ -125,7 +132,8 @@ module _ (unit : Resolved) (table : Table) (named : list_all (λ (line : CallLin
   adds_calls = record {
     values = other_values;
     paths = ap (filter_map (assigned_by unit.name)) assigned ∙ filter_map-append (assigned_by unit.name) (service_assignments unit) two
-        ∙ ap (λ rest. filter_map (assigned_by unit.name) (service_assignments unit) ++ rest) no_path ∙ append-nil (filter_map (assigned_by unit.name) (service_assignments unit));
+        ∙ ap (λ rest. filter_map (assigned_by unit.name) (service_assignments unit) ++ rest) no_path
+        ∙ append-nil (filter_map (assigned_by unit.name) (service_assignments unit));
     asked = other_asked;
   }
 
@@ -142,18 +150,22 @@ module _ (unit : Resolved) (table : Table) (named : list_all (λ (line : CallLin
     two_values : filter_map (given_by unit.name key) two ≡ empty.value ∷ filled.value ∷ []
     unfolding two empty filled
     two_values =
-        ap (λ (found : Option (List ℕ)). cons_option (option_map (λ text. record { place = place_of 2; text = text }) found) (cons_option (given_by unit.name key (place_of 3, allows words are_words)) [])) (nothing_expands unit.name)
-        ∙ ap (λ (found : Option (List ℕ)). record { place = place_of 2; text = [] } ∷ cons_option (option_map (λ text. record { place = place_of 3; text = text }) found) []) (expanded words are_words unit.name short)
+        ap (λ (found : Option (List ℕ)). cons_option (option_map (λ text. record { place = place_of 2; text = text }) found)
+        (cons_option (given_by unit.name key (place_of 3, allows words are_words)) [])) (nothing_expands unit.name)
+        ∙ ap (λ (found : Option (List ℕ)). record { place = place_of 2; text = [] } ∷ cons_option
+        (option_map (λ text. record { place = place_of 3; text = text }) found) []) (expanded words are_words unit.name short)
 
     two_lines : filter_map listed (empty.value ∷ filled.value ∷ []) ≡ empty ∷ filled ∷ []
     unfolding empty filled
-    two_lines = ap (λ (found : Option Line). empty ∷ cons_option (option_map (λ line. record { value = filled.value; line = line }) found) []) (line_is words are_words)
+    two_lines = ap (λ (found : Option Line). empty ∷ cons_option
+        (option_map (λ line. record { value = filled.value; line = line }) found) []) (line_is words are_words)
 
     lines : unit_listed (extended unit table names) key ≡ unit_listed unit key ++ empty ∷ filled ∷ []
     unfolding unit_listed
     lines =
         ap (λ assignments. filter_map listed (filter_map (given_by unit.name key) assignments)) assigned
-        ∙ ap (filter_map listed) (filter_map-append (given_by unit.name key) (service_assignments unit) two ∙ ap (λ rest. values_of unit key ++ rest) two_values)
+        ∙ ap (filter_map listed) (filter_map-append (given_by unit.name key) (service_assignments unit) two
+        ∙ ap (λ rest. values_of unit key ++ rest) two_values)
         ∙ filter_map-append listed (values_of unit key) (empty.value ∷ filled.value ∷ [])
         ∙ ap (λ rest. filter_map listed (values_of unit key) ++ rest) two_lines
 
@@ -171,12 +183,14 @@ module _ (unit : Resolved) (table : Table) (named : list_all (λ (line : CallLin
         ap (after_last is_reset) (lines ∙ sym (append_assoc (unit_listed unit key) (empty ∷ []) (filled ∷ [])))
         ∙ after_last-push is_reset (unit_listed unit key ++ empty ∷ []) filled
         ∙ ap (λ b. cond b [] (after_last is_reset (unit_listed unit key ++ empty ∷ []) ++ filled ∷ [])) stays
-        ∙ ap (λ rest. rest ++ filled ∷ []) (after_last-push is_reset (unit_listed unit key) empty ∙ ap (λ b. cond b [] (after_last is_reset (unit_listed unit key) ++ empty ∷ [])) resets)
+        ∙ ap (λ rest. rest ++ filled ∷ []) (after_last-push is_reset (unit_listed unit key) empty
+        ∙ ap (λ b. cond b [] (after_last is_reset (unit_listed unit key) ++ empty ∷ [])) resets)
 
     calls_are : unit_call_list (extended unit table names) table key ≡ Some (said_list table named names)
     unfolding unit_call_list filled
     calls_are = ap (call_list table) last_line
 
     -- what the filters of the unit are
-    pub filters_are : unit_filters (extended unit table names) table ≡ with_calls (unit_filters unit table) (Some (said_list table named names))
+    pub filters_are : unit_filters (extended unit table names) table
+        ≡ with_calls (unit_filters unit table) (Some (said_list table named names))
     filters_are = filters unit files adds_calls table ∙ ap (with_calls (unit_filters unit table)) calls_are

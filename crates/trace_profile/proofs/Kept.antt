@@ -1,5 +1,6 @@
 -- What is kept of some names.
-use Rattle.std.proofs.Common.{◌≡◌, inl, inr, ℕ, ◌+◌, ◌<◌, ◌≤◌, false, List, [], ◌∷◌, ◌++◌, length, get_or, take, refl, sym, ap, ◌∙◌, subst, arith, eq-eqb}
+use Rattle.std.proofs.Common.{◌≡◌, inl, inr, ℕ, ◌+◌, ◌<◌, ◌≤◌, false, List, [], ◌∷◌, ◌++◌, length, get_or, take, refl, sym, ap, ◌∙◌, subst}
+use Rattle.std.proofs.Common.{arith, eq-eqb}
 use Rattle.std.specs.Prelude.{not, ◌==◌}
 use Rattle.std.specs.List.{All}
 use Rattle.std.proofs.lemmas.List.{take_more}
@@ -37,7 +38,8 @@ module _ (tried : Tried) (names : List ℕ) where
         let long = ap length gone.0 in
         record {
           serving = record {
-            are_names = subst (AreNames tried.table) (sym gone.0) (some_are_names tried.table (λ one. not (one == name)) kept before.serving.are_names);
+            are_names = subst (AreNames tried.table) (sym gone.0)
+                (some_are_names tried.table (λ one. not (one == name)) kept before.serving.are_names);
             serves = gone.1;
           };
           no_more = omega (arith, no_more, before.no_more, long);
@@ -51,8 +53,10 @@ module _ (tried : Tried) (names : List ℕ) where
           serving = subst (AreServing tried) (sym stays.0) before.serving;
           no_more = subst (λ these. length these ≤ length names) (sym stays.0) before.no_more;
           same = λ e. stays.0 ∙ before.same (ap length (sym stays.0) ∙ e);
-          needed = λ e. subst (All (λ one. Fails tried (without one names))) (ap (λ one. take i names ++ one ∷ []) is ∙ sym (take_more names i d lt))
-              (All-push (λ one. Fails tried (without one names)) (take i names) name (before.needed (ap length (sym stays.0) ∙ e)) (fails e));
+          needed = λ e. subst (All (λ one. Fails tried (without one names)))
+              (ap (λ one. take i names ++ one ∷ []) is ∙ sym (take_more names i d lt))
+              (All-push (λ one. Fails tried (without one names)) (take i names) name (before.needed (ap length (sym stays.0) ∙ e))
+              (fails e));
         }
 
   -- where none is left out, each is needed

@@ -1,5 +1,6 @@
 -- Where launches by two lists of programs end well, the launch by a list that answers each call as one of the two does too.
-use Rattle.std.proofs.Common.{◌≡◌, ℕ, Bool, true, false, cond, codes, List, [], ◌∷◌, ◌++◌, Option, Some, ◌⊎◌, inl, inr, refl, ap, ◌∙◌, sym, subst, length, arith}
+use Rattle.std.proofs.Common.{◌≡◌, ℕ, Bool, true, false, cond, codes, List, [], ◌∷◌, ◌++◌, Option, Some, ◌⊎◌, inl, inr, refl, ap, ◌∙◌, sym}
+use Rattle.std.proofs.Common.{subst, length, arith}
 use Rattle.std.specs.Prelude.{nat_le, ◌+◌, ◌<◌, ◌≤◌, ◌^◌, ◌||◌, not}
 use Rattle.std.proofs.lemmas.Bool.Decides.{nat_tests}
 use Rattle.std.proofs.lemmas.List.Sums.{sum_by-append, sum_by-cons}
@@ -36,7 +37,9 @@ use Rattle.asked_service.specs.linux_numbers.Errnos.{eacces, enomem}
 use Rattle.asked_service.specs.linux_numbers.Limits.{max_insns_per_path}
 use Rattle.asked_service.specs.mount_plan.Host.{host_of as site_host}
 use Rattle.asked_service.specs.launcher.Alike.{HasWordArchs, above}
-use Rattle.asked_service.specs.launcher.Launch.{LaunchStep, Launched, PrivilegedProgram, Wanted, first_call, number_of, launch_step, launch_steps, launch_from, is_privileged_row, mount_steps, with_unshare, identity_steps, filter_steps, program_steps}
+use Rattle.asked_service.specs.launcher.Launch.{LaunchStep, Launched, PrivilegedProgram, Wanted, first_call, number_of, launch_step}
+use Rattle.asked_service.specs.launcher.Launch.{launch_steps, launch_from, is_privileged_row, mount_steps, with_unshare, identity_steps}
+use Rattle.asked_service.specs.launcher.Launch.{filter_steps, program_steps}
 use Rattle.asked_service.specs.launcher.Launches.{HasLaunchCalls, AreRead}
 use Rattle.asked_service.proofs.OfLauncher.Alike.{own_step, lifted, step_above}
 use Rattle.asked_service.proofs.OfLauncher.CallsMade.{done_on}
@@ -55,18 +58,21 @@ leads_one : (world : World) (steps : List LaunchStep) (one other : World) → Le
 leads_one world [] one other l m = sym l ∙ m
 leads_one world (step ∷ steps) one other l m = leads_one (launch_step world step).1 steps one other l.1 m.1
 
-leads_join : (world : World) (first then : List LaunchStep) (mid last : World) → Leads world first mid → Leads mid then last → Leads world (first ++ then) last
+leads_join : (world : World) (first then : List LaunchStep) (mid last : World) → Leads world first mid → Leads mid then last
+    → Leads world (first ++ then) last
 leads_join world [] then mid last l m = subst (λ (own : World). Leads own then last) (sym l) m
 leads_join world (step ∷ first) then mid last l m = (l.0, leads_join (launch_step world step).1 first then mid last l.1 m)
 
-leads_launched : (world : World) (steps : List LaunchStep) (last : World) (count : ℕ) → Leads world steps last → (all : ℕ) × (launch_from world steps count ≡ Launched last all)
+leads_launched : (world : World) (steps : List LaunchStep) (last : World) (count : ℕ) → Leads world steps last
+    → (all : ℕ) × (launch_from world steps count ≡ Launched last all)
 leads_launched world [] last count l = (count, ap (λ (own : World). Launched own count) l)
 leads_launched world (step ∷ steps) last count l =
     let more = leads_launched (launch_step world step).1 steps last (count + 1) l.1 in
     (more.0, done_on (launch_step world step).0 (count + 1) (launch_from (launch_step world step).1 steps (count + 1)) l.0 ∙ more.1)
 
 -- ---- lists of programs that answer the same
-pushed_same : (input : CallData) (one other : List (List Insn)) (code own : List Insn) → AnswerSame input one other → answer_of code input ≡ answer_of own input → AnswerSame input (one ++ code ∷ []) (other ++ own ∷ [])
+pushed_same : (input : CallData) (one other : List (List Insn)) (code own : List Insn) → AnswerSame input one other
+    → answer_of code input ≡ answer_of own input → AnswerSame input (one ++ code ∷ []) (other ++ own ∷ [])
 pushed_same input [] [] code own same last = (last, tt)
 pushed_same input [] (y ∷ other) code own same last = absurd same
 pushed_same input (x ∷ one) [] code own same last = absurd same
@@ -75,22 +81,29 @@ pushed_same input (x ∷ one) (y ∷ other) code own same last = (same.0, pushed
 -- what is pushed, and what is left to push, answers each call as one of the two
 abbrev pub GoesAsEither : (both one other both' one' other' : List (List Insn)) → Type 0
 GoesAsEither both one other both' one' other' =
-    (input : CallData) → IsCallData input → (AnswerSame input both one × AnswerSame input both' one') ⊎ (AnswerSame input both other × AnswerSame input both' other')
+    (input : CallData) → IsCallData input → (AnswerSame input both one × AnswerSame input both' one') ⊎
+    (AnswerSame input both other × AnswerSame input both' other')
 
 module _ (both one other both' one' other' : List (List Insn)) (code code1 code2 : List Insn) where
-  next_by : (input : CallData) → (AnswerSame input both one × AnswerSame input (code ∷ both') (code1 ∷ one')) ⊎ (AnswerSame input both other × AnswerSame input (code ∷ both') (code2 ∷ other'))
-      → (AnswerSame input (both ++ code ∷ []) (one ++ code1 ∷ []) × AnswerSame input both' one') ⊎ (AnswerSame input (both ++ code ∷ []) (other ++ code2 ∷ []) × AnswerSame input both' other')
+  next_by : (input : CallData) → (AnswerSame input both one × AnswerSame input (code ∷ both') (code1 ∷ one')) ⊎
+      (AnswerSame input both other × AnswerSame input (code ∷ both') (code2 ∷ other'))
+      → (AnswerSame input (both ++ code ∷ []) (one ++ code1 ∷ []) × AnswerSame input both' one') ⊎
+      (AnswerSame input (both ++ code ∷ []) (other ++ code2 ∷ []) × AnswerSame input both' other')
   next_by input (inl same) = inl (pushed_same input both one code code1 same.0 same.1.0, same.1.1)
   next_by input (inr same) = inr (pushed_same input both other code code2 same.0 same.1.0, same.1.1)
 
-  next_goes : GoesAsEither both one other (code ∷ both') (code1 ∷ one') (code2 ∷ other') → GoesAsEither (both ++ code ∷ []) (one ++ code1 ∷ []) (other ++ code2 ∷ []) both' one' other'
+  next_goes : GoesAsEither both one other (code ∷ both') (code1 ∷ one') (code2 ∷ other')
+      → GoesAsEither (both ++ code ∷ []) (one ++ code1 ∷ []) (other ++ code2 ∷ []) both' one' other'
   next_goes goes input fit = next_by input (goes input fit)
 
-now_by : (both one other both' one' other' : List (List Insn)) (input : CallData) → (AnswerSame input both one × AnswerSame input both' one') ⊎ (AnswerSame input both other × AnswerSame input both' other') → AnswerSame input both one ⊎ AnswerSame input both other
+now_by : (both one other both' one' other' : List (List Insn)) (input : CallData)
+    → (AnswerSame input both one × AnswerSame input both' one') ⊎ (AnswerSame input both other × AnswerSame input both' other')
+    → AnswerSame input both one ⊎ AnswerSame input both other
 now_by both one other both' one' other' input (inl same) = inl same.0
 now_by both one other both' one' other' input (inr same) = inr same.0
 
-then_by : (both one other : List (List Insn)) (input : CallData) → AnswerSame input both one ⊎ AnswerSame input both other → (AnswerSame input [] [] × AnswerSame input both one) ⊎ (AnswerSame input [] [] × AnswerSame input both other)
+then_by : (both one other : List (List Insn)) (input : CallData) → AnswerSame input both one ⊎ AnswerSame input both other
+    → (AnswerSame input [] [] × AnswerSame input both one) ⊎ (AnswerSame input [] [] × AnswerSame input both other)
 then_by both one other input (inl same) = inl (tt, same)
 then_by both one other input (inr same) = inr (tt, same)
 
@@ -118,11 +131,15 @@ module _ (table : calls.Table) (site : Site) (whole : IsWhole table) (arch : Has
     by_stack stack bytes c = decided (with_stack stack) (call_of bytes) (only table site creds stack namespace) c
 
     -- a call that passes asks to push the program
-    passed : (stack : List (List Insn)) (bytes : List ℕ) → by_stack stack bytes decision.Pass ≡ at stack (cond (not may) (f.Refuse eacces) (push_effect stack (program_of bytes)))
-    passed stack bytes = ap (λ (o : Option Rule). answered (with_stack stack) 1 (only table site creds stack namespace) (asked_by o (call_of bytes))) calls'.seccomp
+    passed : (stack : List (List Insn)) (bytes : List ℕ) → by_stack stack bytes decision.Pass
+        ≡ at stack (cond (not may) (f.Refuse eacces) (push_effect stack (program_of bytes)))
+    passed stack bytes = ap (λ (o : Option Rule). answered (with_stack stack) 1 (only table site creds stack namespace)
+        (asked_by o (call_of bytes))) calls'.seccomp
 
     -- and it is pushed where it may be
-    pushed : (stack : List (List Insn)) (bytes : List ℕ) (code : List Insn) → program_of bytes ≡ Some code → room_of stack + length code ≤ max_insns_per_path → may ≡ true → by_stack stack bytes decision.Pass ≡ (w.Done 0, with_stack (stack ++ code ∷ []))
+    pushed : (stack : List (List Insn)) (bytes : List ℕ) (code : List Insn) → program_of bytes ≡ Some code
+        → room_of stack + length code ≤ max_insns_per_path → may ≡ true
+        → by_stack stack bytes decision.Pass ≡ (w.Done 0, with_stack (stack ++ code ∷ []))
     pushed stack bytes code read room allowed =
         let fitting : nat_le (room_of stack + length code) max_insns_per_path ≡ true = grind (arith, nat_tests) in
         passed stack bytes
@@ -131,7 +148,8 @@ module _ (table : calls.Table) (site : Site) (whole : IsWhole table) (arch : Has
         ∙ ap (λ b. at stack (cond b (f.Push code) (f.Refuse enomem))) fitting
 
     -- a call that is done has passed, and the caller may push
-    passes : (stack : List (List Insn)) (bytes : List ℕ) (c : Decision) → IsDone (by_stack stack bytes c).0 → (c ≡ decision.Pass) × (may ≡ true)
+    passes : (stack : List (List Insn)) (bytes : List ℕ) (c : Decision) → IsDone (by_stack stack bytes c).0
+        → (c ≡ decision.Pass) × (may ≡ true)
     passes stack bytes decision.Pass did = (refl, by may refl)
       where
         by : (b : Bool) → may ≡ b → b ≡ true
@@ -152,11 +170,13 @@ module _ (table : calls.Table) (site : Site) (whole : IsWhole table) (arch : Has
       asks : asked_of table call ≡ Does (d.Execve program)
       asks = ap (λ (o : Option Rule). asked_by o call) calls'.execve
 
-      other_doing : (operation flags : ℕ) (bytes : List ℕ) → ◌≡◌ {A = Asked} (Does (d.Execve program)) (Does (d.Seccomp operation flags bytes)) → ⊥
+      other_doing : (operation flags : ℕ) (bytes : List ℕ) → ◌≡◌ {A = Asked} (Does (d.Execve program))
+          (Does (d.Seccomp operation flags bytes)) → ⊥
       other_doing operation flags bytes e = cc
 
       stepped : (stack : List (List Insn)) → step (with_stack stack) call ≡ lifted stack (own_step stack (with_stack []) call)
-      stepped stack = ap (λ (v : World). step v call) (sym (ap (λ (s : List (List Insn)). with_stack s) (append_none stack))) ∙ step_above stack (with_stack []) call
+      stepped stack = ap (λ (v : World). step v call) (sym (ap (λ (s : List (List Insn)). with_stack s) (append_none stack)))
+          ∙ step_above stack (with_stack []) call
 
       -- the three launches from here on
       record Ends (programs : List (List ℕ)) (from last last' : World) (both one other : List (List Insn)) : Type 0 where
@@ -166,7 +186,9 @@ module _ (table : calls.Table) (site : Site) (whole : IsWhole table) (arch : Has
         pub leads : Leads from (left programs) (above both base)
 
       -- the program is executed
-      executed : (both one other : List (List Insn)) (last last' : World) → AnswersAsEither both one other → Leads (with_stack one) (left []) last → Leads (with_stack other) (left []) last' → Ends [] (with_stack both) last last' both one other
+      executed : (both one other : List (List Insn)) (last last' : World) → AnswersAsEither both one other
+          → Leads (with_stack one) (left []) last → Leads (with_stack other) (left []) last'
+          → Ends [] (with_stack both) last last' both one other
       executed both one other last last' like l m =
           let nothing : (operation flags : ℕ) (bytes : List ℕ) → asked_of table call ≡ Does (d.Seccomp operation flags bytes) → ⊥ = λ operation flags bytes e. other_doing operation flags bytes (sym asks ∙ e) in
           let did : IsDone (own_step one (with_stack []) call).0 = subst (λ (out : Reply × World). IsDone out.0) (stepped one) l.0 in
@@ -181,7 +203,8 @@ module _ (table : calls.Table) (site : Site) (whole : IsWhole table) (arch : Has
             leads = (subst (λ (out : Reply × World). IsDone out.0) (sym together) did, ap (λ (out : Reply × World). out.1) together);
           }
 
-      executed_all : (both one other : List (List Insn)) (last last' : World) → Ends [] (with_stack both) last last' both one other → Ends [] (with_stack both) last last' (both ++ []) (one ++ []) (other ++ [])
+      executed_all : (both one other : List (List Insn)) (last last' : World) → Ends [] (with_stack both) last last' both one other
+          → Ends [] (with_stack both) last last' (both ++ []) (one ++ []) (other ++ [])
       executed_all both one other last last' ends = record {
         base = ends.base;
         as_one' = ends.as_one' ∙ ap (λ (s : List (List Insn)). above s ends.base) (sym (append_none one));
@@ -191,8 +214,10 @@ module _ (table : calls.Table) (site : Site) (whole : IsWhole table) (arch : Has
 
       module _ (bytes : List ℕ) (programs : List (List ℕ)) (both both' : List (List Insn)) (code : List Insn) where
         -- one more is pushed
-        one_more : (last last' : World) (one one' other other' : List (List Insn)) (code1 code2 : List Insn) → step (with_stack both) (call_of bytes) ≡ (w.Done 0, with_stack (both ++ code ∷ []))
-            → Ends programs (with_stack (both ++ code ∷ [])) last last' ((both ++ code ∷ []) ++ both') ((one ++ code1 ∷ []) ++ one') ((other ++ code2 ∷ []) ++ other')
+        one_more : (last last' : World) (one one' other other' : List (List Insn)) (code1 code2 : List Insn)
+            → step (with_stack both) (call_of bytes) ≡ (w.Done 0, with_stack (both ++ code ∷ []))
+            → Ends programs (with_stack (both ++ code ∷ [])) last last' ((both ++ code ∷ []) ++ both') ((one ++ code1 ∷ []) ++ one')
+            ((other ++ code2 ∷ []) ++ other')
             → Ends (bytes ∷ programs) (with_stack both) last last' (both ++ code ∷ both') (one ++ code1 ∷ one') (other ++ code2 ∷ other')
         one_more last last' one one' other other' code1 code2 stepped more = record {
           base = more.base;
@@ -201,34 +226,50 @@ module _ (table : calls.Table) (site : Site) (whole : IsWhole table) (arch : Has
           leads = (
             subst (λ (out : Reply × World). IsDone out.0) (sym stepped) tt,
             subst (λ (out : Reply × World). Leads out.1 (left programs) (above (both ++ code ∷ both') more.base)) (sym stepped)
-                (subst (λ (s : List (List Insn)). Leads (with_stack (both ++ code ∷ [])) (left programs) (above s more.base)) (append_assoc both (code ∷ []) both') more.leads),
+                (subst (λ (s : List (List Insn)). Leads (with_stack (both ++ code ∷ [])) (left programs) (above s more.base))
+                (append_assoc both (code ∷ []) both') more.leads),
           );
         }
 
       -- the call passes below the first list as it does below the one that decides alike
-      passes_too : (both one other : List (List Insn)) → AnswerSame input both one ⊎ AnswerSame input both other → decision_on one input ≡ decision.Pass → decision_on other input ≡ decision.Pass → decision_on both input ≡ decision.Pass
+      passes_too : (both one other : List (List Insn)) → AnswerSame input both one ⊎ AnswerSame input both other
+          → decision_on one input ≡ decision.Pass → decision_on other input ≡ decision.Pass → decision_on both input ≡ decision.Pass
       passes_too both one other (inl same) p q = same_decision input both one same ∙ p
       passes_too both one other (inr same) p q = same_decision input both other same ∙ q
 
       -- the programs are pushed
       pushing : (programs of_one of_other : List (List ℕ)) (both' one' other' both one other : List (List Insn)) (last last' : World)
-          → AreRead programs both' → AreRead of_one one' → AreRead of_other other' → length both' ≡ length one' → length both' ≡ length other' → GoesAsEither both one other both' one' other'
-          → room_of both + room_of both' ≤ max_insns_per_path → room_of one + room_of one' ≤ max_insns_per_path → room_of other + room_of other' ≤ max_insns_per_path
+          → AreRead programs both' → AreRead of_one one' → AreRead of_other other' → length both' ≡ length one'
+          → length both' ≡ length other' → GoesAsEither both one other both' one' other'
+          → room_of both + room_of both' ≤ max_insns_per_path → room_of one + room_of one' ≤ max_insns_per_path
+          → room_of other + room_of other' ≤ max_insns_per_path
           → Leads (with_stack one) (left of_one) last → Leads (with_stack other) (left of_other) last'
           → Ends programs (with_stack both) last last' (both ++ both') (one ++ one') (other ++ other')
       pushing [] [] [] [] [] [] both one other last last' read read1 read2 long long2 goes room room1 room2 l m =
-          executed_all both one other last last' (executed both one other last last' (λ own fit. now_by both one other [] [] [] own (goes own fit)) l m)
-      pushing (bytes ∷ programs) of_one of_other [] one' other' both one other last last' read read1 read2 long long2 goes room room1 room2 l m = absurd read
-      pushing [] of_one of_other (code ∷ both') one' other' both one other last last' read read1 read2 long long2 goes room room1 room2 l m = absurd read
-      pushing programs (bytes ∷ of_one) of_other both' [] other' both one other last last' read read1 read2 long long2 goes room room1 room2 l m = absurd read1
-      pushing programs [] of_other both' (code ∷ one') other' both one other last last' read read1 read2 long long2 goes room room1 room2 l m = absurd read1
-      pushing programs of_one (bytes ∷ of_other) both' one' [] both one other last last' read read1 read2 long long2 goes room room1 room2 l m = absurd read2
-      pushing programs of_one [] both' one' (code ∷ other') both one other last last' read read1 read2 long long2 goes room room1 room2 l m = absurd read2
-      pushing [] (bytes ∷ of_one) of_other [] (code ∷ one') other' both one other last last' read read1 read2 long long2 goes room room1 room2 l m = absurd (omega (arith, long))
-      pushing [] [] (bytes ∷ of_other) [] [] (code ∷ other') both one other last last' read read1 read2 long long2 goes room room1 room2 l m = absurd (omega (arith, long2))
-      pushing (bytes ∷ programs) [] of_other (code ∷ both') [] other' both one other last last' read read1 read2 long long2 goes room room1 room2 l m = absurd (omega (arith, long))
-      pushing (bytes ∷ programs) (bytes1 ∷ of_one) [] (code ∷ both') (code1 ∷ one') [] both one other last last' read read1 read2 long long2 goes room room1 room2 l m = absurd (omega (arith, long2))
-      pushing (bytes ∷ programs) (bytes1 ∷ of_one) (bytes2 ∷ of_other) (code ∷ both') (code1 ∷ one') (code2 ∷ other') both one other last last' read read1 read2 long long2 goes room room1 room2 l m =
+          executed_all both one other last last'
+          (executed both one other last last' (λ own fit. now_by both one other [] [] [] own (goes own fit)) l m)
+      pushing (bytes ∷ programs) of_one of_other [] one' other' both one other last last' read read1 read2 long long2 goes room room1
+          room2 l m = absurd read
+      pushing [] of_one of_other (code ∷ both') one' other' both one other last last' read read1 read2 long long2 goes room room1 room2 l
+          m = absurd read
+      pushing programs (bytes ∷ of_one) of_other both' [] other' both one other last last' read read1 read2 long long2 goes room room1
+          room2 l m = absurd read1
+      pushing programs [] of_other both' (code ∷ one') other' both one other last last' read read1 read2 long long2 goes room room1 room2
+          l m = absurd read1
+      pushing programs of_one (bytes ∷ of_other) both' one' [] both one other last last' read read1 read2 long long2 goes room room1 room2
+          l m = absurd read2
+      pushing programs of_one [] both' one' (code ∷ other') both one other last last' read read1 read2 long long2 goes room room1 room2 l
+          m = absurd read2
+      pushing [] (bytes ∷ of_one) of_other [] (code ∷ one') other' both one other last last' read read1 read2 long long2 goes room room1
+          room2 l m = absurd (omega (arith, long))
+      pushing [] [] (bytes ∷ of_other) [] [] (code ∷ other') both one other last last' read read1 read2 long long2 goes room room1 room2 l
+          m = absurd (omega (arith, long2))
+      pushing (bytes ∷ programs) [] of_other (code ∷ both') [] other' both one other last last' read read1 read2 long long2 goes room
+          room1 room2 l m = absurd (omega (arith, long))
+      pushing (bytes ∷ programs) (bytes1 ∷ of_one) [] (code ∷ both')
+          (code1 ∷ one') [] both one other last last' read read1 read2 long long2 goes room room1 room2 l m = absurd (omega (arith, long2))
+      pushing (bytes ∷ programs) (bytes1 ∷ of_one) (bytes2 ∷ of_other) (code ∷ both') (code1 ∷ one')
+          (code2 ∷ other') both one other last last' read read1 read2 long long2 goes room room1 room2 l m =
           let F : List Insn → ℕ = λ code. length code + 4 in
           let a = sum_by-cons F code both' in
           let a1 = sum_by-cons F code1 one' in
@@ -253,7 +294,9 @@ module _ (table : calls.Table) (site : Site) (whole : IsWhole table) (arch : Has
           let long' : length both' ≡ length one' = omega (arith, long) in
           let long2' : length both' ≡ length other' = omega (arith, long2) in
           one_more bytes programs both both' code last last' one one' other other' code1 code2 stepped0
-          (pushing programs of_one of_other both' one' other' (both ++ code ∷ []) (one ++ code1 ∷ []) (other ++ code2 ∷ []) last last' read.1 read1.1 read2.1 long' long2' (next_goes both one other both' one' other' code code1 code2 goes) (omega arith) (omega arith) (omega arith) l' m')
+          (pushing programs of_one of_other both' one' other' (both ++ code ∷ []) (one ++ code1 ∷ [])
+          (other ++ code2 ∷ []) last last' read.1 read1.1 read2.1 long' long2'
+          (next_goes both one other both' one' other' code code1 code2 goes) (omega arith) (omega arith) (omega arith) l' m')
 
 module _ (table : calls.Table) (site : Site) (wanted : Wanted) (plan : Table) where
   abbrev before : List LaunchStep
@@ -266,13 +309,15 @@ module _ (table : calls.Table) (site : Site) (wanted : Wanted) (plan : Table) wh
   steps_of programs = launch_steps table.calls (record wanted { programs = programs }) plan
 
   split : (programs : List (List ℕ)) → steps_of programs ≡ before ++ after programs
-  split programs = append_split (with_unshare table.calls (mount_steps plan)) (identity_steps table.calls wanted) (filter_steps table.calls programs) (program_steps table.calls wanted.program)
+  split programs = append_split (with_unshare table.calls (mount_steps plan)) (identity_steps table.calls wanted)
+      (filter_steps table.calls programs) (program_steps table.calls wanted.program)
 
   abbrev begun : World
   begun = start_world table site
 
   -- a launch that ends well takes all steps, and its program is not privileged
-  took : (programs : List (List ℕ)) (last : World) (count : ℕ) → launch_by table site wanted plan programs ≡ Launched last count → Leads begun (before ++ after programs) last × (is_privileged_row (finds (row_at site.rows) plan wanted.program) ≡ false)
+  took : (programs : List (List ℕ)) (last : World) (count : ℕ) → launch_by table site wanted plan programs ≡ Launched last count
+      → Leads begun (before ++ after programs) last × (is_privileged_row (finds (row_at site.rows) plan wanted.program) ≡ false)
   took programs last count e = by (is_privileged_row (finds (row_at site.rows) plan wanted.program)) refl e
     where
       by : (b : Bool) → is_privileged_row (finds (row_at site.rows) plan wanted.program) ≡ b
@@ -282,13 +327,16 @@ module _ (table : calls.Table) (site : Site) (wanted : Wanted) (plan : Table) wh
       by false is e = (subst (λ (steps : List LaunchStep). Leads begun steps last) (split programs) (launched_leads begun (steps_of programs) 0 last count e).0, is)
 
   -- and where all steps are done, and its program is not privileged, it ends well
-  ends_well : (programs : List (List ℕ)) (last : World) → Leads begun (before ++ after programs) last → is_privileged_row (finds (row_at site.rows) plan wanted.program) ≡ false → (all : ℕ) × (launch_by table site wanted plan programs ≡ Launched last all)
+  ends_well : (programs : List (List ℕ)) (last : World) → Leads begun (before ++ after programs) last
+      → is_privileged_row (finds (row_at site.rows) plan wanted.program) ≡ false
+      → (all : ℕ) × (launch_by table site wanted plan programs ≡ Launched last all)
   ends_well programs last l plain =
       let done = leads_launched begun (steps_of programs) last 0 (subst (λ (steps : List LaunchStep). Leads begun steps last) (sym (split programs)) l) in
       (done.0, ap (λ b. cond b (PrivilegedProgram wanted.program) (launch_from begun (steps_of programs) 0)) plain ∙ done.1)
 
 pub either_launches : EitherLaunches
-either_launches table site wanted plan programs of_one of_other both one other last last' whole arch can small installed long long2 like first second =
+either_launches table site wanted plan programs of_one of_other both one other last last' whole arch can small installed long long2 like
+    first second =
     let took1 = took table site wanted plan of_one last first.steps first.launched in
     let took2 = took table site wanted plan of_other last' second.steps second.launched in
     let parts1 = leads_parts (start_world table site) (before table site wanted plan) (after table site wanted plan of_one) last took1.0 in

@@ -1,5 +1,6 @@
 -- What the value of a drop-in lists: `@default`, and words behind it.
-use Rattle.std.proofs.Common.{◌≡◌, ℕ, ◌≤◌, Bool, true, false, cond, Option, Some, None, Ok, List, [], ◌∷◌, ◌++◌, codes, length, map, flat_map, refl, ap, ◌∙◌, subst, arith}
+use Rattle.std.proofs.Common.{◌≡◌, ℕ, ◌≤◌, Bool, true, false, cond, Option, Some, None, Ok, List, [], ◌∷◌, ◌++◌, codes, length, map}
+use Rattle.std.proofs.Common.{flat_map, refl, ap, ◌∙◌, subst, arith}
 use Rattle.std.specs.Prelude.{not, ◌||◌, ◌==◌, nat_le}
 use Rattle.std.specs.List.{AllByRecursion, list_all}
 use Rattle.std.specs.Option.{option_map, option_and_then}
@@ -10,13 +11,16 @@ use Rattle.std.proofs.lemmas.Bool.{and_from, and_parts}
 use Rattle.std.proofs.lemmas.Bool.Decides.{nat_tests}
 use Rattle.std.proofs.lemmas.Str.{IsUtf8-append, IsUtf8-from_is_utf8, is_utf8-from_IsUtf8}
 use Rattle.asked_service.specs.call_table.Names.{is_name, is_name_byte}
-use Rattle.asked_service.specs.text_forms.Grammar.{EndsWord, IsPart, LaysOut, Part, Spells, bare, nothing, part_bytes, part_symbols, quoted, white, word}
+use Rattle.asked_service.specs.text_forms.Grammar.{EndsWord, IsPart, LaysOut, Part, Spells, bare, nothing, part_bytes, part_symbols, quoted}
+use Rattle.asked_service.specs.text_forms.Grammar.{white, word}
 use Rattle.asked_service.specs.text_forms.Words.{words_of}
 use Rattle.asked_service.proofs.OfTextForms.Layouts.{split_as_laid}
-use Rattle.asked_service.specs.unit_names.Expansion.{Piece, literal, expansion, if_short, if_text, longest_value, pieces_meaning, pieces_of, onto_pieces}
+use Rattle.asked_service.specs.unit_names.Expansion.{Piece, literal, expansion, if_short, if_text, longest_value, pieces_meaning, pieces_of}
+use Rattle.asked_service.specs.unit_names.Expansion.{onto_pieces}
 use Rattle.asked_service.specs.unit_names.Names.{Name}
 use Rattle.asked_service.specs.dropin_merge.unit_values.Lines.{line_of, words_if}
-use Rattle.trace_profile.proofs.TameBytes.{are_names, each_too, is_tame, of_name, of_tame, tail_of, tame_of_names, tame_tail, tame_utf8, unset, word_of}
+use Rattle.trace_profile.proofs.TameBytes.{are_names, each_too, is_tame, of_name, of_tame, tail_of, tame_of_names, tame_tail, tame_utf8}
+use Rattle.trace_profile.proofs.TameBytes.{unset, word_of}
 
 -- ---- specifiers: there are none
 no_percent : (byte : ℕ) → is_tame byte ≡ true → not (byte == 37) ≡ true
@@ -49,13 +53,16 @@ module _ (words : List (List ℕ)) (named : are_names words ≡ true) where
   tame = tame_tail words named
 
   value_utf8 : is_utf8 value ≡ true
-  value_utf8 = is_utf8-from_IsUtf8 value (IsUtf8-append (codes "@default") (tail_of words) (IsUtf8-from_is_utf8 (codes "@default") default_utf8) (IsUtf8-from_is_utf8 (tail_of words) (tame_utf8 (tail_of words) tame)))
+  value_utf8 = is_utf8-from_IsUtf8 value
+      (IsUtf8-append (codes "@default") (tail_of words) (IsUtf8-from_is_utf8 (codes "@default") default_utf8)
+      (IsUtf8-from_is_utf8 (tail_of words) (tame_utf8 (tail_of words) tame)))
 
   -- a value that is short enough stands for itself
   pub expanded : (name : Name) → length value ≤ longest_value → expansion name value ≡ Some value
   expanded name short =
       let few : nat_le (length value) longest_value ≡ true = grind (arith, nat_tests) in
-      ap (λ found. option_and_then if_text (option_and_then if_short (option_and_then (pieces_meaning name) found))) (pieces value (each_too is_tame (λ byte. not (byte == 37)) no_percent (tail_of words) tame))
+      ap (λ found. option_and_then if_text (option_and_then if_short (option_and_then (pieces_meaning name) found)))
+      (pieces value (each_too is_tame (λ byte. not (byte == 37)) no_percent (tail_of words) tame))
       ∙ ap (λ found. option_and_then if_text (option_and_then if_short found)) (meaning name value)
       ∙ ap (λ b. option_and_then if_text (cond b (Some value) None)) few
       ∙ ap (λ b. cond b (Some value) None) value_utf8
@@ -82,7 +89,8 @@ said (byte ∷ bytes) = ap (λ rest. byte ∷ rest) (said bytes)
 no_backslash : (byte : ℕ) → (byte == 92) ≡ false → byte ≡ 92 → ⊥
 no_backslash byte h is = grind (arith, nat_tests)
 
-spelled : (bytes text : List ℕ) (symbols : _) → list_all (λ byte. not (byte == 92)) bytes ≡ true → Spells symbols text → Spells (flat_map part_symbols (parts_of bytes) ++ symbols) (bytes ++ text)
+spelled : (bytes text : List ℕ) (symbols : _) → list_all (λ byte. not (byte == 92)) bytes ≡ true → Spells symbols text
+    → Spells (flat_map part_symbols (parts_of bytes) ++ symbols) (bytes ++ text)
 spelled [] text symbols h rest = rest
 spelled (byte ∷ bytes) text symbols h rest =
     let both = and_parts (not (byte == 92)) (list_all (λ byte. not (byte == 92)) bytes) h in

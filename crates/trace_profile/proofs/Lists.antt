@@ -1,5 +1,6 @@
 -- Lists of names.
-use Rattle.std.proofs.Common.{◌≡◌, ℕ, zero, suc, ◌+◌, ◌<◌, ◌≤◌, Bool, true, false, cond, List, [], ◌∷◌, ◌++◌, length, filter, get_or, ap, ◌∙◌, sym, subst, arith, length-append}
+use Rattle.std.proofs.Common.{◌≡◌, ℕ, zero, suc, ◌+◌, ◌<◌, ◌≤◌, Bool, true, false, cond, List, [], ◌∷◌, ◌++◌, length, filter, get_or, ap}
+use Rattle.std.proofs.Common.{◌∙◌, sym, subst, arith, length-append}
 use Rattle.std.specs.List.{range_with_len}
 use Rattle.std.specs.List.Sorted.{IsStrictlyIncreasing}
 use Rattle.std.proofs.lemmas.List.{map-id}
@@ -13,7 +14,8 @@ use Rattle.trace_profile.specs.Names.{AreNames}
 
 module _ (table : Table) where
   pub count_all : length table.calls + length (calls_in table 1) ≡ length (every_call table)
-  count_all = ap (λ lines. length table.calls + length lines) (sym (second_are table.second)) ∙ sym (length-append table.calls (second_calls table.second))
+  count_all = ap (λ lines. length table.calls + length lines) (sym (second_are table.second))
+      ∙ sym (length-append table.calls (second_calls table.second))
 
   range_ascends : (n : ℕ) → IsStrictlyIncreasing (range_with_len 0 n)
   range_ascends n k within =
@@ -26,7 +28,8 @@ module _ (table : Table) where
   pub every_are_names : AreNames table (every_name table)
   every_are_names = record {
     first_lines = filter_passes (is_first_line table) (range_with_len 0 (length (every_call table)));
-    in_order = IsStrictlyIncreasing-filter (is_first_line table) (range_with_len 0 (length (every_call table))) (range_ascends (length (every_call table)));
+    in_order = IsStrictlyIncreasing-filter (is_first_line table) (range_with_len 0 (length (every_call table)))
+        (range_ascends (length (every_call table)));
   }
 
   -- and so are some of them
@@ -51,7 +54,8 @@ not_longer p (x ∷ xs) = by (not_longer p xs) (p x) where
   by rest false = omega (arith, rest)
 
 -- where one does not pass there are fewer
-pub shorter : {X : Type 0} (p : X → Bool) (xs : List X) (i : ℕ) (d : X) → i < length xs → p (get_or xs i d) ≡ false → length (filter p xs) < length xs
+pub shorter : {X : Type 0} (p : X → Bool) (xs : List X) (i : ℕ) (d : X) → i < length xs → p (get_or xs i d) ≡ false
+    → length (filter p xs) < length xs
 shorter p [] i d lt fails = absurd (omega arith)
 shorter p (x ∷ xs) zero d lt fails =
     let rest = not_longer p xs in

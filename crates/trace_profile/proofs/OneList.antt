@@ -1,5 +1,6 @@
 -- The least list is the only one, and names no call of `@default`.
-use Rattle.std.proofs.Common.{◌≡◌, ◌≢◌, ◌⊎◌, inl, inr, ℕ, Bool, true, false, cond, codes, Some, None, Result, Ok, List, [], ◌∷◌, ◌++◌, length, map, refl, ap, ◌∙◌, sym, subst, arith}
+use Rattle.std.proofs.Common.{◌≡◌, ◌≢◌, ◌⊎◌, inl, inr, ℕ, Bool, true, false, cond, codes, Some, None, Result, Ok, List, [], ◌∷◌, ◌++◌}
+use Rattle.std.proofs.Common.{length, map, refl, ap, ◌∙◌, sym, subst, arith}
 use Rattle.std.specs.Prelude.{◌≤◌, ◌==◌, ◌||◌, not}
 use Rattle.std.specs.List.{AllByRecursion}
 use Rattle.std.specs.Option.{option_map}
@@ -95,7 +96,8 @@ module _ (unit : Resolved) (table : calls.Table) (site : Site) (sound : IsSite s
 
     filters : unit_filters longer table ≡ with_list table base mentions
     unfolding base mentions
-    filters = filters_are unit table plain.plain names first (subst (λ (tail : List ℕ). length (codes "@default" ++ tail) ≤ 1048576) (tails_are table names) (plain.short names are))
+    filters = filters_are unit table plain.plain names first
+        (subst (λ (tail : List ℕ). length (codes "@default" ++ tail) ≤ 1048576) (tails_are table names) (plain.short names are))
 
     program : unit_program longer ≡ unit_program unit
     program = but.program unit _ (adds_calls unit table plain.plain names first)
@@ -112,30 +114,40 @@ module _ (unit : Resolved) (table : calls.Table) (site : Site) (sound : IsSite s
     paths : unit_mentions longer site ≡ unit_mentions unit site
     paths = but.mentions unit _ (adds_calls unit table plain.plain names first) site
 
-    privileges : (uid : ℕ) → unit_new_privileges longer table uid ≡ is_in_effect (sets_new_privileges unit) (has_filter (with_list table base mentions) table) uid (ambient_of unit)
+    privileges : (uid : ℕ) → unit_new_privileges longer table uid
+        ≡ is_in_effect (sets_new_privileges unit) (has_filter (with_list table base mentions) table) uid (ambient_of unit)
     privileges uid =
-        ap (λ on. is_in_effect on (has_filter (unit_filters longer table) table) uid (ambient_of longer)) (but.sets unit _ (adds_calls unit table plain.plain names first))
+        ap (λ on. is_in_effect on (has_filter (unit_filters longer table) table) uid (ambient_of longer))
+        (but.sets unit _ (adds_calls unit table plain.plain names first))
         ∙ ap (λ settings. is_in_effect (sets_new_privileges unit) (has_filter settings table) uid (ambient_of longer)) filters
         ∙ ap (is_in_effect (sets_new_privileges unit) (has_filter (with_list table base mentions) table) uid) ambient
 
-    refused : refusal_of longer table site ≡ first_reason (command_refusal unit ∷ identity_refusal unit site ∷ option_map MissingGroup (missing_group table (with_list table base mentions)) ∷ paths_refusal unit ∷ [])
+    refused : refusal_of longer table site
+        ≡ first_reason (command_refusal unit ∷ identity_refusal unit site ∷ option_map MissingGroup
+        (missing_group table (with_list table base mentions)) ∷ paths_refusal unit ∷ [])
     unfolding group_refusal
     refused =
         but.refused unit _ (adds_calls unit table plain.plain names first) table site
-        ∙ ap (λ settings. first_reason (command_refusal unit ∷ identity_refusal unit site ∷ option_map MissingGroup (missing_group table settings) ∷ paths_refusal unit ∷ [])) filters
+        ∙ ap (λ settings. first_reason
+        (command_refusal unit ∷ identity_refusal unit site ∷ option_map MissingGroup
+        (missing_group table settings) ∷ paths_refusal unit ∷ [])) filters
 
     -- programs that match the filters of its settings
-    has_programs : (settings : Settings) → AreSettings longer table site settings → (codes : List (List Insn)) → AreMatching settings.filters.items codes → HasPrograms table base mentions codes
+    has_programs : (settings : Settings) → AreSettings longer table site settings → (codes : List (List Insn))
+        → AreMatching settings.filters.items codes → HasPrograms table base mentions codes
     has_programs settings fit codes matching =
         let own = fit.filters_as_wanted in
         record {
           filters = settings.filters.items;
-          places = subst (λ (said : FilterSettings). map place_of settings.filters.items ≡ installed said table) filters own.exactly_those_on;
-          wanted = subst (λ (said : FilterSettings). AllByRecursion (HasWantedRules said table) settings.filters.items) filters (recursion_from_All (HasWantedRules (unit_filters longer table) table) settings.filters.items own.do_as_wanted);
+          places = subst (λ (said : FilterSettings). map place_of settings.filters.items ≡ installed said table) filters
+              own.exactly_those_on;
+          wanted = subst (λ (said : FilterSettings). AllByRecursion (HasWantedRules said table) settings.filters.items) filters
+              (recursion_from_All (HasWantedRules (unit_filters longer table) table) settings.filters.items own.do_as_wanted);
           matching = matching;
         }
 
-    installed_by : (settings : Settings) → AreSettings longer table site settings → (programs : List (List ℕ)) (codes : List (List Insn)) → AreRead programs codes → AreMatching settings.filters.items codes → AreInstalled programs codes
+    installed_by : (settings : Settings) → AreSettings longer table site settings → (programs : List (List ℕ)) (codes : List (List Insn))
+        → AreRead programs codes → AreMatching settings.filters.items codes → AreInstalled programs codes
     installed_by settings fit programs codes read matching =
         let few = room settings.filters.items codes matching in
         let most = fit.filters_as_wanted.fit_into_a_stack in
@@ -143,23 +155,28 @@ module _ (unit : Resolved) (table : calls.Table) (site : Site) (sound : IsSite s
 
   -- ---- two such units
   module _ (names others : List ℕ) (are : AreNames table names) (are_too : AreNames table others) where
-    missing_same : (one other : List Mention) → missing_group table (with_list table base one) ≡ missing_group table (with_list table base other)
+    missing_same : (one other : List Mention) → missing_group table (with_list table base one)
+        ≡ missing_group table (with_list table base other)
     unfolding missing_group
     missing_same one other = refl
 
     same_refusal : refusal_of (extended unit table names) table site ≡ refusal_of (extended unit table others) table site
     same_refusal =
         refused names are
-        ∙ ap (λ found. first_reason (command_refusal unit ∷ identity_refusal unit site ∷ option_map MissingGroup found ∷ paths_refusal unit ∷ [])) (missing_same (mentions names are) (mentions others are_too))
+        ∙ ap (λ found. first_reason
+        (command_refusal unit ∷ identity_refusal unit site ∷ option_map MissingGroup found ∷ paths_refusal unit ∷ []))
+        (missing_same (mentions names are) (mentions others are_too))
         ∙ sym (refused others are_too)
 
     same_paths : unit_mentions (extended unit table names) site ≡ unit_mentions (extended unit table others) site
     same_paths = paths names are ∙ sym (paths others are_too)
 
-    same_privileges : (uid : ℕ) → unit_new_privileges (extended unit table names) table uid ≡ unit_new_privileges (extended unit table others) table uid
+    same_privileges : (uid : ℕ) → unit_new_privileges (extended unit table names) table uid
+        ≡ unit_new_privileges (extended unit table others) table uid
     same_privileges uid =
         privileges names are uid
-        ∙ ap (λ (places : List Place). is_in_effect (sets_new_privileges unit) (not (length places == 0)) uid (ambient_of unit)) (installed_same table base (mentions names are) (mentions others are_too))
+        ∙ ap (λ (places : List Place). is_in_effect (sets_new_privileges unit) (not (length places == 0)) uid (ambient_of unit))
+        (installed_same table base (mentions names are) (mentions others are_too))
         ∙ sym (privileges others are_too uid)
 
     some_same : {X : Type 0} (a b : X) → Some a ≡ Some b → a ≡ b
@@ -168,45 +185,56 @@ module _ (unit : Resolved) (table : calls.Table) (site : Site) (sound : IsSite s
     ok_same : (a b : Identity) → ◌≡◌ {A = Result Identity IdentityError} (Ok a) (Ok b) → a ≡ b
     ok_same a b e = cc
 
-    wanted_same : (program program' : Path) (uid uid' gid gid' : ℕ) (groups groups' : List ℕ) (bounding bounding' ambient ambient' : ℕ) (on on' : Bool) (programs : List (List ℕ))
+    wanted_same : (program program' : Path) (uid uid' gid gid' : ℕ) (groups groups' : List ℕ) (bounding bounding' ambient ambient' : ℕ)
+        (on on' : Bool) (programs : List (List ℕ))
         → program ≡ program' → uid ≡ uid' → gid ≡ gid' → groups ≡ groups' → bounding ≡ bounding' → ambient ≡ ambient' → on ≡ on'
         → ◌≡◌ {A = Wanted} (record { program = program; uid = uid; gid = gid; groups = groups; bounding = bounding; ambient = ambient; no_new_privs = on; programs = programs })
         (record { program = program'; uid = uid'; gid = gid'; groups = groups'; bounding = bounding'; ambient = ambient'; no_new_privs = on'; programs = programs })
     wanted_same program program' uid uid' gid gid' groups groups' bounding bounding' ambient ambient' on on' programs a b c d e f g = cc
 
     -- their launches are asked the same, but for the programs
-    same_wanted : (settings settings' : Settings) → AreSettings (extended unit table names) table site settings → AreSettings (extended unit table others) table site settings' → (programs : List (List ℕ))
+    same_wanted : (settings settings' : Settings) → AreSettings (extended unit table names) table site settings
+        → AreSettings (extended unit table others) table site settings' → (programs : List (List ℕ))
         → wanted_of settings programs ≡ wanted_of settings' programs
     same_wanted settings settings' fit fit' programs =
         let ids : ◌≡◌ {A = Identity} (record { uid = settings.uid; gid = settings.gid; groups = settings.groups }) (record { uid = settings'.uid; gid = settings'.gid; groups = settings'.groups }) =
         ok_same _ _ (sym fit.runs_as ∙ identity names are ∙ sym (identity others are_too) ∙ fit'.runs_as) in
         let uid : settings.uid ≡ settings'.uid = ap (λ (own : Identity). own.uid) ids in
-        wanted_same settings.program settings'.program settings.uid settings'.uid settings.gid settings'.gid settings.groups settings'.groups settings.bounding settings'.bounding settings.ambient settings'.ambient settings.no_new_privs settings'.no_new_privs programs
-        (some_same settings.program settings'.program (sym fit.launches_the_first_command ∙ program names are ∙ sym (program others are_too) ∙ fit'.launches_the_first_command))
+        wanted_same settings.program settings'.program settings.uid settings'.uid settings.gid settings'.gid settings.groups
+        settings'.groups settings.bounding settings'.bounding settings.ambient settings'.ambient settings.no_new_privs
+        settings'.no_new_privs programs
+        (some_same settings.program settings'.program (sym fit.launches_the_first_command ∙ program names are
+        ∙ sym (program others are_too) ∙ fit'.launches_the_first_command))
         uid (ap (λ (own : Identity). own.gid) ids) (ap (λ (own : Identity). own.groups) ids)
         (fit.bounding_without_what_is_taken ∙ bounding names are ∙ sym (bounding others are_too) ∙ sym fit'.bounding_without_what_is_taken)
         (fit.ambient ∙ ambient names are ∙ sym (ambient others are_too) ∙ sym fit'.ambient)
-        (fit.new_privileges ∙ same_privileges settings.uid ∙ ap (unit_new_privileges (extended unit table others) table) uid ∙ sym fit'.new_privileges)
+        (fit.new_privileges ∙ same_privileges settings.uid ∙ ap (unit_new_privileges (extended unit table others) table) uid
+        ∙ sym fit'.new_privileges)
 
     ok_plan : (a b : List PathMention) → ◌≡◌ {A = Result (List PathMention) Refusal} (Ok a) (Ok b) → a ≡ b
     ok_plan a b e = cc
 
     -- and have the same plan
-    same_plan : (one other : List MountStep) → Plans (host_of site) (unit_mentions (extended unit table names) site) (Ok one) → Plans (host_of site) (unit_mentions (extended unit table others) site) (Ok other) → one ≡ other
+    same_plan : (one other : List MountStep) → Plans (host_of site) (unit_mentions (extended unit table names) site) (Ok one)
+        → Plans (host_of site) (unit_mentions (extended unit table others) site) (Ok other) → one ≡ other
     same_plan one other has has' =
         let kept = ok_plan has.0 has'.0 (sym has.1 ∙ ap (kept_of (host_of site)) same_paths ∙ has'.1) in
         has.2 ∙ ap (table_of (host_of site)) kept ∙ sym has'.2
 
-    same_launch : (settings settings' : Settings) (one other : Table) → AreSettings (extended unit table names) table site settings → AreSettings (extended unit table others) table site settings'
-        → Plans (host_of site) (unit_mentions (extended unit table names) site) (Ok one) → Plans (host_of site) (unit_mentions (extended unit table others) site) (Ok other) → (programs : List (List ℕ))
+    same_launch : (settings settings' : Settings) (one other : Table) → AreSettings (extended unit table names) table site settings
+        → AreSettings (extended unit table others) table site settings'
+        → Plans (host_of site) (unit_mentions (extended unit table names) site) (Ok one)
+        → Plans (host_of site) (unit_mentions (extended unit table others) site) (Ok other) → (programs : List (List ℕ))
         → launch_with table site settings one programs ≡ launch_with table site settings' other programs
     same_launch settings settings' one other fit fit' has has' programs =
-        ap (λ (wanted : Wanted). launch table site wanted one) (same_wanted settings settings' fit fit' programs) ∙ ap (launch table site (wanted_of settings' programs)) (same_plan one other has has')
+        ap (λ (wanted : Wanted). launch table site wanted one) (same_wanted settings settings' fit fit' programs)
+        ∙ ap (launch table site (wanted_of settings' programs)) (same_plan one other has has')
 
   -- ---- three such units, of which the third decides each name as one of the others
   module _ (script : List Call) (fits : AreCalls script) (none : first_seccomp table script ≡ None)
       (names others third : List ℕ) (are : AreNames table names) (are_too : AreNames table others) (are_third : AreNames table third)
-      (pivot : (name : List ℕ) → (is_let_through table plain.plain third name ≡ is_let_through table plain.plain names name) ⊎ (is_let_through table plain.plain third name ≡ is_let_through table plain.plain others name))
+      (pivot : (name : List ℕ) → (is_let_through table plain.plain third name ≡ is_let_through table plain.plain names name) ⊎
+      (is_let_through table plain.plain third name ≡ is_let_through table plain.plain others name))
       (service other : Service) (launched : IsLaunchedUnit (extended unit table names) table site service) (launched_too : IsLaunchedUnit (extended unit table others) table site other) where
     -- where the two reply alike, the launch of the third ends well, and it replies so too
     record GoesAlong (settings : Settings) (mounts : Table) (programs : List (List ℕ)) (codes : List (List Insn)) : Type 0 where
@@ -215,21 +243,30 @@ module _ (unit : Resolved) (table : calls.Table) (site : Site) (sound : IsSite s
       ends : launch_with table site settings mounts programs ≡ Launched last steps
       replies_so : replies service.world script ≡ replies other.world script → replies last script ≡ replies service.world script
 
-    gives_by : (one : List ℕ) (are_one : AreNames table one) (name : List ℕ) → is_let_through table plain.plain third name ≡ is_let_through table plain.plain one name → gives table base (mentions third are_third) name ≡ gives table base (mentions one are_one) name
+    gives_by : (one : List ℕ) (are_one : AreNames table one) (name : List ℕ)
+        → is_let_through table plain.plain third name ≡ is_let_through table plain.plain one name
+        → gives table base (mentions third are_third) name ≡ gives table base (mentions one are_one) name
     unfolding mentions
     gives_by one are_one name e =
-        action_is table plain.plain third (first third are_third) base.default_action name ∙ ap (λ b. cond b Allowed base.default_action) e ∙ sym (action_is table plain.plain one (first one are_one) base.default_action name)
+        action_is table plain.plain third (first third are_third) base.default_action name
+        ∙ ap (λ b. cond b Allowed base.default_action) e
+        ∙ sym (action_is table plain.plain one (first one are_one) base.default_action name)
 
-    pivot_gives : (name : List ℕ) → (gives table base (mentions third are_third) name ≡ gives table base (mentions names are) name) ⊎ (gives table base (mentions third are_third) name ≡ gives table base (mentions others are_too) name)
+    pivot_gives : (name : List ℕ) → (gives table base (mentions third are_third) name ≡ gives table base (mentions names are) name) ⊎
+        (gives table base (mentions third are_third) name ≡ gives table base (mentions others are_too) name)
     pivot_gives name = by (pivot name)
       where
-        by : (is_let_through table plain.plain third name ≡ is_let_through table plain.plain names name) ⊎ (is_let_through table plain.plain third name ≡ is_let_through table plain.plain others name)
-            → (gives table base (mentions third are_third) name ≡ gives table base (mentions names are) name) ⊎ (gives table base (mentions third are_third) name ≡ gives table base (mentions others are_too) name)
+        by : (is_let_through table plain.plain third name ≡ is_let_through table plain.plain names name) ⊎
+            (is_let_through table plain.plain third name ≡ is_let_through table plain.plain others name)
+            → (gives table base (mentions third are_third) name ≡ gives table base (mentions names are) name) ⊎
+            (gives table base (mentions third are_third) name ≡ gives table base (mentions others are_too) name)
         by (inl e) = inl (gives_by names are name e)
         by (inr e) = inr (gives_by others are_too name e)
 
-    goes_along : (settings : Settings) (mounts : Table) (programs : List (List ℕ)) (codes : List (List Insn)) → AreSettings (extended unit table third) table site settings
-        → Plans (host_of site) (unit_mentions (extended unit table third) site) (Ok mounts) → AreMatching settings.filters.items codes → AreRead programs codes → GoesAlong settings mounts programs codes
+    goes_along : (settings : Settings) (mounts : Table) (programs : List (List ℕ)) (codes : List (List Insn))
+        → AreSettings (extended unit table third) table site settings
+        → Plans (host_of site) (unit_mentions (extended unit table third) site) (Ok mounts) → AreMatching settings.filters.items codes
+        → AreRead programs codes → GoesAlong settings mounts programs codes
     goes_along settings mounts programs codes fit has matching read =
         let l = launched.launched in
         let m = launched_too.launched in
@@ -252,22 +289,29 @@ module _ (unit : Resolved) (table : calls.Table) (site : Site) (sound : IsSite s
           launched = l.launches.ends;
         } in
         let other_launch : LaunchesBy table site (wanted_of own_settings []) launched.plan (given_bytes other.filters) other_codes other.world = record {
-          installed = installed_by others are_too other_settings launched_too.are_settings (given_bytes other.filters) other_codes other_read other_match;
+          installed = installed_by others are_too other_settings launched_too.are_settings
+              (given_bytes other.filters) other_codes other_read other_match;
           steps = other.steps;
-          launched = same_launch names others are are_too own_settings other_settings launched.plan launched_too.plan launched.are_settings launched_too.are_settings launched.is_plan launched_too.is_plan (given_bytes other.filters) ∙ m.launches.ends;
+          launched = same_launch names others are are_too own_settings other_settings launched.plan launched_too.plan
+              launched.are_settings launched_too.are_settings launched.is_plan launched_too.is_plan (given_bytes other.filters)
+              ∙ m.launches.ends;
         } in
         let together = either_launches table site (wanted_of own_settings []) launched.plan programs (given_bytes service.filters) (given_bytes other.filters) codes own_codes other_codes service.world other.world
         whole arch launched.fits.can_be_mounted can.uid (installed_by third are_third settings fit programs codes read matching)
-        (same_long table base (mentions third are_third) (mentions names are) codes own_codes third_has own_has) (same_long table base (mentions third are_third) (mentions others are_too) codes other_codes third_has other_has)
+        (same_long table base (mentions third are_third) (mentions names are) codes own_codes third_has own_has)
+        (same_long table base (mentions third are_third) (mentions others are_too) codes other_codes third_has other_has)
         like own_launch other_launch in
         let told : together.base.calls ≡ table = ap (λ (world : World). world.calls) (sym together.as_one) ∙ ap (λ seen. seen.calls) l.leaves_one_process.leaves.is in
         record {
           last = above codes together.base;
           steps = together.steps;
-          ends = sym (same_launch names third are are_third own_settings settings launched.plan mounts launched.are_settings fit launched.is_plan has programs) ∙ together.launched;
+          ends = sym (same_launch names third are are_third own_settings settings launched.plan mounts launched.are_settings fit
+              launched.is_plan has programs) ∙ together.launched;
           replies_so = λ e.
-              either_replies codes own_codes other_codes together.base script like (subst HasWordArchs (sym told) arch) fits (subst (λ (own : calls.Table). PushNone own script) (sym told) (pushes_none table script none))
-              (ap (λ (world : World). replies world script) (sym together.as_one) ∙ e ∙ ap (λ (world : World). replies world script) together.as_other)
+              either_replies codes own_codes other_codes together.base script like (subst HasWordArchs (sym told) arch) fits
+              (subst (λ (own : calls.Table). PushNone own script) (sym told) (pushes_none table script none))
+              (ap (λ (world : World). replies world script) (sym together.as_one) ∙ e
+              ∙ ap (λ (world : World). replies world script) together.as_other)
               ∙ ap (λ (world : World). replies world script) (sym together.as_one);
         }
 
@@ -275,17 +319,22 @@ module _ (unit : Resolved) (table : calls.Table) (site : Site) (sound : IsSite s
     ended last last' count count' e = cc
 
     -- the third unit, launched, replies as the first
-    pub replies_as : (own : Service) → IsLaunchedUnit (extended unit table third) table site own → replies service.world script ≡ replies other.world script → replies own.world script ≡ replies service.world script
+    pub replies_as : (own : Service) → IsLaunchedUnit (extended unit table third) table site own
+        → replies service.world script ≡ replies other.world script → replies own.world script ≡ replies service.world script
     replies_as own run same =
         let l = run.launched in
         let settings = run.settings in
         let goes = goes_along settings run.plan (given_bytes own.filters) (codes_of own.filters) run.are_settings run.is_plan (they_match settings.filters.items own.filters l.launches.filters) (they_are_read settings.filters.items own.filters l.launches.filters) in
-        ap (λ (world : World). replies world script) (ended own.world goes.last own.steps goes.steps (sym l.launches.ends ∙ goes.ends)) ∙ goes.replies_so same
+        ap (λ (world : World). replies world script) (ended own.world goes.last own.steps goes.steps (sym l.launches.ends ∙ goes.ends))
+        ∙ goes.replies_so same
 
-    launched_only : (last : World) (steps : ℕ) (ending : Ending) (x : Ending) → x ≡ Launched last steps → x ≡ ending → Launched last steps ≡ ending
+    launched_only : (last : World) (steps : ℕ) (ending : Ending) (x : Ending) → x ≡ Launched last steps → x ≡ ending
+        → Launched last steps ≡ ending
     launched_only last steps ending x e d = sym e ∙ d
 
-    refused_launch : (settings : Settings) (mounts : Table) → AreSettings (extended unit table third) table site settings → Plans (host_of site) (unit_mentions (extended unit table third) site) (Ok mounts) → (why : LaunchRefusal) → IsRefused table site settings mounts why → ⊥
+    refused_launch : (settings : Settings) (mounts : Table) → AreSettings (extended unit table third) table site settings
+        → Plans (host_of site) (unit_mentions (extended unit table third) site) (Ok mounts) → (why : LaunchRefusal)
+        → IsRefused table site settings mounts why → ⊥
     refused_launch settings mounts fit has (refusal.Privileged program) ends =
         let here = same_launch third names are_third are settings launched.settings mounts launched.plan fit launched.are_settings has launched.is_plan (given_bytes service.filters) in
         let e = sym (ends (given_bytes service.filters)) ∙ here ∙ launched.launched.launches.ends in
@@ -314,19 +363,24 @@ module _ (unit : Resolved) (table : calls.Table) (site : Site) (sound : IsSite s
     not_refused : (error : UnitRefusal) → error ≢ Memory → IsNotLaunched (extended unit table third) table site error → ⊥
     not_refused (InSettings error) ne refused = let clash = sym refused ∙ same_refusal third names are_third are ∙ launched.accepted in cc
     not_refused (Plan error) ne refused = refused_path error refused.1
-    not_refused (Launch why) ne refused = refused_launch refused.settings refused.plan refused.are_settings refused.is_plan why refused.refused
+    not_refused (Launch why) ne refused = refused_launch refused.settings refused.plan refused.are_settings refused.is_plan why
+        refused.refused
     not_refused Memory ne refused = ne refl
 
-    pub does_not_fail : (said : List Reply) → replies service.world script ≡ said → replies other.world script ≡ said → Fails (tried_with unit table site script said) third → ⊥
+    pub does_not_fail : (said : List Reply) → replies service.world script ≡ said → replies other.world script ≡ said
+        → Fails (tried_with unit table site script said) third → ⊥
     does_not_fail said e d (not_launched error ne refused) = not_refused error ne refused
-    does_not_fail said e d (other_reply own replied differs) = differs (sym replied.replies ∙ replies_as replied.service replied.launched (e ∙ sym d) ∙ e)
+    does_not_fail said e d (other_reply own replied differs) =
+        differs (sym replied.replies ∙ replies_as replied.service replied.launched (e ∙ sym d) ∙ e)
 
   -- ---- lists that are derived
   module _ (script : List Call) (fits : AreCalls script) (none : first_seccomp table script ≡ None) where
     -- all units that allow every call reply alike
-    opened_alike : (service other : Service) → IsLaunchedUnit (open_unit unit table) table site service → IsLaunchedUnit (open_unit unit table) table site other → replies other.world script ≡ replies service.world script
+    opened_alike : (service other : Service) → IsLaunchedUnit (open_unit unit table) table site service
+        → IsLaunchedUnit (open_unit unit table) table site other → replies other.world script ≡ replies service.world script
     opened_alike service other launched launched_too =
-        replies_as script fits none (every_name table) (every_name table) (every_name table) (every_are_names table) (every_are_names table) (every_are_names table) (λ name. inl refl) service service launched launched other launched_too refl
+        replies_as script fits none (every_name table) (every_name table) (every_name table) (every_are_names table)
+        (every_are_names table) (every_are_names table) (λ name. inl refl) service service launched launched other launched_too refl
 
     module _ (names others : List ℕ) (derived : IsDerived unit table site script names) (derived_too : IsDerived unit table site script others) where
       said : List Reply
@@ -334,7 +388,9 @@ module _ (unit : Resolved) (table : calls.Table) (site : Site) (sound : IsSite s
 
       fails : AllByRecursion (λ name. Fails (tried_with unit table site script said) (without name names)) names
       unfolding said
-      fails = recursion_from_All (λ name. Fails (tried_with unit table site script (replies derived.service.world script)) (without name names)) names derived.least.needed
+      fails = recursion_from_All
+          (λ name. Fails (tried_with unit table site script (replies derived.service.world script)) (without name names)) names
+          derived.least.needed
 
       are : AreNames table names
       are = derived.least.are_names
@@ -364,8 +420,10 @@ module _ (unit : Resolved) (table : calls.Table) (site : Site) (sound : IsSite s
           by true e = refl
           by false e = absurd
               (does_not_fail script fits none names others (without place names) are are_too (fewer place)
-              (as_either table plain.plain place (line_of_name place is) names others (first (without place names) (fewer place)) (first others are_too) e)
-              derived.least.serves.service derived_too.least.serves.service derived.least.serves.launched derived_too.least.serves.launched said own_said other_said
+              (as_either table plain.plain place (line_of_name place is) names others (first (without place names) (fewer place))
+              (first others are_too) e)
+              derived.least.serves.service derived_too.least.serves.service derived.least.serves.launched
+              derived_too.least.serves.launched said own_said other_said
               (at_member (λ name. Fails (tried_with unit table site script said) (without name names)) names place fails is))
 
       -- and not in `@default`
@@ -376,8 +434,10 @@ module _ (unit : Resolved) (table : calls.Table) (site : Site) (sound : IsSite s
           by false e = refl
           by true e = absurd
               (does_not_fail script fits none names names (without place names) are are (fewer place)
-              (λ name. inl (as_with_it table plain.plain place (line_of_name place is) names names (first (without place names) (fewer place)) (first names are) e name))
-              derived.least.serves.service derived.least.serves.service derived.least.serves.launched derived.least.serves.launched said own_said own_said
+              (λ name. inl (as_with_it table plain.plain place (line_of_name place is) names names
+              (first (without place names) (fewer place)) (first names are) e name))
+              derived.least.serves.service derived.least.serves.service derived.least.serves.launched derived.least.serves.launched said
+              own_said own_said
               (at_member (λ name. Fails (tried_with unit table site script said) (without name names)) names place fails is))
 
     each_member : (P : ℕ → Type 0) (xs : List ℕ) → ((x : ℕ) → has xs x ≡ true → P x) → AllByRecursion P xs
@@ -390,9 +450,12 @@ module _ (unit : Resolved) (table : calls.Table) (site : Site) (sound : IsSite s
 
     pub only_one : (names : List ℕ) → IsDerived unit table site script names → IsOnlyOne unit table site script names
     only_one names derived = record {
-      beside_default = All-from_recursion (IsBesideDefault table) names (each_member (IsBesideDefault table) names (beside names names derived derived));
-      only = λ others derived_too. same_lists others names derived_too.least.are_names.in_order derived.least.are_names.in_order (member others names derived_too derived) (member names others derived derived_too);
+      beside_default = All-from_recursion (IsBesideDefault table) names
+          (each_member (IsBesideDefault table) names (beside names names derived derived));
+      only = λ others derived_too. same_lists others names derived_too.least.are_names.in_order derived.least.are_names.in_order
+          (member others names derived_too derived) (member names others derived derived_too);
     }
 
 pub least_is_only_one : LeastIsOnlyOne
-least_is_only_one unit table site script names sound whole arch fits none plain derived = only_one unit table site sound whole arch plain script fits none names derived
+least_is_only_one unit table site script names sound whole arch fits none plain derived =
+    only_one unit table site sound whole arch plain script fits none names derived

@@ -18,12 +18,14 @@ use Rattle.asked_service.specs.call_table.Lookups.{numbered}
 use Rattle.asked_service.specs.call_table.Table.{Table, calls_in}
 use Rattle.asked_service.specs.call_table.declared.listed.CallLine.{CallLine}
 use Rattle.asked_service.specs.kernel_model.kernel_calls.Doing as d
-use Rattle.asked_service.specs.kernel_model.kernel_calls.Doing.{Asked, Does, Doing, Lacking, Misformed, asked_by, asked_if, asked_of, bare, by_code, by_family, by_ids, by_path, by_paths, by_sets, known_doing}
+use Rattle.asked_service.specs.kernel_model.kernel_calls.Doing.{Asked, Does, Doing, Lacking, Misformed, asked_by, asked_if, asked_of, bare}
+use Rattle.asked_service.specs.kernel_model.kernel_calls.Doing.{by_code, by_family, by_ids, by_path, by_paths, by_sets, known_doing}
 use Rattle.asked_service.specs.kernel_model.kernel_calls.Rules.{rule_by, rule_of}
 use Rattle.asked_service.specs.kernel_model.kernel_calls.Words.{low_word}
 use Rattle.asked_service.specs.kernel_model.declared.kernel_calls.call.Call.{Call}
 use Rattle.asked_service.specs.kernel_model.declared.kernel_calls.payload.Payload.{Payload}
-use Rattle.asked_service.specs.kernel_model.declared.kernel_calls.payload.Payload.TheVariants.{Nothing, OnePath, TwoPaths, Sets, Ids, Family, Code}
+use Rattle.asked_service.specs.kernel_model.declared.kernel_calls.payload.Payload.TheVariants.{Nothing, OnePath, TwoPaths, Sets, Ids}
+use Rattle.asked_service.specs.kernel_model.declared.kernel_calls.payload.Payload.TheVariants.{Family, Code}
 use Rattle.trace_profile.specs.allow_laws.Either.{PushNone, PushesNone}
 use Rattle.trace_profile.specs.Scripts.{first_seccomp, is_seccomp}
 
@@ -46,7 +48,8 @@ bare_off doing off (Ids ids) = refl
 bare_off doing off (Family family) = refl
 bare_off doing off (Code bytes) = refl
 
-path_off : (doing : Path → Doing) → ((path : Path) → pushing (doing path) ≡ false) → (payload : Payload) → pushes (asked_if (by_path doing payload)) ≡ false
+path_off : (doing : Path → Doing) → ((path : Path) → pushing (doing path) ≡ false) → (payload : Payload)
+    → pushes (asked_if (by_path doing payload)) ≡ false
 path_off doing off Nothing = refl
 path_off doing off (OnePath path) = off path
 path_off doing off (TwoPaths source target) = refl
@@ -55,7 +58,8 @@ path_off doing off (Ids ids) = refl
 path_off doing off (Family family) = refl
 path_off doing off (Code bytes) = refl
 
-paths_off : (doing : Path → Path → Doing) → ((one other : Path) → pushing (doing one other) ≡ false) → (payload : Payload) → pushes (asked_if (by_paths doing payload)) ≡ false
+paths_off : (doing : Path → Path → Doing) → ((one other : Path) → pushing (doing one other) ≡ false) → (payload : Payload)
+    → pushes (asked_if (by_paths doing payload)) ≡ false
 paths_off doing off Nothing = refl
 paths_off doing off (OnePath path) = refl
 paths_off doing off (TwoPaths source target) = off source target
@@ -96,7 +100,8 @@ abbrev is_push : CallRule → Bool
 is_push known.Seccomp = true
 is_push other = false
 
-known_off : (own : CallRule) (args : List ℕ) (payload : Payload) → is_push own ≡ false → pushes (asked_if (known_doing own args payload)) ≡ false
+known_off : (own : CallRule) (args : List ℕ) (payload : Payload) → is_push own ≡ false
+    → pushes (asked_if (known_doing own args payload)) ≡ false
 known_off known.See args payload off = path_off d.See (λ path. refl) payload
 known_off (known.Open flags) args payload off = path_off (d.Open (low_word args (place_of flags))) (λ path. refl) payload
 known_off known.Create args payload off = path_off d.Create (λ path. refl) payload
@@ -142,21 +147,25 @@ record Found (name : List ℕ) (call : KnownCall) : Type 0 where
   same : bytes_eq name key ≡ true
   fine : is_fine (key, call) ≡ true
 
-found_in : (name : List ℕ) (call : KnownCall) (rows : List (List ℕ × KnownCall)) → list_all is_fine rows ≡ true → lookup (bytes_eq name) rows ≡ Some call → Found name call
+found_in : (name : List ℕ) (call : KnownCall) (rows : List (List ℕ × KnownCall)) → list_all is_fine rows ≡ true
+    → lookup (bytes_eq name) rows ≡ Some call → Found name call
 found_in name call [] fine e = cc
-found_in name call (row ∷ rows) fine e = by (bytes_eq name row.0) refl e (λ own. found_in name call rows (and_parts (is_fine row) (list_all is_fine rows) fine).1 own)
+found_in name call (row ∷ rows) fine e = by (bytes_eq name row.0) refl e
+    (λ own. found_in name call rows (and_parts (is_fine row) (list_all is_fine rows) fine).1 own)
   where
     both : (is_fine row ≡ true) × (list_all is_fine rows ≡ true)
     both = and_parts (is_fine row) (list_all is_fine rows) fine
 
-    by : (b : Bool) → bytes_eq name row.0 ≡ b → cond b (Some row.1) (lookup (bytes_eq name) rows) ≡ Some call → (lookup (bytes_eq name) rows ≡ Some call → Found name call) → Found name call
+    by : (b : Bool) → bytes_eq name row.0 ≡ b → cond b (Some row.1) (lookup (bytes_eq name) rows) ≡ Some call
+        → (lookup (bytes_eq name) rows ≡ Some call → Found name call) → Found name call
     by true is e rest =
         let own : row.1 ≡ call = cc in
         record { key = row.0; same = is; fine = ap (λ (one : KnownCall). is_fine (row.0, one)) (sym own) ∙ both.0 }
     by false is e rest = rest e
 
 -- a name that may push is seccomp
-named_seccomp : (name : List ℕ) (own : CallRule) → known_call name ≡ Some (Modelled own) → bytes_eq name (codes "seccomp") ≡ false → is_push own ≡ false
+named_seccomp : (name : List ℕ) (own : CallRule) → known_call name ≡ Some (Modelled own) → bytes_eq name (codes "seccomp") ≡ false
+    → is_push own ≡ false
 unfolding known_call
 named_seccomp name own e differs = by (is_push own) refl
   where
@@ -171,12 +180,14 @@ named_seccomp name own e differs = by (is_push own) refl
         let same : bytes_eq name (codes "seccomp") ≡ true = ap (λ own. bytes_eq own (codes "seccomp")) one ∙ key in
         sym same ∙ differs
 
-rule_off : (name : List ℕ) (cap : Option ℕ) (call : Call) → bytes_eq name (codes "seccomp") ≡ false → (o : Option KnownCall) → known_call name ≡ o → pushes (asked_by (rule_by o cap) call) ≡ false
+rule_off : (name : List ℕ) (cap : Option ℕ) (call : Call) → bytes_eq name (codes "seccomp") ≡ false → (o : Option KnownCall)
+    → known_call name ≡ o → pushes (asked_by (rule_by o cap) call) ≡ false
 rule_off name cap call differs None e = bare_off (d.Plain cap) refl call.payload
 rule_off name cap call differs (Some Absent) e = refl
 rule_off name cap call differs (Some (Modelled own)) e = known_off own call.args call.payload (named_seccomp name own e differs)
 
-line_off : (call : Call) (o : Option CallLine) → option_map_or (λ line. bytes_eq line.name (codes "seccomp")) o false ≡ false → pushes (asked_by (option_and_then rule_of o) call) ≡ false
+line_off : (call : Call) (o : Option CallLine) → option_map_or (λ line. bytes_eq line.name (codes "seccomp")) o false ≡ false
+    → pushes (asked_by (option_and_then rule_of o) call) ≡ false
 unfolding rule_of
 line_off call None e = refl
 line_off call (Some line) e = rule_off line.name line.cap call e (known_call line.name) refl

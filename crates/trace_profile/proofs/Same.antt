@@ -1,5 +1,6 @@
 -- A call that is let through comes to the same whatever the programs of the launch are, and one reply comes of one outcome.
-use Rattle.std.proofs.Common.{◌≡◌, ℕ, Bool, true, false, cond, List, [], ◌∷◌, ◌++◌, Option, Some, None, ◌⊎◌, inl, inr, refl, ap, ◌∙◌, sym, subst, length}
+use Rattle.std.proofs.Common.{◌≡◌, ℕ, Bool, true, false, cond, List, [], ◌∷◌, ◌++◌, Option, Some, None, ◌⊎◌, inl, inr, refl, ap, ◌∙◌, sym}
+use Rattle.std.proofs.Common.{subst, length}
 use Rattle.std.specs.Prelude.{nat_lt, ◌+◌}
 use Rattle.asked_service.specs.bpf_code.declared.machine.Insn.{Insn}
 use Rattle.asked_service.specs.bpf_code.declared.machine.CallData.{CallData}
@@ -16,7 +17,8 @@ use Rattle.asked_service.specs.kernel_model.Effects.{Effect, effect_of}
 use Rattle.asked_service.specs.kernel_model.Runs.{IsDone}
 use Rattle.asked_service.specs.kernel_model.Step as kernel
 use Rattle.asked_service.specs.kernel_model.Step.{applied, child_in, child_of, data_of, decision_of, has_user_left, moved_in}
-use Rattle.asked_service.specs.kernel_model.World.{World, entered_by, host_of, living_of, moved_to, with_child, with_copy, with_process, with_user}
+use Rattle.asked_service.specs.kernel_model.World.{World, entered_by, host_of, living_of, moved_to, with_child, with_copy, with_process}
+use Rattle.asked_service.specs.kernel_model.World.{with_user}
 use Rattle.asked_service.specs.kernel_model.declared.process.Process.{Process}
 use Rattle.asked_service.specs.kernel_model.declared.reply.Reply.{Reply}
 use Rattle.asked_service.specs.kernel_model.declared.reply.Reply.TheVariants as w
@@ -43,7 +45,10 @@ shape_moved : (old world : World) (pid : ℕ) (process : Process) (own : Bool) �
 shape_moved old world pid process false = done _ _
 shape_moved old world pid process true = by (nat_lt (length world.tables) 64)
   where
-    by : (b : Bool) → Shape old (cond {A = Reply × World} b (w.Done 0, with_process (with_copy world process.namespace process.user) pid (moved_to process (length world.tables))) (w.Refused enospc, old))
+    by : (b : Bool) → Shape old
+        (cond {A = Reply × World} b
+        (w.Done 0, with_process (with_copy world process.namespace process.user) pid (moved_to process (length world.tables)))
+        (w.Refused enospc, old))
     by true = done _ _
     by false = refused _
 
@@ -61,23 +66,30 @@ shape_applied world pid process (f.Child own) = by (nat_lt (length world.process
 shape_applied world pid process f.OwnTable = shape_moved world world pid process true
 shape_applied world pid process (f.UserChild own) = by (has_user_left world) (nat_lt (length world.processes) 1024)
   where
-    by : (a b : Bool) → Shape world (cond {A = Reply × World} a (cond {A = Reply × World} b (child_in world (with_user world) (entered_by process world.users) own) (w.Refused eagain, world)) (w.Refused enospc, world))
+    by : (a b : Bool) → Shape world
+        (cond {A = Reply × World} a
+        (cond {A = Reply × World} b (child_in world (with_user world) (entered_by process world.users) own) (w.Refused eagain, world))
+        (w.Refused enospc, world))
     by true true = shape_child world (with_user world) (entered_by process world.users) own
     by true false = refused _
     by false b = refused _
 shape_applied world pid process (f.OwnUser own) = by (has_user_left world)
   where
-    by : (a : Bool) → Shape world (cond {A = Reply × World} a (moved_in world (with_user world) pid (entered_by process world.users) own) (w.Refused enospc, world))
+    by : (a : Bool) → Shape world
+        (cond {A = Reply × World} a (moved_in world (with_user world) pid (entered_by process world.users) own) (w.Refused enospc, world))
     by true = shape_moved world (with_user world) pid (entered_by process world.users) own
     by false = refused _
 shape_applied world pid process f.End = done _ _
 
-shape_answered : (programs : List (List Insn)) (world : World) (pid : ℕ) (process : Process) (asked : Asked) → Shape world (own_answered programs world pid process asked)
+shape_answered : (programs : List (List Insn)) (world : World) (pid : ℕ) (process : Process) (asked : Asked)
+    → Shape world (own_answered programs world pid process asked)
 shape_answered programs world pid process Lacking = refused _
 shape_answered programs world pid process Misformed = refused _
-shape_answered programs world pid process (Does doing) = shape_applied world pid process (effect_of (host_of world) (caller_over programs world process) doing)
+shape_answered programs world pid process (Does doing) = shape_applied world pid process
+    (effect_of (host_of world) (caller_over programs world process) doing)
 
-same_errno : (world : World) (out : Reply × World) → Shape world out → (errno : ℕ) → out.0 ≡ w.Refused errno → out ≡ (w.Refused errno, world)
+same_errno : (world : World) (out : Reply × World) → Shape world out → (errno : ℕ) → out.0 ≡ w.Refused errno
+    → out ≡ (w.Refused errno, world)
 same_errno world out (refused own) errno e = ap (λ (r : Reply). (r, world)) e
 same_errno world out (done value after) errno e = cc
 
@@ -86,7 +98,8 @@ not_killed world out (refused own) e = cc
 not_killed world out (done value after) e = cc
 
 -- lists that answer a call alike, below whatever else there is
-same_over : (input : CallData) (one other own : List (List Insn)) → AnswerSame input one other → answers_of (one ++ own) input ≡ answers_of (other ++ own) input
+same_over : (input : CallData) (one other own : List (List Insn)) → AnswerSame input one other
+    → answers_of (one ++ own) input ≡ answers_of (other ++ own) input
 same_over input [] [] own same = refl
 same_over input [] (y ∷ other) own same = absurd same
 same_over input (x ∷ one) [] own same = absurd same
@@ -100,13 +113,15 @@ same_alone input (x ∷ one) [] same = absurd same
 same_alone input (x ∷ one) (y ∷ other) same =
     ap (λ n. n ∷ answers_of one input) same.0 ∙ ap (λ (ns : List ℕ). answer_of y input ∷ ns) (same_alone input one other same.1)
 
-pub same_decision : (input : CallData) (one other : List (List Insn)) → AnswerSame input one other → decision_on one input ≡ decision_on other input
+pub same_decision : (input : CallData) (one other : List (List Insn)) → AnswerSame input one other
+    → decision_on one input ≡ decision_on other input
 same_decision input one other same = ap (λ (ns : List ℕ). decision_by (deciding ns)) (same_alone input one other same)
 
 module _ (one other : List (List Insn)) (world : World) (call : Call) (nothing : PushesNone world.calls call) where
   module _ (process : Process) where
     doing_same : (doing : Doing) → asked_of world.calls call ≡ Does doing
-        → applied world call.pid process (effect_of (host_of world) (caller_over one world process) doing) ≡ applied world call.pid process (effect_of (host_of world) (caller_over other world process) doing)
+        → applied world call.pid process (effect_of (host_of world) (caller_over one world process) doing)
+        ≡ applied world call.pid process (effect_of (host_of world) (caller_over other world process) doing)
     doing_same (d.See path) asks = refl
     doing_same (d.Open flags path) asks = refl
     doing_same (d.Create path) asks = refl
@@ -137,7 +152,8 @@ module _ (one other : List (List Insn)) (world : World) (call : Call) (nothing :
     doing_same (d.Seccomp operation flags bytes) asks = absurd (nothing operation flags bytes asks)
     doing_same (d.Plain cap) asks = refl
 
-    asked_same : (asked : Asked) → asked_of world.calls call ≡ asked → own_answered one world call.pid process asked ≡ own_answered other world call.pid process asked
+    asked_same : (asked : Asked) → asked_of world.calls call ≡ asked
+        → own_answered one world call.pid process asked ≡ own_answered other world call.pid process asked
     asked_same Lacking asks = refl
     asked_same Misformed asks = refl
     asked_same (Does doing) asks = doing_same doing asks
@@ -149,42 +165,52 @@ module _ (one other : List (List Insn)) (world : World) (call : Call) (nothing :
     by_decision decision.Kill = refl
 
     -- one reply gives one outcome, whatever the decisions
-    by_reply : (c e : Decision) → (own_decided one world call process c).0 ≡ (own_decided other world call process e).0 → own_decided one world call process c ≡ own_decided other world call process e
+    by_reply : (c e : Decision) → (own_decided one world call process c).0 ≡ (own_decided other world call process e).0
+        → own_decided one world call process c ≡ own_decided other world call process e
     by_reply decision.Pass decision.Pass same = by_decision decision.Pass
-    by_reply decision.Pass (decision.Errno errno) same = same_errno world _ (shape_answered one world call.pid process (asked_of world.calls call)) errno same
-    by_reply decision.Pass decision.Kill same = absurd (not_killed world _ (shape_answered one world call.pid process (asked_of world.calls call)) same)
-    by_reply (decision.Errno errno) decision.Pass same = sym (same_errno world _ (shape_answered other world call.pid process (asked_of world.calls call)) errno (sym same))
+    by_reply decision.Pass (decision.Errno errno) same = same_errno world _
+        (shape_answered one world call.pid process (asked_of world.calls call)) errno same
+    by_reply decision.Pass decision.Kill same =
+        absurd (not_killed world _ (shape_answered one world call.pid process (asked_of world.calls call)) same)
+    by_reply (decision.Errno errno) decision.Pass same = sym
+        (same_errno world _ (shape_answered other world call.pid process (asked_of world.calls call)) errno (sym same))
     by_reply (decision.Errno errno) (decision.Errno own) same = ap (λ (r : Reply). (r, world)) same
     by_reply (decision.Errno errno) decision.Kill same = cc
-    by_reply decision.Kill decision.Pass same = absurd (not_killed world _ (shape_answered other world call.pid process (asked_of world.calls call)) (sym same))
+    by_reply decision.Kill decision.Pass same =
+        absurd (not_killed world _ (shape_answered other world call.pid process (asked_of world.calls call)) (sym same))
     by_reply decision.Kill (decision.Errno errno) same = cc
     by_reply decision.Kill decision.Kill same = refl
 
     -- two that are done are one
-    by_done : (c e : Decision) → IsDone (own_decided one world call process c).0 → IsDone (own_decided other world call process e).0 → own_decided one world call process c ≡ own_decided other world call process e
+    by_done : (c e : Decision) → IsDone (own_decided one world call process c).0 → IsDone (own_decided other world call process e).0
+        → own_decided one world call process c ≡ own_decided other world call process e
     by_done decision.Pass decision.Pass did does = by_decision decision.Pass
     by_done decision.Pass (decision.Errno errno) did does = absurd does
     by_done decision.Pass decision.Kill did does = absurd does
     by_done (decision.Errno errno) e did does = absurd did
     by_done decision.Kill e did does = absurd did
 
-  reply_by : (o : Option Process) → (own_by one world call o).0 ≡ (own_by other world call o).0 → own_by one world call o ≡ own_by other world call o
+  reply_by : (o : Option Process) → (own_by one world call o).0 ≡ (own_by other world call o).0
+      → own_by one world call o ≡ own_by other world call o
   reply_by None same = refl
   reply_by (Some process) same = by_reply process _ _ same
 
   pub same_reply : (own_step one world call).0 ≡ (own_step other world call).0 → own_step one world call ≡ own_step other world call
   same_reply same = reply_by (living_of world call.pid) same
 
-  done_by : (o : Option Process) → IsDone (own_by one world call o).0 → IsDone (own_by other world call o).0 → own_by one world call o ≡ own_by other world call o
+  done_by : (o : Option Process) → IsDone (own_by one world call o).0 → IsDone (own_by other world call o).0
+      → own_by one world call o ≡ own_by other world call o
   done_by None did does = refl
   done_by (Some process) did does = by_done process _ _ did does
 
-  pub both_done : IsDone (own_step one world call).0 → IsDone (own_step other world call).0 → own_step one world call ≡ own_step other world call
+  pub both_done : IsDone (own_step one world call).0 → IsDone (own_step other world call).0
+      → own_step one world call ≡ own_step other world call
   both_done did does = done_by (living_of world call.pid) did does
 
 -- the one of the two that decides as the first list
 module _ (both one other : List (List Insn)) (world : World) (call : Call) (nothing : PushesNone world.calls call) (like : AnswersAsEither both one other) (fit : IsCallData (data_of world call)) where
-  decides : (process : Process) → (decision_of world call (over both process) ≡ decision_of world call (over one process)) ⊎ (decision_of world call (over both process) ≡ decision_of world call (over other process))
+  decides : (process : Process) → (decision_of world call (over both process) ≡ decision_of world call (over one process)) ⊎
+      (decision_of world call (over both process) ≡ decision_of world call (over other process))
   decides process = by (abi_at world.calls call.abi) refl
     where
       P : Option Abi → List (List Insn) → Type 0
@@ -193,9 +219,11 @@ module _ (both one other : List (List Insn)) (world : World) (call : Call) (noth
       input_of : Abi → CallData
       input_of abi = record { nr = call.nr; arch = abi.arch; ip = 0; args = call.args }
 
-      by_like : (abi : Abi) → AnswerSame (input_of abi) both one ⊎ AnswerSame (input_of abi) both other → P (Some abi) one ⊎ P (Some abi) other
+      by_like : (abi : Abi) → AnswerSame (input_of abi) both one ⊎ AnswerSame (input_of abi) both other
+          → P (Some abi) one ⊎ P (Some abi) other
       by_like abi (inl same) = inl (ap (λ (ns : List ℕ). decision_by (deciding ns)) (same_over (input_of abi) both one process.stack same))
-      by_like abi (inr same) = inr (ap (λ (ns : List ℕ). decision_by (deciding ns)) (same_over (input_of abi) both other process.stack same))
+      by_like abi (inr same) = inr
+          (ap (λ (ns : List ℕ). decision_by (deciding ns)) (same_over (input_of abi) both other process.stack same))
 
       by : (o : Option Abi) → abi_at world.calls call.abi ≡ o → P o one ⊎ P o other
       by None e = inl refl
@@ -203,18 +231,22 @@ module _ (both one other : List (List Insn)) (world : World) (call : Call) (noth
           let same : data_of world call ≡ input_of abi = ap (λ (o : Option Abi). record { nr = call.nr; arch = option_map_or (λ found. found.arch) o 0; ip = 0; args = call.args }) e in
           by_like abi (like (input_of abi) (subst IsCallData same fit))
 
-  either_by : (o : Option Process) → (own_by both world call o ≡ own_by one world call o) ⊎ (own_by both world call o ≡ own_by other world call o)
+  either_by : (o : Option Process) → (own_by both world call o ≡ own_by one world call o) ⊎
+      (own_by both world call o ≡ own_by other world call o)
   either_by None = inl refl
   either_by (Some process) = by (decides process)
     where
-      by : (decision_of world call (over both process) ≡ decision_of world call (over one process)) ⊎ (decision_of world call (over both process) ≡ decision_of world call (over other process))
-          → (own_by both world call (Some process) ≡ own_by one world call (Some process)) ⊎ (own_by both world call (Some process) ≡ own_by other world call (Some process))
+      by : (decision_of world call (over both process) ≡ decision_of world call (over one process)) ⊎
+          (decision_of world call (over both process) ≡ decision_of world call (over other process))
+          → (own_by both world call (Some process) ≡ own_by one world call (Some process)) ⊎
+          (own_by both world call (Some process) ≡ own_by other world call (Some process))
       by (inl e) = inl (ap (own_decided both world call process) e ∙ by_decision both one world call nothing process _)
       by (inr e) = inr (ap (own_decided both world call process) e ∙ by_decision both other world call nothing process _)
 
   pub as_one : own_step one world call ≡ own_step other world call → own_step both world call ≡ own_step one world call
   as_one same = by (either_by (living_of world call.pid))
     where
-      by : (own_step both world call ≡ own_step one world call) ⊎ (own_step both world call ≡ own_step other world call) → own_step both world call ≡ own_step one world call
+      by : (own_step both world call ≡ own_step one world call) ⊎ (own_step both world call ≡ own_step other world call)
+          → own_step both world call ≡ own_step one world call
       by (inl e) = e
       by (inr e) = e ∙ sym same

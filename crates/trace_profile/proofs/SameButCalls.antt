@@ -22,7 +22,8 @@ use Rattle.asked_service.specs.exec_settings.Dynamic.{is_dynamic, sets_new_privi
 use Rattle.asked_service.specs.exec_settings.Keys.{keys}
 use Rattle.asked_service.specs.exec_settings.Mounts.{paths_refusal, unit_mentions, unit_switches}
 use Rattle.asked_service.specs.exec_settings.Profile.{is_asked, is_outside, is_outside_by, outside_key}
-use Rattle.asked_service.specs.exec_settings.Refusals.{command_refusal, first_reason, group_refusal, identity_reason, identity_refusal, no_command, outside, privileged, refusal_of}
+use Rattle.asked_service.specs.exec_settings.Refusals.{command_refusal, first_reason, group_refusal, identity_reason, identity_refusal}
+use Rattle.asked_service.specs.exec_settings.Refusals.{no_command, outside, privileged, refusal_of}
 use Rattle.asked_service.specs.exec_settings.Settings.{program_path, unit_bounding, unit_program}
 use Rattle.asked_service.specs.exec_settings.declared.commands.Command.{Command}
 use Rattle.asked_service.specs.exec_settings.declared.errors.SettingsError.TheVariants.{OutsideProfile, TooManyPaths}
@@ -78,7 +79,8 @@ all_safe : list_all (λ (row : List ℕ × Meaning). is_safe_by row.0 row.1) key
 unfolding keys is_safe_by
 all_safe = refl
 
-find_agree : {X : Type 0} (safe p q : X → Bool) → ((x : X) → safe x ≡ true → p x ≡ q x) → (xs : List X) → list_all safe xs ≡ true → find p xs ≡ find q xs
+find_agree : {X : Type 0} (safe p q : X → Bool) → ((x : X) → safe x ≡ true → p x ≡ q x) → (xs : List X) → list_all safe xs ≡ true
+    → find p xs ≡ find q xs
 find_agree safe p q h [] all = refl
 find_agree safe p q h (x ∷ xs) all =
     let both = and_parts (safe x) (list_all safe xs) all in
@@ -95,11 +97,13 @@ module _ (unit : Resolved) (files : List UnitFile) where
   -- it adds to no other key
   pub record AddsCallsAlone : Type 0 where
     pub values : (key : List ℕ) → is_other key → values_of longer key ≡ values_of unit key
-    pub paths : filter_map (assigned_by unit.name) (service_assignments longer) ≡ filter_map (assigned_by unit.name) (service_assignments unit)
+    pub paths : filter_map (assigned_by unit.name) (service_assignments longer)
+        ≡ filter_map (assigned_by unit.name) (service_assignments unit)
     pub asked : (key : List ℕ) → is_other key → is_asked longer key ≡ is_asked unit key
 
   module _ (adds : AddsCallsAlone) where
-    last : {X : Type 0} (read : List ℕ → Option X) (default : X) (key : List ℕ) → is_other key → unit_last read default longer key ≡ unit_last read default unit key
+    last : {X : Type 0} (read : List ℕ → Option X) (default : X) (key : List ℕ) → is_other key
+        → unit_last read default longer key ≡ unit_last read default unit key
     unfolding unit_last
     last read default key other = ap (last_read read default) (adds.values key other)
 
@@ -130,20 +134,30 @@ module _ (unit : Resolved) (files : List UnitFile) where
     unpermitted : (table : Table) (key : List ℕ) → is_other key → unit_refuses_second longer table key ≡ unit_refuses_second unit table key
     unfolding unit_refuses_second
     unpermitted table key other =
-        ap (λ (values : List Value). is_some table.second && (list_any is_read (in_force_values values) && not (list_any (is_second table) (unit_words longer key)))) (adds.values key other)
-        ∙ ap (λ ws. is_some table.second && (list_any is_read (in_force_values (values_of unit key)) && not (list_any (is_second table) ws))) (words key other)
+        ap (λ (values : List Value). is_some table.second &&
+        (list_any is_read (in_force_values values) && not (list_any (is_second table) (unit_words longer key)))) (adds.values key other)
+        ∙ ap (λ ws. is_some table.second &&
+        (list_any is_read (in_force_values (values_of unit key)) && not (list_any (is_second table) ws))) (words key other)
 
     abbrev calls_of : Table → Option CallList
     calls_of table = unit_call_list longer table (codes "SystemCallFilter")
 
     settings_same : (table : Table) → settings_of longer table ≡ with_calls (settings_of unit table) (calls_of table)
     settings_same table =
-        same_settings _ (calls_of table) _ (unit_error_action unit (codes "SystemCallErrorNumber")) _ (unit_family_list unit table (codes "RestrictAddressFamilies")) _ (unit_namespaces unit (codes "RestrictNamespaces"))
-        _ (unit_flag unit (codes "MemoryDenyWriteExecute")) _ (unit_flag unit (codes "RestrictRealtime")) _ (unit_flag unit (codes "RestrictSUIDSGID")) _ (unit_flag unit (codes "LockPersonality"))
-        _ (unit_flag unit (codes "ProtectHostname")) _ (unit_flag unit (codes "ProtectKernelModules")) _ (unit_flag unit (codes "ProtectKernelLogs")) _ (unit_flag unit (codes "ProtectClock")) _ (unit_flag unit (codes "PrivateDevices")) _ (unit_refuses_second unit table (codes "SystemCallArchitectures"))
-        refl (ap (λ value. value.action) (last error_action_value default_action (codes "SystemCallErrorNumber") refl)) (families table (codes "RestrictAddressFamilies") refl) (types (codes "RestrictNamespaces") refl)
-        (flag (codes "MemoryDenyWriteExecute") refl) (flag (codes "RestrictRealtime") refl) (flag (codes "RestrictSUIDSGID") refl) (flag (codes "LockPersonality") refl)
-        (flag (codes "ProtectHostname") refl) (flag (codes "ProtectKernelModules") refl) (flag (codes "ProtectKernelLogs") refl) (flag (codes "ProtectClock") refl) (flag (codes "PrivateDevices") refl) (unpermitted table (codes "SystemCallArchitectures") refl)
+        same_settings _ (calls_of table) _ (unit_error_action unit (codes "SystemCallErrorNumber")) _
+        (unit_family_list unit table (codes "RestrictAddressFamilies")) _ (unit_namespaces unit (codes "RestrictNamespaces"))
+        _ (unit_flag unit (codes "MemoryDenyWriteExecute")) _ (unit_flag unit (codes "RestrictRealtime")) _
+        (unit_flag unit (codes "RestrictSUIDSGID")) _ (unit_flag unit (codes "LockPersonality"))
+        _ (unit_flag unit (codes "ProtectHostname")) _ (unit_flag unit (codes "ProtectKernelModules")) _
+        (unit_flag unit (codes "ProtectKernelLogs")) _ (unit_flag unit (codes "ProtectClock")) _
+        (unit_flag unit (codes "PrivateDevices")) _ (unit_refuses_second unit table (codes "SystemCallArchitectures"))
+        refl (ap (λ value. value.action) (last error_action_value default_action (codes "SystemCallErrorNumber") refl))
+        (families table (codes "RestrictAddressFamilies") refl) (types (codes "RestrictNamespaces") refl)
+        (flag (codes "MemoryDenyWriteExecute") refl) (flag (codes "RestrictRealtime") refl) (flag (codes "RestrictSUIDSGID") refl)
+        (flag (codes "LockPersonality") refl)
+        (flag (codes "ProtectHostname") refl) (flag (codes "ProtectKernelModules") refl) (flag (codes "ProtectKernelLogs") refl)
+        (flag (codes "ProtectClock") refl) (flag (codes "PrivateDevices") refl)
+        (unpermitted table (codes "SystemCallArchitectures") refl)
 
     dynamic : is_dynamic longer ≡ is_dynamic unit
     unfolding is_dynamic
@@ -151,7 +165,8 @@ module _ (unit : Resolved) (files : List UnitFile) where
 
     pub filters : (table : Table) → unit_filters longer table ≡ with_calls (unit_filters unit table) (calls_of table)
     unfolding unit_filters
-    filters table = ap (λ on. with_dynamic_user on (settings_of longer table)) dynamic ∙ ap (with_dynamic_user (is_dynamic unit)) (settings_same table)
+    filters table = ap (λ on. with_dynamic_user on (settings_of longer table)) dynamic
+        ∙ ap (with_dynamic_user (is_dynamic unit)) (settings_same table)
 
     -- users, groups and capabilities
     identity : (site : Site) (on : Bool) → identity_of longer site on ≡ identity_of unit site on
@@ -174,14 +189,16 @@ module _ (unit : Resolved) (files : List UnitFile) where
 
     pub bounding : (table : Table) → unit_bounding longer table ≡ unit_bounding unit table
     bounding table =
-        ap (λ set. left_of set (unit_filters longer table)) (caps (codes "CapabilityBoundingSet") _ refl) ∙ ap (left_of (bounding_of unit)) (filters table)
+        ap (λ set. left_of set (unit_filters longer table)) (caps (codes "CapabilityBoundingSet") _ refl)
+        ∙ ap (left_of (bounding_of unit)) (filters table)
         ∙ ap (minus (bounding_of unit)) (taken_same (unit_filters unit table) (calls_of table))
 
     pub ambient : ambient_of longer ≡ ambient_of unit
     ambient = caps (codes "AmbientCapabilities") _ refl
 
     pub sets : sets_new_privileges longer ≡ sets_new_privileges unit
-    sets = ap (λ on. on || is_dynamic longer) (flag (codes "NoNewPrivileges") refl) ∙ ap (λ on. unit_flag unit (codes "NoNewPrivileges") || on) dynamic
+    sets = ap (λ on. on || is_dynamic longer) (flag (codes "NoNewPrivileges") refl)
+        ∙ ap (λ on. unit_flag unit (codes "NoNewPrivileges") || on) dynamic
 
     -- paths
     paths : unit_written longer ≡ unit_written unit
@@ -211,7 +228,8 @@ module _ (unit : Resolved) (files : List UnitFile) where
     unfolding unit_mentions
     mentions site =
         ap (λ on. mentions_of site on (protections_of longer on) (unit_written longer)) switches
-        ∙ ap (λ said. mentions_of site (unit_switches unit) (in_effect (unit_switches unit).dynamic_user said) (unit_written longer)) protections
+        ∙ ap (λ said. mentions_of site (unit_switches unit) (in_effect (unit_switches unit).dynamic_user said) (unit_written longer))
+        protections
         ∙ ap (mentions_of site (unit_switches unit) (protections_of unit (unit_switches unit))) paths
 
     -- the command
@@ -223,11 +241,13 @@ module _ (unit : Resolved) (files : List UnitFile) where
     unfolding unit_program
     program = ap program_path command
 
-    outside_same : (launched : Command) (row : List ℕ × Meaning) → is_safe_by row.0 row.1 ≡ true → is_outside longer launched row ≡ is_outside unit launched row
+    outside_same : (launched : Command) (row : List ℕ × Meaning) → is_safe_by row.0 row.1 ≡ true
+        → is_outside longer launched row ≡ is_outside unit launched row
     unfolding is_safe_by
     outside_same launched row safe = by row.1 safe
       where
-        by : (meaning : Meaning) → is_safe_by row.0 meaning ≡ true → is_outside_by longer launched row.0 meaning ≡ is_outside_by unit launched row.0 meaning
+        by : (meaning : Meaning) → is_safe_by row.0 meaning ≡ true
+            → is_outside_by longer launched row.0 meaning ≡ is_outside_by unit launched row.0 meaning
         by (means.Place key) safe = ap (λ all. mentions_root all key) paths
         by means.Command safe = refl
         by means.Refused safe = adds.asked row.0 (unset (bytes_eq (codes "SystemCallFilter") row.0) safe)
@@ -238,7 +258,9 @@ module _ (unit : Resolved) (files : List UnitFile) where
 
     outside_key_same : (launched : Command) → outside_key longer launched ≡ outside_key unit launched
     unfolding outside_key
-    outside_key_same launched = ap (option_map (λ row. row.0)) (find_agree (λ (row : List ℕ × Meaning). is_safe_by row.0 row.1) (is_outside longer launched) (is_outside unit launched) (outside_same launched) keys all_safe)
+    outside_key_same launched = ap (option_map (λ row. row.0))
+        (find_agree (λ (row : List ℕ × Meaning). is_safe_by row.0 row.1) (is_outside longer launched) (is_outside unit launched)
+        (outside_same launched) keys all_safe)
 
     outside_for : (launched : Option Command) → outside longer launched ≡ outside unit launched
     outside_for None = refl
@@ -249,7 +271,8 @@ module _ (unit : Resolved) (files : List UnitFile) where
     unfolding command_refusal
     command_refused =
         ap (λ launched. first_reason (no_command launched ∷ privileged launched ∷ outside longer launched ∷ [])) command
-        ∙ ap (λ reason. first_reason (no_command (unit_command unit) ∷ privileged (unit_command unit) ∷ reason ∷ [])) (outside_for (unit_command unit))
+        ∙ ap (λ reason. first_reason (no_command (unit_command unit) ∷ privileged (unit_command unit) ∷ reason ∷ []))
+        (outside_for (unit_command unit))
 
     identity_refused : (site : Site) → identity_refusal longer site ≡ identity_refusal unit site
     unfolding identity_refusal
@@ -259,9 +282,13 @@ module _ (unit : Resolved) (files : List UnitFile) where
     unfolding paths_refusal
     paths_refused = ap (λ all. cond (nat_lt 128 (length all)) (Some TooManyPaths) None) paths
 
-    pub refused : (table : Table) (site : Site) → refusal_of longer table site ≡ first_reason (command_refusal unit ∷ identity_refusal unit site ∷ group_refusal longer table ∷ paths_refusal unit ∷ [])
+    pub refused : (table : Table) (site : Site) → refusal_of longer table site
+        ≡ first_reason (command_refusal unit ∷ identity_refusal unit site ∷ group_refusal longer table ∷ paths_refusal unit ∷ [])
     unfolding refusal_of
     refused table site =
-        ap (λ reason. first_reason (reason ∷ identity_refusal longer site ∷ group_refusal longer table ∷ paths_refusal longer ∷ [])) command_refused
-        ∙ ap (λ reason. first_reason (command_refusal unit ∷ reason ∷ group_refusal longer table ∷ paths_refusal longer ∷ [])) (identity_refused site)
-        ∙ ap (λ reason. first_reason (command_refusal unit ∷ identity_refusal unit site ∷ group_refusal longer table ∷ reason ∷ [])) paths_refused
+        ap (λ reason. first_reason (reason ∷ identity_refusal longer site ∷ group_refusal longer table ∷ paths_refusal longer ∷ []))
+        command_refused
+        ∙ ap (λ reason. first_reason (command_refusal unit ∷ reason ∷ group_refusal longer table ∷ paths_refusal longer ∷ []))
+        (identity_refused site)
+        ∙ ap (λ reason. first_reason (command_refusal unit ∷ identity_refusal unit site ∷ group_refusal longer table ∷ reason ∷ []))
+        paths_refused

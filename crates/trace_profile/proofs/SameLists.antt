@@ -26,7 +26,8 @@ later x xs h k within =
     let e : k + 1 ≡ suc k = omega arith in
     let f : k + 1 + 1 ≡ suc (k + 1) = omega arith in
     let next = h (k + 1) (omega (arith, within)) in
-    subst (λ n. slice_index (x ∷ xs) n < slice_index xs (k + 1)) e (subst (λ n. slice_index (x ∷ xs) (k + 1) < slice_index (x ∷ xs) n) f next)
+    subst (λ n. slice_index (x ∷ xs) n < slice_index xs (k + 1)) e
+    (subst (λ n. slice_index (x ∷ xs) (k + 1) < slice_index (x ∷ xs) n) f next)
 
 above : (x : ℕ) (xs : List ℕ) → IsStrictlyIncreasing (x ∷ xs) → AllByRecursion (λ y. x < y) xs
 above x [] h = tt
@@ -47,13 +48,15 @@ first_or x y ys h is differs = by (y == x) refl is
 pub own_has : (x : ℕ) (xs : List ℕ) → has (x ∷ xs) x ≡ true
 own_has x xs = let e : (x == x) ≡ true = grind (arith, nat_tests) in ap (λ b. b || has xs x) e
 
-pub same_lists : (xs ys : List ℕ) → IsStrictlyIncreasing xs → IsStrictlyIncreasing ys → ((x : ℕ) → has xs x ≡ true → has ys x ≡ true) → ((x : ℕ) → has ys x ≡ true → has xs x ≡ true) → xs ≡ ys
+pub same_lists : (xs ys : List ℕ) → IsStrictlyIncreasing xs → IsStrictlyIncreasing ys → ((x : ℕ) → has xs x ≡ true → has ys x ≡ true)
+    → ((x : ℕ) → has ys x ≡ true → has xs x ≡ true) → xs ≡ ys
 same_lists [] [] h k there back = refl
 same_lists [] (y ∷ ys) h k there back = let e = back y (own_has y ys) in cc
 same_lists (x ∷ xs) [] h k there back = let e = there x (own_has x xs) in cc
 same_lists (x ∷ xs) (y ∷ ys) h k there back =
     ap (λ first. first ∷ xs) (same (x == y) refl) ∙ ap (λ rest. y ∷ rest)
-    (same_lists xs ys (later x xs h) (later y ys k) (λ one is. drop_first x y xs ys one (same (x == y) refl) (above x xs h) is (there one (behind x xs one is)))
+    (same_lists xs ys (later x xs h) (later y ys k)
+    (λ one is. drop_first x y xs ys one (same (x == y) refl) (above x xs h) is (there one (behind x xs one is)))
     (λ one is. drop_first y x ys xs one (sym (same (x == y) refl)) (above y ys k) is (back one (behind y ys one is))))
   where
     behind : (x : ℕ) (xs : List ℕ) (one : ℕ) → has xs one ≡ true → has (x ∷ xs) one ≡ true
@@ -63,7 +66,8 @@ same_lists (x ∷ xs) (y ∷ ys) h k there back =
         by true = refl
         by false = is
 
-    drop_first : (x y : ℕ) (xs ys : List ℕ) (one : ℕ) → x ≡ y → AllByRecursion (λ y. x < y) xs → has xs one ≡ true → has (y ∷ ys) one ≡ true → has ys one ≡ true
+    drop_first : (x y : ℕ) (xs ys : List ℕ) (one : ℕ) → x ≡ y → AllByRecursion (λ y. x < y) xs → has xs one ≡ true
+        → has (y ∷ ys) one ≡ true → has ys one ≡ true
     drop_first x y xs ys one e all is there =
         let less = member_above x xs one all is in
         let differs : (y == one) ≡ false = grind (arith, nat_tests) in

@@ -1,5 +1,6 @@
 -- Texts of names and spaces alone.
-use Rattle.std.proofs.Common.{◌≡◌, ℕ, zero, suc, ◌<◌, ◌+◌, Bool, true, false, cond, List, [], ◌∷◌, ◌++◌, refl, ap, ◌∙◌, sym, subst, length, reverse, arith}
+use Rattle.std.proofs.Common.{◌≡◌, ℕ, zero, suc, ◌<◌, ◌+◌, Bool, true, false, cond, List, [], ◌∷◌, ◌++◌, refl, ap, ◌∙◌, sym, subst, length}
+use Rattle.std.proofs.Common.{reverse, arith}
 use Rattle.std.specs.Prelude.{not, ◌||◌, ◌==◌, flat_map}
 use Rattle.std.specs.List.{list_all, prefix_len, suffix_len, slice_index}
 use Rattle.std.specs.Str.{is_utf8}
@@ -65,7 +66,8 @@ unset true e = cc
 unset false e = refl
 
 -- one test of each byte follows of another
-pub each_too : (p q : ℕ → Bool) → ((byte : ℕ) → p byte ≡ true → q byte ≡ true) → (bytes : List ℕ) → list_all p bytes ≡ true → list_all q bytes ≡ true
+pub each_too : (p q : ℕ → Bool) → ((byte : ℕ) → p byte ≡ true → q byte ≡ true) → (bytes : List ℕ) → list_all p bytes ≡ true
+    → list_all q bytes ≡ true
 each_too p q follows [] h = refl
 each_too p q follows (byte ∷ bytes) h =
     let both = and_parts (p byte) (list_all p bytes) h in
@@ -89,10 +91,12 @@ tame_utf8 bytes h = is_utf8-from_IsUtf8 bytes (IsUtf8-from_ascii bytes (ascii_te
 
 -- where the last byte does not pass, none passes at the end
 pub none_at_end : (p : ℕ → Bool) (front : List ℕ) (byte : ℕ) → p byte ≡ false → suffix_len p (front ++ byte ∷ []) ≡ 0
-none_at_end p front byte fails = ap (prefix_len p) (reverse-append front (byte ∷ [])) ∙ ap (λ b. cond b (1 + prefix_len p (reverse front)) 0) fails
+none_at_end p front byte fails = ap (prefix_len p) (reverse-append front (byte ∷ []))
+    ∙ ap (λ b. cond b (1 + prefix_len p (reverse front)) 0) fails
 
 -- a text without such bytes, behind any other that does not end in one
-pub none_behind : (p : ℕ → Bool) (front back : List ℕ) → suffix_len p front ≡ 0 → list_all (λ byte. not (p byte)) back ≡ true → suffix_len p (front ++ back) ≡ 0
+pub none_behind : (p : ℕ → Bool) (front back : List ℕ) → suffix_len p front ≡ 0 → list_all (λ byte. not (p byte)) back ≡ true
+    → suffix_len p (front ++ back) ≡ 0
 none_behind p front [] none all = ap (suffix_len p) (append-nil front) ∙ none
 none_behind p front (byte ∷ back) none all =
     let both = and_parts (not (p byte)) (list_all (λ byte. not (p byte)) back) all in
@@ -124,10 +128,12 @@ pub tame_tail : (words : List (List ℕ)) → are_names words ≡ true → list_
 tame_tail [] h = refl
 tame_tail (word ∷ words) h =
     let both = and_parts (is_name word) (are_names words) h in
-    list_all-append is_tame word (tail_of words) ∙ and_from (list_all is_tame word) (list_all is_tame (tail_of words)) (tame_of_names word (word_of word both.0).bytes) (tame_tail words both.1)
+    list_all-append is_tame word (tail_of words) ∙ and_from (list_all is_tame word) (list_all is_tame (tail_of words))
+    (tame_of_names word (word_of word both.0).bytes) (tame_tail words both.1)
 
 -- where a text does not end in such a byte, it does not with words behind it either
-pub none_behind_words : (p : ℕ → Bool) → ((byte : ℕ) → is_name_byte byte ≡ true → not (p byte) ≡ true) → (front : List ℕ) (words : List (List ℕ)) → are_names words ≡ true → suffix_len p front ≡ 0 → suffix_len p (front ++ tail_of words) ≡ 0
+pub none_behind_words : (p : ℕ → Bool) → ((byte : ℕ) → is_name_byte byte ≡ true → not (p byte) ≡ true)
+    → (front : List ℕ) (words : List (List ℕ)) → are_names words ≡ true → suffix_len p front ≡ 0 → suffix_len p (front ++ tail_of words) ≡ 0
 none_behind_words p names front [] h none = ap (suffix_len p) (append-nil front) ∙ none
 none_behind_words p names front (word ∷ words) h none =
     let both = and_parts (is_name word) (are_names words) h in
@@ -136,6 +142,8 @@ none_behind_words p names front (word ∷ words) h none =
     let parts = and_parts (not (p is.first)) (list_all (λ byte. not (p byte)) is.rest) (ap (list_all (λ byte. not (p byte))) (sym is.is) ∙ all) in
     let one : suffix_len p (front ++ 32 ∷ word) ≡ 0 =
     ap (λ w. suffix_len p (front ++ 32 ∷ w)) is.is
-    ∙ ap (suffix_len p) (sym (append_assoc front (32 ∷ []) (is.first ∷ is.rest)) ∙ sym (append_assoc (front ++ 32 ∷ []) (is.first ∷ []) is.rest))
+    ∙ ap (suffix_len p) (sym (append_assoc front (32 ∷ []) (is.first ∷ is.rest))
+    ∙ sym (append_assoc (front ++ 32 ∷ []) (is.first ∷ []) is.rest))
     ∙ none_behind p ((front ++ 32 ∷ []) ++ is.first ∷ []) is.rest (none_at_end p (front ++ 32 ∷ []) is.first (unset (p is.first) parts.0)) parts.1 in
-    ap (suffix_len p) (sym (append_assoc front (32 ∷ word) (tail_of words))) ∙ none_behind_words p names (front ++ 32 ∷ word) words both.1 one
+    ap (suffix_len p) (sym (append_assoc front (32 ∷ word) (tail_of words)))
+    ∙ none_behind_words p names (front ++ 32 ∷ word) words both.1 one

@@ -27,13 +27,15 @@ module _ (unit : Resolved) (table : calls.Table) (site : Site) (script : List Ca
 
 -- why there is nothing
 module _ (unit : Resolved) (table : calls.Table) (site : Site) (script : List Call) (none : first_seccomp table script ≡ None) where
-  refuses : (error : UnitRefusal) → IsNotLaunched (open_unit unit table) table site error → Derives unit table site script (Err (error_of error))
+  refuses : (error : UnitRefusal) → IsNotLaunched (open_unit unit table) table site error
+      → Derives unit table site script (Err (error_of error))
   refuses (refusal.Settings own) is = (none, is)
   refuses (refusal.Plan own) is = (none, is)
   refuses (refusal.Launch own) is = (none, is)
   refuses refusal.Memory is = tt
 
-  pub derives_none : (error : UnitRefusal) (result : Result Derived DeriveError) → IsErrAnd result (λ told. told ≡ error_of error) → IsNotLaunched (open_unit unit table) table site error
+  pub derives_none : (error : UnitRefusal) (result : Result Derived DeriveError) → IsErrAnd result (λ told. told ≡ error_of error)
+      → IsNotLaunched (open_unit unit table) table site error
       → Derives unit table site script result
   derives_none error (Ok derived) is not_it = absurd is
   derives_none error (Err told) is not_it = subst (λ own. Derives unit table site script (Err own)) (sym is) (refuses error not_it)

@@ -38,7 +38,8 @@ Serves tried names = Replies tried names tried.said
 
 -- it is not launched, or some reply is another
 pub data Fails (tried : Tried) (names : List ℕ) : Type 0 where
-  not_launched : (error : UnitRefusal) → error ≢ refusal.Memory → IsNotLaunched (extended tried.unit tried.table names) tried.table tried.site error → Fails tried names
+  not_launched : (error : UnitRefusal) → error ≢ refusal.Memory
+      → IsNotLaunched (extended tried.unit tried.table names) tried.table tried.site error → Fails tried names
   other_reply : (own : List Reply) → Replies tried names own → own ≢ tried.said → Fails tried names
 
 -- the list serves, and without any of its names it does not
@@ -64,11 +65,15 @@ pub record IsOnlyOne (unit : Resolved) (table : calls.Table) (site : Site) (scri
 -- what is derived: nothing where the script asks to push a program, and where the unit that allows every call is not launched
 abbrev pub Derives : Resolved → calls.Table → Site → List Call → Result Derived DeriveError → Type 0
 Derives unit table site script (Ok derived) =
-    (first_seccomp table script ≡ None) × IsDerived unit table site script derived.names × (HasPlainNames table → IsOnlyOne unit table site script derived.names)
+    (first_seccomp table script ≡ None) × IsDerived unit table site script derived.names ×
+    (HasPlainNames table → IsOnlyOne unit table site script derived.names)
 Derives unit table site script (Err (Seccomp number)) = first_seccomp table script ≡ Some number
-Derives unit table site script (Err (Settings error)) = (first_seccomp table script ≡ None) × IsNotLaunched (open_unit unit table) table site (refusal.Settings error)
-Derives unit table site script (Err (Plan error)) = (first_seccomp table script ≡ None) × IsNotLaunched (open_unit unit table) table site (refusal.Plan error)
-Derives unit table site script (Err (Launch refused)) = (first_seccomp table script ≡ None) × IsNotLaunched (open_unit unit table) table site (refusal.Launch refused)
+Derives unit table site script (Err (Settings error)) = (first_seccomp table script ≡ None) × IsNotLaunched
+    (open_unit unit table) table site (refusal.Settings error)
+Derives unit table site script (Err (Plan error)) = (first_seccomp table script ≡ None) × IsNotLaunched (open_unit unit table) table site
+    (refusal.Plan error)
+Derives unit table site script (Err (Launch refused)) = (first_seccomp table script ≡ None) × IsNotLaunched
+    (open_unit unit table) table site (refusal.Launch refused)
 Derives unit table site script (Err Memory) = ⊤
 
 -- a list that was tried serves or fails

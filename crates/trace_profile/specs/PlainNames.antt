@@ -11,7 +11,8 @@ use Rattle.trace_profile.specs.Names.{AreNames}
 -- the names of the calls are ASCII letters, digits, `_` and `-`, and any of them have room in one value of a unit file
 pub record HasPlainNames (table : Table) : Type 0 where
   pub plain : list_all (λ line. is_name line.name) (every_call table) ≡ true
-  pub short : (names : List ℕ) → AreNames table names → length (codes "@default" ++ flat_map (λ place. 32 ∷ name_at table place) names) ≤ longest_value
+  pub short : (names : List ℕ) → AreNames table names → length
+      (codes "@default" ++ flat_map (λ place. 32 ∷ name_at table place) names) ≤ longest_value
 
 -- `@default` has not the name of the call line at this place
 abbrev pub IsBesideDefault : Table → ℕ → Type 0

@@ -10,7 +10,8 @@ pub accepted : (wanted result : Result UnitText UnitError) → IsUnlessMemory re
 accepted wanted (Ok unit) h = h
 accepted wanted (Err error) h = tt
 
-pub refused : (wanted result : Result UnitText UnitError) → IsUnlessMemory result wanted → IfErr result (λ error. error ≢ Memory → wanted ≡ Err error)
+pub refused : (wanted result : Result UnitText UnitError) → IsUnlessMemory result wanted
+    → IfErr result (λ error. error ≢ Memory → wanted ≡ Err error)
 refused wanted (Ok unit) h = tt
 refused wanted (Err NotText) h = λ other. h
 refused wanted (Err TooMany) h = λ other. h

@@ -17,9 +17,11 @@ is_false false h = refl
 
 pub not_utf8 : (bytes : List ℕ) → ¬ (IsUtf8 bytes) → unit_of bytes ≡ Err NotText
 not_utf8 bytes h =
-    ap (λ b. cond (b && not (list_any (λ byte. eqb byte 0) bytes)) (unit_of_lines (joined_lines bytes)) (Err NotText)) (is_false (is_utf8 bytes) (λ e. h (IsUtf8-from_is_utf8 bytes e)))
+    ap (λ b. cond (b && not (list_any (λ byte. eqb byte 0) bytes)) (unit_of_lines (joined_lines bytes)) (Err NotText))
+    (is_false (is_utf8 bytes) (λ e. h (IsUtf8-from_is_utf8 bytes e)))
 
-pub of_text : (bytes text : List ℕ) (result : Result UnitText UnitError) → IsUtf8 bytes → list_any (λ byte. eqb byte 0) bytes ≡ false → text ≡ bytes → IsUnlessMemory result (unit_of_lines (joined_lines text)) → IsUnlessMemory result (unit_of bytes)
+pub of_text : (bytes text : List ℕ) (result : Result UnitText UnitError) → IsUtf8 bytes → list_any (λ byte. eqb byte 0) bytes ≡ false
+    → text ≡ bytes → IsUnlessMemory result (unit_of_lines (joined_lines text)) → IsUnlessMemory result (unit_of bytes)
 of_text bytes text result u z t h =
     let known : unit_of_lines (joined_lines text) ≡ unit_of bytes =
     ap (λ bs. unit_of_lines (joined_lines bs)) t

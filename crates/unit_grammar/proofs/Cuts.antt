@@ -17,7 +17,8 @@ leading_boundary bs zero u e = IsCharBoundary-start bs u
 leading_boundary bs (suc k) u e =
     let lt : k < prefix_len is_white bs = omega arith in
     let in_text : k < length bs = omega (arith, prefix_len-le-length is_white bs) in
-    subst (IsCharBoundary bs) (omega arith) (IsCharBoundary-after_ascii bs k u in_text (is_white-ascii _ (prefix_len_passes is_white bs k 0 lt)))
+    subst (IsCharBoundary bs) (omega arith)
+    (IsCharBoundary-after_ascii bs k u in_text (is_white-ascii _ (prefix_len_passes is_white bs k 0 lt)))
 
 -- and before its trailing white space
 pub trailing_boundary : (bs : List ℕ) (n : ℕ) → n ≡ suffix_len is_white bs → IsCharBoundary bs (length bs - n)
@@ -28,4 +29,5 @@ trailing_boundary bs (suc k) e =
     let white = prefix_len_passes is_white (reverse bs) k 0 lt in
     let here : is_white (get_or bs (length bs - 1 - k) 0) ≡ true = subst (λ b. is_white b ≡ true) (get_or-reverse bs k 0 in_text) white in
     let same : length bs - 1 - k ≡ length bs - suc k = omega arith in
-    IsCharBoundary-before_ascii bs (length bs - suc k) (omega arith) (is_white-ascii _ (subst (λ i. is_white (get_or bs i 0) ≡ true) same here))
+    IsCharBoundary-before_ascii bs (length bs - suc k) (omega arith)
+    (is_white-ascii _ (subst (λ i. is_white (get_or bs i 0) ≡ true) same here))

@@ -1,5 +1,6 @@
 -- What stands behind a first byte, and before a last.
-use Rattle.std.proofs.Common.{◌≡◌, ◌≢◌, ℕ, true, false, cond, eqb, Option, Some, None, List, [], ◌∷◌, ◌++◌, reverse, refl, sym, ap, ◌∙◌, arith}
+use Rattle.std.proofs.Common.{◌≡◌, ◌≢◌, ℕ, true, false, cond, eqb, Option, Some, None, List, [], ◌∷◌, ◌++◌, reverse, refl, sym, ap, ◌∙◌}
+use Rattle.std.proofs.Common.{arith}
 use Rattle.std.specs.Option.{option_map, MatchOption}
 use Rattle.std.proofs.lemmas.Bool.Decides.{nat_tests}
 use Rattle.std.proofs.lemmas.List.{reverse-append, reverse-reverse}
@@ -21,12 +22,17 @@ behind_none byte (b ∷ bs) h =
     elim (eqb b byte) as (λ v. eqb b byte ≡ v → cond v (Some bs) None ≡ None)
     [ true ↦ λ e. absurd (h bs (ap (λ x. x ∷ bs) (same_number b byte e))) | false ↦ λ e. refl ] refl
 
-pub behind_known : (byte : ℕ) (bs : List ℕ) (r : Option (Bor (List ℕ))) → MatchOption r ((rest : List ℕ) → bs ≢ byte ∷ rest) (λ x. bs ≡ byte ∷ x.now) → option_map (λ x. x.now) r ≡ behind byte bs
+pub behind_known : (byte : ℕ) (bs : List ℕ) (r : Option (Bor (List ℕ)))
+    → MatchOption r ((rest : List ℕ) → bs ≢ byte ∷ rest) (λ x. bs ≡ byte ∷ x.now) → option_map (λ x. x.now) r ≡ behind byte bs
 behind_known byte bs None h = sym (behind_none byte bs h)
 behind_known byte bs (Some x) h = sym (behind_some byte bs x.now h)
 
-pub before_known : (byte : ℕ) (bs : List ℕ) (r : Option (Bor (List ℕ))) → MatchOption r ((front : List ℕ) → bs ≢ front ++ byte ∷ []) (λ x. bs ≡ x.now ++ byte ∷ []) → option_map (λ x. x.now) r ≡ before byte bs
+pub before_known : (byte : ℕ) (bs : List ℕ) (r : Option (Bor (List ℕ)))
+    → MatchOption r ((front : List ℕ) → bs ≢ front ++ byte ∷ []) (λ x. bs ≡ x.now ++ byte ∷ []) → option_map (λ x. x.now) r ≡ before byte bs
 before_known byte bs None h =
-    sym (ap (option_map reverse) (behind_none byte (reverse bs) (λ rest e. h (reverse rest) (sym (reverse-reverse bs) ∙ ap reverse e ∙ reverse-append (byte ∷ []) rest))))
+    sym (ap (option_map reverse)
+    (behind_none byte (reverse bs)
+    (λ rest e. h (reverse rest) (sym (reverse-reverse bs) ∙ ap reverse e ∙ reverse-append (byte ∷ []) rest))))
 before_known byte bs (Some x) h =
-    sym (ap (option_map reverse) (behind_some byte (reverse bs) (reverse x.now) (ap reverse h ∙ reverse-append x.now (byte ∷ []))) ∙ ap Some (reverse-reverse x.now))
+    sym (ap (option_map reverse) (behind_some byte (reverse bs) (reverse x.now) (ap reverse h ∙ reverse-append x.now (byte ∷ [])))
+    ∙ ap Some (reverse-reverse x.now))

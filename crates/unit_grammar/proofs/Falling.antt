@@ -22,13 +22,15 @@ all_of-onto_first part (group ∷ groups) = refl
 all_of-groups_of : (parts : List Line) → parts ≡ all_of (groups_of parts)
 all_of-groups_of [] = refl
 all_of-groups_of (part ∷ parts) =
-    elim (continues part.text) as (λ b. part ∷ parts ≡ all_of (cond (not b) ((part ∷ []) ∷ groups_of parts) (onto_first part (groups_of parts)))) [
+    elim (continues part.text) as
+    (λ b. part ∷ parts ≡ all_of (cond (not b) ((part ∷ []) ∷ groups_of parts) (onto_first part (groups_of parts)))) [
       | true ↦ ap (λ rest. part ∷ rest) (all_of-groups_of parts) ∙ sym (all_of-onto_first part (groups_of parts))
       | false ↦ ap (λ rest. part ∷ rest) (all_of-groups_of parts)
     ]
 
 -- a part that ends a stretch of its own
-with_whole : (part : Line) (groups : List (List Line)) → continues part.text ≡ false → are_stretches groups ≡ true → are_stretches ((part ∷ []) ∷ groups) ≡ true
+with_whole : (part : Line) (groups : List (List Line)) → continues part.text ≡ false → are_stretches groups ≡ true
+    → are_stretches ((part ∷ []) ∷ groups) ≡ true
 with_whole part [] ends h = refl
 with_whole part (group ∷ groups) ends h = and_from (not (continues part.text)) (are_stretches (group ∷ groups)) (ap not ends) h
 
@@ -41,21 +43,24 @@ same_end : (part : Line) (group : List Line) → ends_whole group ≡ true → e
 same_end part [] h = absurd (false≢true h)
 same_end part (next ∷ group) h = h
 
-with_part : (part : Line) (groups : List (List Line)) → continues part.text ≡ true → are_stretches groups ≡ true → are_stretches (onto_first part groups) ≡ true
+with_part : (part : Line) (groups : List (List Line)) → continues part.text ≡ true → are_stretches groups ≡ true
+    → are_stretches (onto_first part groups) ≡ true
 with_part part [] goes_on h = refl
 with_part part (group ∷ []) goes_on h = longer_stretch part group goes_on h
 with_part part (group ∷ next ∷ groups) goes_on h =
     let both = and_parts (is_stretch group && ends_whole group) (are_stretches (next ∷ groups)) h in
     let first = and_parts (is_stretch group) (ends_whole group) both.0 in
     and_from (is_stretch (part ∷ group) && ends_whole (part ∷ group)) (are_stretches (next ∷ groups))
-    (and_from (is_stretch (part ∷ group)) (ends_whole (part ∷ group)) (longer_stretch part group goes_on first.0) (same_end part group first.1))
+    (and_from (is_stretch (part ∷ group)) (ends_whole (part ∷ group)) (longer_stretch part group goes_on first.0)
+    (same_end part group first.1))
     both.1
 
 -- the groups are stretches
 are_stretches-groups_of : (parts : List Line) → are_stretches (groups_of parts) ≡ true
 are_stretches-groups_of [] = refl
 are_stretches-groups_of (part ∷ parts) =
-    elim (continues part.text) as (λ b. continues part.text ≡ b → are_stretches (cond (not b) ((part ∷ []) ∷ groups_of parts) (onto_first part (groups_of parts))) ≡ true) [
+    elim (continues part.text) as (λ b. continues part.text ≡ b
+    → are_stretches (cond (not b) ((part ∷ []) ∷ groups_of parts) (onto_first part (groups_of parts))) ≡ true) [
       | true ↦ λ e. with_part part (groups_of parts) e (are_stretches-groups_of parts)
       | false ↦ λ e. with_whole part (groups_of parts) e (are_stretches-groups_of parts)
     ]
@@ -69,13 +74,15 @@ group_more part parts e =
 last_group : (stretch : List Line) → is_stretch stretch ≡ true → groups_of (stretch ++ []) ≡ stretch ∷ []
 last_group [] h = absurd (false≢true h)
 last_group (part ∷ []) h =
-    elim (continues part.text) as (λ b. cond (not b) ((part ∷ []) ∷ []) ((part ∷ []) ∷ []) ≡ (part ∷ []) ∷ []) [ true ↦ refl | false ↦ refl ]
+    elim (continues part.text) as (λ b. cond (not b) ((part ∷ []) ∷ []) ((part ∷ []) ∷ []) ≡ (part ∷ []) ∷ [])
+    [ true ↦ refl | false ↦ refl ]
 last_group (part ∷ next ∷ stretch) h =
     let both = and_parts (continues part.text) (is_stretch (next ∷ stretch)) h in
     group_more part ((next ∷ stretch) ++ []) both.0 ∙ ap (onto_first part) (last_group (next ∷ stretch) both.1)
 
 -- and so is one that ends whole
-whole_group : (stretch rest : List Line) → is_stretch stretch ≡ true → ends_whole stretch ≡ true → groups_of (stretch ++ rest) ≡ stretch ∷ groups_of rest
+whole_group : (stretch rest : List Line) → is_stretch stretch ≡ true → ends_whole stretch ≡ true
+    → groups_of (stretch ++ rest) ≡ stretch ∷ groups_of rest
 whole_group [] rest h ends = absurd (false≢true h)
 whole_group (part ∷ []) rest h ends =
     ap (λ b. cond b ((part ∷ []) ∷ groups_of rest) (onto_first part (groups_of rest))) ends

@@ -1,5 +1,6 @@
 -- What a joined line is, and what it means.
-use Rattle.std.proofs.Common.{◌≡◌, ◌≢◌, ℕ, suc, ◌+◌, Bool, true, false, cond, eqb, ltb, Option, Some, None, List, [], ◌∷◌, ◌++◌, length, take, drop, reverse, refl, sym, ap, ◌∙◌, subst, arith}
+use Rattle.std.proofs.Common.{◌≡◌, ◌≢◌, ℕ, suc, ◌+◌, Bool, true, false, cond, eqb, ltb, Option, Some, None, List, [], ◌∷◌, ◌++◌, length}
+use Rattle.std.proofs.Common.{take, drop, reverse, refl, sym, ap, ◌∙◌, subst, arith}
 use Rattle.std.proofs.Math.Seq.{take-append_seam, drop-append-add}
 use Rattle.std.specs.Prelude.{◌↔◌, not}
 use Rattle.std.specs.Option.{option_map}
@@ -9,7 +10,8 @@ use Rattle.std.proofs.lemmas.Option.{none-some, same_Some, cond_some}
 use Rattle.std.proofs.lemmas.List.{length-append, reverse-append, reverse-reverse}
 use Rattle.std.proofs.lemmas.List.Sums.{split_at_first, passes_at_first}
 use Rattle.unit_grammar.specs.Spaces.{trim}
-use Rattle.unit_grammar.specs.Kinds.{Kind, skipped, header, bad_header, no_equals, assigns, behind, before, cut_at, named_header, keyed, assigned, filled, trimmed_kind, kind_of}
+use Rattle.unit_grammar.specs.Kinds.{Kind, skipped, header, bad_header, no_equals, assigns, behind, before, cut_at, named_header, keyed}
+use Rattle.unit_grammar.specs.Kinds.{assigned, filled, trimmed_kind, kind_of}
 use Rattle.unit_grammar.specs.Meaning.{opening, closing, equals, BeginsHeader, Assigns, Means}
 use Rattle.unit_grammar.proofs.Ends.{behind_some, behind_none}
 
@@ -25,7 +27,8 @@ behind_whole byte (first ∷ text) rest e =
     let both = cond_some (eqb first byte) text rest e in
     ap (λ b. b ∷ text) (eqb-true first byte both.0) ∙ ap (λ t. byte ∷ t) both.1
 
-before_whole : (byte : ℕ) (text front : List ℕ) (turned : Option (List ℕ)) → behind byte (reverse text) ≡ turned → option_map reverse turned ≡ Some front → text ≡ front ++ byte ∷ []
+before_whole : (byte : ℕ) (text front : List ℕ) (turned : Option (List ℕ)) → behind byte (reverse text) ≡ turned
+    → option_map reverse turned ≡ Some front → text ≡ front ++ byte ∷ []
 before_whole byte text front None h e = absurd (none-some front e)
 before_whole byte text front (Some rest) h e =
     sym (reverse-reverse text)
@@ -51,7 +54,8 @@ cut_whole text sides e =
 free_before : (text : List ℕ) → others (before_first is_equals text) ≡ true
 free_before [] = refl
 free_before (byte ∷ text) =
-    elim (not (is_equals byte)) as (λ v. not (is_equals byte) ≡ v → others (take (cond v (1 + position_or_len is_equals text) 0) (byte ∷ text)) ≡ true) [
+    elim (not (is_equals byte)) as (λ v. not (is_equals byte) ≡ v
+    → others (take (cond v (1 + position_or_len is_equals text) 0) (byte ∷ text)) ≡ true) [
       | true ↦ λ e.
           let more : 1 + position_or_len is_equals text ≡ suc (position_or_len is_equals text) = omega arith in
           ap (λ n. others (take n (byte ∷ text))) more
@@ -89,7 +93,8 @@ cut_of text key value a = cut_known text a.left a.right a.cut a.first
 not_empty : (byte : ℕ) (text : List ℕ) → byte ∷ text ≡ [] → ⊥
 not_empty byte text e = cc
 
-keyed_means : (text left right key value : List ℕ) → cut_at equals text ≡ Some (left, right) → text ≢ [] → ¬ (BeginsHeader text) → key ≡ trim left → value ≡ trim right → Means text (keyed key value)
+keyed_means : (text left right key value : List ℕ) → cut_at equals text ≡ Some (left, right) → text ≢ [] → ¬ (BeginsHeader text)
+    → key ≡ trim left → value ≡ trim right → Means text (keyed key value)
 keyed_means text left right [] value e some plain k v =
     (some, plain, λ key value a. a.filled (a.key_is ∙ ap trim (ap (λ (s : List ℕ × List ℕ). s.0) (same_Some (a.left, a.right) (left, right) (sym (cut_of text key value a) ∙ e))) ∙ sym k))
 keyed_means text left right (byte ∷ key) value e some plain k v = record {
@@ -103,7 +108,8 @@ keyed_means text left right (byte ∷ key) value e some plain k v = record {
   filled = not_empty byte key;
 }
 
-assigned_means : (text : List ℕ) (sides : Option (List ℕ × List ℕ)) → cut_at equals text ≡ sides → text ≢ [] → ¬ (BeginsHeader text) → Means text (assigned sides)
+assigned_means : (text : List ℕ) (sides : Option (List ℕ × List ℕ)) → cut_at equals text ≡ sides → text ≢ [] → ¬ (BeginsHeader text)
+    → Means text (assigned sides)
 assigned_means text None e some plain = (some, plain, λ key value a. none-some (a.left, a.right) (sym e ∙ cut_of text key value a))
 assigned_means text (Some sides) e some plain = keyed_means text sides.0 sides.1 (trim sides.0) (trim sides.1) e some plain refl refl
 
@@ -125,13 +131,16 @@ means_so : (text : List ℕ) → Means text (trimmed_kind text)
 means_so [] = refl
 means_so (byte ∷ text) =
     elim (eqb byte opening) as (λ v. eqb byte opening ≡ v → Means (byte ∷ text) (filled (byte ∷ text) (cond v (Some text) None))) [
-      | true ↦ λ e. subst (λ b. Means (b ∷ text) (named_header (before closing text))) (sym (eqb-true byte opening e)) (named_means text (before closing text) refl)
-      | false ↦ λ e. assigned_means (byte ∷ text) (cut_at equals (byte ∷ text)) refl (not_empty byte text) (λ b. starts_other byte text b.0 e b.1)
+      | true ↦ λ e. subst (λ b. Means (b ∷ text) (named_header (before closing text))) (sym (eqb-true byte opening e))
+          (named_means text (before closing text) refl)
+      | false ↦ λ e. assigned_means (byte ∷ text) (cut_at equals (byte ∷ text)) refl (not_empty byte text)
+          (λ b. starts_other byte text b.0 e b.1)
     ]
     refl
 
 -- and back: a meaning is that of one kind
-before_nothing : (byte : ℕ) (text : List ℕ) (front : Option (List ℕ)) → before byte text ≡ front → ((front : List ℕ) → text ≢ front ++ byte ∷ []) → before byte text ≡ None
+before_nothing : (byte : ℕ) (text : List ℕ) (front : Option (List ℕ)) → before byte text ≡ front
+    → ((front : List ℕ) → text ≢ front ++ byte ∷ []) → before byte text ≡ None
 before_nothing byte text None e never = e
 before_nothing byte text (Some front) e never = absurd (never front (before_whole byte text front (behind byte (reverse text)) refl e))
 
@@ -139,7 +148,8 @@ plain_kind : (text : List ℕ) → text ≢ [] → ¬ (BeginsHeader text) → tr
 plain_kind [] some plain = absurd (some refl)
 plain_kind (byte ∷ text) some plain = ap (filled (byte ∷ text)) (behind_none opening (byte ∷ text) (λ rest e. plain (rest, e)))
 
-lacks_key : (text left right key : List ℕ) → cut_at equals text ≡ Some (left, right) → ¬ (BeginsHeader text) → key ≡ trim left → ((key value : List ℕ) → ¬ (Assigns text key value)) → keyed key (trim right) ≡ no_equals
+lacks_key : (text left right key : List ℕ) → cut_at equals text ≡ Some (left, right) → ¬ (BeginsHeader text) → key ≡ trim left
+    → ((key value : List ℕ) → ¬ (Assigns text key value)) → keyed key (trim right) ≡ no_equals
 lacks_key text left right [] e plain k never = refl
 lacks_key text left right (byte ∷ key) e plain k never =
     absurd (never (byte ∷ key) (trim right) (record {
@@ -153,7 +163,8 @@ lacks_key text left right (byte ∷ key) e plain k never =
       filled = not_empty byte key;
     }))
 
-lacks_equals : (text : List ℕ) (sides : Option (List ℕ × List ℕ)) → cut_at equals text ≡ sides → ¬ (BeginsHeader text) → ((key value : List ℕ) → ¬ (Assigns text key value)) → assigned sides ≡ no_equals
+lacks_equals : (text : List ℕ) (sides : Option (List ℕ × List ℕ)) → cut_at equals text ≡ sides → ¬ (BeginsHeader text)
+    → ((key value : List ℕ) → ¬ (Assigns text key value)) → assigned sides ≡ no_equals
 lacks_equals text None e plain never = refl
 lacks_equals text (Some sides) e plain never = lacks_key text sides.0 sides.1 (trim sides.0) e plain refl never
 
@@ -174,7 +185,8 @@ kind_from text (header section) m =
     ap trimmed_kind m ∙ ap named_header (before_some closing (section ++ closing ∷ []) section refl)
 kind_from text bad_header m =
     ap trimmed_kind m.0.1
-    ∙ ap named_header (before_nothing closing m.0.0 (before closing m.0.0) refl (λ section e. m.1 section (m.0.1 ∙ ap (λ rest. opening ∷ rest) e)))
+    ∙ ap named_header (before_nothing closing m.0.0 (before closing m.0.0) refl
+    (λ section e. m.1 section (m.0.1 ∙ ap (λ rest. opening ∷ rest) e)))
 kind_from text no_equals m = plain_kind text m.0 m.1 ∙ lacks_equals text (cut_at equals text) refl m.1 m.2
 kind_from text (assigns key value) a =
     plain_kind text (assigns_some text key value a) a.no_header

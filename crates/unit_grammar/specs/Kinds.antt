@@ -25,7 +25,8 @@ before byte text = option_map reverse (behind byte (reverse text))
 
 -- what stands on the two sides of the first such byte
 abbrev pub cut_at : ℕ → List ℕ → Option (List ℕ × List ℕ)
-cut_at byte text = cond (nat_lt (position_or_len (λ b. b == byte) text) (length text)) (Some (before_first (λ b. b == byte) text, after_first (λ b. b == byte) text)) None
+cut_at byte text = cond (nat_lt (position_or_len (λ b. b == byte) text) (length text))
+    (Some (before_first (λ b. b == byte) text, after_first (λ b. b == byte) text)) None
 
 -- what stands between the brackets is the name
 abbrev pub named_header : Option (List ℕ) → Kind

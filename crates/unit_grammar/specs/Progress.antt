@@ -39,7 +39,8 @@ pub record StandsBefore (lines : List Line) (begun : Option Line) (parts : List 
   pub whole : lines ≡ front ++ with_open begun (joined parts)
 
 -- what passing over a part does to it
-abbrev pub Passes : List Line → List Line → Result (Unit {0}) UnitError → Option Line → Option (List ℕ) → List Assignment → List Note → Type 0
+abbrev pub Passes : List Line → List Line → Result (Unit {0}) UnitError → Option Line → Option (List ℕ) → List Assignment → List Note
+    → Type 0
 Passes lines parts (Ok done) begun section assignments notes = StandsBefore lines begun parts section assignments notes
 Passes lines parts (Err error) begun section assignments notes = IsUnlessMemory (Err error) (unit_of_lines lines)
 

@@ -4,10 +4,12 @@ use Rattle.std.specs.Prelude.{IfSome, IsTrue}
 use Rattle.std.specs.Result.{IsErrAnd}
 use Rattle.exec_settings.specs.host_io.Files.{Files}
 use Rattle.unit_inputs.specs.command_answers.Endings.{is_answer, is_whole}
-use Rattle.unit_inputs.specs.command_answers.Laws.{AcceptsFiles, Admits, FileLaws, GoTogether, IsAdmitted, MayEnd, fixed_laws, laws_over, prints, refuses}
+use Rattle.unit_inputs.specs.command_answers.Laws.{AcceptsFiles, Admits, FileLaws, GoTogether, IsAdmitted, MayEnd, fixed_laws, laws_over}
+use Rattle.unit_inputs.specs.command_answers.Laws.{prints, refuses}
 use Rattle.unit_inputs.specs.command_answers.Stops.{Prepares}
 use Rattle.unit_inputs.specs.declared.command_answers.ending.Ending.{Ending}
-use Rattle.unit_inputs.specs.declared.command_answers.ending.Ending.TheVariants.{Done, AboveThreshold, NoCommand, Refused, ReadFault, WriteFault, OutOfMemory, LaunchRefused, Differs}
+use Rattle.unit_inputs.specs.declared.command_answers.ending.Ending.TheVariants.{Done, AboveThreshold, NoCommand, Refused, ReadFault}
+use Rattle.unit_inputs.specs.declared.command_answers.ending.Ending.TheVariants.{WriteFault, OutOfMemory, LaunchRefused, Differs}
 use Rattle.unit_inputs.specs.declared.command_answers.stop.Stop.{Stop}
 use Rattle.unit_inputs.specs.declared.command_answers.stop.Stop.TheVariants as stop
 
@@ -27,21 +29,25 @@ refused_is_whole : (ending : Ending) → ending ≡ Refused → IsTrue (is_whole
 refused_is_whole ending e = subst (λ k. IsTrue (is_whole k)) (sym e) refl
 
 -- what holds of an error holds of a result that passes it on
-pub at_stop : {R : Type 0} (P : Result R Stop → Type 0) (result : Result R Stop) (stop : Stop) → IsErrAnd result (λ error. error ≡ stop) → P (Err stop) → P result
+pub at_stop : {R : Type 0} (P : Result R Stop → Type 0) (result : Result R Stop) (stop : Stop) → IsErrAnd result (λ error. error ≡ stop)
+    → P (Err stop) → P result
 at_stop P (Ok ready) stop is holds = absurd is
 at_stop P (Err error) stop is holds = subst (λ one. P (Err one)) (sym is) holds
 
 module _ (laws : FileLaws) where
   module _ {R : Type 0} (behind : R → Ending) (text : R → List ℕ) where
     -- a stop is admitted by its line
-    pub stop_is_admitted : {T : Type 0} (P : T → Type 0) (told : Option Files) (stop : Stop) → IfSome told (λ files. Prepares P (laws.refusals files) (Err stop)) → IsAdmitted (laws_over told laws) behind text (Err stop)
+    pub stop_is_admitted : {T : Type 0} (P : T → Type 0) (told : Option Files) (stop : Stop)
+        → IfSome told (λ files. Prepares P (laws.refusals files) (Err stop)) → IsAdmitted (laws_over told laws) behind text (Err stop)
     stop_is_admitted P None (stop.Refused line) said = inl refl
     stop_is_admitted P (Some files) (stop.Refused line) said = refuses line.items said
     stop_is_admitted P told stop.ReadFault said = tt
     stop_is_admitted P told stop.Memory said = tt
 
     -- and so is what is ready
-    pub ready_is_admitted : (told : Option Files) (ready : R) → laws.may_end (behind ready) → IfSome told (λ files. AcceptsFiles laws files × laws.prints files (behind ready) (text ready)) → IsAdmitted (laws_over told laws) behind text (Ok ready)
+    pub ready_is_admitted : (told : Option Files) (ready : R) → laws.may_end (behind ready)
+        → IfSome told (λ files. AcceptsFiles laws files × laws.prints files (behind ready) (text ready))
+        → IsAdmitted (laws_over told laws) behind text (Ok ready)
     ready_is_admitted None ready may said = inr may
     ready_is_admitted (Some files) ready may said = prints (behind ready) (text ready) said.0 may said.1
 
@@ -49,19 +55,26 @@ module _ (laws : FileLaws) where
   ends files _ _ (refuses line is) = inl (refl, λ accepts. (let same : None ≡ Some line = sym accepts ∙ is in cc))
   ends files _ _ (prints ending text accepts may printed) = inr (accepts, may)
 
-  whole : (files : Files) (ending : Ending) → ((ending : Ending) → laws.may_end ending → IsTrue (is_answer ending)) → MayEnd laws files ending → IsTrue (is_whole ending)
+  whole : (files : Files) (ending : Ending) → ((ending : Ending) → laws.may_end ending → IsTrue (is_answer ending))
+      → MayEnd laws files ending → IsTrue (is_whole ending)
   whole files ending answers (inl refused) = refused_is_whole ending refused.0
   whole files ending answers (inr printed) = answer_is_whole ending (answers ending printed.1)
 
-  answered : (files : Files) (ending : Ending) → ((ending : Ending) → laws.may_end ending → IsTrue (is_answer ending)) → AcceptsFiles laws files → MayEnd laws files ending → IsTrue (is_answer ending)
+  answered : (files : Files) (ending : Ending) → ((ending : Ending) → laws.may_end ending → IsTrue (is_answer ending))
+      → AcceptsFiles laws files → MayEnd laws files ending → IsTrue (is_answer ending)
   answered files ending answers accepts (inl refused) = absurd (refused.1 accepts)
   answered files ending answers accepts (inr printed) = answers ending printed.1
 
   -- the laws go together where each ending behind what is asked is an answer
-  pub go_together : (told : Option Files) → ((ending : Ending) → laws.may_end ending → IsTrue (is_answer ending)) → GoTogether (laws_over told laws)
+  pub go_together : (told : Option Files) → ((ending : Ending) → laws.may_end ending → IsTrue (is_answer ending))
+      → GoTogether (laws_over told laws)
   go_together None answers = record {
     ends = λ ending text admitted. admitted;
-    whole = λ ending may. elim may [ inl refused ↦ refused_is_whole ending refused | inr printed ↦ answer_is_whole ending (answers ending printed) ];
+    whole = λ ending may. elim may [
+      | inl refused ↦ refused_is_whole ending refused
+      | inr printed ↦ answer_is_whole ending
+          (answers ending printed)
+    ];
     answers = λ accepts ending may. absurd accepts;
   }
   go_together (Some files) answers = record {
@@ -71,7 +84,8 @@ module _ (laws : FileLaws) where
   }
 
 -- a command with one text
-pub fixed_go_together : (only : Ending) (line : List ℕ) (accepted : Type 0) → IsTrue (is_whole only) → (accepted → IsTrue (is_answer only)) → GoTogether (fixed_laws only line accepted)
+pub fixed_go_together : (only : Ending) (line : List ℕ) (accepted : Type 0) → IsTrue (is_whole only)
+    → (accepted → IsTrue (is_answer only)) → GoTogether (fixed_laws only line accepted)
 fixed_go_together only line accepted is_so answers = record {
   ends = λ ending text admitted. admitted.0;
   whole = λ ending e. subst (λ k. IsTrue (is_whole k)) (sym e) is_so;

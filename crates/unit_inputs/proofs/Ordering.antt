@@ -12,7 +12,8 @@ use Rattle.unit_inputs.specs.command_answers.Asking.{course, input_file, unless_
 use Rattle.unit_inputs.specs.command_answers.Stops.{IsAnswer, Prepares, first_refusal}
 use Rattle.unit_inputs.specs.declared.command_answers.stop.Stop.{Stop}
 use Rattle.unit_inputs.specs.declared.command_answers.stop.Stop.TheVariants.{ReadFault}
-use Rattle.unit_inputs.proofs.Asking.{answer_behind, answer_stops, prepared_behind, prepared_stops, told_quiet, told_quiet_stopped, told_stopped}
+use Rattle.unit_inputs.proofs.Asking.{answer_behind, answer_stops, prepared_behind, prepared_stops, told_quiet, told_quiet_stopped}
+use Rattle.unit_inputs.proofs.Asking.{told_stopped}
 use Rattle.unit_inputs.specs.Asking.{AsksInOrder, asks_with_file, input_asks, site_asks, table_asks}
 use Rattle.unit_inputs.specs.CallsRefusals.{calls_in}
 use Rattle.unit_inputs.specs.Inputs.{input_refusals, inputs_of, inputs_view}
@@ -20,21 +21,27 @@ use Rattle.unit_inputs.specs.UnitRefusals.{unit_in}
 use Rattle.unit_inputs.specs.declared.inputs.UnitInputs.{UnitInputs}
 
 -- whatever the files are
-pub asked_so : {S : Type 0} (asks : S → ShelfCall → S → Type 0) (told : Option Files) (wanted : List Ask) (a b : S) (how : Course) → Went asks a b wanted how → AsksInOrder asks told (λ files. wanted) a b how
+pub asked_so : {S : Type 0} (asks : S → ShelfCall → S → Type 0) (told : Option Files) (wanted : List Ask) (a b : S) (how : Course)
+    → Went asks a b wanted how → AsksInOrder asks told (λ files. wanted) a b how
 asked_so asks told wanted a b how made = record { by_the_files = all_told (λ files. Went asks a b wanted how) told (λ files. made) }
 
 module _ {S : Type 0} (asks : S → ShelfCall → S → Type 0) (told : Option Files) (wanted : Files → List Ask) (a b : S) where
   -- what reads nothing leaves what was read
-  pub order_quiet : {T : Type 0} (result : Result T Stop) → (IsErrOf result ReadFault → ⊥) → AsksInOrder asks told wanted a b Whole → AsksInOrder asks told wanted a b (course result)
+  pub order_quiet : {T : Type 0} (result : Result T Stop) → (IsErrOf result ReadFault → ⊥) → AsksInOrder asks told wanted a b Whole
+      → AsksInOrder asks told wanted a b (course result)
   order_quiet result quiet made = record { by_the_files = told_quiet asks a b told wanted result quiet made.by_the_files }
 
   -- what stops is passed on
-  pub order_stopped : (T : Type 0) {U : Type 0} (result : Result U Stop) (why : Stop) → IsErrAnd result (λ error. error ≡ why) → AsksInOrder asks told wanted a b (course {T = T} (Err why)) → AsksInOrder asks told wanted a b (course result)
+  pub order_stopped : (T : Type 0) {U : Type 0} (result : Result U Stop) (why : Stop) → IsErrAnd result (λ error. error ≡ why)
+      → AsksInOrder asks told wanted a b (course {T = T} (Err why)) → AsksInOrder asks told wanted a b (course result)
   order_stopped T result why is made = record { by_the_files = told_stopped asks a b T told wanted result why is made.by_the_files }
 
   -- and so is a stop of what reads nothing
-  pub order_quiet_stopped : (T : Type 0) {U : Type 0} (result : Result U Stop) (why : Stop) → IsErrAnd result (λ error. error ≡ why) → (IsErrOf {T = T} (Err why) ReadFault → ⊥) → AsksInOrder asks told wanted a b Whole → AsksInOrder asks told wanted a b (course result)
-  order_quiet_stopped T result why is quiet made = record { by_the_files = told_quiet_stopped asks a b T told wanted result why is quiet made.by_the_files }
+  pub order_quiet_stopped : (T : Type 0) {U : Type 0} (result : Result U Stop) (why : Stop) → IsErrAnd result (λ error. error ≡ why)
+      → (IsErrOf {T = T} (Err why) ReadFault → ⊥) → AsksInOrder asks told wanted a b Whole
+      → AsksInOrder asks told wanted a b (course result)
+  order_quiet_stopped T result why is quiet made =
+      record { by_the_files = told_quiet_stopped asks a b T told wanted result why is quiet made.by_the_files }
 
   -- memory may run out behind the last call
   pub order_cut : AsksInOrder asks told wanted a b Whole → AsksInOrder asks told wanted a b Cut
@@ -42,54 +49,77 @@ module _ {S : Type 0} (asks : S → ShelfCall → S → Type 0) (told : Option F
 
   -- one file behind others of which none is refused
   module _ {T : Type 0} (P : Files → T → Type 0) (refusals : Files → List (Option (List ℕ))) (more : Files → List Ask) where
-    pub order_behind : (c : S) (between : Option Files) (value : T) (how : Course) → between ≡ told → IfSome told (λ files. Prepares (P files) (refusals files) (Ok value))
+    pub order_behind : (c : S) (between : Option Files) (value : T) (how : Course) → between ≡ told
+        → IfSome told (λ files. Prepares (P files) (refusals files) (Ok value))
         → AsksInOrder asks told wanted a b Whole → AsksInOrder asks between more b c how
         → AsksInOrder asks told (λ files. wanted files ++ unless_told (first_refusal (refusals files)) (more files)) a c how
     order_behind c between value how same is first second =
-        record { by_the_files = prepared_behind asks a b c P told between wanted more refusals value how same is first.by_the_files second.by_the_files }
+        record {
+          by_the_files = prepared_behind asks a b c P told between wanted more refusals value how same is first.by_the_files
+              second.by_the_files;
+        }
 
-    pub order_stops : (why : Stop) → IfSome told (λ files. Prepares (P files) (refusals files) (Err why)) → AsksInOrder asks told wanted a b (course {T = T} (Err why))
-        → AsksInOrder asks told (λ files. wanted files ++ unless_told (first_refusal (refusals files)) (more files)) a b (course {T = T} (Err why))
+    pub order_stops : (why : Stop) → IfSome told (λ files. Prepares (P files) (refusals files) (Err why))
+        → AsksInOrder asks told wanted a b (course {T = T} (Err why))
+        → AsksInOrder asks told (λ files. wanted files ++ unless_told (first_refusal (refusals files)) (more files)) a b
+        (course {T = T} (Err why))
     order_stops why is made = record { by_the_files = prepared_stops asks a b P told wanted more refusals why is made.by_the_files }
 
   -- one answer behind another that is not refused
   module _ {T V : Type 0} (see : T → V) (answer : Files → Result V (List ℕ)) (more : Files → List Ask) where
-    pub order_answered : (c : S) (between : Option Files) (value : T) (how : Course) → between ≡ told → IfSome told (λ files. IsAnswer see (Ok value) (answer files))
+    pub order_answered : (c : S) (between : Option Files) (value : T) (how : Course) → between ≡ told
+        → IfSome told (λ files. IsAnswer see (Ok value) (answer files))
         → AsksInOrder asks told wanted a b Whole → AsksInOrder asks between more b c how
         → AsksInOrder asks told (λ files. wanted files ++ unless_refused (answer files) (more files)) a c how
     order_answered c between value how same is first second =
-        record { by_the_files = answer_behind asks a b c see told between wanted more answer value how same is first.by_the_files second.by_the_files }
+        record {
+          by_the_files = answer_behind asks a b c see told between wanted more answer value how same is first.by_the_files
+              second.by_the_files;
+        }
 
-    pub order_refused : (why : Stop) → IfSome told (λ files. IsAnswer see (Err why) (answer files)) → AsksInOrder asks told wanted a b (course {T = T} (Err why))
+    pub order_refused : (why : Stop) → IfSome told (λ files. IsAnswer see (Err why) (answer files))
+        → AsksInOrder asks told wanted a b (course {T = T} (Err why))
         → AsksInOrder asks told (λ files. wanted files ++ unless_refused (answer files) (more files)) a b (course {T = T} (Err why))
     order_refused why is made = record { by_the_files = answer_stops asks a b see told wanted more answer why is made.by_the_files }
 
 module _ {S : Type 0} (asks : S → ShelfCall → S → Type 0) (told : Option Files) (unit : List ℕ) where
   -- the inputs, one behind the other
   module _ (a b : S) where
-    pub stops_at_unit : (why : Stop) → IfSome told (λ files. IsAnswer {T = Box Resolved Global} (λ own. own.value) (Err why) (unit_in files unit))
+    pub stops_at_unit : (why : Stop)
+        → IfSome told (λ files. IsAnswer {T = Box Resolved Global} (λ own. own.value) (Err why) (unit_in files unit))
         → AsksInOrder asks told (λ files. resolve_asks files unit) a b (course {T = Box Resolved Global} (Err why))
         → AsksInOrder asks told (λ files. input_asks files unit) a b (course {T = Box Resolved Global} (Err why))
     stops_at_unit why said made =
-        order_refused asks told (λ files. resolve_asks files unit) a b (λ (own : Box Resolved Global). own.value) (λ files. unit_in files unit) (λ files. table_asks ++ unless_refused (calls_in files) site_asks) why said made
+        order_refused asks told (λ files. resolve_asks files unit) a b (λ (own : Box Resolved Global). own.value)
+        (λ files. unit_in files unit) (λ files. table_asks ++ unless_refused (calls_in files) site_asks) why said made
 
-    pub behind_unit : (c : S) (between : Option Files) (own : Box Resolved Global) (how : Course) → between ≡ told → IfSome told (λ files. unit_in files unit ≡ Ok own.value)
-        → AsksInOrder asks told (λ files. resolve_asks files unit) a b Whole → AsksInOrder asks between (λ files. table_asks ++ unless_refused (calls_in files) site_asks) b c how
+    pub behind_unit : (c : S) (between : Option Files) (own : Box Resolved Global) (how : Course) → between ≡ told
+        → IfSome told (λ files. unit_in files unit ≡ Ok own.value)
+        → AsksInOrder asks told (λ files. resolve_asks files unit) a b Whole
+        → AsksInOrder asks between (λ files. table_asks ++ unless_refused (calls_in files) site_asks) b c how
         → AsksInOrder asks told (λ files. input_asks files unit) a c how
     behind_unit c between own how same said first second =
-        order_answered asks told (λ files. resolve_asks files unit) a b (λ (own : Box Resolved Global). own.value) (λ files. unit_in files unit) (λ files. table_asks ++ unless_refused (calls_in files) site_asks)
+        order_answered asks told (λ files. resolve_asks files unit) a b (λ (own : Box Resolved Global). own.value)
+        (λ files. unit_in files unit) (λ files. table_asks ++ unless_refused (calls_in files) site_asks)
         c between own how same said first second
 
   module _ (b c : S) where
-    pub stops_at_table : (why : Stop) → IfSome told (λ files. IsAnswer {T = Box Table Global} (λ own. own.value) (Err why) (calls_in files)) → Went asks b c table_asks (course {T = Box Table Global} (Err why))
-        → AsksInOrder asks told (λ files. table_asks ++ unless_refused (calls_in files) site_asks) b c (course {T = Box Table Global} (Err why))
+    pub stops_at_table : (why : Stop)
+        → IfSome told (λ files. IsAnswer {T = Box Table Global} (λ own. own.value) (Err why) (calls_in files))
+        → Went asks b c table_asks (course {T = Box Table Global} (Err why))
+        → AsksInOrder asks told (λ files. table_asks ++ unless_refused (calls_in files) site_asks) b c
+        (course {T = Box Table Global} (Err why))
     stops_at_table why said made =
-        order_refused asks told (λ files. table_asks) b c (λ (own : Box Table Global). own.value) calls_in (λ files. site_asks) why said (asked_so asks told table_asks b c (course {T = Box Table Global} (Err why)) made)
+        order_refused asks told (λ files. table_asks) b c (λ (own : Box Table Global). own.value) calls_in (λ files. site_asks) why said
+        (asked_so asks told table_asks b c (course {T = Box Table Global} (Err why)) made)
 
-    pub behind_table : (d : S) (between : Option Files) (own : Box Table Global) (how : Course) → between ≡ told → IfSome told (λ files. calls_in files ≡ Ok own.value) → Went asks b c table_asks Whole → Went asks c d site_asks how
+    pub behind_table : (d : S) (between : Option Files) (own : Box Table Global) (how : Course) → between ≡ told
+        → IfSome told (λ files. calls_in files ≡ Ok own.value) → Went asks b c table_asks Whole → Went asks c d site_asks how
         → AsksInOrder asks told (λ files. table_asks ++ unless_refused (calls_in files) site_asks) b d how
     behind_table d between own how same said first second =
-        order_answered asks told (λ files. table_asks) b c (λ (own : Box Table Global). own.value) calls_in (λ files. site_asks) d between own how same said (asked_so asks told table_asks b c Whole first) (asked_so asks between site_asks c d how second)
+        order_answered asks told (λ files. table_asks) b c (λ (own : Box Table Global). own.value) calls_in
+        (λ files. site_asks) d between own how same said (asked_so asks told table_asks b c Whole first)
+        (asked_so asks between site_asks c d how second)
 
   module _ (path : List ℕ) (a b : S) where
     -- an input is refused, and the file behind them is not read
@@ -99,7 +129,8 @@ module _ {S : Type 0} (asks : S → ShelfCall → S → Type 0) (told : Option F
         → AsksInOrder asks told (λ files. asks_with_file files unit path) a b (course result)
     stops_before_file result why is said made =
         order_stopped asks told (λ files. asks_with_file files unit path) a b UnitInputs result why is
-        (order_stops asks told (λ files. input_asks files unit) a b (λ files inputs. inputs_of files unit ≡ Some (inputs_view inputs)) (λ files. input_refusals files unit) (λ files. input_file path ∷ []) why said made)
+        (order_stops asks told (λ files. input_asks files unit) a b (λ files inputs. inputs_of files unit ≡ Some (inputs_view inputs))
+        (λ files. input_refusals files unit) (λ files. input_file path ∷ []) why said made)
 
     -- none is, and it is
     pub with_file : (c : S) (between : Option Files) (inputs : UnitInputs) (how : Course) → between ≡ told
@@ -107,13 +138,16 @@ module _ {S : Type 0} (asks : S → ShelfCall → S → Type 0) (told : Option F
         → AsksInOrder asks told (λ files. input_asks files unit) a b Whole → Went asks b c (input_file path ∷ []) how
         → AsksInOrder asks told (λ files. asks_with_file files unit path) a c how
     with_file c between inputs how same said first second =
-        order_behind asks told (λ files. input_asks files unit) a b (λ files inputs. inputs_of files unit ≡ Some (inputs_view inputs)) (λ files. input_refusals files unit) (λ files. input_file path ∷ [])
+        order_behind asks told (λ files. input_asks files unit) a b (λ files inputs. inputs_of files unit ≡ Some (inputs_view inputs))
+        (λ files. input_refusals files unit) (λ files. input_file path ∷ [])
         c between inputs how same said first (asked_so asks between (input_file path ∷ []) b c how second)
 
     -- it is refused, or a read failed, or memory ran out
-    pub stops_at_file : (T : Type 0) {U : Type 0} (c : S) (between : Option Files) (inputs : UnitInputs) (result : Result U Stop) (why : Stop) → IsErrAnd result (λ error. error ≡ why) → between ≡ told
+    pub stops_at_file : (T : Type 0) {U : Type 0} (c : S) (between : Option Files) (inputs : UnitInputs) (result : Result U Stop)
+        (why : Stop) → IsErrAnd result (λ error. error ≡ why) → between ≡ told
         → IfSome told (λ files. (first_refusal (input_refusals files unit) ≡ None) × (inputs_of files unit ≡ Some (inputs_view inputs)))
         → AsksInOrder asks told (λ files. input_asks files unit) a b Whole → Went asks b c (input_file path ∷ []) (course {T = T} (Err why))
         → AsksInOrder asks told (λ files. asks_with_file files unit path) a c (course result)
     stops_at_file T c between inputs result why is same said first second =
-        order_stopped asks told (λ files. asks_with_file files unit path) a c T result why is (with_file c between inputs (course {T = T} (Err why)) same said first second)
+        order_stopped asks told (λ files. asks_with_file files unit path) a c T result why is
+        (with_file c between inputs (course {T = T} (Err why)) same said first second)

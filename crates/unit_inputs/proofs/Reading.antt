@@ -22,7 +22,8 @@ module _ {S T : Type 0} (told : S → Option Files) (faults : S → ℕ) (unit :
   }
 
   -- and where what stops them is passed on
-  pub read_then_stopped : {U V : Type 0} (result : Result V Stop) (why : Stop) → IsErrAnd result (λ error. error ≡ why) → (IsErrOf {T = U} (Err why) ReadFault → ⊥) → ReadsFor told faults unit before now result
+  pub read_then_stopped : {U V : Type 0} (result : Result V Stop) (why : Stop) → IsErrAnd result (λ error. error ≡ why)
+      → (IsErrOf {T = U} (Err why) ReadFault → ⊥) → ReadsFor told faults unit before now result
   read_then_stopped result why is nothing = at_stop (ReadsFor told faults unit before now) result why is (read_then (Err why) (λ e. (let same : why ≡ ReadFault = cc in nothing (ap Err same))))
 
 -- a name that is found is there

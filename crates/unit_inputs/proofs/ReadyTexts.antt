@@ -7,7 +7,8 @@ use Rattle.unit_inputs.specs.declared.command_answers.ready_text.ReadyText.{Read
 use Rattle.unit_inputs.specs.declared.command_answers.stop.Stop.{Stop}
 use Rattle.unit_inputs.specs.declared.command_answers.stop.Stop.TheVariants as stop
 
-pub ready_reads_nothing : (P : Ending → List ℕ → Type 0) (result : Result ReadyText Stop) → IsReadyWith P result → IsErrOf result stop.ReadFault → ⊥
+pub ready_reads_nothing : (P : Ending → List ℕ → Type 0) (result : Result ReadyText Stop) → IsReadyWith P result
+    → IsErrOf result stop.ReadFault → ⊥
 ready_reads_nothing P (Ok made) ready e = cc
 ready_reads_nothing P (Err (stop.Refused line)) ready e = cc
 ready_reads_nothing P (Err stop.ReadFault) ready e = absurd ready

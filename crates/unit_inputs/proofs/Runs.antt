@@ -21,11 +21,13 @@ not_whole : (ending : Ending) (kind : Ending) → IsTrue (is_whole ending) → e
 not_whole ending kind whole e = subst (λ k. IsTrue (is_whole k)) e whole
 
 module _ (laws : Laws) (together : GoTogether laws) (outside : Outside) where
-  wrote_nothing : outside.sink.taken_after ≡ outside.sink.taken_before → WrotePrefix laws.admits outside.sink.taken_before outside.sink.taken_after
+  wrote_nothing : outside.sink.taken_after ≡ outside.sink.taken_before
+      → WrotePrefix laws.admits outside.sink.taken_before outside.sink.taken_after
   wrote_nothing e = ([], [], e ∙ sym (append_known-nil outside.sink.taken_before), λ some. absurd (omega arith))
 
   -- a whole text that is admitted
-  ran_whole : (ending : Ending) (text : List ℕ) → laws.admits ending text → Grew outside.sink.taken_before outside.sink.taken_after text → outside.shelf_after ≡ outside.shelf_before → outside.sink.faults_after ≡ outside.sink.faults_before → IsRun laws ending outside
+  ran_whole : (ending : Ending) (text : List ℕ) → laws.admits ending text → Grew outside.sink.taken_before outside.sink.taken_after text
+      → outside.shelf_after ≡ outside.shelf_before → outside.sink.faults_after ≡ outside.sink.faults_before → IsRun laws ending outside
   ran_whole ending text admitted grew shelf put =
       let ends = together.ends ending text admitted in
       let whole = together.whole ending ends in
@@ -46,11 +48,16 @@ module _ (laws : Laws) (together : GoTogether laws) (outside : Outside) where
       }
 
   -- a text that is cut at an error
-  cut_text : (ending : Ending) (text : List ℕ) (error : SinkError) → laws.admits ending text → TakesText outside.sink.taken_before outside.sink.taken_after text (Err error) → WrotePrefix laws.admits outside.sink.taken_before outside.sink.taken_after
-  cut_text ending text error admitted (front, rest, is, grew) = (front, rest, grew, λ some. (ending, subst (laws.admits ending) (sym is) admitted))
+  cut_text : (ending : Ending) (text : List ℕ) (error : SinkError) → laws.admits ending text
+      → TakesText outside.sink.taken_before outside.sink.taken_after text (Err error)
+      → WrotePrefix laws.admits outside.sink.taken_before outside.sink.taken_after
+  cut_text ending text error admitted (front, rest, is, grew) =
+      (front, rest, grew, λ some. (ending, subst (laws.admits ending) (sym is) admitted))
 
   -- a write that failed
-  ran_cut : WrotePrefix laws.admits outside.sink.taken_before outside.sink.taken_after → outside.shelf_after ≡ outside.shelf_before → outside.sink.faults_before ≤ outside.sink.faults_after → Rose outside.sink.faults_before outside.sink.faults_after → IsRun laws WriteFault outside
+  ran_cut : WrotePrefix laws.admits outside.sink.taken_before outside.sink.taken_after → outside.shelf_after ≡ outside.shelf_before
+      → outside.sink.faults_before ≤ outside.sink.faults_after → Rose outside.sink.faults_before outside.sink.faults_after
+      → IsRun laws WriteFault outside
   ran_cut prefix shelf later rose = record {
     prints_the_whole_text = λ w. cc;
     prints_a_prefix = prefix;
@@ -68,7 +75,8 @@ module _ (laws : Laws) (together : GoTogether laws) (outside : Outside) where
   }
 
   -- memory ran out
-  ran_out : WrotePrefix laws.admits outside.sink.taken_before outside.sink.taken_after → outside.shelf_after ≡ outside.shelf_before → outside.sink.faults_after ≡ outside.sink.faults_before → IsRun laws OutOfMemory outside
+  ran_out : WrotePrefix laws.admits outside.sink.taken_before outside.sink.taken_after → outside.shelf_after ≡ outside.shelf_before
+      → outside.sink.faults_after ≡ outside.sink.faults_before → IsRun laws OutOfMemory outside
   ran_out prefix shelf put = record {
     prints_the_whole_text = λ w. cc;
     prints_a_prefix = prefix;
@@ -86,7 +94,8 @@ module _ (laws : Laws) (together : GoTogether laws) (outside : Outside) where
   }
 
   -- a read that failed
-  ran_unread : laws.reads → IsUntouched outside.sink → outside.shelf_before ≤ outside.shelf_after → Rose outside.shelf_before outside.shelf_after → IsRun laws ReadFault outside
+  ran_unread : laws.reads → IsUntouched outside.sink → outside.shelf_before ≤ outside.shelf_after
+      → Rose outside.shelf_before outside.shelf_after → IsRun laws ReadFault outside
   ran_unread reads untouched later rose = record {
     prints_the_whole_text = λ w. cc;
     prints_a_prefix = wrote_nothing untouched.taken;
@@ -104,20 +113,31 @@ module _ (laws : Laws) (together : GoTogether laws) (outside : Outside) where
   }
 
   -- by how the text was put
-  ran_by_put : (ending : Ending) (text : List ℕ) (put : Result (Unit {0}) SinkError) → laws.admits ending text → TakesText outside.sink.taken_before outside.sink.taken_after text put → outside.shelf_after ≡ outside.shelf_before → HasWriteCause outside.sink.faults_before outside.sink.faults_after put → IsRun laws (ending_of_put put ending) outside
+  ran_by_put : (ending : Ending) (text : List ℕ) (put : Result (Unit {0}) SinkError) → laws.admits ending text
+      → TakesText outside.sink.taken_before outside.sink.taken_after text put → outside.shelf_after ≡ outside.shelf_before
+      → HasWriteCause outside.sink.faults_before outside.sink.faults_after put → IsRun laws (ending_of_put put ending) outside
   ran_by_put ending text (Ok u) admitted takes shelf cause = ran_whole ending text admitted takes shelf cause.no_other_fault
-  ran_by_put ending text (Err sink.Failed) admitted takes shelf cause = ran_cut (cut_text ending text sink.Failed admitted takes) shelf cause.later (cause.failed refl)
-  ran_by_put ending text (Err sink.Memory) admitted takes shelf cause = ran_out (cut_text ending text sink.Memory admitted takes) shelf (cause.no_other_fault (λ e. cc))
+  ran_by_put ending text (Err sink.Failed) admitted takes shelf cause =
+      ran_cut (cut_text ending text sink.Failed admitted takes) shelf cause.later (cause.failed refl)
+  ran_by_put ending text (Err sink.Memory) admitted takes shelf cause =
+      ran_out (cut_text ending text sink.Memory admitted takes) shelf (cause.no_other_fault (λ e. cc))
 
-  ran_text : (ending : Ending) (text : List ℕ) (ended : Ending) → laws.admits ending text → PrintsText ending text ended outside.sink → outside.shelf_after ≡ outside.shelf_before → IsRun laws ended outside
+  ran_text : (ending : Ending) (text : List ℕ) (ended : Ending) → laws.admits ending text → PrintsText ending text ended outside.sink
+      → outside.shelf_after ≡ outside.shelf_before → IsRun laws ended outside
   ran_text ending text ended admitted printed shelf =
       subst (λ e. IsRun laws e outside) (sym printed.ends) (ran_by_put ending text printed.put admitted printed.takes shelf printed.cause)
 
   -- a command that is prepared and then finished runs by its laws
-  pub ran : {R : Type 0} (behind : R → Ending) (text : R → List ℕ) (prepared : Result R Stop) (ended : Ending) → IsAdmitted laws behind text prepared → (IsErrOf prepared stop.ReadFault → laws.reads) → HasReadCause outside.shelf_before outside.shelf_after prepared → Finishes behind text prepared ended outside.sink → IsRun laws ended outside
-  ran behind text (Ok ready) ended admitted reads cause finished = ran_text (behind ready) (text ready) ended admitted finished cause.no_other_fault
-  ran behind text (Err (stop.Refused line)) ended admitted reads cause finished = ran_text Refused line.items ended admitted finished (cause.no_other_fault (λ e. cc))
+  pub ran : {R : Type 0} (behind : R → Ending) (text : R → List ℕ) (prepared : Result R Stop) (ended : Ending)
+      → IsAdmitted laws behind text prepared → (IsErrOf prepared stop.ReadFault → laws.reads)
+      → HasReadCause outside.shelf_before outside.shelf_after prepared → Finishes behind text prepared ended outside.sink
+      → IsRun laws ended outside
+  ran behind text (Ok ready) ended admitted reads cause finished =
+      ran_text (behind ready) (text ready) ended admitted finished cause.no_other_fault
+  ran behind text (Err (stop.Refused line)) ended admitted reads cause finished =
+      ran_text Refused line.items ended admitted finished (cause.no_other_fault (λ e. cc))
   ran behind text (Err stop.ReadFault) ended admitted reads cause finished =
       subst (λ e. IsRun laws e outside) (sym finished.0) (ran_unread (reads refl) finished.1 cause.later (cause.failed refl))
   ran behind text (Err stop.Memory) ended admitted reads cause finished =
-      subst (λ e. IsRun laws e outside) (sym finished.0) (ran_out (wrote_nothing finished.1.taken) (cause.no_other_fault (λ e. cc)) finished.1.faults)
+      subst (λ e. IsRun laws e outside) (sym finished.0)
+      (ran_out (wrote_nothing finished.1.taken) (cause.no_other_fault (λ e. cc)) finished.1.faults)

@@ -10,15 +10,18 @@ use Rattle.unit_inputs.specs.command_answers.Said.{IsSaid}
 
 module _ {T V : Type 0} (see : T → V) (IsWanted : Result V (List ℕ) → Type 0) where
   -- the line of a refusal that stands, where there was memory for it
-  said_line : (line : Result (Vec ℕ Global) AllocError) (text : List ℕ) → IfOk line (λ own. own.items ≡ text) → IsWanted (Err text) → IsSaid see IsWanted (Err (stop_of line))
+  said_line : (line : Result (Vec ℕ Global) AllocError) (text : List ℕ) → IfOk line (λ own. own.items ≡ text) → IsWanted (Err text)
+      → IsSaid see IsWanted (Err (stop_of line))
   said_line (Ok line) text is wanted = subst (λ own. IsWanted (Err own)) (sym is) wanted
   said_line (Err error) text is wanted = tt
 
-  pub said_refused : (line : Result (Vec ℕ Global) AllocError) (text : List ℕ) (told : Stop) → told ≡ stop_of line → IfOk line (λ own. own.items ≡ text) → IsWanted (Err text) → IsSaid see IsWanted (Err told)
+  pub said_refused : (line : Result (Vec ℕ Global) AllocError) (text : List ℕ) (told : Stop) → told ≡ stop_of line
+      → IfOk line (λ own. own.items ≡ text) → IsWanted (Err text) → IsSaid see IsWanted (Err told)
   said_refused line text told same is wanted = subst (λ own. IsSaid see IsWanted (Err own)) (sym same) (said_line line text is wanted)
 
   -- what is wanted by one relation is so by another
-  pub said_as : (IsOther : Result V (List ℕ) → Type 0) → ((said : Result V (List ℕ)) → IsWanted said → IsOther said) → (result : Result T Stop) → IsSaid see IsWanted result → IsSaid see IsOther result
+  pub said_as : (IsOther : Result V (List ℕ) → Type 0) → ((said : Result V (List ℕ)) → IsWanted said → IsOther said)
+      → (result : Result T Stop) → IsSaid see IsWanted result → IsSaid see IsOther result
   said_as IsOther as_other (Ok value) said = as_other (Ok (see value)) said
   said_as IsOther as_other (Err (stop.Refused line)) said = as_other (Err line.items) said
   said_as IsOther as_other (Err stop.ReadFault) said = tt

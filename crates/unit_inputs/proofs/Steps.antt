@@ -16,21 +16,28 @@ abbrev pub AreRead : Files → List ℕ → UnitInputs → Type 0
 AreRead files unit inputs = (first_refusal (input_refusals files unit) ≡ None) × (inputs_of files unit ≡ Some (inputs_view inputs))
 
 -- with the inputs, what is refused behind others is what they are refused for
-pub refusals_with : (files : Files) (unit : List ℕ) (some : List (Option (List ℕ))) (more : Inputs → List (Option (List ℕ))) (inputs : Inputs) → first_refusal some ≡ None → inputs_of files unit ≡ Some inputs → first_refusal (some ++ refusals_by more (inputs_of files unit)) ≡ first_refusal (more inputs)
+pub refusals_with : (files : Files) (unit : List ℕ) (some : List (Option (List ℕ))) (more : Inputs → List (Option (List ℕ)))
+    (inputs : Inputs) → first_refusal some ≡ None → inputs_of files unit ≡ Some inputs
+    → first_refusal (some ++ refusals_by more (inputs_of files unit)) ≡ first_refusal (more inputs)
 refusals_with files unit some more inputs none is =
     behind_none some (refusals_by more (inputs_of files unit)) none
     ∙ ap (λ found. first_refusal (refusals_by more found)) is
 
 -- inputs that are read, and then their settings
-pub settled : (told : Option Files) (unit : List ℕ) (inputs : UnitInputs) (result : Result SettledUnit Stop) → IfSome told (λ files. AreRead files unit inputs) → Prepares (λ one. (one.inputs ≡ inputs) × AreSettled (inputs_view inputs) one.settings.value) (refusals_of unit (inputs_view inputs)) result → IfSome told (λ files. Prepares (λ one. inputs_of files unit ≡ Some (inputs_view one.inputs)) (unit_refusals files unit) result)
+pub settled : (told : Option Files) (unit : List ℕ) (inputs : UnitInputs) (result : Result SettledUnit Stop)
+    → IfSome told (λ files. AreRead files unit inputs) → Prepares
+    (λ one. (one.inputs ≡ inputs) × AreSettled (inputs_view inputs) one.settings.value) (refusals_of unit (inputs_view inputs)) result
+    → IfSome told (λ files. Prepares (λ one. inputs_of files unit ≡ Some (inputs_view one.inputs)) (unit_refusals files unit) result)
 settled None unit inputs result read settles = tt
 settled (Some files) unit inputs (Ok one) read settles = (refusals_with files unit (input_refusals files unit) (refusals_of unit) (inputs_view inputs) read.0 read.1 ∙ settles.0, read.1 ∙ ap (λ these. Some (inputs_view these)) (sym settles.1.0))
-settled (Some files) unit inputs (Err (stop.Refused line)) read settles = refusals_with files unit (input_refusals files unit) (refusals_of unit) (inputs_view inputs) read.0 read.1 ∙ settles
+settled (Some files) unit inputs (Err (stop.Refused line)) read settles =
+    refusals_with files unit (input_refusals files unit) (refusals_of unit) (inputs_view inputs) read.0 read.1 ∙ settles
 settled (Some files) unit inputs (Err stop.ReadFault) read settles = tt
 settled (Some files) unit inputs (Err stop.Memory) read settles = tt
 
 -- an input is refused, whatever may be refused behind them
-pub stops_at_inputs : {U : Type 0} (P : Files → UnitInputs → Type 0) (Q : Files → U → Type 0) (told : Option Files) (unit : List ℕ) (more : Files → List (Option (List ℕ))) (why : Stop)
+pub stops_at_inputs : {U : Type 0} (P : Files → UnitInputs → Type 0) (Q : Files → U → Type 0) (told : Option Files) (unit : List ℕ)
+    (more : Files → List (Option (List ℕ))) (why : Stop)
     → IfSome told (λ files. Prepares (P files) (input_refusals files unit) (Err why))
     → IfSome told (λ files. Prepares (Q files) (input_refusals files unit ++ more files) (Err why))
 stops_at_inputs P Q None unit more why said = tt

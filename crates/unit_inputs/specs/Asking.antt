@@ -25,7 +25,8 @@ site_asks = input_file site_path ∷ []
 
 -- the unit, then calls.txt, then site.toml, each of them where nothing before it is refused
 abbrev pub input_asks : Files → List ℕ → List Ask
-input_asks files unit = resolve_asks files unit ++ unless_refused (unit_in files unit) (table_asks ++ unless_refused (calls_in files) site_asks)
+input_asks files unit = resolve_asks files unit ++ unless_refused (unit_in files unit)
+    (table_asks ++ unless_refused (calls_in files) site_asks)
 
 -- and then a file, where none of these is refused
 abbrev pub asks_with_file : Files → List ℕ → List ℕ → List Ask

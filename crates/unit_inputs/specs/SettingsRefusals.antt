@@ -3,7 +3,8 @@ use Rattle.std.specs.Prelude.{ℕ, List, [], ◌++◌, codes}
 use Rattle.exec_settings.specs.text_forms.Escaped.{escaped_word}
 use Rattle.unit_inputs.specs.command_answers.Refusals.{refused_line}
 use Rattle.exec_settings.specs.declared.errors.SettingsError.{SettingsError}
-use Rattle.exec_settings.specs.declared.errors.SettingsError.TheVariants.{NoCommand, PrivilegedCommand, OutsideProfile, NoSuchUser, NoSuchGroup, MissingGroup, TooManyPaths, Memory}
+use Rattle.exec_settings.specs.declared.errors.SettingsError.TheVariants.{NoCommand, PrivilegedCommand, OutsideProfile, NoSuchUser}
+use Rattle.exec_settings.specs.declared.errors.SettingsError.TheVariants.{NoSuchGroup, MissingGroup, TooManyPaths, Memory}
 
 -- why, and of what
 abbrev pub cause_with : List ℕ → List ℕ → List ℕ

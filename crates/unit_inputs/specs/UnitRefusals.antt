@@ -6,7 +6,8 @@ use Rattle.exec_settings.specs.unit_grammar.declared.unit.UnitError.{UnitError}
 use Rattle.exec_settings.specs.unit_grammar.declared.unit.UnitError.TheVariants as text
 use Rattle.exec_settings.specs.dropin_merge.Resolving.{resolved_of}
 use Rattle.exec_settings.specs.dropin_merge.declared.errors.ResolveError.{ResolveError}
-use Rattle.exec_settings.specs.dropin_merge.declared.errors.ResolveError.TheVariants.{BadName, NotFound, Masked, DropIns, TooLarge, Text, ReadFault, Memory}
+use Rattle.exec_settings.specs.dropin_merge.declared.errors.ResolveError.TheVariants.{BadName, NotFound, Masked, DropIns, TooLarge, Text}
+use Rattle.exec_settings.specs.dropin_merge.declared.errors.ResolveError.TheVariants.{ReadFault, Memory}
 use Rattle.exec_settings.specs.dropin_merge.declared.resolved.Resolved.{Resolved}
 use Rattle.unit_inputs.specs.command_answers.Refusals.{refused_line}
 use Rattle.unit_inputs.specs.command_answers.Stops.{or_line}

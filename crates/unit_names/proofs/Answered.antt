@@ -9,11 +9,13 @@ use Rattle.unit_names.specs.Taking.{GivesText}
 use Rattle.unit_names.specs.declared.expansion.ExpandError.{ExpandError}
 use Rattle.unit_names.specs.declared.expansion.ExpandError.TheVariants.{Specifier as Refused, Memory}
 
-pub gives_then : (wanted : Option (List ℕ)) (result : Result (String Global) ExpandError) → GivesText wanted result → IfOk result (λ text. wanted ≡ Some (string_bytes text))
+pub gives_then : (wanted : Option (List ℕ)) (result : Result (String Global) ExpandError) → GivesText wanted result
+    → IfOk result (λ text. wanted ≡ Some (string_bytes text))
 gives_then wanted (Ok text) h = h
 gives_then wanted (Err error) h = tt
 
-pub refuses_then : (wanted : Option (List ℕ)) (result : Result (String Global) ExpandError) → GivesText wanted result → result ≡ Err Refused → wanted ≡ None
+pub refuses_then : (wanted : Option (List ℕ)) (result : Result (String Global) ExpandError) → GivesText wanted result
+    → result ≡ Err Refused → wanted ≡ None
 refuses_then wanted (Ok text) h e = cc
 refuses_then wanted (Err Refused) h e = h
 refuses_then wanted (Err Memory) h e = cc

@@ -5,11 +5,13 @@ use Rattle.std.proofs.lemmas.Option.{none-some}
 use Rattle.unit_names.specs.Unescaping.{onto}
 
 -- a byte in front of what follows is a byte behind what stands already
-pub option_append-onto : (old : List ℕ) (byte : ℕ) (more : Option (List ℕ)) → option_append (Some old) (onto (Some byte) more) ≡ option_append (Some (old ++ byte ∷ [])) more
+pub option_append-onto : (old : List ℕ) (byte : ℕ) (more : Option (List ℕ))
+    → option_append (Some old) (onto (Some byte) more) ≡ option_append (Some (old ++ byte ∷ [])) more
 option_append-onto old byte None = refl
 option_append-onto old byte (Some more) = ap Some (sym (append_assoc old (byte ∷ []) more))
 
-pub option_append_assoc : (old : List ℕ) (middle more : Option (List ℕ)) → option_append (Some old) (option_append middle more) ≡ option_append (option_append (Some old) middle) more
+pub option_append_assoc : (old : List ℕ) (middle more : Option (List ℕ))
+    → option_append (Some old) (option_append middle more) ≡ option_append (option_append (Some old) middle) more
 option_append_assoc old None more = refl
 option_append_assoc old (Some middle) None = refl
 option_append_assoc old (Some middle) (Some more) = ap Some (sym (append_assoc old middle more))

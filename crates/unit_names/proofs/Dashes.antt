@@ -31,16 +31,20 @@ passes_for : (byte : ℕ) → byte ≢ dash → is_no_dash byte ≡ true
 passes_for byte apart = ap not (ne_eqb byte dash apart)
 
 -- the last part begins at this place
-last_from : (prefix : List ℕ) (place : ℕ) → place ≤ length prefix → suffix_len is_no_dash prefix ≡ length prefix - place → drop place prefix ≡ last_part prefix
+last_from : (prefix : List ℕ) (place : ℕ) → place ≤ length prefix → suffix_len is_no_dash prefix ≡ length prefix - place
+    → drop place prefix ≡ last_part prefix
 last_from prefix place within size = ap (λ n. drop n prefix) (omega (arith, size))
 
 pub without_dash : (prefix : List ℕ) → NoCharPasses (λ d. eqb d dash) prefix → prefix ≡ last_part prefix
 without_dash prefix none =
     last_from prefix 0 (omega arith)
-    (suffix_len_is is_no_dash prefix 0 0 (omega arith) (λ k low high. passes_for (get_or prefix k 0) (NoCharPasses-char dash prefix k none (lit< tt) high)) (λ h. absurd (omega arith)))
+    (suffix_len_is is_no_dash prefix 0 0 (omega arith)
+    (λ k low high. passes_for (get_or prefix k 0) (NoCharPasses-char dash prefix k none (lit< tt) high)) (λ h. absurd (omega arith)))
 
 -- what `rsplit_once` answers at a dash
-pub behind_last : (prefix : List ℕ) (front back : Bor (List ℕ)) → (i : ℕ) × (j : ℕ) × RFindsChar dash prefix (Some (i, j)) × (front.now ≡ take i prefix) × (back.now ≡ drop j prefix) × (i ≤ j) × (length front.now ≡ i) × (length back.now + j ≡ length prefix) → back.now ≡ last_part prefix
+pub behind_last : (prefix : List ℕ) (front back : Bor (List ℕ))
+    → (i : ℕ) × (j : ℕ) × RFindsChar dash prefix (Some (i, j)) × (front.now ≡ take i prefix) × (back.now ≡ drop j prefix) × (i ≤ j) ×
+    (length front.now ≡ i) × (length back.now + j ≡ length prefix) → back.now ≡ last_part prefix
 behind_last prefix front back h =
     let i = h.0 in
     let j = h.1 in

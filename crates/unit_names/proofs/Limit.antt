@@ -7,7 +7,8 @@ use Rattle.std.proofs.lemmas.List.{length-append}
 use Rattle.unit_names.specs.Expansion.{longest_value, if_short}
 
 -- what begins with too many bytes is too long, whatever follows
-pub too_many : (bytes : List ℕ) (more : Option (List ℕ)) → longest_value < length bytes → option_and_then if_short (option_append (Some bytes) more) ≡ None
+pub too_many : (bytes : List ℕ) (more : Option (List ℕ)) → longest_value < length bytes
+    → option_and_then if_short (option_append (Some bytes) more) ≡ None
 too_many bytes None h = refl
 too_many bytes (Some more) h =
     ap (λ b. cond b (Some (bytes ++ more)) None) (lt-leb (length (bytes ++ more)) longest_value (omega (arith, length-append bytes more)))

@@ -1,11 +1,13 @@
 -- A text is read as a name just where it is spelled so.
-use Rattle.std.proofs.Common.{◌≡◌, ℕ, true, false, cond, eqb, ltb, leb, Option, Some, None, List, [], ◌∷◌, ◌++◌, length, refl, sym, ap, ◌∙◌, append-nil}
+use Rattle.std.proofs.Common.{◌≡◌, ℕ, true, false, cond, eqb, ltb, leb, Option, Some, None, List, [], ◌∷◌, ◌++◌, length, refl, sym, ap, ◌∙◌}
+use Rattle.std.proofs.Common.{append-nil}
 use Rattle.std.specs.Prelude.{◌↔◌, not, codes, ◌&&◌}
 use Rattle.std.specs.List.{list_all}
 use Rattle.std.specs.Option.{option_and_then}
 use Rattle.std.proofs.lemmas.Bool.{and_parts, and_from, eqb-true, true≢false}
 use Rattle.std.proofs.lemmas.Option.{cond_some, option_and_then_some}
-use Rattle.unit_names.specs.Names.{Name, Names, at_sign, is_prefix_byte, is_instance, is_filled_by, is_unit_name, behind_prefix, stem_of, text_of}
+use Rattle.unit_names.specs.Names.{Name, Names, at_sign, is_prefix_byte, is_instance, is_filled_by, is_unit_name, behind_prefix, stem_of}
+use Rattle.unit_names.specs.Names.{text_of}
 use Rattle.unit_names.specs.Cutting.{before_end, cut_at, of_sides, of_stem, if_allowed, name_of}
 use Rattle.unit_names.proofs.Endings.{before_end_whole, before_end-append}
 use Rattle.unit_names.proofs.AtSigns.{cut_at_whole, cut_at_none, cut_at-append}
@@ -39,7 +41,8 @@ prefix_free name h =
     let both = and_parts (is_filled_by is_prefix_byte name.prefix) (is_instance name.instance) parts.0 in
     free_of_at name.prefix (and_parts (ltb 0 (length name.prefix)) (list_all is_prefix_byte name.prefix) both.0).1
 
-of_stem_spelled : (prefix : List ℕ) (instance : Option (List ℕ)) → list_all (λ b. not (eqb b at_sign)) prefix ≡ true → of_stem (prefix ++ behind_prefix instance) ≡ record { prefix = prefix; instance = instance }
+of_stem_spelled : (prefix : List ℕ) (instance : Option (List ℕ)) → list_all (λ b. not (eqb b at_sign)) prefix ≡ true
+    → of_stem (prefix ++ behind_prefix instance) ≡ record { prefix = prefix; instance = instance }
 of_stem_spelled prefix None h =
     ap of_stem (append-nil prefix) ∙ ap (of_sides prefix) (cut_at_none at_sign prefix h)
 of_stem_spelled prefix (Some instance) h =

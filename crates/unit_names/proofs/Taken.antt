@@ -15,12 +15,16 @@ use Rattle.unit_names.proofs.Pieces.{expanded_specifier, expanded_literal}
 use denote.Ref.{Bor}
 
 -- a piece that is refused makes the whole text refused
-pub part_refused : (old new bytes text rest : List ℕ) (error : ExpandError) → option_append (Some bytes) (unescaped rest) ≡ option_append (Some old) (unescaped text) → TakesPart rest (Err error) → AddsMeaning old (unescaped text) (Err error) new
+pub part_refused : (old new bytes text rest : List ℕ) (error : ExpandError)
+    → option_append (Some bytes) (unescaped rest) ≡ option_append (Some old) (unescaped text) → TakesPart rest (Err error)
+    → AddsMeaning old (unescaped text) (Err error) new
 part_refused old new bytes text rest Refused e taken = missing_more old (unescaped text) (sym e ∙ ap (option_append (Some bytes)) taken)
 part_refused old new bytes text rest Memory e taken = tt
 
 -- a piece that is taken gives a byte
-pub part_taken : (bytes new rest : List ℕ) (first : Option (ℕ × Bor (List ℕ))) (byte : ℕ) (behind : Bor (List ℕ)) → TakesPart rest (Ok first) → first ≡ Some (byte, behind) → new ≡ bytes ++ byte ∷ [] → option_append (Some new) (unescaped behind.now) ≡ option_append (Some bytes) (unescaped rest)
+pub part_taken : (bytes new rest : List ℕ) (first : Option (ℕ × Bor (List ℕ))) (byte : ℕ) (behind : Bor (List ℕ))
+    → TakesPart rest (Ok first) → first ≡ Some (byte, behind) → new ≡ bytes ++ byte ∷ []
+    → option_append (Some new) (unescaped behind.now) ≡ option_append (Some bytes) (unescaped rest)
 part_taken bytes new rest first byte behind taken is pushed =
     let one : TakesPart rest (Ok (Some (byte, behind))) = subst (λ f. TakesPart rest (Ok f)) is taken in
     ap (λ n. option_append (Some n) (unescaped behind.now)) pushed
@@ -28,7 +32,9 @@ part_taken bytes new rest first byte behind taken is pushed =
     ∙ sym (ap (option_append (Some bytes)) one.0)
 
 -- a specifier that is taken gives its meaning
-pub specifier_taken : (name : Name) (old new behind rest : List ℕ) (letter : ℕ) (specifier : Specifier) → behind ≡ letter ∷ rest → specifier_at letter ≡ Some specifier → option_append (Some old) (meaning name specifier) ≡ Some new → option_append (Some old) (expanded_bytes name (percent ∷ behind)) ≡ option_append (Some new) (expanded_bytes name rest)
+pub specifier_taken : (name : Name) (old new behind rest : List ℕ) (letter : ℕ) (specifier : Specifier) → behind ≡ letter ∷ rest
+    → specifier_at letter ≡ Some specifier → option_append (Some old) (meaning name specifier) ≡ Some new
+    → option_append (Some old) (expanded_bytes name (percent ∷ behind)) ≡ option_append (Some new) (expanded_bytes name rest)
 specifier_taken name old new behind rest letter specifier split found meant =
     ap (λ b. option_append (Some old) (expanded_bytes name (percent ∷ b))) split
     ∙ ap (option_append (Some old)) (expanded_specifier name letter rest specifier found)
@@ -36,7 +42,8 @@ specifier_taken name old new behind rest letter specifier split found meant =
     ∙ ap (λ o. option_append o (expanded_bytes name rest)) meant
 
 -- a byte that is taken stands for itself
-pub literal_taken : (name : Name) (old new behind : List ℕ) (byte : ℕ) → byte ≢ percent → new ≡ old ++ byte ∷ [] → option_append (Some old) (expanded_bytes name (byte ∷ behind)) ≡ option_append (Some new) (expanded_bytes name behind)
+pub literal_taken : (name : Name) (old new behind : List ℕ) (byte : ℕ) → byte ≢ percent → new ≡ old ++ byte ∷ []
+    → option_append (Some old) (expanded_bytes name (byte ∷ behind)) ≡ option_append (Some new) (expanded_bytes name behind)
 literal_taken name old new behind byte apart pushed =
     ap (option_append (Some old)) (expanded_literal name byte behind (ne_eqb byte percent apart))
     ∙ option_append-onto old byte (expanded_bytes name behind)

@@ -11,7 +11,8 @@ before_end ending text = cond (ends_with nat_eq text ending) (Some (take (length
 
 -- what stands on the two sides of the first such byte
 abbrev pub cut_at : ℕ → List ℕ → Option (List ℕ × List ℕ)
-cut_at byte text = cond (nat_lt (position_or_len (λ b. b == byte) text) (length text)) (Some (before_first (λ b. b == byte) text, after_first (λ b. b == byte) text)) None
+cut_at byte text = cond (nat_lt (position_or_len (λ b. b == byte) text) (length text))
+    (Some (before_first (λ b. b == byte) text, after_first (λ b. b == byte) text)) None
 
 -- the parts of a stem, by what stands on the two sides of its first `@`
 abbrev pub of_sides : List ℕ → Option (List ℕ × List ℕ) → Name

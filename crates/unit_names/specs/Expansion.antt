@@ -55,7 +55,8 @@ onto_pieces (Some piece) pieces = option_map (λ others. piece ∷ others) piece
 abbrev pub pieces_of : List ℕ → Option (List Piece)
 pieces_of [] = Some []
 pieces_of (byte ∷ []) = cond (byte == percent) None (Some (literal byte ∷ []))
-pieces_of (byte ∷ next ∷ value) = cond (byte == percent) (onto_pieces (option_map specified (specifier_at next)) (pieces_of value)) (onto_pieces (Some (literal byte)) (pieces_of (next ∷ value)))
+pieces_of (byte ∷ next ∷ value) = cond (byte == percent) (onto_pieces (option_map specified (specifier_at next)) (pieces_of value))
+    (onto_pieces (Some (literal byte)) (pieces_of (next ∷ value)))
 
 -- the bytes, where they are not too many
 abbrev pub if_short : List ℕ → Option (List ℕ)

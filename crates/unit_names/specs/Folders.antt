@@ -1,5 +1,6 @@
 -- The folders of drop-ins (systemd.unit(5), Description: drop-in files).
-use Rattle.std.specs.Prelude.{ℕ, zero, suc, ◌+◌, ◌==◌, ◌&&◌, nat_lt, Bool, Option, Some, None, List, [], ◌∷◌, ◌++◌, length, take, map, filter, slice_index, codes}
+use Rattle.std.specs.Prelude.{ℕ, zero, suc, ◌+◌, ◌==◌, ◌&&◌, nat_lt, Bool, Option, Some, None, List, [], ◌∷◌, ◌++◌, length, take, map}
+use Rattle.std.specs.Prelude.{filter, slice_index, codes}
 use Rattle.unit_names.specs.Names.{Name, text_of, template_of}
 
 -- the places below a number, from the last to the first

@@ -4,7 +4,10 @@ use Rattle.std.specs.List.{after_last}
 use Rattle.unit_names.specs.Names.{Name, stem_of, text_of}
 use Rattle.unit_names.specs.Unescaping.{dash, unescaped}
 use Rattle.unit_names.specs.declared.specifier.Specifier.{Specifier}
-use Rattle.unit_names.specs.declared.specifier.Specifier.TheVariants.{Percent, WholeName, Stem, Prefix, Instance, LastPart, PrefixUnescaped, InstanceUnescaped, LastPartUnescaped, RuntimeFolder, StateFolder, CacheFolder, LogFolder, ConfigFolder, TemporaryFolder, LastingTemporaryFolder, UserName, UserNumber, HomeFolder}
+use Rattle.unit_names.specs.declared.specifier.Specifier.TheVariants.{Percent, WholeName, Stem, Prefix, Instance, LastPart, PrefixUnescaped}
+use Rattle.unit_names.specs.declared.specifier.Specifier.TheVariants.{InstanceUnescaped, LastPartUnescaped, RuntimeFolder, StateFolder}
+use Rattle.unit_names.specs.declared.specifier.Specifier.TheVariants.{CacheFolder, LogFolder, ConfigFolder, TemporaryFolder}
+use Rattle.unit_names.specs.declared.specifier.Specifier.TheVariants.{LastingTemporaryFolder, UserName, UserNumber, HomeFolder}
 
 -- `%`
 abbrev pub percent : ℕ
@@ -76,7 +79,9 @@ meaning name specifier = cond (unescapes specifier) (unescaped (specified_text n
 -- all of them
 abbrev pub specifiers : List Specifier
 specifiers =
-    Percent ∷ WholeName ∷ Stem ∷ Prefix ∷ Instance ∷ LastPart ∷ PrefixUnescaped ∷ InstanceUnescaped ∷ LastPartUnescaped ∷ RuntimeFolder ∷ StateFolder ∷ CacheFolder ∷ LogFolder ∷ ConfigFolder ∷ TemporaryFolder ∷ LastingTemporaryFolder ∷ UserName ∷ UserNumber ∷ HomeFolder ∷ []
+    Percent ∷ WholeName ∷ Stem ∷ Prefix ∷ Instance ∷ LastPart ∷ PrefixUnescaped ∷ InstanceUnescaped ∷ LastPartUnescaped ∷ RuntimeFolder ∷
+    StateFolder ∷ CacheFolder ∷ LogFolder ∷ ConfigFolder ∷ TemporaryFolder ∷ LastingTemporaryFolder ∷ UserName ∷ UserNumber ∷
+    HomeFolder ∷ []
 
 -- the character behind the `%`
 abbrev pub letter_of : Specifier → ℕ

@@ -25,7 +25,8 @@ AddsMeaning old meant (Err Memory) new = Unit {0}
 -- what the first piece of a value puts behind some bytes, and the value behind the piece
 abbrev pub TakesPiece : Name → List ℕ → List ℕ → Result (Bor (List ℕ)) ExpandError → List ℕ → Type 0
 TakesPiece name value old (Ok rest) new =
-    (option_append (Some old) (expanded_bytes name value) ≡ option_append (Some new) (expanded_bytes name rest.now)) × (length rest.now < length value)
+    (option_append (Some old) (expanded_bytes name value) ≡ option_append (Some new) (expanded_bytes name rest.now)) ×
+    (length rest.now < length value)
 TakesPiece name value old (Err Refused) new = expanded_bytes name value ≡ None
 TakesPiece name value old (Err Memory) new = Unit {0}
 

@@ -83,4 +83,5 @@ unescaped [] = Some []
 unescaped (a ∷ []) = Some (plain_byte a ∷ [])
 unescaped (a ∷ b ∷ []) = cond (is_escape a b) None (onto (Some (plain_byte a)) (unescaped (b ∷ [])))
 unescaped (a ∷ b ∷ c ∷ []) = cond (is_escape a b) None (onto (Some (plain_byte a)) (unescaped (b ∷ c ∷ [])))
-unescaped (a ∷ b ∷ c ∷ d ∷ text) = cond (is_escape a b) (onto (hex_byte c d) (unescaped text)) (onto (Some (plain_byte a)) (unescaped (b ∷ c ∷ d ∷ text)))
+unescaped (a ∷ b ∷ c ∷ d ∷ text) = cond (is_escape a b) (onto (hex_byte c d) (unescaped text))
+    (onto (Some (plain_byte a)) (unescaped (b ∷ c ∷ d ∷ text)))

@@ -23,7 +23,8 @@ use Rattle.judge_command.specs.unit_inputs.declared.command_answers.ready_text.R
 use Rattle.why_command.specs.lines_command.Prints.{PrintsLines, TellsLaunch, TellsLines, lines_laws, lines_refusals}
 
 -- each ends as it may
-ends_so : (name : List ℕ) (inputs : Inputs) (launch : UnitLaunch) (ending : Ending) (text : List ℕ) → TellsLaunch name inputs launch ending text → (ending ≡ Done) ⊎ (ending ≡ LaunchRefused)
+ends_so : (name : List ℕ) (inputs : Inputs) (launch : UnitLaunch) (ending : Ending) (text : List ℕ)
+    → TellsLaunch name inputs launch ending text → (ending ≡ Done) ⊎ (ending ≡ LaunchRefused)
 ends_so name inputs (Refused refusal) ending text tells = inr tells.0
 ends_so name inputs (Launched service) ending text tells = inl tells.0
 
@@ -37,33 +38,47 @@ module _ (told : Option Files) (unit : List ℕ) where
   together = go_together (lines_laws unit) told answered
 
 -- an input is refused
-pub stops_at_inputs : (P : Files → UnitInputs → Type 0) (told : Option Files) (unit : List ℕ) (stop : Stop) → IfSome told (λ files. Prepares (P files) (input_refusals files unit) (Err stop)) → IsAdmitted (laws_over told (lines_laws unit)) ending_of text_of (Err stop)
+pub stops_at_inputs : (P : Files → UnitInputs → Type 0) (told : Option Files) (unit : List ℕ) (stop : Stop)
+    → IfSome told (λ files. Prepares (P files) (input_refusals files unit) (Err stop))
+    → IsAdmitted (laws_over told (lines_laws unit)) ending_of text_of (Err stop)
 stops_at_inputs P told unit stop said =
     stop_is_admitted (lines_laws unit) ending_of text_of (λ (made : ReadyText). Unit {0}) told stop
-    (steps.stops_at_inputs P (λ files (made : ReadyText). Unit {0}) told unit (λ files. refusals_by (start_refusals unit) (inputs_of files unit)) stop said)
+    (steps.stops_at_inputs P (λ files (made : ReadyText). Unit {0}) told unit
+    (λ files. refusals_by (start_refusals unit) (inputs_of files unit)) stop said)
 
 module _ (told : Option Files) (unit : List ℕ) (inputs : UnitInputs) (are : IfSome told (λ files. AreRead files unit inputs)) where
   read_is : (files : Files) → told ≡ Some files → AreRead files unit inputs
   read_is files e = subst (λ own. IfSome own (λ files. AreRead files unit inputs)) e are
 
-  behind_inputs : (files : Files) → told ≡ Some files → first_refusal (lines_refusals files unit) ≡ first_refusal (start_refusals unit (inputs_view inputs))
-  behind_inputs files e = refusals_with files unit (input_refusals files unit) (start_refusals unit) (inputs_view inputs) (read_is files e).0 (read_is files e).1
+  behind_inputs : (files : Files) → told ≡ Some files → first_refusal (lines_refusals files unit)
+      ≡ first_refusal (start_refusals unit (inputs_view inputs))
+  behind_inputs files e = refusals_with files unit (input_refusals files unit) (start_refusals unit) (inputs_view inputs)
+      (read_is files e).0 (read_is files e).1
 
-  admitted : (result : Result ReadyText Stop) → Prepares (λ made. TellsLines unit (inputs_view inputs) (ending_of made) (text_of made)) (start_refusals unit (inputs_view inputs)) result → IsAdmitted (laws_over told (lines_laws unit)) ending_of text_of result
-  admitted (Err why) answers = stop_is_admitted (lines_laws unit) ending_of text_of (λ made. TellsLines unit (inputs_view inputs) (ending_of made) (text_of made)) told why (at told refl)
+  admitted : (result : Result ReadyText Stop) → Prepares (λ made. TellsLines unit (inputs_view inputs) (ending_of made) (text_of made))
+      (start_refusals unit (inputs_view inputs)) result → IsAdmitted (laws_over told (lines_laws unit)) ending_of text_of result
+  admitted (Err why) answers = stop_is_admitted (lines_laws unit) ending_of text_of
+      (λ made. TellsLines unit (inputs_view inputs) (ending_of made) (text_of made)) told why (at told refl)
     where
-      at : (own : Option Files) → told ≡ own → IfSome own (λ files. Prepares (λ made. TellsLines unit (inputs_view inputs) (ending_of made) (text_of made)) (lines_refusals files unit) (Err why))
+      at : (own : Option Files) → told ≡ own
+          → IfSome own (λ files. Prepares (λ made. TellsLines unit (inputs_view inputs) (ending_of made) (text_of made))
+          (lines_refusals files unit) (Err why))
       at None e = tt
       at (Some files) e =
-          stops_as (λ made. TellsLines unit (inputs_view inputs) (ending_of made) (text_of made)) why (start_refusals unit (inputs_view inputs)) (lines_refusals files unit) (behind_inputs files e) answers
-  admitted (Ok made) answers = ready_is_admitted (lines_laws unit) ending_of text_of told made (ends_so unit (inputs_view inputs) answers.1.launch (ending_of made) (text_of made) answers.1.tells) (printed told refl)
+          stops_as (λ made. TellsLines unit (inputs_view inputs) (ending_of made) (text_of made)) why
+          (start_refusals unit (inputs_view inputs)) (lines_refusals files unit) (behind_inputs files e) answers
+  admitted (Ok made) answers = ready_is_admitted (lines_laws unit) ending_of text_of told made
+      (ends_so unit (inputs_view inputs) answers.1.launch (ending_of made) (text_of made) answers.1.tells) (printed told refl)
     where
-      printed : (own : Option Files) → told ≡ own → IfSome own (λ files. AcceptsFiles (lines_laws unit) files × PrintsLines files unit (ending_of made) (text_of made))
+      printed : (own : Option Files) → told ≡ own → IfSome own
+          (λ files. AcceptsFiles (lines_laws unit) files × PrintsLines files unit (ending_of made) (text_of made))
       printed None e = tt
       printed (Some files) e = (behind_inputs files e ∙ answers.0, record { inputs = inputs_view inputs; inputs_are = (read_is files e).1; tells = answers.1 })
 
   -- also where the inputs are lent
-  pub admitted_as : (own : Inputs) → own ≡ inputs_view inputs → (result : Result ReadyText Stop) → Prepares (λ made. TellsLines unit own (ending_of made) (text_of made)) (start_refusals unit own) result
+  pub admitted_as : (own : Inputs) → own ≡ inputs_view inputs → (result : Result ReadyText Stop)
+      → Prepares (λ made. TellsLines unit own (ending_of made) (text_of made)) (start_refusals unit own) result
       → IsAdmitted (laws_over told (lines_laws unit)) ending_of text_of result
   admitted_as own same result answers =
-      admitted result (subst (λ (these : Inputs). Prepares (λ made. TellsLines unit these (ending_of made) (text_of made)) (start_refusals unit these) result) same answers)
+      admitted result (subst (λ (these : Inputs). Prepares (λ made. TellsLines unit these (ending_of made) (text_of made))
+      (start_refusals unit these) result) same answers)

@@ -18,7 +18,8 @@ use Rattle.why_command.specs.lines_command.Prints.{TellsLaunch, TellsLines, Tell
 
 module _ (name : List ℕ) (inputs : Inputs) where
   -- the service that is asked is the one that was launched
-  pub tells_it : (own service : Service) → own ≡ service → (told : List LineAlone) → map (λ one. one.line.now) told ≡ lines_of inputs.unit → All (λ one. IsAlone name inputs own.world one.line.now.place one.alone) told
+  pub tells_it : (own service : Service) → own ≡ service → (told : List LineAlone) → map (λ one. one.line.now) told ≡ lines_of inputs.unit
+      → All (λ one. IsAlone name inputs own.world one.line.now.place one.alone) told
       → (text : List ℕ) → text ≡ lines_text inputs.calls inputs.site inputs.unit.files told → TellsService name inputs service text
   tells_it own service same told one_each each text says = record {
     told = told;
@@ -27,7 +28,8 @@ module _ (name : List ℕ) (inputs : Inputs) where
   }
 
   -- what is ready is the answer
-  pub answers_launch : (launch : UnitLaunch) → Prepares (StartsAs inputs) (start_refusals name inputs) (Ok launch) → (result : Result ReadyText Stop) → IsReadyWith (TellsLaunch name inputs launch) result
+  pub answers_launch : (launch : UnitLaunch) → Prepares (StartsAs inputs) (start_refusals name inputs) (Ok launch)
+      → (result : Result ReadyText Stop) → IsReadyWith (TellsLaunch name inputs launch) result
       → Prepares (λ made. TellsLines name inputs (ending_of made) (text_of made)) (start_refusals name inputs) result
   answers_launch launch starts (Ok made) ready = (starts.0, record { launch = launch; starts = starts.1; tells = ready })
   answers_launch launch starts (Err (stop.Refused line)) ready = absurd ready

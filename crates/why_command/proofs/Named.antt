@@ -1,5 +1,6 @@
 -- The question that is read is the one of the tables that is printed so.
-use Rattle.std.proofs.Common.{◌≡◌, ◌∙◌, ℕ, zero, suc, ◌<◌, Bool, true, false, cond, List, [], ◌∷◌, Option, Some, None, length, refl, sym, ap, subst, arith}
+use Rattle.std.proofs.Common.{◌≡◌, ◌∙◌, ℕ, zero, suc, ◌<◌, Bool, true, false, cond, List, [], ◌∷◌, Option, Some, None, length, refl, sym}
+use Rattle.std.proofs.Common.{ap, subst, arith}
 use Rattle.std.specs.Prelude.{Contains, find}
 use Rattle.std.specs.Str.{bytes_eq}
 use Rattle.std.proofs.lemmas.Slice.Eq.{bytes_eq-Decides}
@@ -19,7 +20,8 @@ module _ {X : Type 0} (p : X → Bool) where
   not_first x xs y fails holds (zero, lt, is) = (let e : false ≡ true = sym fails ∙ ap p is ∙ holds in cc)
   not_first x xs y fails holds (suc at, lt, is) = (at, (omega (arith, lt)), is)
 
-  find_first : (first : X) (xs : List X) (found : Option X) → (p first ≡ true → Some first ≡ found) → (p first ≡ false → find p xs ≡ found) → (b : Bool) → p first ≡ b → find p (first ∷ xs) ≡ found
+  find_first : (first : X) (xs : List X) (found : Option X) → (p first ≡ true → Some first ≡ found)
+      → (p first ≡ false → find p xs ≡ found) → (b : Bool) → p first ≡ b → find p (first ∷ xs) ≡ found
   find_first first xs found here later true e = ap (λ b. cond b (Some first) (find p xs)) e ∙ here e
   find_first first xs found here later false e = ap (λ b. cond b (Some first) (find p xs)) e ∙ later e
 
@@ -32,16 +34,21 @@ module _ {X : Type 0} (p : X → Bool) where
   pub find_none : (xs : List X) → ((y : X) → Contains xs y → p y ≡ true → ⊥) → find p xs ≡ None
   find_none [] none = refl
   find_none (first ∷ xs) none =
-      find_first first xs None (λ e. absurd (none first (0, (omega arith), refl) e)) (λ e. find_none xs (λ y is. none y (one_more first xs y is))) (p first) refl
+      find_first first xs None (λ e. absurd (none first (0, (omega arith), refl) e))
+      (λ e. find_none xs (λ y is. none y (one_more first xs y is))) (p first) refl
 
 module _ (table : calls.Table) (site : Site) (text : List ℕ) where
-  printed_so : (question : Question) → Contains (asked.questions table site) question → bytes_eq (question_words table site question) text ≡ true → IsPrintedSo table site text question
-  printed_so question listed same = record { listed = listed; printed = (bytes_eq-Decides (question_words table site question) text).0 same }
+  printed_so : (question : Question) → Contains (asked.questions table site) question
+      → bytes_eq (question_words table site question) text ≡ true → IsPrintedSo table site text question
+  printed_so question listed same =
+      record { listed = listed; printed = (bytes_eq-Decides (question_words table site question) text).0 same }
 
   pub named : (question : Question) → Reads table site text (Some question) → question_named table site text ≡ Some question
   named question reads =
-      find_only (λ one. bytes_eq (question_words table site one) text) (asked.questions table site) question reads.0.listed ((bytes_eq-Decides (question_words table site question) text).1 reads.0.printed)
+      find_only (λ one. bytes_eq (question_words table site one) text) (asked.questions table site) question reads.0.listed
+      ((bytes_eq-Decides (question_words table site question) text).1 reads.0.printed)
       (λ other listed same. reads.1 other (printed_so other listed same))
 
   pub unnamed : Reads table site text None → question_named table site text ≡ None
-  unnamed reads = find_none (λ one. bytes_eq (question_words table site one) text) (asked.questions table site) (λ other listed same. reads other (printed_so other listed same))
+  unnamed reads = find_none (λ one. bytes_eq (question_words table site one) text) (asked.questions table site)
+      (λ other listed same. reads other (printed_so other listed same))

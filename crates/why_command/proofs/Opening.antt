@@ -19,15 +19,19 @@ use Rattle.why_command.specs.opening_lines.ByRule.{opened_by}
 use Rattle.why_command.specs.opening_lines.Opening.{OpensOf, no_question, was_open, stays_denied, is_opened}
 
 module _ (before after : World) (first second : Path) where
-  opens : (list : List Question) → AllByRecursion (IsTrueAnswer before) (map (answer_of (launch_of before) first) list) → AllByRecursion (IsTrueAnswer after) (map (answer_of (launch_of after) second) list)
+  opens : (list : List Question) → AllByRecursion (IsTrueAnswer before) (map (answer_of (launch_of before) first) list)
+      → AllByRecursion (IsTrueAnswer after) (map (answer_of (launch_of after) second) list)
       → OpensOf before after list (opened_by (launch_of before) (launch_of after) list)
   opens [] one other = no_question
-  opens (question ∷ list) one other = by (is_open (launch_of before) question) (is_open (launch_of after) question) one.0 other.0 (opens list one.1 other.1)
+  opens (question ∷ list) one other = by (is_open (launch_of before) question) (is_open (launch_of after) question) one.0 other.0
+      (opens list one.1 other.1)
     where
-      by : (was is : Bool) → IsTrueAnswer before (if was then Open question (calls_for (launch_of before) first question) else Denied question)
+      by : (was is : Bool) → IsTrueAnswer before
+          (if was then Open question (calls_for (launch_of before) first question) else Denied question)
           → IsTrueAnswer after (if is then Open question (calls_for (launch_of after) second question) else Denied question)
           → OpensOf before after list (opened_by (launch_of before) (launch_of after) list)
-          → OpensOf before after (question ∷ list) ((if not was && is then question ∷ [] else []) ++ opened_by (launch_of before) (launch_of after) list)
+          → OpensOf before after (question ∷ list)
+          ((if not was && is then question ∷ [] else []) ++ opened_by (launch_of before) (launch_of after) list)
       by true is one other more = was_open question list _ (calls_for (launch_of before) first question, one) more
       by false true one other more = is_opened question list _ one (calls_for (launch_of after) second question, other) more
       by false false one other more = stays_denied question list _ one other more
@@ -37,7 +41,10 @@ pub opens_exactly : AnswersAreTrue → (table : calls.Table) (site : Site) (befo
     → IsServedWorld before → RunsProgram (launch_of before) first → IsServedWorld after → RunsProgram (launch_of after) second
     → before.calls ≡ table → before.site ≡ site → after.calls ≡ table → after.site ≡ site
     → OpensOf before after (questions table site) (opened_by (launch_of before) (launch_of after) (questions table site))
-opens_exactly answers table site before after first second served_before runs_before served runs calls_before site_before calls_after site_after =
+opens_exactly answers table site before after first second served_before runs_before served runs calls_before site_before calls_after
+    site_after =
     opens before after first second (questions table site)
-    (subst (λ list. AllByRecursion (IsTrueAnswer before) (map (answer_of (launch_of before) first) list)) (ap₂ questions calls_before site_before) (answers before first served_before runs_before).each_is_true)
-    (subst (λ list. AllByRecursion (IsTrueAnswer after) (map (answer_of (launch_of after) second) list)) (ap₂ questions calls_after site_after) (answers after second served runs).each_is_true)
+    (subst (λ list. AllByRecursion (IsTrueAnswer before) (map (answer_of (launch_of before) first) list))
+    (ap₂ questions calls_before site_before) (answers before first served_before runs_before).each_is_true)
+    (subst (λ list. AllByRecursion (IsTrueAnswer after) (map (answer_of (launch_of after) second) list))
+    (ap₂ questions calls_after site_after) (answers after second served runs).each_is_true)

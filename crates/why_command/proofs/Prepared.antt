@@ -31,7 +31,8 @@ use Rattle.why_command.specs.Prints.{PrintsWhy, TellsLaunch, TellsWhy, refusals_
 use Rattle.judge_command.specs.unit_inputs.declared.command_answers.ready_text.ReadyText.{ReadyText}
 
 -- each ends as it may
-ends_so : (tried : Tried) (launch : UnitLaunch) (ending : Ending) (text : List ℕ) → TellsLaunch tried launch ending text → (ending ≡ Done) ⊎ (ending ≡ LaunchRefused)
+ends_so : (tried : Tried) (launch : UnitLaunch) (ending : Ending) (text : List ℕ) → TellsLaunch tried launch ending text
+    → (ending ≡ Done) ⊎ (ending ≡ LaunchRefused)
 ends_so tried (Refused refusal) ending text tells = inr tells.0
 ends_so tried (Launched service) ending text tells = inl tells.0
 
@@ -45,20 +46,27 @@ module _ (told : Option Files) (unit : List ℕ) (words : List (List ℕ)) where
   together = go_together (why_laws unit words) told answered
 
 -- an input is refused
-pub stops_at_inputs : (P : Files → UnitInputs → Type 0) (told : Option Files) (unit : List ℕ) (words : List (List ℕ)) (stop : Stop) → IfSome told (λ files. Prepares (P files) (input_refusals files unit) (Err stop)) → IsAdmitted (laws_over told (why_laws unit words)) ending_of text_of (Err stop)
+pub stops_at_inputs : (P : Files → UnitInputs → Type 0) (told : Option Files) (unit : List ℕ) (words : List (List ℕ)) (stop : Stop)
+    → IfSome told (λ files. Prepares (P files) (input_refusals files unit) (Err stop))
+    → IsAdmitted (laws_over told (why_laws unit words)) ending_of text_of (Err stop)
 stops_at_inputs P told unit words stop said =
     stop_is_admitted (why_laws unit words) ending_of text_of (λ (made : ReadyText). Unit {0}) told stop
-    (steps.stops_at_inputs P (λ files (made : ReadyText). Unit {0}) told unit (λ files. refusals_by (refusals_behind unit words) (inputs_of files unit)) stop said)
+    (steps.stops_at_inputs P (λ files (made : ReadyText). Unit {0}) told unit
+    (λ files. refusals_by (refusals_behind unit words) (inputs_of files unit)) stop said)
 
 module _ (told : Option Files) (unit : List ℕ) (words : List (List ℕ)) (inputs : UnitInputs) (are : IfSome told (λ files. AreRead files unit inputs)) where
   read_is : (files : Files) → told ≡ Some files → AreRead files unit inputs
   read_is files e = subst (λ own. IfSome own (λ files. AreRead files unit inputs)) e are
 
-  behind_inputs : (files : Files) → told ≡ Some files → first_refusal (why_refusals files unit words) ≡ first_refusal (refusals_behind unit words (inputs_view inputs))
-  behind_inputs files e = refusals_with files unit (input_refusals files unit) (refusals_behind unit words) (inputs_view inputs) (read_is files e).0 (read_is files e).1
+  behind_inputs : (files : Files) → told ≡ Some files → first_refusal (why_refusals files unit words)
+      ≡ first_refusal (refusals_behind unit words (inputs_view inputs))
+  behind_inputs files e = refusals_with files unit (input_refusals files unit) (refusals_behind unit words) (inputs_view inputs)
+      (read_is files e).0 (read_is files e).1
 
   -- what stops behind them is admitted
-  stops_behind : (P : ReadyText → Type 0) (some : List (Option (List ℕ))) (why : Stop) → first_refusal (refusals_behind unit words (inputs_view inputs)) ≡ first_refusal some → Prepares P some (Err why) → IsAdmitted (laws_over told (why_laws unit words)) ending_of text_of (Err why)
+  stops_behind : (P : ReadyText → Type 0) (some : List (Option (List ℕ))) (why : Stop)
+      → first_refusal (refusals_behind unit words (inputs_view inputs)) ≡ first_refusal some → Prepares P some (Err why)
+      → IsAdmitted (laws_over told (why_laws unit words)) ending_of text_of (Err why)
   stops_behind P some why same is = stop_is_admitted (why_laws unit words) ending_of text_of P told why (at told refl)
     where
       at : (own : Option Files) → told ≡ own → IfSome own (λ files. Prepares P (why_refusals files unit words) (Err why))
@@ -67,10 +75,12 @@ module _ (told : Option Files) (unit : List ℕ) (words : List (List ℕ)) (inpu
 
   -- the words are no question
   pub stops_at_question : (calls : Table) (site : Site) (why : Stop) → calls ≡ (inputs_view inputs).calls → site ≡ (inputs_view inputs).site
-      → IsAnswer (λ (question : Question). question) (Err why) (question_in calls site words) → IsAdmitted (laws_over told (why_laws unit words)) ending_of text_of (Err why)
+      → IsAnswer (λ (question : Question). question) (Err why) (question_in calls site words)
+      → IsAdmitted (laws_over told (why_laws unit words)) ending_of text_of (Err why)
   stops_at_question calls site why one two is =
       stops_behind (λ made. Unit {0}) (refusals_behind unit words (inputs_view inputs)) why refl
-      (stops (λ (question : Question). question) (λ (made : ReadyText). Unit {0}) (question_in (inputs_view inputs).calls (inputs_view inputs).site words) why (start_refusals unit (inputs_view inputs))
+      (stops (λ (question : Question). question) (λ (made : ReadyText). Unit {0})
+      (question_in (inputs_view inputs).calls (inputs_view inputs).site words) why (start_refusals unit (inputs_view inputs))
       (subst (λ (own : Site). IsAnswer (λ (question : Question). question) (Err why) (question_in (inputs_view inputs).calls own words)) two
       (subst (λ (own : Table). IsAnswer (λ (question : Question). question) (Err why) (question_in own site words)) one is)))
 
@@ -79,14 +89,20 @@ module _ (told : Option Files) (unit : List ℕ) (words : List (List ℕ)) (inpu
     abbrev tried : Tried
     tried = record { name = unit; inputs = inputs_view inputs; question = question }
 
-    behind_question : first_refusal (refusals_behind unit words (inputs_view inputs)) ≡ first_refusal (start_refusals unit (inputs_view inputs))
-    behind_question = passes (question_in (inputs_view inputs).calls (inputs_view inputs).site words) question (start_refusals unit (inputs_view inputs)) question_is
+    behind_question : first_refusal (refusals_behind unit words (inputs_view inputs))
+        ≡ first_refusal (start_refusals unit (inputs_view inputs))
+    behind_question = passes (question_in (inputs_view inputs).calls (inputs_view inputs).site words) question
+        (start_refusals unit (inputs_view inputs)) question_is
 
-    admitted : (result : Result ReadyText Stop) → Prepares (λ made. TellsWhy tried (ending_of made) (text_of made)) (start_refusals unit (inputs_view inputs)) result → IsAdmitted (laws_over told (why_laws unit words)) ending_of text_of result
-    admitted (Err why) answers = stops_behind (λ made. TellsWhy tried (ending_of made) (text_of made)) (start_refusals unit (inputs_view inputs)) why behind_question answers
-    admitted (Ok made) answers = ready_is_admitted (why_laws unit words) ending_of text_of told made (ends_so tried answers.1.launch (ending_of made) (text_of made) answers.1.tells) (printed told refl)
+    admitted : (result : Result ReadyText Stop) → Prepares (λ made. TellsWhy tried (ending_of made) (text_of made))
+        (start_refusals unit (inputs_view inputs)) result → IsAdmitted (laws_over told (why_laws unit words)) ending_of text_of result
+    admitted (Err why) answers = stops_behind (λ made. TellsWhy tried (ending_of made) (text_of made))
+        (start_refusals unit (inputs_view inputs)) why behind_question answers
+    admitted (Ok made) answers = ready_is_admitted (why_laws unit words) ending_of text_of told made
+        (ends_so tried answers.1.launch (ending_of made) (text_of made) answers.1.tells) (printed told refl)
       where
-        printed : (own : Option Files) → told ≡ own → IfSome own (λ files. AcceptsFiles (why_laws unit words) files × PrintsWhy files unit words (ending_of made) (text_of made))
+        printed : (own : Option Files) → told ≡ own → IfSome own
+            (λ files. AcceptsFiles (why_laws unit words) files × PrintsWhy files unit words (ending_of made) (text_of made))
         printed None e = tt
         printed (Some files) e = (
           behind_inputs files e ∙ behind_question ∙ answers.0,
@@ -100,14 +116,19 @@ module _ (told : Option Files) (unit : List ℕ) (words : List (List ℕ)) (inpu
         )
 
   -- also where the inputs are lent
-  pub admitted_as : (calls : Table) (site : Site) (question : Question) → calls ≡ (inputs_view inputs).calls → site ≡ (inputs_view inputs).site
+  pub admitted_as : (calls : Table) (site : Site) (question : Question) → calls ≡ (inputs_view inputs).calls
+      → site ≡ (inputs_view inputs).site
       → question_in calls site words ≡ Ok question → (own : Inputs) → own ≡ inputs_view inputs → (result : Result ReadyText Stop)
-      → Prepares (λ made. TellsWhy (record { name = unit; inputs = own; question = question }) (ending_of made) (text_of made)) (start_refusals unit own) result
+      → Prepares (λ made. TellsWhy (record { name = unit; inputs = own; question = question }) (ending_of made) (text_of made))
+      (start_refusals unit own) result
       → IsAdmitted (laws_over told (why_laws unit words)) ending_of text_of result
   admitted_as calls site question one two is own same result answers =
       admitted question
-      (subst (λ (these : Site). question_in (inputs_view inputs).calls these words ≡ Ok question) two (subst (λ (these : Table). question_in these site words ≡ Ok question) one is))
-      result (subst (λ (these : Inputs). Prepares (λ made. TellsWhy (record { name = unit; inputs = these; question = question }) (ending_of made) (text_of made)) (start_refusals unit these) result) same answers)
+      (subst (λ (these : Site). question_in (inputs_view inputs).calls these words ≡ Ok question) two
+      (subst (λ (these : Table). question_in these site words ≡ Ok question) one is))
+      result (subst (λ (these : Inputs). Prepares
+      (λ made. TellsWhy (record { name = unit; inputs = these; question = question }) (ending_of made) (text_of made))
+      (start_refusals unit these) result) same answers)
 
 -- a stop that reads nothing, whatever was wanted
 pub as_any : {A B : Type 0} (why : Stop) → (IsErrOf {T = A} (Err why) stop.ReadFault → ⊥) → IsErrOf {T = B} (Err why) stop.ReadFault → ⊥
@@ -116,12 +137,17 @@ as_any stop.ReadFault nothing e = nothing refl
 as_any stop.Memory nothing e = cc
 
 -- the line of words that are no question
-pub refused_tells : (line : Result (Vec ℕ Global) AllocError) (told : Stop) → told ≡ stop_of line → IfOk line (λ l. l.items ≡ refused_question) → (wanted : Result Question (List ℕ)) → wanted ≡ Err refused_question
+pub refused_tells : (line : Result (Vec ℕ Global) AllocError) (told : Stop) → told ≡ stop_of line
+    → IfOk line (λ l. l.items ≡ refused_question) → (wanted : Result Question (List ℕ)) → wanted ≡ Err refused_question
     → IsAnswer (λ (question : Question). question) (Err told) wanted
-refused_tells (Ok line) told is holds wanted same = subst (λ one. IsAnswer (λ (question : Question). question) (Err one) wanted) (sym is) (same ∙ ap Err (sym holds))
-refused_tells (Err none) told is holds wanted same = subst (λ one. IsAnswer (λ (question : Question). question) (Err one) wanted) (sym is) tt
+refused_tells (Ok line) told is holds wanted same = subst (λ one. IsAnswer (λ (question : Question). question) (Err one) wanted) (sym is)
+    (same ∙ ap Err (sym holds))
+refused_tells (Err none) told is holds wanted same = subst (λ one. IsAnswer (λ (question : Question). question) (Err one) wanted)
+    (sym is) tt
 
 -- also of the tables as they are lent
-pub listed_as : (table other : Table) (site own : Site) → table ≡ other → site ≡ own → (question : Question) → Contains (asked.questions table site) question → Contains (asked.questions other own) question
+pub listed_as : (table other : Table) (site own : Site) → table ≡ other → site ≡ own → (question : Question)
+    → Contains (asked.questions table site) question → Contains (asked.questions other own) question
 listed_as table other site own one two question is =
-    subst (λ (these : Table). Contains (asked.questions these own) question) one (subst (λ (these : Site). Contains (asked.questions table these) question) two is)
+    subst (λ (these : Table). Contains (asked.questions these own) question) one
+    (subst (λ (these : Site). Contains (asked.questions table these) question) two is)

@@ -39,7 +39,8 @@ use Rattle.why_command.specs.Prints.{TellsLaunch, TellsService, TellsWhy, denied
 use Rattle.judge_command.specs.unit_inputs.declared.command_answers.ready_text.ReadyText.{ReadyText}
 
 -- what starts can be asked
-pub can_be_asked : (tried : Tried) (service : Service) (bounded : Bounded) → StartsAs tried.inputs (Launched service) → bounded.service ≡ service → IsBounded bounded → CanBeAsked tried bounded
+pub can_be_asked : (tried : Tried) (service : Service) (bounded : Bounded) → StartsAs tried.inputs (Launched service)
+    → bounded.service ≡ service → IsBounded bounded → CanBeAsked tried bounded
 can_be_asked tried service bounded starts same bounds = record {
   is_bounded = bounds;
   program = subst (λ (own : Service). RunsProgram (launch_of own.world) own.program) (sym same) starts.comes_to.runs_its_program;
@@ -47,7 +48,8 @@ can_be_asked tried service bounded starts same bounds = record {
   site = ap (λ (own : Service). own.world.site) same ∙ own_site tried.inputs service starts;
 }
 
-pub lists_it : (tried : Tried) (bounded : Bounded) → CanBeAsked tried bounded → (question : Question) → Contains (asked.questions tried.inputs.calls tried.inputs.site) question
+pub lists_it : (tried : Tried) (bounded : Bounded) → CanBeAsked tried bounded → (question : Question)
+    → Contains (asked.questions tried.inputs.calls tried.inputs.site) question
     → Contains (asked.questions bounded.service.world.calls bounded.service.world.site) question
 lists_it tried bounded can question is =
     subst (λ (table : calls.Table). Contains (asked.questions table bounded.service.world.site) question) (sym can.calls)
@@ -58,19 +60,25 @@ module _ (bounded : Bounded) (maker : Maker) (is : (maker.world.now ≡ bounded.
   pub maker_served : IsServedWorld bounded.service.world → IsServedWorld maker.world.now
   maker_served served = subst IsServedWorld (sym is.0) served
 
-  pub maker_runs : RunsProgram (launch_of bounded.service.world) bounded.service.program → RunsProgram (launch_of maker.world.now) maker.program.now
-  maker_runs runs = subst (λ program. RunsProgram (launch_of maker.world.now) program) (sym is.1) (subst (λ (world : World). RunsProgram (launch_of world) bounded.service.program) (sym is.0) runs)
+  pub maker_runs : RunsProgram (launch_of bounded.service.world) bounded.service.program
+      → RunsProgram (launch_of maker.world.now) maker.program.now
+  maker_runs runs = subst (λ program. RunsProgram (launch_of maker.world.now) program) (sym is.1)
+      (subst (λ (world : World). RunsProgram (launch_of world) bounded.service.program) (sym is.0) runs)
 
-  pub maker_lists : (question : Question) → Contains (asked.questions bounded.service.world.calls bounded.service.world.site) question → Contains (asked.questions maker.world.now.calls maker.world.now.site) question
+  pub maker_lists : (question : Question) → Contains (asked.questions bounded.service.world.calls bounded.service.world.site) question
+      → Contains (asked.questions maker.world.now.calls maker.world.now.site) question
   maker_lists question listed = subst (λ (world : World). Contains (asked.questions world.calls world.site) question) (sym is.0) listed
 
-  pub maker_opens : (question : Question) → is_open (launch_of bounded.service.world) question ≡ true → is_open (launch_of maker.world.now) question ≡ true
+  pub maker_opens : (question : Question) → is_open (launch_of bounded.service.world) question ≡ true
+      → is_open (launch_of maker.world.now) question ≡ true
   maker_opens question open' = subst (λ (world : World). is_open (launch_of world) question ≡ true) (sym is.0) open'
 
   -- a question that is open is told with a list that shows it
-  pub tells_open : (tried : Tried) (question : Question) → tried.question ≡ question → IsSo bounded.service.world question true → (list : List Call)
+  pub tells_open : (tried : Tried) (question : Question) → tried.question ≡ question → IsSo bounded.service.world question true
+      → (list : List Call)
       → Shows maker.world.now question list → AreMadeByService maker.world.now.calls list
-      → (text : List ℕ) → text ≡ answer_lines tried.inputs.calls tried.inputs.site (Open question list) → TellsService tried bounded.service text
+      → (text : List ℕ) → text ≡ answer_lines tried.inputs.calls tried.inputs.site (Open question list)
+      → TellsService tried bounded.service text
   tells_open tried question same so list shows made text says =
       open_by list (
         subst (λ one. Shows bounded.service.world one list) (sym same) (subst (λ (world : World). Shows world question list) is.0 shows),
@@ -80,34 +88,42 @@ module _ (bounded : Bounded) (maker : Maker) (is : (maker.world.now ≡ bounded.
       (says ∙ ap (λ one. answer_lines tried.inputs.calls tried.inputs.site (Open one list)) (sym same))
 
 -- a question that is denied is told with what denies it
-pub tells_denied : (tried : Tried) (bounded : Bounded) (question : Question) → tried.question ≡ question → IsSo bounded.service.world question false → (told : Reason) → IsReason tried told
-    → (text : List ℕ) → text ≡ answer_lines tried.inputs.calls tried.inputs.site (Denied question) ++ reason_text tried.inputs.unit told → TellsService tried bounded.service text
+pub tells_denied : (tried : Tried) (bounded : Bounded) (question : Question) → tried.question ≡ question
+    → IsSo bounded.service.world question false → (told : Reason) → IsReason tried told
+    → (text : List ℕ) → text ≡ answer_lines tried.inputs.calls tried.inputs.site (Denied question) ++ reason_text tried.inputs.unit told
+    → TellsService tried bounded.service text
 tells_denied tried bounded question same so told reason text says =
     denied_by told (subst (IsDenied bounded.service.world) (sym same) (so.0 refl)) reason
     (says ∙ ap (λ one. answer_lines tried.inputs.calls tried.inputs.site (Denied one) ++ reason_text tried.inputs.unit told) (sym same))
 
 -- what holds of a text holds of one that is the same
-pub told_as : (P : List ℕ → Type 0) (wanted : List ℕ) → P wanted → (result : Result (Vec ℕ Global) AllocError) → IfOk result (λ text. text.items ≡ wanted) → IfOk result (λ text. P text.items)
+pub told_as : (P : List ℕ → Type 0) (wanted : List ℕ) → P wanted → (result : Result (Vec ℕ Global) AllocError)
+    → IfOk result (λ text. text.items ≡ wanted) → IfOk result (λ text. P text.items)
 told_as P wanted holds (Ok text) is = subst P (sym is) holds
 told_as P wanted holds (Err none) is = tt
 
 -- what is so of an answer that is found
-pub so_as : (world : World) (question : Question) (answer found : Bool) → found ≡ answer → IsSo world question found → IsSo world question answer
+pub so_as : (world : World) (question : Question) (answer found : Bool) → found ≡ answer → IsSo world question found
+    → IsSo world question answer
 so_as world question answer found is so = subst (IsSo world question) is so
 
-pub told_of_it : (tried : Tried) (service : Service) (bounded : Bounded) → bounded.service ≡ service → (result : Result (Vec ℕ Global) AllocError)
+pub told_of_it : (tried : Tried) (service : Service) (bounded : Bounded) → bounded.service ≡ service
+    → (result : Result (Vec ℕ Global) AllocError)
     → IfOk result (λ text. TellsService tried bounded.service text.items) → IfOk result (λ text. TellsService tried service text.items)
-told_of_it tried service bounded same result told = subst (λ (own : Service). IfOk result (λ text. TellsService tried own text.items)) same told
+told_of_it tried service bounded same result told = subst (λ (own : Service). IfOk result (λ text. TellsService tried own text.items))
+    same told
 
 -- what is ready is the answer
-pub answers_launch : (tried : Tried) (launch : UnitLaunch) → Prepares (StartsAs tried.inputs) (start_refusals tried.name tried.inputs) (Ok launch) → (result : Result ReadyText Stop) → IsReadyWith (TellsLaunch tried launch) result
+pub answers_launch : (tried : Tried) (launch : UnitLaunch) → Prepares (StartsAs tried.inputs) (start_refusals tried.name tried.inputs)
+    (Ok launch) → (result : Result ReadyText Stop) → IsReadyWith (TellsLaunch tried launch) result
     → Prepares (λ made. TellsWhy tried (ending_of made) (text_of made)) (start_refusals tried.name tried.inputs) result
 answers_launch tried launch starts (Ok made) ready = (starts.0, record { launch = launch; starts = starts.1; tells = ready })
 answers_launch tried launch starts (Err (stop.Refused line)) ready = absurd ready
 answers_launch tried launch starts (Err stop.ReadFault) ready = absurd ready
 answers_launch tried launch starts (Err stop.Memory) ready = tt
 
-pub answers_stop : (tried : Tried) (why : Stop) → Prepares {T = UnitLaunch} (StartsAs tried.inputs) (start_refusals tried.name tried.inputs) (Err why)
+pub answers_stop : (tried : Tried) (why : Stop) → Prepares {T = UnitLaunch} (StartsAs tried.inputs)
+    (start_refusals tried.name tried.inputs) (Err why)
     → Prepares (λ (made : ReadyText). TellsWhy tried (ending_of made) (text_of made)) (start_refusals tried.name tried.inputs) (Err why)
 answers_stop tried (stop.Refused line) is = is
 answers_stop tried stop.ReadFault is = tt

@@ -54,21 +54,29 @@ module _ (judged : Judged) (is : IsJudged judged) (place : Place) where
     pub all_after : list ≡ questions after.service.world.calls after.service.world.site
     all_after =
         listed ∙ all_of
-        ∙ sym (ap₂ questions (ap (λ (own : Service). own.world.calls) same ∙ own_calls less service starts) (ap (λ (own : Service). own.world.site) same ∙ own_site less service starts))
+        ∙ sym (ap₂ questions (ap (λ (own : Service). own.world.calls) same ∙ own_calls less service starts)
+        (ap (λ (own : Service). own.world.site) same ∙ own_site less service starts))
 
-    opened_is : (opened : Vec Question Global) → opened.items ≡ opened_by (launch_of (world_in judged.asked)) (launch_of after.service.world) list
-        → opened.items ≡ opened_by (launch_of (world_in judged.asked)) (launch_of service.world) (questions judged.calls.now judged.site.now)
+    opened_is : (opened : Vec Question Global) → opened.items
+        ≡ opened_by (launch_of (world_in judged.asked)) (launch_of after.service.world) list
+        → opened.items ≡ opened_by (launch_of (world_in judged.asked)) (launch_of service.world)
+        (questions judged.calls.now judged.site.now)
     opened_is opened says =
         says ∙ ap (λ (own : Service). opened_by (launch_of (world_in judged.asked)) (launch_of own.world) list) same
         ∙ ap (λ all. opened_by (launch_of (world_in judged.asked)) (launch_of service.world) all) (listed ∙ all_of)
 
-    pub opens_it : AnswersAreTrue → (opened : Vec Question Global) → opened.items ≡ opened_by (launch_of (world_in judged.asked)) (launch_of after.service.world) list → IsAloneOf judged place (Opens opened)
+    pub opens_it : AnswersAreTrue → (opened : Vec Question Global)
+        → opened.items ≡ opened_by (launch_of (world_in judged.asked)) (launch_of after.service.world) list
+        → IsAloneOf judged place (Opens opened)
     opens_it answers opened says = record {
       service = service;
       starts = starts;
-      exactly = subst (OpensOf (world_in judged.asked) service.world (questions judged.calls.now judged.site.now)) (sym (opened_is opened says))
-          (opens_exactly answers judged.calls.now judged.site.now (world_in judged.asked) service.world judged.asked.bounded.service.program service.program
-          is.is_asked.bounded.served is.is_asked.program (served less service starts) starts.comes_to.runs_its_program before_calls before_site (own_calls less service starts) (own_site less service starts));
+      exactly = subst (OpensOf (world_in judged.asked) service.world (questions judged.calls.now judged.site.now))
+          (sym (opened_is opened says))
+          (opens_exactly answers judged.calls.now judged.site.now
+          (world_in judged.asked) service.world judged.asked.bounded.service.program service.program
+          is.is_asked.bounded.served is.is_asked.program (served less service starts) starts.comes_to.runs_its_program before_calls
+          before_site (own_calls less service starts) (own_site less service starts));
     }
 
   -- its launch is refused
@@ -80,11 +88,14 @@ module _ (judged : Judged) (is : IsJudged judged) (place : Place) where
     abbrev tried : Inputs
     tried = given own judged.calls.now judged.site.now
 
-    pub starts_less : (launch : UnitLaunch) → Prepares (StartsAs tried) (start_refusals judged.name.now tried) (Ok launch) → StartsAs less launch
-    starts_less launch prepared = subst (λ (these : Resolved). StartsAs (given these judged.calls.now judged.site.now) launch) same prepared.1
+    pub starts_less : (launch : UnitLaunch) → Prepares (StartsAs tried) (start_refusals judged.name.now tried) (Ok launch)
+        → StartsAs less launch
+    starts_less launch prepared = subst (λ (these : Resolved). StartsAs (given these judged.calls.now judged.site.now) launch) same
+        prepared.1
 
     pub stops_less : (why : Stop) → Prepares {T = UnitLaunch} (StartsAs tried) (start_refusals judged.name.now tried) (Err why)
-        → (result : Result Alone AllocError) → IfOk result (λ alone. (alone ≡ Needed) × IsRefusal why) → IfOk result (IsAloneOf judged place)
+        → (result : Result Alone AllocError) → IfOk result (λ alone. (alone ≡ Needed) × IsRefusal why)
+        → IfOk result (IsAloneOf judged place)
     stops_less why refused (Err none) is = tt
     stops_less (stop.Refused line) refused (Ok alone) is =
         subst (IsAloneOf judged place) (sym is.0)

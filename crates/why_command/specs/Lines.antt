@@ -15,7 +15,8 @@ use Rattle.judge_command.specs.dropin_merge.declared.unit_values.value.Place.{Pl
 -- the file, the number of the line, and what it assigns, so that each is one word
 abbrev pub place_words : List UnitFile → UnitLine → List ℕ
 place_words files line =
-    escaped_word (path_at files line.place.file) ++ (codes " " ++ (decimal line.place.line ++ (codes " " ++ (escaped_word line.key ++ (codes "=" ++ escaped_word line.value)))))
+    escaped_word (path_at files line.place.file) ++
+    (codes " " ++ (decimal line.place.line ++ (codes " " ++ (escaped_word line.key ++ (codes "=" ++ escaped_word line.value)))))
 
 abbrev pub by_line : List UnitFile → UnitLine → List ℕ
 by_line files line = codes "by " ++ (place_words files line ++ 10 ∷ [])

@@ -60,7 +60,8 @@ pub record IsRefusedUnit (unit : Resolved) (table : calls.Table) (site : Site) (
 -- why a unit is not launched: the first setting, the first path or the launch that is refused; want of memory says nothing
 abbrev pub IsNotLaunched : Resolved → calls.Table → Site → UnitRefusal → Type 0
 IsNotLaunched unit table site (InSettings error) = refusal_of unit table site ≡ Some error
-IsNotLaunched unit table site (Plan error) = (refusal_of unit table site ≡ None) × RefusesPath (host_of site) (unit_mentions unit site) error
+IsNotLaunched unit table site (Plan error) = (refusal_of unit table site ≡ None) × RefusesPath (host_of site)
+    (unit_mentions unit site) error
 IsNotLaunched unit table site (Launch refusal) = IsRefusedUnit unit table site refusal
 IsNotLaunched unit table site Memory = ⊤
 

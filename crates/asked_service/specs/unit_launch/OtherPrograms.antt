@@ -35,7 +35,8 @@ pub record HasRoomByBounds (settings : Settings) (codes : List (List Insn)) : Ty
   pub full : (world : World) (call : Call) (process : Process) (code : List Insn) → Pushes codes world call process code
       → max_insns_per_path < room_of process.stack + length code → (step (above codes world) call).0 ≡ Refused enomem
   pub room : (world : World) (call : Call) (process : Process) (code : List Insn) → Pushes codes world call process code
-      → most_room settings.filters.items + room_of process.stack + length code ≤ max_insns_per_path → (step (above codes world) call).0 ≡ Done 0
+      → most_room settings.filters.items + room_of process.stack + length code ≤ max_insns_per_path
+      → (step (above codes world) call).0 ≡ Done 0
 
 -- the launch by them takes as many steps, to a world that differs in the programs of the launch alone; from both worlds on
 -- every list of calls is answered alike, and leaves worlds that differ in these programs alone, up to the first call of

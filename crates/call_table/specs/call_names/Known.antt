@@ -9,7 +9,10 @@ use Rattle.call_table.specs.declared.call_names.known.KnownCall.TheVariants.{Mod
 use Rattle.call_table.specs.declared.call_names.rule.Argument.{Argument}
 use Rattle.call_table.specs.declared.call_names.rule.Argument.TheVariants.{Second, Third}
 use Rattle.call_table.specs.declared.call_names.rule.CallRule.{CallRule}
-use Rattle.call_table.specs.declared.call_names.rule.CallRule.TheVariants.{See, Open, Create, Truncate, Execve, SetMode, Map, Protect, Attach, Schedule, Personality, Socket, Socketcall, Enter, Fork, Clone, Unshare, Exit, Mount, Umount, Setuid, Setgid, Setresuid, Setresgid, Setgroups, Capset, Prctl, Seccomp}
+use Rattle.call_table.specs.declared.call_names.rule.CallRule.TheVariants.{See, Open, Create, Truncate, Execve, SetMode, Map, Protect}
+use Rattle.call_table.specs.declared.call_names.rule.CallRule.TheVariants.{Attach, Schedule, Personality, Socket, Socketcall, Enter, Fork}
+use Rattle.call_table.specs.declared.call_names.rule.CallRule.TheVariants.{Clone, Unshare, Exit, Mount, Umount, Setuid, Setgid, Setresuid}
+use Rattle.call_table.specs.declared.call_names.rule.CallRule.TheVariants.{Setresgid, Setgroups, Capset, Prctl, Seccomp}
 
 -- arguments are counted from 0
 abbrev pub place_of : Argument → ℕ

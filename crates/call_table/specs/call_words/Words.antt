@@ -1,5 +1,6 @@
 -- A word that names a call: `NAME` is one of the native ABI, and `ABI:NAME` one of the ABI of that name.
-use Rattle.std.specs.Prelude.{◌≡◌, ℕ, zero, suc, ◌==◌, ◌<◌, Bool, false, cond, Option, Some, None, List, [], ◌∷◌, ◌++◌, length, get_or, IfSome}
+use Rattle.std.specs.Prelude.{◌≡◌, ℕ, zero, suc, ◌==◌, ◌<◌, Bool, false, cond, Option, Some, None, List, [], ◌∷◌, ◌++◌, length, get_or}
+use Rattle.std.specs.Prelude.{IfSome}
 use Rattle.std.specs.Option.{option_map, option_map_or}
 use Rattle.std.specs.Str.{bytes_eq}
 use Rattle.call_table.specs.Table.{Abi, Table, abi_at}
@@ -52,4 +53,5 @@ HasOtherName table = IfSome table.second (λ second. bytes_eq second.name table.
 
 -- what is spelled is read back
 abbrev pub IsReadBack : Table → Type 0
-IsReadBack table = (abi : ℕ) (found : Abi) (name : List ℕ) → abi_at table abi ≡ Some found → Lacks 58 name → spelled table (spelling table abi name) ≡ Some (abi, name)
+IsReadBack table = (abi : ℕ) (found : Abi) (name : List ℕ) → abi_at table abi ≡ Some found → Lacks 58 name
+    → spelled table (spelling table abi name) ≡ Some (abi, name)

@@ -17,7 +17,8 @@ pub record IsSaid (members : Members) (test : PolicyTest) : Type 0 where
 
 -- the tests are those that the members say: each member says one of them, and each of them is said
 pub record AreExactly (members : Members) (tests : List PolicyTest) : Type 0 where
-  pub each_member : (id : List ℕ) (said : Data) → get_member id members ≡ Some said → (test : PolicyTest) × (test_of id said ≡ Some test) × Contains tests test
+  pub each_member : (id : List ℕ) (said : Data) → get_member id members ≡ Some said
+      → (test : PolicyTest) × (test_of id said ≡ Some test) × Contains tests test
   pub each_test : AllByRecursion (IsSaid members) tests
 
 -- the member of this name is no test, and those whose names come before it in byte order are tests
@@ -25,4 +26,5 @@ pub record IsFirstFault (members : Members) (id : List ℕ) : Type 0 where
   pub said : Data
   pub stands : get_member id members ≡ Some said
   pub says_none : test_of id said ≡ None
-  pub earlier : (other : List ℕ) (value : Data) → slice_cmp nat_cmp other id ≡ Less → get_member other members ≡ Some value → (test : PolicyTest) × (test_of other value ≡ Some test)
+  pub earlier : (other : List ℕ) (value : Data) → slice_cmp nat_cmp other id ≡ Less → get_member other members ≡ Some value
+      → (test : PolicyTest) × (test_of other value ≡ Some test)

@@ -1,5 +1,6 @@
 -- Which policy bytes are, or why they are refused.
-use Rattle.std.specs.Prelude.{ℕ, nat_lt, Bool, true, false, cond, is_none, List, [], ◌∷◌, length, map, find, Option, Some, None, option_map, option_and_then, Result, Ok, Err}
+use Rattle.std.specs.Prelude.{ℕ, nat_lt, Bool, true, false, cond, is_none, List, [], ◌∷◌, length, map, find, Option, Some, None, option_map}
+use Rattle.std.specs.Prelude.{option_and_then, Result, Ok, Err}
 use Rattle.std.specs.List.{filter_map}
 use Rattle.std.specs.Str.{is_utf8}
 use Rattle.serde_json.specs.Data.{Data, Members, no_members, member}

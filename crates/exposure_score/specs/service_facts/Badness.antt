@@ -7,7 +7,12 @@ use Rattle.exec_settings.specs.mount_settings.declared.protections.HomeProtectio
 use Rattle.exec_settings.specs.mount_settings.declared.protections.HomeProtection.TheVariants as home
 use Rattle.exposure_score.specs.declared.service_facts.sandbox.Sandbox.{Sandbox}
 use Rattle.exposure_score.specs.declared.service_facts.lines.Protection.{Protection}
-use Rattle.exposure_score.specs.declared.service_facts.lines.Protection.TheVariants.{PrivateDevices, PrivateTmp, ProtectClock, ProtectControlGroups, ProtectHostname, ProtectKernelLogs, ProtectKernelModules, ProtectKernelTunables, LockPersonality, MemoryDenyWriteExecute, RestrictRealtime, RestrictSuidSgid}
+use Rattle.exposure_score.specs.declared.service_facts.lines.Protection.TheVariants.{PrivateDevices, PrivateTmp, ProtectClock}
+use Rattle.exposure_score.specs.declared.service_facts.lines.Protection.TheVariants.{ProtectControlGroups, ProtectHostname}
+use Rattle.exposure_score.specs.declared.service_facts.lines.Protection.TheVariants.{ProtectKernelLogs, ProtectKernelModules}
+use Rattle.exposure_score.specs.declared.service_facts.lines.Protection.TheVariants.{ProtectKernelTunables, LockPersonality}
+use Rattle.exposure_score.specs.declared.service_facts.lines.Protection.TheVariants.{MemoryDenyWriteExecute, RestrictRealtime}
+use Rattle.exposure_score.specs.declared.service_facts.lines.Protection.TheVariants.{RestrictSuidSgid}
 
 -- 1 where this is so
 abbrev pub one_if : Bool → ℕ

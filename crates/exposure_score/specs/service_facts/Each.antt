@@ -13,7 +13,9 @@ use Rattle.exec_settings.specs.filter_settings.filter_rules.Families.{permits_fa
 use Rattle.exec_settings.specs.filter_settings.filter_rules.NamespaceTypes.{all_types, permits, name_of as type_name}
 use Rattle.exposure_score.specs.declared.service_facts.sandbox.Sandbox.{Sandbox}
 use Rattle.exposure_score.specs.declared.service_facts.lines.Matter.{Matter}
-use Rattle.exposure_score.specs.declared.service_facts.lines.Matter.TheVariants.{RunsAsRoot, NamesGroups, GainsPrivileges, HasAmbient, Lacks, WritesSystem, SeesHomes, EachCapability, EachNamespaceType, EachFamily, InternetFamilies, EachGroup}
+use Rattle.exposure_score.specs.declared.service_facts.lines.Matter.TheVariants.{RunsAsRoot, NamesGroups, GainsPrivileges, HasAmbient}
+use Rattle.exposure_score.specs.declared.service_facts.lines.Matter.TheVariants.{Lacks, WritesSystem, SeesHomes, EachCapability}
+use Rattle.exposure_score.specs.declared.service_facts.lines.Matter.TheVariants.{EachNamespaceType, EachFamily, InternetFamilies, EachGroup}
 use Rattle.exposure_score.specs.service_facts.Badness.{one_if, is_on, system_badness, home_badness, has_ambient}
 
 -- what stands behind an identifier, and a badness
@@ -37,7 +39,8 @@ has_family table name = is_some (named name table.families)
 
 -- the table has both families of the Internet, and none of the name of both
 abbrev pub has_internet : Table → Bool
-has_internet table = has_family table (codes "AF_INET") && has_family table (codes "AF_INET6") && not (has_family table (codes "AF_INET_INET6"))
+has_internet table = has_family table (codes "AF_INET") && has_family table (codes "AF_INET6") && not
+    (has_family table (codes "AF_INET_INET6"))
 
 -- the family of this name is permitted
 abbrev pub permits_named : Table → FilterSettings → List ℕ → Bool

@@ -1,8 +1,15 @@
 -- The tests that settings decide: each by its identifier, or by the front of those of a kind, and what it looks at.
 use Rattle.std.specs.Prelude.{ℕ, List, [], ◌∷◌, codes}
-use Rattle.exposure_score.specs.declared.service_facts.lines.Protection.TheVariants.{PrivateDevices, PrivateTmp, ProtectClock, ProtectControlGroups, ProtectHostname, ProtectKernelLogs, ProtectKernelModules, ProtectKernelTunables, LockPersonality, MemoryDenyWriteExecute, RestrictRealtime, RestrictSuidSgid}
+use Rattle.exposure_score.specs.declared.service_facts.lines.Protection.TheVariants.{PrivateDevices, PrivateTmp, ProtectClock}
+use Rattle.exposure_score.specs.declared.service_facts.lines.Protection.TheVariants.{ProtectControlGroups, ProtectHostname}
+use Rattle.exposure_score.specs.declared.service_facts.lines.Protection.TheVariants.{ProtectKernelLogs, ProtectKernelModules}
+use Rattle.exposure_score.specs.declared.service_facts.lines.Protection.TheVariants.{ProtectKernelTunables, LockPersonality}
+use Rattle.exposure_score.specs.declared.service_facts.lines.Protection.TheVariants.{MemoryDenyWriteExecute, RestrictRealtime}
+use Rattle.exposure_score.specs.declared.service_facts.lines.Protection.TheVariants.{RestrictSuidSgid}
 use Rattle.exposure_score.specs.declared.service_facts.lines.Matter.{Matter}
-use Rattle.exposure_score.specs.declared.service_facts.lines.Matter.TheVariants.{RunsAsRoot, NamesGroups, GainsPrivileges, HasAmbient, Lacks, WritesSystem, SeesHomes, EachCapability, EachNamespaceType, EachFamily, InternetFamilies, EachGroup}
+use Rattle.exposure_score.specs.declared.service_facts.lines.Matter.TheVariants.{RunsAsRoot, NamesGroups, GainsPrivileges, HasAmbient}
+use Rattle.exposure_score.specs.declared.service_facts.lines.Matter.TheVariants.{Lacks, WritesSystem, SeesHomes, EachCapability}
+use Rattle.exposure_score.specs.declared.service_facts.lines.Matter.TheVariants.{EachNamespaceType, EachFamily, InternetFamilies, EachGroup}
 
 abbrev pub Line : Type 0
 Line = List ℕ × Matter

@@ -23,7 +23,8 @@ Comes state input = IsCallData input × IsWithin state.region input
 abbrev pub EndsAt : List Insn → State → ℕ → Type 0
 EndsAt code state answer =
     (input : CallData) (regs : Regs) → Comes state input → regs.a ≡ held_word state.held input →
-    (insn : Insn) × (after : Regs) × (slice_get code state.at ≡ Some insn) × (effect_by (op_of insn.code) insn regs input ≡ Some (effect.End answer, after))
+    (insn : Insn) × (after : Regs) × (slice_get code state.at ≡ Some insn) ×
+    (effect_by (op_of insn.code) insn regs input ≡ Some (effect.End answer, after))
 
 -- all data that come to the next state come to this one, and its instruction leads them there
 pub record LeadsOn (code : List Insn) (state to : State) : Type 0 where
@@ -32,7 +33,8 @@ pub record LeadsOn (code : List Insn) (state to : State) : Type 0 where
   pub narrower : (input : CallData) → Comes to input → Comes state input
   pub leads : (input : CallData) (regs : Regs) → Comes to input → regs.a ≡ held_word state.held input →
       (insn : Insn) × (after : Regs) × (slice_get code state.at ≡ Some insn)
-      × (effect_by (op_of insn.code) insn regs input ≡ Some (effect.Skip (to.at - (state.at + 1)), after)) × (after.a ≡ held_word to.held input)
+      × (effect_by (op_of insn.code) insn regs input ≡ Some (effect.Skip (to.at - (state.at + 1)), after)) ×
+      (after.a ≡ held_word to.held input)
 
 -- all data of the state go on at the next one
 abbrev pub LeadsAll : List Insn → State → State → Type 0

@@ -10,8 +10,11 @@ use Rattle.seccomp_compile.specs.bpf_code.Meaning.{IsCallData, start_regs}
 
 -- started at a position with these registers, the program takes these positions and ends with this answer
 pub data Takes (code : List Insn) (input : CallData) : ℕ → Regs → List ℕ → ℕ → Type 0 where
-  ends : (at : ℕ) (regs after : Regs) (insn : Insn) (answer : ℕ) → slice_get code at ≡ Some insn → effect_by (op_of insn.code) insn regs input ≡ Some (End answer, after) → Takes code input at regs (at ∷ []) answer
-  goes_on : (at skip : ℕ) (regs after : Regs) (insn : Insn) (path : List ℕ) (answer : ℕ) → slice_get code at ≡ Some insn → effect_by (op_of insn.code) insn regs input ≡ Some (Skip skip, after) → Takes code input (at + 1 + skip) after path answer → Takes code input at regs (at ∷ path) answer
+  ends : (at : ℕ) (regs after : Regs) (insn : Insn) (answer : ℕ) → slice_get code at ≡ Some insn
+      → effect_by (op_of insn.code) insn regs input ≡ Some (End answer, after) → Takes code input at regs (at ∷ []) answer
+  goes_on : (at skip : ℕ) (regs after : Regs) (insn : Insn) (path : List ℕ) (answer : ℕ) → slice_get code at ≡ Some insn
+      → effect_by (op_of insn.code) insn regs input ≡ Some (Skip skip, after) → Takes code input (at + 1 + skip) after path answer
+      → Takes code input at regs (at ∷ path) answer
 
 -- the program takes this path on some call data
 abbrev pub IsPath : List Insn → List ℕ → Type 0
@@ -33,4 +36,5 @@ HasPaths code count = (paths : List (List ℕ)) × ArePaths code paths × (lengt
 
 -- it has more than so many
 abbrev pub HasMorePaths : List Insn → ℕ → Type 0
-HasMorePaths code most = (paths : List (List ℕ)) × EachOnce paths × ((path : List ℕ) → Contains paths path → IsPath code path) × (most < length paths)
+HasMorePaths code most = (paths : List (List ℕ)) × EachOnce paths × ((path : List ℕ) → Contains paths path → IsPath code path) ×
+    (most < length paths)

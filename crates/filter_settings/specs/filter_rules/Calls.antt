@@ -34,7 +34,8 @@ unlisted_action Allow default = default
 unlisted_action Deny default = action.Allow
 
 abbrev pub list_action : Table → Action → List ℕ → CallList → Action
-list_action table default name list = option_map_or (listed_action list.mode default) (listed_by table list.mentions name) (unlisted_action list.mode default)
+list_action table default name list = option_map_or (listed_action list.mode default) (listed_by table list.mentions name)
+    (unlisted_action list.mode default)
 
 -- to a call of this name; where the setting is not set, each call is allowed
 abbrev pub call_action : Table → Option CallList → Action → List ℕ → Action

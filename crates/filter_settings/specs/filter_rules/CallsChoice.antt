@@ -10,7 +10,8 @@ use Rattle.filter_settings.specs.filter_rules.Choices.{always}
 
 -- a rule for what is listed, and none for any other call
 abbrev pub list_choice : Table → Action → List ℕ → CallList → Option Choice
-list_choice table default name list = option_map (λ mention. always (listed_action list.mode default mention)) (listed_by table list.mentions name)
+list_choice table default name list = option_map (λ mention. always (listed_action list.mode default mention))
+    (listed_by table list.mentions name)
 
 abbrev pub calls_choice : Table → Option CallList → Action → List ℕ → Option Choice
 calls_choice table calls default name = option_and_then (list_choice table default name) calls

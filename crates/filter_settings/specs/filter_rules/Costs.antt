@@ -8,7 +8,9 @@ use Rattle.call_rules.specs.Sizes.{case_count, test_count, most_insns}
 use Rattle.filter_settings.specs.filter_rules.Choices.{whole}
 use Rattle.filter_settings.specs.declared.filter_rules.installed.Filter.{Filter}
 use Rattle.filter_settings.specs.declared.filter_rules.names.FilterName.{FilterName}
-use Rattle.filter_settings.specs.declared.filter_rules.names.FilterName.TheVariants.{Families, MemoryDenyWriteExecute, Realtime, Suid, Namespaces, Hostname, Modules, Logs, Clock, Devices, Personality, Calls, Archs}
+use Rattle.filter_settings.specs.declared.filter_rules.names.FilterName.TheVariants.{Families, MemoryDenyWriteExecute, Realtime, Suid}
+use Rattle.filter_settings.specs.declared.filter_rules.names.FilterName.TheVariants.{Namespaces, Hostname, Modules, Logs, Clock, Devices}
+use Rattle.filter_settings.specs.declared.filter_rules.names.FilterName.TheVariants.{Personality, Calls, Archs}
 
 -- calls with a rule, cases over all of them, tests over all cases
 pub record Costs : Type 0 where

@@ -27,7 +27,8 @@ is_refused_family list number = is_refused_by list.mode (is_listed_family list.m
 
 -- socket(2) with a refused family, which is argument 0
 abbrev pub refuses_family : Option FamilyList → List ℕ → CallData → Bool
-refuses_family families name input = bytes_eq name (codes "socket") && option_map_or (λ list. is_refused_family list (low input 0)) families false
+refuses_family families name input = bytes_eq name (codes "socket") && option_map_or
+    (λ list. is_refused_family list (low input 0)) families false
 
 -- socket(2) may be asked for the family of this number
 abbrev pub permits_family : Option FamilyList → ℕ → Bool

@@ -26,4 +26,5 @@ abbrev pub socket_choice : Table → FamilyList → Choice
 socket_choice table list = family_choice list.mode (family_tests list.mentions table.families)
 
 abbrev pub families_choice : Table → Option FamilyList → List ℕ → Option Choice
-families_choice table families name = if bytes_eq name (codes "socket") then option_and_then (λ list. Some (socket_choice table list)) families else None
+families_choice table families name = if bytes_eq name (codes "socket") then option_and_then
+    (λ list. Some (socket_choice table list)) families else None

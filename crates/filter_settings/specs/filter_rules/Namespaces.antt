@@ -28,4 +28,5 @@ abbrev pub enters_any : List ℕ → CallData → Bool
 enters_any name input = bytes_eq name (codes "setns") && low input 1 == 0
 
 abbrev pub refuses_namespace : NamespaceTypes → List ℕ → CallData → Bool
-refuses_namespace types name input = enters_any name input || option_map_or (λ at. has_forbidden types (low input at)) (types_argument name) false
+refuses_namespace types name input = enters_any name input || option_map_or (λ at. has_forbidden types (low input at))
+    (types_argument name) false

@@ -6,4 +6,5 @@ use Rattle.filter_settings.specs.filter_rules.Choices.{whole, allowed_where}
 use Rattle.filter_settings.specs.filter_rules.Realtime.{sched_other, sched_batch, sched_idle}
 
 abbrev pub realtime_choice : List ℕ → Option Choice
-realtime_choice name = if bytes_eq name (codes "sched_setscheduler") then Some (allowed_where (whole 1 sched_other ∷ whole 1 sched_batch ∷ whole 1 sched_idle ∷ [])) else None
+realtime_choice name = if bytes_eq name (codes "sched_setscheduler") then Some
+    (allowed_where (whole 1 sched_other ∷ whole 1 sched_batch ∷ whole 1 sched_idle ∷ [])) else None

@@ -11,7 +11,9 @@ use Rattle.call_table.specs.declared.listed.CallLine.{CallLine}
 use Rattle.filter_settings.specs.declared.filter_rules.choice.Choice.{Choice}
 use Rattle.filter_settings.specs.declared.filter_rules.settings.FilterSettings.{FilterSettings}
 use Rattle.filter_settings.specs.declared.filter_rules.names.FilterName.{FilterName}
-use Rattle.filter_settings.specs.declared.filter_rules.names.FilterName.TheVariants.{Families, MemoryDenyWriteExecute, Realtime, Suid, Namespaces, Hostname, Modules, Logs, Clock, Devices, Personality, Calls, Archs}
+use Rattle.filter_settings.specs.declared.filter_rules.names.FilterName.TheVariants.{Families, MemoryDenyWriteExecute, Realtime, Suid}
+use Rattle.filter_settings.specs.declared.filter_rules.names.FilterName.TheVariants.{Namespaces, Hostname, Modules, Logs, Clock, Devices}
+use Rattle.filter_settings.specs.declared.filter_rules.names.FilterName.TheVariants.{Personality, Calls, Archs}
 use Rattle.filter_settings.specs.filter_rules.Blocked.{hostname_words, modules_words, logs_words, clock_words, devices_words}
 use Rattle.filter_settings.specs.filter_rules.Choices.{rule_with}
 use Rattle.filter_settings.specs.filter_rules.FamiliesChoice.{families_choice}

@@ -10,7 +10,9 @@ use Rattle.call_table.specs.Table.{Abi, Table, arch_of, calls_in}
 use Rattle.call_table.specs.Lookups.{numbered}
 use Rattle.filter_settings.specs.declared.filter_rules.settings.FilterSettings.{FilterSettings}
 use Rattle.filter_settings.specs.declared.filter_rules.names.FilterName.{FilterName}
-use Rattle.filter_settings.specs.declared.filter_rules.names.FilterName.TheVariants.{Families, MemoryDenyWriteExecute, Realtime, Suid, Namespaces, Hostname, Modules, Logs, Clock, Devices, Personality, Calls, Archs}
+use Rattle.filter_settings.specs.declared.filter_rules.names.FilterName.TheVariants.{Families, MemoryDenyWriteExecute, Realtime, Suid}
+use Rattle.filter_settings.specs.declared.filter_rules.names.FilterName.TheVariants.{Namespaces, Hostname, Modules, Logs, Clock, Devices}
+use Rattle.filter_settings.specs.declared.filter_rules.names.FilterName.TheVariants.{Personality, Calls, Archs}
 use Rattle.dropin_merge.specs.linux_numbers.Errnos.{eperm, eafnosupport}
 use Rattle.filter_settings.specs.filter_rules.Actions.{unless_refused}
 use Rattle.filter_settings.specs.filter_rules.Families.{refuses_family}
@@ -81,5 +83,6 @@ other_action (Some second) = Allow
 abbrev pub wanted_action : FilterName → FilterSettings → Table → ℕ → CallData → Action
 wanted_action filter settings table abi input =
     if input.arch == arch_of table abi
-    then option_map_or (λ call. named_action filter settings table call.name input) (numbered input.nr (calls_in table abi)) (unnamed_action filter settings)
+    then option_map_or (λ call. named_action filter settings table call.name input) (numbered input.nr (calls_in table abi))
+    (unnamed_action filter settings)
     else other_action table.second

@@ -1,5 +1,6 @@
 -- What the parts of the listing answer each other, where the shelf tells its files.
-use Rattle.std.specs.Prelude.{Vec, String, string_bytes, ◌≡◌, nat_lt, ℕ, true, false, cond, Option, None, Result, Ok, Err, List, length, map, flat_map}
+use Rattle.std.specs.Prelude.{Vec, String, string_bytes, ◌≡◌, nat_lt, ℕ, true, false, cond, Option, None, Result, Ok, Err, List, length}
+use Rattle.std.specs.Prelude.{map, flat_map}
 use Rattle.std.specs.List.{list_any}
 use Rattle.std.specs.Str.{bytes_eq}
 use Rattle.std.specs.BTreeMap.{BTreeMap, get_by_text}
@@ -13,7 +14,8 @@ use Rattle.fleet_command.specs.declared.fleet_names.errors.NamesError.TheVariant
 
 -- the names of a folder are answered, in any order, or that there are too many
 abbrev pub ListsFolder : List (List ℕ) → Result (Vec (String Global) Global) NamesError → Type 0
-ListsFolder names (Ok listed) = ((q : List ℕ) → list_any (bytes_eq q) (map string_bytes listed.items) ≡ list_any (bytes_eq q) names) × (nat_lt 4096 (length names) ≡ false)
+ListsFolder names (Ok listed) = ((q : List ℕ) → list_any (bytes_eq q) (map string_bytes listed.items) ≡ list_any (bytes_eq q) names) ×
+    (nat_lt 4096 (length names) ≡ false)
 ListsFolder names (Err TooMany) = nat_lt 4096 (length names) ≡ true
 ListsFolder names (Err ReadFault) = Unit {0}
 ListsFolder names (Err Memory) = Unit {0}
@@ -28,7 +30,8 @@ unit_among names q = cond (list_any (bytes_eq q) names) (name_of q) None
 
 -- the units among the files of some folders are kept by their texts, and none of the folders has too many files
 abbrev pub CollectsUnits : Files → List (List ℕ) → Result (BTreeMap (String Global) Name) NamesError → Type 0
-CollectsUnits files folders (Ok units) = ((q : List ℕ) → get_by_text units q ≡ unit_among (flat_map (names_in files) folders) q) × (list_any (is_overfull files) folders ≡ false)
+CollectsUnits files folders (Ok units) = ((q : List ℕ) → get_by_text units q ≡ unit_among (flat_map (names_in files) folders) q) ×
+    (list_any (is_overfull files) folders ≡ false)
 CollectsUnits files folders (Err TooMany) = list_any (is_overfull files) folders ≡ true
 CollectsUnits files folders (Err ReadFault) = Unit {0}
 CollectsUnits files folders (Err Memory) = Unit {0}

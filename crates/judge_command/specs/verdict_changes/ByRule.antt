@@ -24,7 +24,8 @@ verdict_change false true question list = Opened question list ∷ []
 verdict_change false false question list = []
 
 abbrev pub question_change : Launch → Launch → Path → Question → List Change
-question_change before after program question = verdict_change (is_open before question) (is_open after question) question (calls_for after program question)
+question_change before after program question = verdict_change (is_open before question) (is_open after question) question
+    (calls_for after program question)
 
 -- by whether it was blind and whether it is
 abbrev pub blind_change : Bool → Bool → Path → List Change

@@ -35,7 +35,8 @@ pub data ChangesVerdicts (before after : World) : List Question → List Change 
       → ChangesVerdicts before after rest changes → ChangesVerdicts before after (question ∷ rest) changes
   closed : (question : Question) (rest : List Question) (changes : List Change) → IsOpen before question → IsDenied after question
       → ChangesVerdicts before after rest changes → ChangesVerdicts before after (question ∷ rest) (Closed question ∷ changes)
-  opened : (question : Question) (list : List Call) (rest : List Question) (changes : List Change) → IsDenied before question → IsTrueAnswer after (Open question list)
+  opened : (question : Question) (list : List Call) (rest : List Question) (changes : List Change) → IsDenied before question
+      → IsTrueAnswer after (Open question list)
       → ChangesVerdicts before after rest changes → ChangesVerdicts before after (question ∷ rest) (Opened question list ∷ changes)
 
 -- of rows, in their order: the folders that are blind in one world and exposed by some list of calls in the other, and no others
@@ -47,9 +48,11 @@ pub data ChangesFolders (before after : World) : List Row → List Change → Ty
       → ChangesFolders before after rest changes → ChangesFolders before after (row ∷ rest) changes
   both_seen : (row : Row) (rest : List Row) (changes : List Change) → IsExposed before row.path → IsExposed after row.path
       → ChangesFolders before after rest changes → ChangesFolders before after (row ∷ rest) changes
-  hidden : (row : Row) (rest : List Row) (changes : List Change) → is_dir row.kind ≡ true → IsExposed before row.path → IsBlind after row.path
+  hidden : (row : Row) (rest : List Row) (changes : List Change) → is_dir row.kind ≡ true → IsExposed before row.path
+      → IsBlind after row.path
       → ChangesFolders before after rest changes → ChangesFolders before after (row ∷ rest) (Hidden row.path ∷ changes)
-  shown : (row : Row) (rest : List Row) (changes : List Change) → is_dir row.kind ≡ true → IsBlind before row.path → IsExposed after row.path
+  shown : (row : Row) (rest : List Row) (changes : List Change) → is_dir row.kind ≡ true → IsBlind before row.path
+      → IsExposed after row.path
       → ChangesFolders before after rest changes → ChangesFolders before after (row ∷ rest) (Shown row.path ∷ changes)
 
 -- the folder of a change of folders

@@ -7,7 +7,8 @@ use Rattle.site_table.specs.declared.row.Row.{Row}
 use Rattle.kern_mounts.specs.Finds.{finds}
 use Rattle.kern_mounts.specs.declared.step.What.TheVariants.{Empty}
 use Rattle.kernel_model.specs.kern_files.Bits.{has_some, has_all}
-use Rattle.kernel_model.specs.kern_files.MountCall.{ms_bind, ms_rec, ms_remount, ms_remount_bind, has_other_kind, flags_of, kind_found, target_kind, is_same_kind}
+use Rattle.kernel_model.specs.kern_files.MountCall.{ms_bind, ms_rec, ms_remount, ms_remount_bind, has_other_kind, flags_of, kind_found}
+use Rattle.kernel_model.specs.kern_files.MountCall.{target_kind, is_same_kind}
 use Rattle.kernel_model.specs.kern_files.UmountCall.{mnt_detach}
 use Rattle.kern_mounts.specs.Mounts.{Mounts, steps_of}
 use Rattle.kern_mounts.specs.MountsUmount.{mounts_after_umount}

@@ -1,5 +1,8 @@
 -- What the values of the code stand for.
-use Rattle.kernel_model.specs.kernel_calls.Doing.{Doing, See, Open, Create, Truncate, Execve, SetMode, Map, Protect, Attach, Schedule, Personality, Socket, Socketcall, Enter, Fork, Clone, Unshare, Exit, Mount, Umount, Setuid, Setgid, Setresuid, Setresgid, Setgroups, Capset, Prctl, Seccomp, Plain, Asked, Lacking, Misformed, Does}
+use Rattle.kernel_model.specs.kernel_calls.Doing.{Doing, See, Open, Create, Truncate, Execve, SetMode, Map, Protect, Attach, Schedule}
+use Rattle.kernel_model.specs.kernel_calls.Doing.{Personality, Socket, Socketcall, Enter, Fork, Clone, Unshare, Exit, Mount, Umount, Setuid}
+use Rattle.kernel_model.specs.kernel_calls.Doing.{Setgid, Setresuid, Setresgid, Setgroups, Capset, Prctl, Seccomp, Plain, Asked, Lacking}
+use Rattle.kernel_model.specs.kernel_calls.Doing.{Misformed, Does}
 use Rattle.kernel_model.specs.declared.kernel_calls.doing.Doing.{Doing as Lent}
 use Rattle.kernel_model.specs.declared.kernel_calls.doing.Doing.TheVariants as lent
 use Rattle.kernel_model.specs.declared.kernel_calls.asked.Asked.{Asked as LentAsked}

@@ -11,7 +11,8 @@ use Rattle.ceilings.specs.kernel_model.declared.kernel_calls.call.Call.{Call}
 use Rattle.ceilings.specs.kernel_laws.declared.question_types.kind.CallKind.TheVariants.{ChangesMounts, RemovesMounts}
 use Rattle.ceilings.specs.kernel_laws.declared.question_types.wish.Wish.{Wish}
 use Rattle.ceilings.specs.kernel_laws.declared.question_types.power.Power.{Power}
-use Rattle.ceilings.specs.kernel_laws.declared.question_types.power.Power.TheVariants.{None as Nowise, Unmount as Unmounting, Mount as Mounting}
+use Rattle.ceilings.specs.kernel_laws.declared.question_types.power.Power.TheVariants.{None as Nowise, Unmount as Unmounting}
+use Rattle.ceilings.specs.kernel_laws.declared.question_types.power.Power.TheVariants.{Mount as Mounting}
 use Rattle.ceilings.specs.kernel_laws.Launched.{Launch, lets}
 use Rattle.ceilings.specs.kernel_laws.Reach.{reach}
 use Rattle.ceilings.specs.kernel_ways.Uncovering.{covering, umount_calls, mount_calls}

@@ -13,13 +13,18 @@ use Rattle.ceilings.specs.kernel_model.kernel_calls.Rules.{rule_of}
 use Rattle.ceilings.specs.kernel_laws.Kinds.{words, no_words}
 use Rattle.ceilings.specs.kernel_laws.Launched.{Launch, lets_line}
 use Rattle.ceilings.specs.kernel_laws.declared.question_types.kind.CallKind.{CallKind}
-use Rattle.ceilings.specs.kernel_laws.declared.question_types.kind.CallKind.TheVariants.{ForPath, PlainCall, ForFamily, ForNamespace, MapsWx, ProtectsX, AttachesX, SchedulesRealtime, TakesPersonality, SetsMode, ChangesMounts, RemovesMounts, SetsCaps, TakesUid, TakesGid}
-use Rattle.ceilings.specs.kernel_laws.declared.question_types.wish.Wish.TheVariants.{See as ToSee, Read as ToRead, Write as ToWrite, Exec as ToExec}
+use Rattle.ceilings.specs.kernel_laws.declared.question_types.kind.CallKind.TheVariants.{ForPath, PlainCall, ForFamily, ForNamespace}
+use Rattle.ceilings.specs.kernel_laws.declared.question_types.kind.CallKind.TheVariants.{MapsWx, ProtectsX, AttachesX, SchedulesRealtime}
+use Rattle.ceilings.specs.kernel_laws.declared.question_types.kind.CallKind.TheVariants.{TakesPersonality, SetsMode, ChangesMounts}
+use Rattle.ceilings.specs.kernel_laws.declared.question_types.kind.CallKind.TheVariants.{RemovesMounts, SetsCaps, TakesUid, TakesGid}
+use Rattle.ceilings.specs.kernel_laws.declared.question_types.wish.Wish.TheVariants.{See as ToSee, Read as ToRead, Write as ToWrite}
+use Rattle.ceilings.specs.kernel_laws.declared.question_types.wish.Wish.TheVariants.{Exec as ToExec}
 
 -- the names of the calls of a kind, in the order in which they are tried; socketcall(2), by which 32-bit programs make sockets, comes
 -- behind socket(2) of every ABI, as the first of the table
 abbrev pub names_of : CallKind → List (List ℕ)
-names_of (ForPath ToSee) = codes "stat" ∷ codes "lstat" ∷ codes "newfstatat" ∷ codes "statx" ∷ codes "access" ∷ codes "faccessat" ∷ codes "faccessat2" ∷ []
+names_of (ForPath ToSee) = codes "stat" ∷ codes "lstat" ∷ codes "newfstatat" ∷ codes "statx" ∷ codes "access" ∷ codes "faccessat" ∷ codes
+    "faccessat2" ∷ []
 names_of (ForPath ToRead) = codes "open" ∷ codes "openat" ∷ []
 names_of (ForPath ToWrite) = codes "open" ∷ codes "openat" ∷ codes "creat" ∷ codes "truncate" ∷ []
 names_of (ForPath ToExec) = codes "execve" ∷ []
@@ -31,7 +36,8 @@ names_of ProtectsX = codes "mprotect" ∷ codes "pkey_mprotect" ∷ []
 names_of AttachesX = codes "shmat" ∷ []
 names_of SchedulesRealtime = codes "sched_setscheduler" ∷ []
 names_of TakesPersonality = codes "personality" ∷ []
-names_of SetsMode = codes "chmod" ∷ codes "fchmod" ∷ codes "fchmodat" ∷ codes "mkdir" ∷ codes "mkdirat" ∷ codes "mknod" ∷ codes "mknodat" ∷ []
+names_of SetsMode = codes "chmod" ∷ codes "fchmod" ∷ codes "fchmodat" ∷ codes "mkdir" ∷ codes "mkdirat" ∷ codes "mknod" ∷ codes "mknodat"
+    ∷ []
 names_of ChangesMounts = codes "mount" ∷ []
 names_of RemovesMounts = codes "umount2" ∷ []
 names_of SetsCaps = codes "capset" ∷ []
@@ -44,11 +50,13 @@ lets_name launch kind abi name = option_map_or (lets_line launch kind) (named na
 
 -- the line of the first such name
 abbrev pub line_in : Launch → CallKind → ℕ → Option CallLine
-line_in launch kind abi = option_and_then (λ name. named name (calls_in launch.calls abi)) (find (lets_name launch kind abi) (names_of kind))
+line_in launch kind abi = option_and_then (λ name. named name (calls_in launch.calls abi))
+    (find (lets_name launch kind abi) (names_of kind))
 
 -- that of the native ABI, else that of the other, else the first line of the table that they let through
 abbrev pub first_line : Launch → CallKind → Option CallLine
-first_line launch kind = option_or (line_in launch kind 0) (option_or (line_in launch kind 1) (find (lets_line launch kind) (every_call launch.calls)))
+first_line launch kind = option_or (line_in launch kind 0)
+    (option_or (line_in launch kind 1) (find (lets_line launch kind) (every_call launch.calls)))
 
 -- a line of no table
 abbrev pub no_line : CallLine

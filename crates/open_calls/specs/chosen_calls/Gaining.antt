@@ -1,5 +1,6 @@
 -- The calls by which process 1 gains a capability (capabilities(7), execve(2), capset(2), setuid(2)).
-use Rattle.std.specs.Prelude.{◌≡◌, ℕ, Bool, true, false, not, ◌&&◌, ◌||◌, List, [], ◌∷◌, ◌++◌, find, Option, Some, None, option_and_then, option_map, if◌then◌else◌}
+use Rattle.std.specs.Prelude.{◌≡◌, ℕ, Bool, true, false, not, ◌&&◌, ◌||◌, List, [], ◌∷◌, ◌++◌, find, Option, Some, None, option_and_then}
+use Rattle.std.specs.Prelude.{option_map, if◌then◌else◌}
 use Rattle.std.specs.Option.{option_or, option_map_or}
 use Rattle.ceilings.specs.abs_path.Paths.{Path}
 use Rattle.ceilings.specs.cap_sets.Sets.{has, cut}
@@ -54,13 +55,15 @@ gives_by_capset launch number row = not row.effective && has (common launch row)
 -- the first row, in byte order, that gives it so and that can be run, where capset passes
 abbrev pub capset_way : Launch → Power → ℕ → Option FileWay
 capset_way launch power number =
-    if lets launch SetsCaps then option_map ByCapset (find (λ row. gives_by_capset launch number row && can_run launch power row) launch.site.rows) else None
+    if lets launch SetsCaps then option_map ByCapset
+    (find (λ row. gives_by_capset launch number row && can_run launch power row) launch.site.rows) else None
 
 -- the first row that gives it at once and that can be run, else one that gives it by capset; with no_new_privs none does, prctl(2)
 abbrev pub by_rows : Launch → Power → ℕ → Option FileWay
 by_rows launch power number =
     if launch.creds.no_new_privs then None
-    else option_or (option_map ByRun (find (λ row. gives_at_once launch number row && can_run launch power row) launch.site.rows)) (capset_way launch power number)
+    else option_or (option_map ByRun (find (λ row. gives_at_once launch number row && can_run launch power row) launch.site.rows))
+    (capset_way launch power number)
 
 -- held at launch, else by a row of the launched table
 abbrev pub by_launch : Launch → ℕ → Option FileWay
@@ -117,7 +120,8 @@ run_call launch path = call_by launch (ForPath ToExec) (OnePath path)
 
 -- of a row, once it is exposed
 abbrev pub run_calls : Launch → Power → Row → List Call
-run_calls launch power row = exposing_calls launch power ms_remount_bind ToExec row.path ++ run_call launch (exposing_path launch power ToExec row.path) ∷ []
+run_calls launch power row = exposing_calls launch power ms_remount_bind ToExec row.path ++ run_call launch
+    (exposing_path launch power ToExec row.path) ∷ []
 
 abbrev pub capset_call : Launch → Row → Call
 capset_call launch row = sets_call (place_of (line_of launch SetsCaps)) (common launch row) (common launch row) launch.creds.inheritable
@@ -139,7 +143,8 @@ root_call launch = id_call (place_of (line_of launch TakesUid)) (own_rule (line_
 
 abbrev pub cap_calls : Launch → Path → Power → CapWay → List Call
 cap_calls launch program power (ByFile way) = file_calls launch power way
-cap_calls launch program power (ByRoot way) = file_calls launch power way ++ root_call launch ∷ run_call launch (last_path launch program power way) ∷ []
+cap_calls launch program power (ByRoot way) = file_calls launch power way ++ root_call launch ∷ run_call launch
+    (last_path launch program power way) ∷ []
 
 abbrev pub gain_calls : Launch → Path → GainWay → List Call
 gain_calls launch program (AtOnce way) = cap_calls launch program Nowise way

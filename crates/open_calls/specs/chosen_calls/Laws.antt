@@ -13,7 +13,8 @@ use Rattle.open_calls.specs.chosen_calls.Makers.{AreMadeByService}
 
 -- by the path of the launch's program, for each question that is put to what it is about
 abbrev pub ChoiceShows : Type 0
-ChoiceShows = (world : World) (program : Path) (question : Question) → IsServedWorld world → RunsProgram (launch_of world) program → IsFit world.site question
+ChoiceShows = (world : World) (program : Path) (question : Question) → IsServedWorld world → RunsProgram (launch_of world) program
+    → IsFit world.site question
     → is_open (launch_of world) question ≡ true → Shows world question (calls_for (launch_of world) program question)
 
 -- process 1 makes them, but for one call behind a clone(2) that makes a user namespace

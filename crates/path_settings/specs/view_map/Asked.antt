@@ -29,7 +29,8 @@ asked_on (Ok more) go = go more
 -- what the rules ask at these paths, one after the other, behind those that were kept before
 abbrev pub asked_from : Host → List Mention → List Path → List Mention → List Path
 asked_from row_at mentions [] kept = []
-asked_from row_at mentions (path ∷ paths) kept = beneath_place kept path ++ asked_on (kept_at row_at mentions kept path) (λ more. asked_from row_at mentions paths (kept ++ more))
+asked_from row_at mentions (path ∷ paths) kept = beneath_place kept path ++ asked_on (kept_at row_at mentions kept path)
+    (λ more. asked_from row_at mentions paths (kept ++ more))
 
 abbrev pub asked_of : Host → List Mention → List Path
 asked_of row_at mentions = asked_from row_at mentions (in_byte_order (map (λ mention. mention.path) mentions)) []

@@ -1,7 +1,8 @@
 -- Which mentions are kept, path by path in byte order, so that each path comes after those above it.
 -- The rules are this project's profile of systemd.exec(5), Sandboxing. The host enters as a function `row_at` from a path
 -- to whether there is an object at it, and then whether it is a directory.
-use Rattle.std.specs.Prelude.{◌≡◌, ◌||◌, ◌&&◌, Bool, true, false, not, List, [], ◌∷◌, ◌++◌, map, filter, Option, Some, None, option_map, option_and_then, Result, Ok, Err, if◌then◌else◌}
+use Rattle.std.specs.Prelude.{◌≡◌, ◌||◌, ◌&&◌, Bool, true, false, not, List, [], ◌∷◌, ◌++◌, map, filter, Option, Some, None, option_map}
+use Rattle.std.specs.Prelude.{option_and_then, Result, Ok, Err, if◌then◌else◌}
 use Rattle.std.specs.List.{list_any, filter_map, AllByRecursion, Contains}
 use Rattle.abs_path.specs.Paths.{Path}
 use Rattle.abs_path.specs.Prefix.{is_same}
@@ -67,7 +68,8 @@ is_kept _ = false
 
 -- an empty file system or a bind that is kept
 abbrev pub puts : Host → Beneath → Mention → Bool
-puts row_at here mention = (is_tmp mention.kind || is_bind mention.kind) && is_kept (fate_of (source_row row_at mention.kind) here true mention)
+puts row_at here mention = (is_tmp mention.kind || is_bind mention.kind) && is_kept
+    (fate_of (source_row row_at mention.kind) here true mention)
 
 -- what becomes of a mention among those at its path
 abbrev pub fate_among : Host → Beneath → List Mention → Mention → Fate
@@ -85,7 +87,8 @@ abbrev pub in_order_of_rules : List Mention → List Mention
 in_order_of_rules here = filter (λ mention. is_origin mention.kind) here ++ filter (λ mention. not (is_origin mention.kind)) here
 
 abbrev pub refusals : Host → Beneath → List Mention → List Refusal
-refusals row_at here mentions = filter_map (λ mention. refusal_of mention (fate_among row_at here mentions mention)) (in_order_of_rules mentions)
+refusals row_at here mentions = filter_map (λ mention. refusal_of mention (fate_among row_at here mentions mention))
+    (in_order_of_rules mentions)
 
 -- the first refusal, or what is found
 abbrev pub unless_refused : List Refusal → List Mention → Result (List Mention) Refusal
@@ -94,7 +97,8 @@ unless_refused (refusal ∷ refusals) found = Err refusal
 
 -- the mentions at one path that are kept, by what stands beneath and by one another
 abbrev pub kept_among : Host → Beneath → List Mention → Result (List Mention) Refusal
-kept_among row_at here mentions = unless_refused (refusals row_at here mentions) (filter (λ mention. is_kept (fate_among row_at here mentions mention)) mentions)
+kept_among row_at here mentions = unless_refused (refusals row_at here mentions)
+    (filter (λ mention. is_kept (fate_among row_at here mentions mention)) mentions)
 
 -- the mentions at the path that are kept, by the kept ones above it
 abbrev pub kept_at : Host → List Mention → List Mention → Path → Result (List Mention) Refusal
@@ -107,7 +111,8 @@ goes_on (Ok more) go = go more
 -- the kept mentions of these paths, one path after the other, behind those that were kept before
 abbrev pub kept_from : Host → List Mention → List Path → List Mention → Result (List Mention) Refusal
 kept_from row_at mentions [] kept = Ok kept
-kept_from row_at mentions (path ∷ paths) kept = goes_on (kept_at row_at mentions kept path) (λ more. kept_from row_at mentions paths (kept ++ more))
+kept_from row_at mentions (path ∷ paths) kept = goes_on (kept_at row_at mentions kept path)
+    (λ more. kept_from row_at mentions paths (kept ++ more))
 
 -- the mentions that are kept, or the refusal at the first path that has one
 abbrev pub kept_of : Host → List Mention → Result (List Mention) Refusal

@@ -16,5 +16,6 @@ AreSameSources row_at other mentions = AllByRecursion (λ mention. source_row ot
 
 -- which mentions are kept rests on what stands beneath them, and on the sources of binds, alone
 abbrev pub KeptRestsOnWhatIsAsked : Type 0
-KeptRestsOnWhatIsAsked = (row_at other : Host) (mentions : List Mention) → AreSameSources row_at other mentions → AreSame row_at other (asked_of row_at mentions)
+KeptRestsOnWhatIsAsked = (row_at other : Host) (mentions : List Mention) → AreSameSources row_at other mentions
+    → AreSame row_at other (asked_of row_at mentions)
     → kept_of other mentions ≡ kept_of row_at mentions

@@ -16,7 +16,8 @@ use Rattle.sample_inputs.specs.Facts.{HasSampleRows, SaysSample, plain_exe, prog
 
 -- no path that the unit mentions is refused at a site that has the rows of a sample
 abbrev pub PathsAreNotRefused : Type 0
-PathsAreNotRefused = (n : ℕ) (unit : Resolved) (site : Site) → SaysSample n unit → HasSampleRows site → (kept : List Mention) × (kept_of (host_of site) (unit_mentions unit site) ≡ Ok kept)
+PathsAreNotRefused = (n : ℕ) (unit : Resolved) (site : Site) → SaysSample n unit → HasSampleRows site
+    → (kept : List Mention) × (kept_of (host_of site) (unit_mentions unit site) ≡ Ok kept)
 
 -- the host from its root on, which says nothing of how it may be used
 abbrev pub whole_host : MountStep
@@ -30,5 +31,6 @@ pub record FindsItsProgram (site : Site) (table : List MountStep) : Type 0 where
 
 -- so on the table of what is kept, which is the plan
 abbrev pub ProgramsAreFound : Type 0
-ProgramsAreFound = (n : ℕ) (unit : Resolved) (site : Site) (kept : List Mention) (table : List MountStep) → SaysSample n unit → HasSampleRows site
+ProgramsAreFound = (n : ℕ) (unit : Resolved) (site : Site) (kept : List Mention) (table : List MountStep) → SaysSample n unit
+    → HasSampleRows site
     → kept_of (host_of site) (unit_mentions unit site) ≡ Ok kept → table ≡ table_of (host_of site) kept → FindsItsProgram site table

@@ -24,8 +24,10 @@ pub record AreSampleSettings (n : ℕ) (made : Settings) : Type 0 where
 
 -- nothing refuses a unit that says a sample, at a site that has its rows, whatever the table of calls
 abbrev pub SettingsAreNotRefused : Type 0
-SettingsAreNotRefused = (n : ℕ) (unit : Resolved) (table : Table) (site : Site) → SaysSample n unit → HasSampleRows site → refusal_of unit table site ≡ None
+SettingsAreNotRefused = (n : ℕ) (unit : Resolved) (table : Table) (site : Site) → SaysSample n unit → HasSampleRows site
+    → refusal_of unit table site ≡ None
 
 -- and its settings are these
 abbrev pub SettingsAreTheSamples : Type 0
-SettingsAreTheSamples = (n : ℕ) (unit : Resolved) (table : Table) (site : Site) (made : Settings) → SaysSample n unit → HasSampleRows site → AreSettings unit table site made → AreSampleSettings n made
+SettingsAreTheSamples = (n : ℕ) (unit : Resolved) (table : Table) (site : Site) (made : Settings) → SaysSample n unit → HasSampleRows site
+    → AreSettings unit table site made → AreSampleSettings n made

@@ -7,7 +7,8 @@ use Rattle.asked_service.specs.launched_units.Longer.{with_file}
 -- their lines in order
 abbrev pub lines : List (List ℕ)
 lines =
-    codes "NoNewPrivileges=yes" ∷ codes "PrivateTmp=yes" ∷ codes "PrivateDevices=yes" ∷ codes "ProtectSystem=strict" ∷ codes "ProtectHome=yes"
+    codes "NoNewPrivileges=yes" ∷ codes "PrivateTmp=yes" ∷ codes "PrivateDevices=yes" ∷ codes "ProtectSystem=strict" ∷ codes
+    "ProtectHome=yes"
     ∷ codes "ProtectKernelTunables=yes" ∷ codes "ProtectKernelModules=yes" ∷ codes "ProtectKernelLogs=yes" ∷ codes "ProtectClock=yes"
     ∷ codes "ProtectControlGroups=yes" ∷ codes "ProtectHostname=yes" ∷ codes "RestrictNamespaces=yes" ∷ codes "LockPersonality=yes"
     ∷ codes "MemoryDenyWriteExecute=yes" ∷ codes "RestrictRealtime=yes" ∷ codes "RestrictSUIDSGID=yes" ∷ codes "CapabilityBoundingSet=" ∷ []

@@ -49,7 +49,8 @@ pub record Pleases (tried : Tried) (world : World) : Type 0 where
 -- something that is to be kept is denied, or on the verdicts on all questions some wish answered false
 pub data Displeases (tried : Tried) (world : World) : Type 0 where
   denies : (question : Question) → Contains tried.keep question → IsShut world question → Displeases tried world
-  refuses : (rows : List VerdictRow) → AreRows world rows → (wish : tried.wishes.Wish) → Contains tried.wishes.wishes wish → tried.wishes.Answers rows wish false → Displeases tried world
+  refuses : (rows : List VerdictRow) → AreRows world rows → (wish : tried.wishes.Wish) → Contains tried.wishes.wishes wish
+      → tried.wishes.Answers rows wish false → Displeases tried world
 
 -- the unit with the lines of the set added last is launched to a service with which all are pleased
 pub record Serves (tried : Tried) (set : List ℕ) : Type 0 where
@@ -59,8 +60,10 @@ pub record Serves (tried : Tried) (set : List ℕ) : Type 0 where
 
 -- it has no settings, no plan or no launch; or it is launched to a service with which someone is not
 pub data Stops (tried : Tried) (set : List ℕ) : Type 0 where
-  not_launched : (error : UnitRefusal) → error ≢ refusal.Memory → IsNotLaunched (tightened tried.unit set) tried.table tried.site error → Stops tried set
-  displeases : (service : Service) → IsLaunchedUnit (tightened tried.unit set) tried.table tried.site service → Displeases tried service.world → Stops tried set
+  not_launched : (error : UnitRefusal) → error ≢ refusal.Memory → IsNotLaunched (tightened tried.unit set) tried.table tried.site error
+      → Stops tried set
+  displeases : (service : Service) → IsLaunchedUnit (tightened tried.unit set) tried.table tried.site service
+      → Displeases tried service.world → Stops tried set
 
 -- the first of a list, counted from 1, of which this holds; of those before it the other does
 pub record IsFirst {X : Type 0} (Good Bad : X → Type 0) (list : List X) (number : ℕ) : Type 0 where

@@ -33,7 +33,8 @@ pub record LaunchAsEither (table : calls.Table) (site : Site) (wanted : Wanted) 
   pub launched : launch_by table site wanted plan programs ≡ Launched (above both base) steps
 
 abbrev pub EitherLaunches : Type 0
-EitherLaunches = (table : calls.Table) (site : Site) (wanted : Wanted) (plan : Table) (programs of_one of_other : List (List ℕ)) (both one other : List (List Insn)) (last last' : World)
+EitherLaunches = (table : calls.Table) (site : Site) (wanted : Wanted) (plan : Table) (programs of_one of_other : List (List ℕ))
+    (both one other : List (List Insn)) (last last' : World)
     → IsWhole table → HasWordArchs table → CanBeMounted (host_of site) plan → wanted.uid < no_id
     → AreInstalled programs both → length both ≡ length one → length both ≡ length other → AnswersAsEither both one other
     → LaunchesBy table site wanted plan of_one one last → LaunchesBy table site wanted plan of_other other last'

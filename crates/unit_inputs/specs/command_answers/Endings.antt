@@ -1,7 +1,8 @@
 -- The table of statuses, and what is asked of endings.
 use Rattle.std.specs.Prelude.{ℕ, Bool, true, false}
 use Rattle.unit_inputs.specs.declared.command_answers.ending.Ending.{Ending}
-use Rattle.unit_inputs.specs.declared.command_answers.ending.Ending.TheVariants.{Done, AboveThreshold, NoCommand, Refused, ReadFault, WriteFault, OutOfMemory, LaunchRefused, Differs}
+use Rattle.unit_inputs.specs.declared.command_answers.ending.Ending.TheVariants.{Done, AboveThreshold, NoCommand, Refused, ReadFault}
+use Rattle.unit_inputs.specs.declared.command_answers.ending.Ending.TheVariants.{WriteFault, OutOfMemory, LaunchRefused, Differs}
 
 -- the status of a process that ends so
 abbrev pub code_of : Ending → ℕ

@@ -46,7 +46,8 @@ AcceptsFiles laws files = first_refusal (laws.refusals files) ≡ None
 -- the first refusal is printed, or what is asked
 pub data Admits (laws : FileLaws) (files : Files) : Ending → List ℕ → Type 0 where
   refuses : (line : List ℕ) → first_refusal (laws.refusals files) ≡ Some line → Admits laws files ending.Refused line
-  prints : (behind : Ending) (text : List ℕ) → AcceptsFiles laws files → laws.may_end behind → laws.prints files behind text → Admits laws files behind text
+  prints : (behind : Ending) (text : List ℕ) → AcceptsFiles laws files → laws.may_end behind → laws.prints files behind text
+      → Admits laws files behind text
 
 -- refused exactly where something is
 abbrev pub MayEnd : FileLaws → Files → Ending → Type 0
@@ -66,7 +67,8 @@ accepts_over laws None = ⊥
 accepts_over laws (Some files) = AcceptsFiles laws files
 
 abbrev pub laws_over : Option Files → FileLaws → Laws
-laws_over told laws = record { admits = admits_over laws told; may_end = may_end_over laws told; accepts = accepts_over laws told; reads = laws.reads }
+laws_over told laws = record
+    { admits = admits_over laws told; may_end = may_end_over laws told; accepts = accepts_over laws told; reads = laws.reads }
 
 -- what is ready, or the line of the refusal, is admitted
 abbrev pub IsAdmitted : {R : Type 0} → Laws → (R → Ending) → (R → List ℕ) → Result R Stop → Type 0

@@ -42,7 +42,8 @@ pub record HasFaultCause (ending : Ending) (outside : Outside) : Type 0 where
 -- all that is asked is accepted and nothing failed: it is answered, or memory ran out
 abbrev pub Completes : Type 0 → Ending → Outside → Type 0
 Completes accepted ending outside =
-    accepted → (Rose outside.shelf_before outside.shelf_after → ⊥) → (Rose outside.sink.faults_before outside.sink.faults_after → ⊥) → IsTrue (is_answer ending) ⊎ (ending ≡ OutOfMemory)
+    accepted → (Rose outside.shelf_before outside.shelf_after → ⊥) → (Rose outside.sink.faults_before outside.sink.faults_after → ⊥)
+    → IsTrue (is_answer ending) ⊎ (ending ≡ OutOfMemory)
 
 -- a run of a command with these laws that ended so
 pub record IsRun (laws : Laws) (ending : Ending) (outside : Outside) : Type 0 where

@@ -24,7 +24,8 @@ opened_lines table site Needed = []
 
 -- an assignment in force, and below it what it opens
 abbrev pub line_told : calls.Table → Site → List UnitFile → LineAlone → List ℕ
-line_told table site files one = codes "line " ++ (place_words files one.line.now ++ (alone_words one.alone ++ opened_lines table site one.alone))
+line_told table site files one =
+    codes "line " ++ (place_words files one.line.now ++ (alone_words one.alone ++ opened_lines table site one.alone))
 
 -- it opens nothing by itself
 abbrev pub is_idle : Alone → Bool

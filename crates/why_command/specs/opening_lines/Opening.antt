@@ -21,9 +21,12 @@ use Rattle.why_command.specs.declared.opening_lines.each.LineAlone.{LineAlone}
 -- of questions, in their order: those that are denied in one world and open in the other, as `judge` answers them, and no others
 pub data OpensOf (before after : World) : List Question → List Question → Type 0 where
   no_question : OpensOf before after [] []
-  was_open : (question : Question) (rest opened : List Question) → IsOpen before question → OpensOf before after rest opened → OpensOf before after (question ∷ rest) opened
-  stays_denied : (question : Question) (rest opened : List Question) → IsDenied before question → IsDenied after question → OpensOf before after rest opened → OpensOf before after (question ∷ rest) opened
-  is_opened : (question : Question) (rest opened : List Question) → IsDenied before question → IsOpen after question → OpensOf before after rest opened → OpensOf before after (question ∷ rest) (question ∷ opened)
+  was_open : (question : Question) (rest opened : List Question) → IsOpen before question → OpensOf before after rest opened
+      → OpensOf before after (question ∷ rest) opened
+  stays_denied : (question : Question) (rest opened : List Question) → IsDenied before question → IsDenied after question
+      → OpensOf before after rest opened → OpensOf before after (question ∷ rest) opened
+  is_opened : (question : Question) (rest opened : List Question) → IsDenied before question → IsOpen after question
+      → OpensOf before after rest opened → OpensOf before after (question ∷ rest) (question ∷ opened)
 
 -- a unit that has settings, a plan of its mounts and a launch: exactly these questions of the tables are denied in the world before
 -- and open of its service

@@ -5,4 +5,5 @@ pub returns-in-Equal : goal.returns-in-Equal
 returns-in-Equal c = stands_there c.args.paths.now c.loop-index.index c.args.path.now c.index-paths-index.result c.loop-index-test.true c.index-paths-index.is c.in-Equal.ensures.by_bytes c.loop-index.invariant
 
 pub loop-index-preserved : goal.loop-index-preserved
-loop-index-preserved c = goes_behind c.args.paths.now c.loop-index.index c.args.path.now c.index-paths-index.result c.loop-index-test.true c.index-paths-index.is c.in-Greater.ensures.by_bytes c.loop-index.invariant
+loop-index-preserved c = goes_behind c.args.paths.now c.loop-index.index c.args.path.now c.index-paths-index.result c.loop-index-test.true
+    c.index-paths-index.is c.in-Greater.ensures.by_bytes c.loop-index.invariant

@@ -8,19 +8,25 @@ use Rattle.asked_service.proofs.rows.count_open.Goals.{then-is_open, else-is_ope
 
 pub is_open-requires-clause-listed : goal.is_open-requires-clause-listed
 is_open-requires-clause-listed c =
-    listed_at c.args.bounded.now.service.world.calls c.args.bounded.now.service.world.site c.args.list.now c.loop-question.question-index c.loop-question-test.true c.requires.all
+    listed_at c.args.bounded.now.service.world.calls c.args.bounded.now.service.world.site c.args.list.now c.loop-question.question-index
+    c.loop-question-test.true c.requires.all
 
 pub loop-question-preserved : goal.loop-question-preserved
 loop-question-preserved c = elim c.if-is_open.branch [
   | then-is_open w ↦ record {
-    counted = counted_more c.args.bounded.now.service.world c.args.list.now c.loop-question.question-index some_question c.loop-question-test.true c.loop-question.open c.if-is_open.open (sym c.is_open.ensures.by_the_rule ∙ w.if-is_open.true) c.loop-question.invariant.counted w.open-is;
+    counted = counted_more c.args.bounded.now.service.world c.args.list.now c.loop-question.question-index some_question
+        c.loop-question-test.true c.loop-question.open c.if-is_open.open
+        (sym c.is_open.ensures.by_the_rule ∙ w.if-is_open.true) c.loop-question.invariant.counted w.open-is;
     few = omega (arith, w.open-is, c.loop-question.invariant.few);
   }
   | else-is_open w ↦ record {
-    counted = counted_same c.args.bounded.now.service.world c.args.list.now c.loop-question.question-index some_question c.loop-question-test.true c.loop-question.open c.if-is_open.open (sym c.is_open.ensures.by_the_rule ∙ w.if-is_open.false) c.loop-question.invariant.counted w.open-is;
+    counted = counted_same c.args.bounded.now.service.world c.args.list.now c.loop-question.question-index some_question
+        c.loop-question-test.true c.loop-question.open c.if-is_open.open
+        (sym c.is_open.ensures.by_the_rule ∙ w.if-is_open.false) c.loop-question.invariant.counted w.open-is;
     few = omega (arith, w.open-is, c.loop-question.invariant.few);
   }
 ]
 
 pub returns-clause-counts : goal.returns-clause-counts
-returns-clause-counts c = c.loop-question.invariant.counted ∙ ap (λ own. count_open (rows_of c.args.bounded.now.service.world own)) (take_all c.loop-question.question-index c.args.list.now c.loop-question-test.false)
+returns-clause-counts c = c.loop-question.invariant.counted ∙ ap (λ own. count_open (rows_of c.args.bounded.now.service.world own))
+    (take_all c.loop-question.question-index c.args.list.now c.loop-question-test.false)

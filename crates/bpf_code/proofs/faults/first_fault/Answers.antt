@@ -9,7 +9,8 @@ pub returns-in-Some : goal.returns-in-Some
 returns-in-Some c = record { the_first = read_faulty _ _ _ _ _ c.loop-place-test.true refl c.in-Some.ensures c.loop-place.invariant }
 
 pub loop-place-preserved : goal.loop-place-preserved
-loop-place-preserved c = read_fine c.args.insns.now c.loop-place.place _ _ c.loop-place-test.true refl c.in_default.ensures c.loop-place.invariant
+loop-place-preserved c = read_fine c.args.insns.now c.loop-place.place _ _ c.loop-place-test.true refl c.in_default.ensures
+    c.loop-place.invariant
 
 pub returns : goal.returns
 returns c =

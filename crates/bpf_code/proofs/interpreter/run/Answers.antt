@@ -4,7 +4,8 @@ use Rattle.bpf_code.proofs.Runs.{remains_whole, remains_more, remains_ends}
 use Rattle.bpf_code.proofs.interpreter.run.Goals as goal
 
 pub loop-insn-init : goal.loop-insn-init
-loop-insn-init c = rw (c.insns-code.ensures.insns, c.new-regs.ensures.all_zero) (remains_whole c.args.program.now c.args.input.now c.insns-code.ensures.program.accepted)
+loop-insn-init c = rw (c.insns-code.ensures.insns, c.new-regs.ensures.all_zero)
+    (remains_whole c.args.program.now c.args.input.now c.insns-code.ensures.program.accepted)
 
 pub returns-in-End : goal.returns-in-End
 returns-in-End c =
@@ -17,4 +18,5 @@ returns-in-End c =
 
 pub loop-insn-preserved : goal.loop-insn-preserved
 loop-insn-preserved c =
-    remains_more _ _ _ _ _ _ _ _ _ c.loop-insn.invariant c.in-Some.ensures.cases.0 c.in-Skip.ensures.effect c.in-Skip.ensures.inside (take_rest c.in-Some.rest.now c.in-Skip.skip)
+    remains_more _ _ _ _ _ _ _ _ _ c.loop-insn.invariant c.in-Some.ensures.cases.0 c.in-Skip.ensures.effect c.in-Skip.ensures.inside
+    (take_rest c.in-Some.rest.now c.in-Skip.skip)

@@ -10,6 +10,8 @@ returns c =
     record {
       ascending =
           ascends c.args.lines.now c.sort_unstable_by_key.new.self.items c.requires
-          (subst (λ (order : List Numbered). IsPermutation order c.sort_unstable_by_key.new.self.items) c.in_ok-order.ensures c.sort_unstable_by_key.ensures.permutation)
-          (IsNonDecreasingBy-from_sort_by_key (λ numbered. numbered.number) c.sort_unstable_by_key.new.self.items c.sort_unstable_by_key.ensures.sorted (λ a r f called. (search rules, search rules)));
+          (subst (λ (order : List Numbered). IsPermutation order c.sort_unstable_by_key.new.self.items) c.in_ok-order.ensures
+          c.sort_unstable_by_key.ensures.permutation)
+          (IsNonDecreasingBy-from_sort_by_key (λ numbered. numbered.number) c.sort_unstable_by_key.new.self.items
+          c.sort_unstable_by_key.ensures.sorted (λ a r f called. (search rules, search rules)));
     }

@@ -9,4 +9,5 @@ returns-in_ok-push-in-Ok-clause-sound c =
     let checked = c.in-Ok.ensures in
     let longer = c.in_ok-push-in-Ok.ensures.goes_last ∙ ap (λ name. lines ++ record { name = name; number = c.in-Ok.number; cap = c.in-Ok.cap; abi = c.args.abi } ∷ []) c.in_ok-name-in-Ok.ensures.same_text in
     subst (AreLines c.args.most) (sym longer)
-    (lines_more c.args.most lines _ c.requires.lines checked.new_name checked.new_number (record { number = checked.fits; capability = checked.known }) checked.room)
+    (lines_more c.args.most lines _ c.requires.lines checked.new_name checked.new_number
+    (record { number = checked.fits; capability = checked.known }) checked.room)

@@ -12,4 +12,5 @@ returns-clause-sound c =
     let absent = sym c.has.ensures.by_name ∙ c.if-has.false in
     let found = subst (FindsMembers every c.args.groups.now names) c.in-Some.is c.in_ok-members.ensures.finds_members in
     groups_more every c.args.groups.now c.args.name.now names c.in-Some.members c.push.new.self c.requires.groups absent found.1
-    (c.in_ok-push.ensures.goes_last ∙ ap (λ name. c.args.groups.now ++ record { name = name; members = c.in-Some.members } ∷ []) c.in_ok-name.ensures.same_text)
+    (c.in_ok-push.ensures.goes_last ∙ ap (λ name. c.args.groups.now ++ record { name = name; members = c.in-Some.members } ∷ [])
+    c.in_ok-name.ensures.same_text)

@@ -12,7 +12,8 @@ returns-in_err-place_in-in-None c = record {
 
 pub returns-in-Some : goal.returns-in-Some
 returns-in-Some c = record {
-  by_name = sym (place_stays (has_name c.args.name.now) c.args.calls.now (lines_seen c.args.more) c.in-Some.place some_line (sym c.in-Some.ensures.by_name));
+  by_name = sym (place_stays (has_name c.args.name.now) c.args.calls.now (lines_seen c.args.more) c.in-Some.place some_line
+      (sym c.in-Some.ensures.by_name));
 }
 
 pub returns-in_ok-place_in-in-None : goal.returns-in_ok-place_in-in-None

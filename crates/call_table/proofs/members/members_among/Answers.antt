@@ -18,4 +18,5 @@ returns-in_ok-marked c =
 pub returns-else-mark_words : goal.returns-else-mark_words
 returns-else-mark_words c =
     let words = c.args.words.now in
-    list_all-map (is_known (c.args.calls.now ++ lines_seen c.args.more) c.args.groups.now) (λ (word : Bor (List ℕ)). word.now) words ∙ sym c.mark_words.ensures.known ∙ c.if-mark_words.false
+    list_all-map (is_known (c.args.calls.now ++ lines_seen c.args.more) c.args.groups.now) (λ (word : Bor (List ℕ)). word.now) words
+    ∙ sym c.mark_words.ensures.known ∙ c.if-mark_words.false

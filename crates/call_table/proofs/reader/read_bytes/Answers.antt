@@ -8,4 +8,5 @@ returns-in_default c = no_text c.args.bytes.now c.in_default.ensures.text
 
 pub returns : goal.returns
 returns c =
-    of_text c.args.bytes.now c.in-Some.text.now (map line_view c.as_slice.result.now) c.read_table.result c.in-Some.ensures.text (ap (map line_view) c.as_slice.ensures.value ∙ c.in_ok-lines.ensures.counted) c.read_table.ensures
+    of_text c.args.bytes.now c.in-Some.text.now (map line_view c.as_slice.result.now) c.read_table.result c.in-Some.ensures.text
+    (ap (map line_view) c.as_slice.ensures.value ∙ c.in_ok-lines.ensures.counted) c.read_table.ensures

@@ -22,15 +22,18 @@ returns-in_err-take c =
     let table = made c.loop-line.lists in
     let head : Head = record { name = c.args.name; arch = c.args.arch } in
     rw (p.1, p.2)
-    (stops c.args.two head (map line_view lines) (map line_view (take i lines)) line (map line_view (drop (suc i) lines)) table (with_kind table (line_kind line)) (made c.take.new.self) c.in_err-take.field-0.0
+    (stops c.args.two head (map line_view lines) (map line_view (take i lines)) line (map line_view (drop (suc i) lines)) table
+    (with_kind table (line_kind line)) (made c.take.new.self) c.in_err-take.field-0.0
     (split_made line_view lines i no_line c.loop-line-test.true) c.loop-line.invariant c.in_err-take.ensures.steps)
 
 pub loop-line-preserved : goal.loop-line-preserved
 loop-line-preserved c =
     let i = c.loop-line.line-index in
     let lines = c.args.lines.now in
-    subst (λ (ls : List Line). HasRead c.args.two (record { name = c.args.name; arch = c.args.arch }) ls (made c.take.new.self)) (sym (take_made line_view lines i no_line c.loop-line-test.true))
-    (reads_more c.args.two (record { name = c.args.name; arch = c.args.arch }) (map line_view (take i lines)) (line_view (get_or lines i no_line)) (made c.loop-line.lists) (made c.take.new.self) c.loop-line.invariant
+    subst (λ (ls : List Line). HasRead c.args.two (record { name = c.args.name; arch = c.args.arch }) ls (made c.take.new.self))
+    (sym (take_made line_view lines i no_line c.loop-line-test.true))
+    (reads_more c.args.two (record { name = c.args.name; arch = c.args.arch }) (map line_view (take i lines))
+    (line_view (get_or lines i no_line)) (made c.loop-line.lists) (made c.take.new.self) c.loop-line.invariant
     c.in_ok-take.ensures.steps.0 c.in_ok-take.ensures.steps.1 c.in_ok-take.ensures.sound)
 
 pub loop-line-init : goal.loop-line-init

@@ -9,8 +9,10 @@ use Rattle.ceilings.proofs.gains.caps_before.Goals as goal
 pub loop-row-preserved : goal.loop-row-preserved
 loop-row-preserved c =
     let f : Row → ℕ = gain_at (launch_of c.args.world.now) c.args.power in
-    ap (λ caps. union caps (gathered f (drop (c.loop-row.row-index + 1) c.rows-rows.result.now))) (c.union-caps.ensures.union ∙ ap (union c.loop-row.caps) c.gain_at.ensures)
-    ∙ gathered_more f c.loop-row.caps (caps_before (launch_of c.args.world.now) c.args.power) c.rows-rows.result.now c.loop-row.row-index c.row-item.result
+    ap (λ caps. union caps (gathered f (drop (c.loop-row.row-index + 1) c.rows-rows.result.now)))
+    (c.union-caps.ensures.union ∙ ap (union c.loop-row.caps) c.gain_at.ensures)
+    ∙ gathered_more f c.loop-row.caps (caps_before (launch_of c.args.world.now) c.args.power) c.rows-rows.result.now c.loop-row.row-index
+    c.row-item.result
     c.loop-row-test.true c.row-item.is c.loop-row.invariant
 
 pub returns : goal.returns

@@ -3,7 +3,8 @@ use Rattle.std.specs.Prelude.{◌&&◌}
 use Rattle.kernel_ways.specs.linux_numbers.Capabilities.{cap_sys_admin, cap_setuid, cap_setgid}
 use Rattle.kernel_ways.specs.cap_sets.Sets.{has}
 use Rattle.kernel_ways.specs.kernel_laws.Bound.{caps_at, power_by, power_of}
-use Rattle.kernel_ways.specs.kernel_laws.declared.question_types.kind.CallKind.TheVariants.{ChangesMounts, RemovesMounts, TakesUid, TakesGid}
+use Rattle.kernel_ways.specs.kernel_laws.declared.question_types.kind.CallKind.TheVariants.{ChangesMounts, RemovesMounts, TakesUid}
+use Rattle.kernel_ways.specs.kernel_laws.declared.question_types.kind.CallKind.TheVariants.{TakesGid}
 use Rattle.kernel_ways.specs.kernel_laws.Launched.{Launch, launch_of, lets}
 use Rattle.kernel_ways.proofs.Exact.{ceiling_is_exact}
 use Rattle.kernel_ways.specs.Spared.{caps_by, power_using}
@@ -24,8 +25,10 @@ returns-clause-is_its_own c =
     record {
       effective = caps;
       power = power;
-      any_uid = c.can_take_any.ensures ∙ ap (λ used. has c.caps_by-effective.result cap_setuid && used) c.of-passing.ensures.takes_uid ∙ ap (λ set. has set cap_setuid && lets launch TakesUid) caps;
-      any_gid = c.can_take_any-2.ensures ∙ ap (λ used. has c.caps_by-effective.result cap_setgid && used) c.of-passing.ensures.takes_gid ∙ ap (λ set. has set cap_setgid && lets launch TakesGid) caps;
+      any_uid = c.can_take_any.ensures ∙ ap (λ used. has c.caps_by-effective.result cap_setuid && used) c.of-passing.ensures.takes_uid
+          ∙ ap (λ set. has set cap_setuid && lets launch TakesUid) caps;
+      any_gid = c.can_take_any-2.ensures ∙ ap (λ used. has c.caps_by-effective.result cap_setgid && used) c.of-passing.ensures.takes_gid
+          ∙ ap (λ set. has set cap_setgid && lets launch TakesGid) caps;
       uids = λ id. ap (has_id id) c.in_ok-uids.ensures ∙ uids_given launch (c.power_using-spared.result) id c.power_using-spared.ensures;
       gids = λ id. ap (has_id id) c.in_ok-gids.ensures ∙ gids_given launch (c.power_using-power.result) id power;
       paths = c.of-2.ensures;
@@ -37,7 +40,8 @@ pub returns-clause-power_is_by_what_can_be_had : goal.returns-clause-power_is_by
 returns-clause-power_is_by_what_can_be_had c =
     let own = returns-clause-is_its_own c in
     let launch : Launch = launch_of c.args.launched.now.world in
-    own.power ∙ power_once launch ∙ ap (λ caps. power_by (has caps cap_sys_admin) (lets launch ChangesMounts) (lets launch RemovesMounts)) (sym own.effective)
+    own.power ∙ power_once launch ∙ ap (λ caps. power_by (has caps cap_sys_admin) (lets launch ChangesMounts) (lets launch RemovesMounts))
+    (sym own.effective)
 
 pub returns-clause-other_capabilities_are_denied : goal.returns-clause-other_capabilities_are_denied
 returns-clause-other_capabilities_are_denied c =
@@ -57,7 +61,8 @@ returns-clause-other_gids_are_denied c =
 pub returns-clause-each_capability_is_had : goal.returns-clause-each_capability_is_had
 returns-clause-each_capability_is_had c =
     let own = returns-clause-is_its_own c in
-    λ served number e. (ceiling_is_exact c.args.launched.now.world served).held number (ap (λ caps. has caps number) (sym own.effective) ∙ e)
+    λ served number e. (ceiling_is_exact c.args.launched.now.world served).held number
+    (ap (λ caps. has caps number) (sym own.effective) ∙ e)
 
 pub returns-clause-every_uid_is_had : goal.returns-clause-every_uid_is_had
 returns-clause-every_uid_is_had c =

@@ -6,16 +6,19 @@ use Rattle.ceilings.proofs.searching.first_from.Goals.{else-allows-via-then-allo
 
 pub returns-then-shows : goal.returns-then-shows
 returns-then-shows c =
-    serves_here false c.args.row.now c.args.wish (steps_of c.args.search.now.table.now) c.loop-at.at c.entry-entry.result.now c.entry-entry.ensures.entry
+    serves_here false c.args.row.now c.args.wish (steps_of c.args.search.now.table.now) c.loop-at.at c.entry-entry.result.now
+    c.entry-entry.ensures.entry
     (sym c.allows.ensures ∙ c.if-allows.true) (sym c.shows.ensures ∙ c.if-shows.true)
     ∙ c.loop-at.invariant
 
 pub loop-at-preserved : goal.loop-at-preserved
 loop-at-preserved c = elim c.else-allows.branch [
-  | else-allows-via-then-allows+else-shows w ↦ hides_here false c.args.row.now c.args.wish (steps_of c.args.search.now.table.now) c.loop-at.at c.entry-entry.result.now c.entry-entry.ensures.entry
+  | else-allows-via-then-allows+else-shows w ↦ hides_here false c.args.row.now c.args.wish
+      (steps_of c.args.search.now.table.now) c.loop-at.at c.entry-entry.result.now c.entry-entry.ensures.entry
       (sym c.allows.ensures ∙ w.if-allows.true) (sym w.shows.ensures ∙ w.if-shows.false)
       ∙ c.loop-at.invariant
-  | else-allows-via-else-allows w ↦ forbids_here false c.args.row.now c.args.wish (steps_of c.args.search.now.table.now) c.loop-at.at c.entry-entry.result.now c.entry-entry.ensures.entry
+  | else-allows-via-else-allows w ↦ forbids_here false c.args.row.now c.args.wish
+      (steps_of c.args.search.now.table.now) c.loop-at.at c.entry-entry.result.now c.entry-entry.ensures.entry
       (sym c.allows.ensures ∙ w.if-allows.false)
       ∙ c.loop-at.invariant
 ]

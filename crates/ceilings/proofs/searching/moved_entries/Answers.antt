@@ -7,5 +7,6 @@ use Rattle.ceilings.proofs.searching.moved_entries.Goals as goal
 pub loop-at-preserved : goal.loop-at-preserved
 loop-at-preserved c =
     ap (λ (list : List Bool). list ++ map is_moved (drop (c.loop-at.at + 1) (steps_of c.args.table.now))) c.in_ok-push.ensures.items
-    ∙ moved_more (steps_of c.args.table.now) c.loop-at.at c.entry.result.now c.loop-at.list.items c.is_moved.result c.entry.ensures.entry c.is_moved.ensures
+    ∙ moved_more (steps_of c.args.table.now) c.loop-at.at c.entry.result.now c.loop-at.list.items c.is_moved.result c.entry.ensures.entry
+    c.is_moved.ensures
     ∙ c.loop-at.invariant

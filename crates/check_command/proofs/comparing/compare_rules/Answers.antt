@@ -14,5 +14,6 @@ returns-in-Ok-clause-compares c = is_compared c.in-Ok.outcome c.in-Ok.ensures.fi
 pub returns-in-Err-clause-compares : goal.returns-in-Err-clause-compares
 returns-in-Err-clause-compares c =
     let ne : c.in-Err.error ≢ Memory = search rules in
-    said_refused (λ (checked : Checked). checked.outcome) (Compares c.args.path.now c.args.program.now (wanted_by c.args.rules.now)) c.check_line.result (check_line c.args.path.now c.in-Err.error) c.refuse.result c.refuse.ensures.tells_the_line c.check_line.ensures
+    said_refused (λ (checked : Checked). checked.outcome) (Compares c.args.path.now c.args.program.now (wanted_by c.args.rules.now))
+    c.check_line.result (check_line c.args.path.now c.in-Err.error) c.refuse.result c.refuse.ensures.tells_the_line c.check_line.ensures
     (not_compared c.in-Err.error ne c.in-Err.ensures.finds)

@@ -8,4 +8,5 @@ use Rattle.check_command.proofs.naming.means_with_abi.Goals as goal
 pub returns-in-Some : goal.returns-in-Some
 returns-in-Some c =
     c.is_joined.ensures ∙ ap (λ name. bytes_eq (name ++ 64 ∷ c.in-Some.abi.now) c.args.word.now) c.text-name.ensures.as_printed
-    ∙ sym (with_abi (λ abi. bytes_eq (text_of c.args.filter.now.name ++ 64 ∷ abi) c.args.word.now) (abi_at c.args.table.now c.args.filter.now.abi) c.in-Some.abi.now c.in-Some.ensures.by_position)
+    ∙ sym (with_abi (λ abi. bytes_eq (text_of c.args.filter.now.name ++ 64 ∷ abi) c.args.word.now)
+    (abi_at c.args.table.now c.args.filter.now.abi) c.in-Some.abi.now c.in-Some.ensures.by_position)

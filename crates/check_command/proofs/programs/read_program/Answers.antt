@@ -12,14 +12,21 @@ use Rattle.check_command.proofs.programs.read_program.Goals as goal
 
 pub returns-in_err-bytes-clause-reads_the_program : goal.returns-in_err-bytes-clause-reads_the_program
 returns-in_err-bytes-clause-reads_the_program g c =
-    at_stop (λ result. IfSome (g.S.Shelf.told c.args.shelf.now) (λ files. IsSaid (λ (program : List Insn). program) (IsProgramIn files c.args.path.now) result)) c.from_residual.result c.in_err-bytes.field-0.0 c.from_residual.ensures.1
-    (no_bytes (λ (bytes : Vec ℕ Global). bytes.items) (g.S.Shelf.told c.args.shelf.now) c.args.path.now c.in_err-bytes.field-0.0 c.in_err-bytes.ensures.reads_the_file)
+    at_stop (λ result. IfSome (g.S.Shelf.told c.args.shelf.now)
+    (λ files. IsSaid (λ (program : List Insn). program) (IsProgramIn files c.args.path.now) result)) c.from_residual.result
+    c.in_err-bytes.field-0.0 c.from_residual.ensures.1
+    (no_bytes (λ (bytes : Vec ℕ Global). bytes.items) (g.S.Shelf.told c.args.shelf.now) c.args.path.now c.in_err-bytes.field-0.0
+    c.in_err-bytes.ensures.reads_the_file)
 
 pub returns-clause-reads_the_program : goal.returns-clause-reads_the_program
 returns-clause-reads_the_program g c =
-    some_bytes (g.S.Shelf.told c.args.shelf.now) c.args.path.now c.in_ok-bytes.bytes.items c.program_of_bytes.result c.in_ok-bytes.ensures.reads_the_file
-    (subst (λ bytes. IsSaid (λ (program : List Insn). program) (IsProgramOf c.args.path.now bytes) c.program_of_bytes.result) c.as_slice.ensures.value c.program_of_bytes.ensures.says)
+    some_bytes (g.S.Shelf.told c.args.shelf.now) c.args.path.now c.in_ok-bytes.bytes.items c.program_of_bytes.result
+    c.in_ok-bytes.ensures.reads_the_file
+    (subst (λ bytes. IsSaid (λ (program : List Insn). program) (IsProgramOf c.args.path.now bytes) c.program_of_bytes.result)
+    c.as_slice.ensures.value c.program_of_bytes.ensures.says)
 
 pub returns-clause-asks_for_it : goal.returns-clause-asks_for_it
 returns-clause-asks_for_it g c =
-    went_quiet g.S.Shelf.asks c.args.shelf.now c.read_input.new.shelf (input_file c.args.path.now ∷ []) c.program_of_bytes.result c.program_of_bytes.ensures.reads_nothing c.in_ok-bytes.ensures.asks_for_it
+    went_quiet g.S.Shelf.asks c.args.shelf.now c.read_input.new.shelf
+    (input_file c.args.path.now ∷ []) c.program_of_bytes.result c.program_of_bytes.ensures.reads_nothing
+    c.in_ok-bytes.ensures.asks_for_it

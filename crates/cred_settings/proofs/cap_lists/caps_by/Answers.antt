@@ -5,5 +5,6 @@ use Rattle.cred_settings.proofs.cap_lists.caps_by.Goals as goal
 
 pub loop-one-preserved : goal.loop-one-preserved
 loop-one-preserved c =
-    fold_next (with_listed c.args.default) c.loop-one.set _ c.args.lines.now c.loop-one.one-index c.one-item.result c.loop-one-test.true c.one-item.is c.with_listed-set.ensures
+    fold_next (with_listed c.args.default) c.loop-one.set _ c.args.lines.now c.loop-one.one-index c.one-item.result c.loop-one-test.true
+    c.one-item.is c.with_listed-set.ensures
     ∙ c.loop-one.invariant

@@ -1,4 +1,5 @@
-use Rattle.cred_settings.proofs.WritingLemmas.{one_plain_line, one_inverted_line, tilde_alone, two_plain_lines, two_ambient_lines, empty_value_first}
+use Rattle.cred_settings.proofs.WritingLemmas.{one_plain_line, one_inverted_line, tilde_alone, two_plain_lines, two_ambient_lines}
+use Rattle.cred_settings.proofs.WritingLemmas.{empty_value_first}
 use Rattle.cred_settings.proofs.laws.common_writings.Goals as goal
 
 pub returns : goal.returns

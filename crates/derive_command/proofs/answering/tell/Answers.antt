@@ -6,7 +6,8 @@ use Rattle.derive_command.proofs.answering.tell.Goals as goal
 
 pub returns-in-Seccomp : goal.returns-in-Seccomp
 returns-in-Seccomp c =
-    rw c.in-Seccomp.is (stop_tells c.seccomp_line.result (seccomp_line c.args.path.now c.in-Seccomp.number) c.refuse.result c.refuse.ensures.tells_the_line c.seccomp_line.ensures.tells_the_call)
+    rw c.in-Seccomp.is (stop_tells c.seccomp_line.result (seccomp_line c.args.path.now c.in-Seccomp.number) c.refuse.result
+    c.refuse.ensures.tells_the_line c.seccomp_line.ensures.tells_the_call)
 
 pub returns-in-Settings : goal.returns-in-Settings
 returns-in-Settings c =

@@ -16,26 +16,33 @@ pub returns-in_err-dropin-clause-refuses_a_path : goal.returns-in_err-dropin-cla
 returns-in_err-dropin-clause-refuses_a_path g c =
     let p = err_from_is_err_and c.from_residual-in_err-dropin.result c.from_residual-in_err-dropin.ensures.1 in
     rw (p.1, p.2)
-    (refuses_wider Found (List UnitFile) (λ path. path ≡ c.as_str.result.now) (Contains (map string_bytes c.args.paths.now)) c.in_err-dropin.field-0.0
+    (refuses_wider Found (List UnitFile) (λ path. path ≡ c.as_str.result.now)
+    (Contains (map string_bytes c.args.paths.now)) c.in_err-dropin.field-0.0
     (λ path same.
     subst (Contains (map string_bytes c.args.paths.now)) (sym same)
-    (contains_read c.args.paths.now c.loop-path.path-index c.path-item.result c.as_str.result.now c.loop-path-test.true c.path-item.is c.as_str.ensures.value))
+    (contains_read c.args.paths.now c.loop-path.path-index c.path-item.result c.as_str.result.now c.loop-path-test.true c.path-item.is
+    c.as_str.ensures.value))
     c.in_err-dropin.ensures.refuses_the_path)
 
 pub returns-in_err-dropin-clause-reads_in_order : goal.returns-in_err-dropin-clause-reads_in_order
 returns-in_err-dropin-clause-reads_in_order g c =
     let p = err_from_is_err_and c.from_residual-in_err-dropin.result c.from_residual-in_err-dropin.ensures.1 in
     rw (p.1, p.2)
-    (dropin_stops (g.S.Shelf.told c.args.shelf.now) (g.S.Shelf.told c.loop-path.shelf) (λ files. joined_by (c.args.fragment ∷ []) (dropins_read files (map string_bytes c.args.paths.now)))
+    (dropin_stops (g.S.Shelf.told c.args.shelf.now) (g.S.Shelf.told c.loop-path.shelf)
+    (λ files. joined_by (c.args.fragment ∷ []) (dropins_read files (map string_bytes c.args.paths.now)))
     c.loop-path.files c.args.paths.now c.loop-path.path-index c.path-item.result c.as_str.result.now c.in_err-dropin.field-0.0
-    c.loop-path.invariant.told c.loop-path-test.true c.path-item.is c.as_str.ensures.value c.in_err-dropin.ensures.reads_the_file c.loop-path.invariant.left)
+    c.loop-path.invariant.told c.loop-path-test.true c.path-item.is c.as_str.ensures.value c.in_err-dropin.ensures.reads_the_file
+    c.loop-path.invariant.left)
 
 pub returns-in_err-dropin-clause-asks_in_order : goal.returns-in_err-dropin-clause-asks_in_order
 returns-in_err-dropin-clause-asks_in_order g c =
     let p = err_from_is_err_and c.from_residual-in_err-dropin.result c.from_residual-in_err-dropin.ensures.1 in
     rw (p.1, p.2)
-    (asked.dropin_stops g.S.Shelf.asks (g.S.Shelf.told c.args.shelf.now) (g.S.Shelf.told c.loop-path.shelf) c.loop-path.invariant.told c.args.shelf.now c.loop-path.shelf _ c.args.paths.now c.loop-path.path-index c.path-item.result c.as_str.result.now
-    c.loop-path-test.true c.path-item.is c.as_str.ensures.value c.in_err-dropin.field-0.0 c.in_err-dropin.ensures.reads_the_file c.in_err-dropin.ensures.asks_for_it c.loop-path.invariant.asks)
+    (asked.dropin_stops g.S.Shelf.asks (g.S.Shelf.told c.args.shelf.now)
+    (g.S.Shelf.told c.loop-path.shelf) c.loop-path.invariant.told c.args.shelf.now c.loop-path.shelf _ c.args.paths.now
+    c.loop-path.path-index c.path-item.result c.as_str.result.now
+    c.loop-path-test.true c.path-item.is c.as_str.ensures.value c.in_err-dropin.field-0.0 c.in_err-dropin.ensures.reads_the_file
+    c.in_err-dropin.ensures.asks_for_it c.loop-path.invariant.asks)
 
 pub loop-path-preserved : goal.loop-path-preserved
 loop-path-preserved g c =
@@ -45,21 +52,31 @@ loop-path-preserved g c =
       told = c.in_ok-dropin.ensures.map_stays ∙ c.loop-path.invariant.told;
       stays = c.in_ok-dropin.ensures.no_other_fault ∙ c.loop-path.invariant.stays;
       left = λ files e.
-          dropin_more files (g.S.Shelf.told c.loop-path.shelf) c.loop-path.files c.match-branch-3.files c.args.paths.now c.loop-path.path-index c.path-item.result c.as_str.result.now c.in_ok-dropin.field-0 _
-          (c.loop-path.invariant.told ∙ e) c.loop-path-test.true c.path-item.is c.as_str.ensures.value c.in_ok-dropin.ensures.reads_the_file made (c.loop-path.invariant.left files e);
+          dropin_more files (g.S.Shelf.told c.loop-path.shelf) c.loop-path.files c.match-branch-3.files c.args.paths.now
+          c.loop-path.path-index c.path-item.result c.as_str.result.now c.in_ok-dropin.field-0 _
+          (c.loop-path.invariant.told ∙ e) c.loop-path-test.true c.path-item.is c.as_str.ensures.value
+          c.in_ok-dropin.ensures.reads_the_file made (c.loop-path.invariant.left files e);
       led =
-          led_next c.args.fragment (map string_bytes c.args.paths.now) c.loop-path.path-index c.loop-path.files c.match-branch-3.files c.in_ok-dropin.field-0 c.as_str.result.now
+          led_next c.args.fragment (map string_bytes c.args.paths.now) c.loop-path.path-index c.loop-path.files c.match-branch-3.files
+          c.in_ok-dropin.field-0 c.as_str.result.now
           c.loop-path.invariant.led c.in_ok-dropin.ensures.has_the_path
-          (contains_read c.args.paths.now c.loop-path.path-index c.path-item.result c.as_str.result.now c.loop-path-test.true c.path-item.is c.as_str.ensures.value)
+          (contains_read c.args.paths.now c.loop-path.path-index c.path-item.result c.as_str.result.now c.loop-path-test.true
+          c.path-item.is c.as_str.ensures.value)
           made;
       asks =
-          asked.dropin_more g.S.Shelf.asks (g.S.Shelf.told c.args.shelf.now) (g.S.Shelf.told c.loop-path.shelf) c.loop-path.invariant.told c.args.shelf.now c.loop-path.shelf _ c.args.paths.now c.loop-path.path-index c.path-item.result c.as_str.result.now
-          c.loop-path-test.true c.path-item.is c.as_str.ensures.value c.in_ok-dropin.field-0 c.in_ok-dropin.ensures.reads_the_file c.in_ok-dropin.ensures.asks_for_it c.loop-path.invariant.asks;
+          asked.dropin_more g.S.Shelf.asks (g.S.Shelf.told c.args.shelf.now)
+          (g.S.Shelf.told c.loop-path.shelf) c.loop-path.invariant.told c.args.shelf.now c.loop-path.shelf _ c.args.paths.now
+          c.loop-path.path-index c.path-item.result c.as_str.result.now
+          c.loop-path-test.true c.path-item.is c.as_str.ensures.value c.in_ok-dropin.field-0 c.in_ok-dropin.ensures.reads_the_file
+          c.in_ok-dropin.ensures.asks_for_it c.loop-path.invariant.asks;
     }
 
 pub returns-in_err-push-2-clause-asks_in_order : goal.returns-in_err-push-2-clause-asks_in_order
 returns-in_err-push-2-clause-asks_in_order g c =
     let p = err_from_is_err_and c.from_residual-in_err-push-2.result c.from_residual-in_err-push-2.ensures.1 in
     rw (p.1, p.2)
-    (asked.dropin_cut g.S.Shelf.asks (g.S.Shelf.told c.args.shelf.now) (g.S.Shelf.told c.loop-path.shelf) c.loop-path.invariant.told c.args.shelf.now c.loop-path.shelf _ c.args.paths.now c.loop-path.path-index c.path-item.result c.as_str.result.now
-    c.loop-path-test.true c.path-item.is c.as_str.ensures.value c.in_ok-dropin.field-0 c.in_ok-dropin.ensures.reads_the_file c.in_ok-dropin.ensures.asks_for_it c.loop-path.invariant.asks)
+    (asked.dropin_cut g.S.Shelf.asks (g.S.Shelf.told c.args.shelf.now)
+    (g.S.Shelf.told c.loop-path.shelf) c.loop-path.invariant.told c.args.shelf.now c.loop-path.shelf _ c.args.paths.now
+    c.loop-path.path-index c.path-item.result c.as_str.result.now
+    c.loop-path-test.true c.path-item.is c.as_str.ensures.value c.in_ok-dropin.field-0 c.in_ok-dropin.ensures.reads_the_file
+    c.in_ok-dropin.ensures.asks_for_it c.loop-path.invariant.asks)

@@ -10,6 +10,10 @@ abbrev pub invariant-loop-path : goal.invariant-loop-path
 invariant-loop-path g l = record {
   told : g.S.Shelf.told l.shelf ≡ g.S.Shelf.told l.fn.shelf;
   stays : g.S.Shelf.faults l.shelf ≡ g.S.Shelf.faults l.fn.shelf;
-  left : (files : Files) → g.S.Shelf.told l.fn.shelf ≡ Some files → fragment_read files (fragment_of files (map string_bytes (drop l.path-index l.paths))) ≡ fragment_read files (fragment_of files (map string_bytes l.paths));
-  asks : (files : Files) → g.S.Shelf.told l.fn.shelf ≡ Some files → Going g.S.Shelf.asks l.fn.shelf l.shelf (fragment_asks files (map string_bytes l.paths)) (fragment_asks files (map string_bytes (drop l.path-index l.paths)));
+  left : (files : Files) → g.S.Shelf.told l.fn.shelf ≡ Some files
+      → fragment_read files (fragment_of files (map string_bytes (drop l.path-index l.paths)))
+      ≡ fragment_read files (fragment_of files (map string_bytes l.paths));
+  asks : (files : Files) → g.S.Shelf.told l.fn.shelf ≡ Some files
+      → Going g.S.Shelf.asks l.fn.shelf l.shelf (fragment_asks files (map string_bytes l.paths))
+      (fragment_asks files (map string_bytes (drop l.path-index l.paths)));
 }

@@ -10,8 +10,10 @@ returns-in-Ok-clause-lists_the_folder g c = lists_place (g.S.Shelf.told c.args.s
 
 pub returns-in-Err-Failed-clause-asks_for_it : goal.returns-in-Err-Failed-clause-asks_for_it
 returns-in-Err-Failed-clause-asks_for_it g c =
-    call_ends g.S.Shelf.asks c.args.shelf.now c.list.new.self (NamesIn c.args.place.now) c.list.result (Err shelf.Failed) (search rules) c.list.ensures.asks_for_it
+    call_ends g.S.Shelf.asks c.args.shelf.now c.list.new.self (NamesIn c.args.place.now) c.list.result (Err shelf.Failed)
+    (search rules) c.list.ensures.asks_for_it
 
 pub returns-in-Err-Memory-clause-asks_for_it : goal.returns-in-Err-Memory-clause-asks_for_it
 returns-in-Err-Memory-clause-asks_for_it g c =
-    call_ends g.S.Shelf.asks c.args.shelf.now c.list.new.self (NamesIn c.args.place.now) c.list.result (Err shelf.Memory) (search rules) c.list.ensures.asks_for_it
+    call_ends g.S.Shelf.asks c.args.shelf.now c.list.new.self (NamesIn c.args.place.now) c.list.result (Err shelf.Memory)
+    (search rules) c.list.ensures.asks_for_it

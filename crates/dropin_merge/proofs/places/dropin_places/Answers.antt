@@ -13,5 +13,6 @@ loop-folder-preserved c =
     let front = map string_bytes (take i folders) in
     let more : map string_bytes (take (i + 1) folders) ≡ front ++ string_bytes folder ∷ [] =
     ap (map string_bytes) (take_more folders i folder c.loop-folder-test.true) ∙ map-append string_bytes (take i folders) _ ∙ ap (λ f. front ++ string_bytes f ∷ []) (sym c.folder-item.is) in
-    c.in_ok-push_locations.ensures ∙ ap (λ ps. ps ++ in_locations c.as_str.result.now) c.loop-folder.invariant ∙ ap (λ t. flat_map in_locations front ++ in_locations t) c.as_str.ensures.value
+    c.in_ok-push_locations.ensures ∙ ap (λ ps. ps ++ in_locations c.as_str.result.now) c.loop-folder.invariant
+    ∙ ap (λ t. flat_map in_locations front ++ in_locations t) c.as_str.ensures.value
     ∙ flat_map_more in_locations [] front (string_bytes folder) ∙ ap (flat_map in_locations) (sym more)

@@ -8,4 +8,6 @@ use Rattle.dropin_merge.proofs.resolving.resolve_text.Goals as goal
 pub returns-in-Ok-clause-asks_in_order : goal.returns-in-Ok-clause-asks_in_order
 returns-in-Ok-clause-asks_in_order g c =
     let named : name_of c.args.text.now ≡ Some c.in-Ok.unit = c.in-Ok.ensures.reads_the_name in
-    subst (λ name. IfSome (g.S.Shelf.told c.args.shelf.now) (λ files. Went g.S.Shelf.asks c.args.shelf.now c.resolve_unit.new.shelf (name_asks files name) (course c.resolve_unit.result))) (sym named) c.resolve_unit.ensures.asks_in_order
+    subst (λ name. IfSome (g.S.Shelf.told c.args.shelf.now)
+    (λ files. Went g.S.Shelf.asks c.args.shelf.now c.resolve_unit.new.shelf (name_asks files name) (course c.resolve_unit.result)))
+    (sym named) c.resolve_unit.ensures.asks_in_order

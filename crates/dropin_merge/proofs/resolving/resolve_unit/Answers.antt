@@ -18,8 +18,10 @@ pub returns-in_err-fragment-clause-refuses_a_file : goal.returns-in_err-fragment
 returns-in_err-fragment-clause-refuses_a_file g c =
     let p = err_from_is_err_and c.from_residual-in_err-fragment.result c.from_residual-in_err-fragment.ensures.1 in
     rw (p.1, p.2)
-    (refuses_wider UnitFile Resolved (Contains (map string_bytes c.as_slice.result.now)) (IsUnitPath c.args.unit) c.in_err-fragment.field-0.0
-    (λ path found. inl (subst (λ paths. Contains paths path) (ap (map string_bytes) c.as_slice.ensures.value ∙ c.in_ok-paths.ensures.in_order) found))
+    (refuses_wider UnitFile Resolved (Contains (map string_bytes c.as_slice.result.now))
+    (IsUnitPath c.args.unit) c.in_err-fragment.field-0.0
+    (λ path found. inl (subst (λ paths. Contains paths path)
+    (ap (map string_bytes) c.as_slice.ensures.value ∙ c.in_ok-paths.ensures.in_order) found))
     c.in_err-fragment.ensures.refuses_a_path)
 
 pub returns-in_err-fragment-clause-resolves_by_the_files : goal.returns-in_err-fragment-clause-resolves_by_the_files
@@ -33,7 +35,8 @@ pub returns-in_err-files-clause-resolves_by_the_files : goal.returns-in_err-file
 returns-in_err-files-clause-resolves_by_the_files g c =
     let p = err_from_is_err_and c.from_residual-in_err-files.result c.from_residual-in_err-files.ensures.1 in
     rw (p.1, p.2)
-    (files_refused (g.S.Shelf.told c.args.shelf.now) c.args.unit (map string_bytes c.as_slice.result.now) c.in_ok-fragment.fragment c.in_err-files.field-0.0
+    (files_refused (g.S.Shelf.told c.args.shelf.now) c.args.unit
+    (map string_bytes c.as_slice.result.now) c.in_ok-fragment.fragment c.in_err-files.field-0.0
     (ap (map string_bytes) c.as_slice.ensures.value ∙ c.in_ok-paths.ensures.in_order) c.in_ok-fragment.ensures.reads_the_first
     (rw c.in_ok-fragment.ensures.map_stays at c.in_err-files.ensures.reads_the_files))
 
@@ -41,18 +44,25 @@ pub returns-in_err-fragment-clause-asks_in_order : goal.returns-in_err-fragment-
 returns-in_err-fragment-clause-asks_in_order g c =
     let p = err_from_is_err_and c.from_residual-in_err-fragment.result c.from_residual-in_err-fragment.ensures.1 in
     rw (p.1, p.2)
-    (fragment_alone g.S.Shelf.asks (g.S.Shelf.told c.args.shelf.now) c.args.unit c.args.shelf.now _ (map string_bytes c.as_slice.result.now) (ap (map string_bytes) c.as_slice.ensures.value ∙ c.in_ok-paths.ensures.in_order)
+    (fragment_alone g.S.Shelf.asks (g.S.Shelf.told c.args.shelf.now) c.args.unit c.args.shelf.now _
+    (map string_bytes c.as_slice.result.now) (ap (map string_bytes) c.as_slice.ensures.value ∙ c.in_ok-paths.ensures.in_order)
     c.in_err-fragment.field-0.0 c.in_err-fragment.ensures.reads_the_first c.in_err-fragment.ensures.asks_in_order)
 
 pub returns-in_err-files-clause-asks_in_order : goal.returns-in_err-files-clause-asks_in_order
 returns-in_err-files-clause-asks_in_order g c =
     let p = err_from_is_err_and c.from_residual-in_err-files.result c.from_residual-in_err-files.ensures.1 in
     rw (p.1, p.2)
-    (subst (λ how. IfSome (g.S.Shelf.told c.args.shelf.now) (λ files. Went g.S.Shelf.asks c.args.shelf.now c.read_files.new.shelf (unit_asks files c.args.unit) how)) (course_as (List UnitFile) Resolved c.in_err-files.field-0.0)
-    (behind_it g.S.Shelf.asks (g.S.Shelf.told c.args.shelf.now) c.args.unit c.args.shelf.now _ (map string_bytes c.as_slice.result.now) (ap (map string_bytes) c.as_slice.ensures.value ∙ c.in_ok-paths.ensures.in_order)
-    _ _ c.in_ok-fragment.fragment _ c.in_ok-fragment.ensures.map_stays c.in_ok-fragment.ensures.reads_the_first c.in_ok-fragment.ensures.asks_in_order c.in_err-files.ensures.asks_in_order))
+    (subst (λ how. IfSome (g.S.Shelf.told c.args.shelf.now)
+    (λ files. Went g.S.Shelf.asks c.args.shelf.now c.read_files.new.shelf (unit_asks files c.args.unit) how))
+    (course_as (List UnitFile) Resolved c.in_err-files.field-0.0)
+    (behind_it g.S.Shelf.asks (g.S.Shelf.told c.args.shelf.now) c.args.unit c.args.shelf.now _ (map string_bytes c.as_slice.result.now)
+    (ap (map string_bytes) c.as_slice.ensures.value ∙ c.in_ok-paths.ensures.in_order)
+    _ _ c.in_ok-fragment.fragment _ c.in_ok-fragment.ensures.map_stays c.in_ok-fragment.ensures.reads_the_first
+    c.in_ok-fragment.ensures.asks_in_order c.in_err-files.ensures.asks_in_order))
 
 pub returns-clause-asks_in_order : goal.returns-clause-asks_in_order
 returns-clause-asks_in_order g c =
-    behind_it g.S.Shelf.asks (g.S.Shelf.told c.args.shelf.now) c.args.unit c.args.shelf.now c.read_fragment.new.shelf (map string_bytes c.as_slice.result.now) (ap (map string_bytes) c.as_slice.ensures.value ∙ c.in_ok-paths.ensures.in_order)
-    c.read_files.new.shelf (g.S.Shelf.told c.read_fragment.new.shelf) c.in_ok-fragment.fragment Whole c.in_ok-fragment.ensures.map_stays c.in_ok-fragment.ensures.reads_the_first c.in_ok-fragment.ensures.asks_in_order c.in_ok-files.ensures.asks_in_order
+    behind_it g.S.Shelf.asks (g.S.Shelf.told c.args.shelf.now) c.args.unit c.args.shelf.now c.read_fragment.new.shelf
+    (map string_bytes c.as_slice.result.now) (ap (map string_bytes) c.as_slice.ensures.value ∙ c.in_ok-paths.ensures.in_order)
+    c.read_files.new.shelf (g.S.Shelf.told c.read_fragment.new.shelf) c.in_ok-fragment.fragment Whole c.in_ok-fragment.ensures.map_stays
+    c.in_ok-fragment.ensures.reads_the_first c.in_ok-fragment.ensures.asks_in_order c.in_ok-files.ensures.asks_in_order

@@ -11,7 +11,10 @@ abbrev pub invariant-loop-place : goal.invariant-loop-place
 invariant-loop-place g l = record {
   told : g.S.Shelf.told l.shelf ≡ g.S.Shelf.told l.fn.shelf;
   stays : g.S.Shelf.faults l.shelf ≡ g.S.Shelf.faults l.fn.shelf;
-  collected : (files : Files) → g.S.Shelf.told l.fn.shelf ≡ Some files → Collected files l.winners (map string_bytes (drop l.place-index l.places)) (map string_bytes l.places);
+  collected : (files : Files) → g.S.Shelf.told l.fn.shelf ≡ Some files
+      → Collected files l.winners (map string_bytes (drop l.place-index l.places)) (map string_bytes l.places);
   kept : KeepsTo (map string_bytes l.places) l.winners;
-  asks : (files : Files) → g.S.Shelf.told l.fn.shelf ≡ Some files → Going g.S.Shelf.asks l.fn.shelf l.shelf (folder_asks files (map string_bytes l.places)) (folder_asks files (map string_bytes (drop l.place-index l.places)));
+  asks : (files : Files) → g.S.Shelf.told l.fn.shelf ≡ Some files
+      → Going g.S.Shelf.asks l.fn.shelf l.shelf (folder_asks files (map string_bytes l.places))
+      (folder_asks files (map string_bytes (drop l.place-index l.places)));
 }

@@ -9,7 +9,8 @@ use Rattle.dropin_merge.proofs.winners.take_names.Goals as goal
 pub loop-name-preserved : goal.loop-name-preserved
 loop-name-preserved c = record {
   left = λ q.
-      names_more c.args.place.now c.loop-name.winners c.take_name.new.winners c.args.names.now c.loop-name.name-index c.name-item.result c.as_str.result.now
+      names_more c.args.place.now c.loop-name.winners c.take_name.new.winners c.args.names.now c.loop-name.name-index c.name-item.result
+      c.as_str.result.now
       (option_or (winner_at c.args.winners.now q) (at_place c.args.place.now (map string_bytes c.args.names.now) q)) q
       c.loop-name-test.true c.name-item.is c.as_str.ensures.value (c.loop-name.invariant.left q) (c.in_ok-take_name.ensures.first_wins q);
   kept = λ places placed kept. c.in_ok-take_name.ensures.keeps_to_places places placed (c.loop-name.invariant.kept places placed kept);

@@ -33,14 +33,17 @@ returns c = record {
       let after = c.args.after.now in
       let list = c.as_slice-list.result.now in
       let rows = c.rows-rows.result.now in
-      told_is before after list rows c.tell_questions.new.text.items c.tell_rows.new.text.items c.in_ok-counts.counts.items c.extend_from_slice.new.self.items
+      told_is before after list rows c.tell_questions.new.text.items c.tell_rows.new.text.items c.in_ok-counts.counts.items
+      c.extend_from_slice.new.self.items
       c.as_slice-list.ensures.value
       (c.rows-rows.ensures.rows ∙ ap (λ site. site.rows) c.site_table.ensures.told)
-      (c.in_ok-tell_questions.ensures.tells ∙ ap (λ front. front ++ flat_map (λ question. lines_in after (changes_at before after question)) list) c.new-text.ensures.items)
+      (c.in_ok-tell_questions.ensures.tells
+      ∙ ap (λ front. front ++ flat_map (λ question. lines_in after (changes_at before after question)) list) c.new-text.ensures.items)
       c.in_ok-tell_rows.ensures.tells
       (c.in_ok-counts.ensures.counts
       ∙ ap counts_line (c.as_slice.ensures.value ∙ c.in_ok-tell_rows.ensures.counts
       ∙ ap (λ front. front ++ flat_map (λ row. map kind_of (turns_at before after row)) rows)
-      (c.in_ok-tell_questions.ensures.counts ∙ ap (λ front. front ++ flat_map (λ question. map kind_of (changes_at before after question)) list) c.new-kinds.ensures.items)))
+      (c.in_ok-tell_questions.ensures.counts
+      ∙ ap (λ front. front ++ flat_map (λ question. map kind_of (changes_at before after question)) list) c.new-kinds.ensures.items)))
       (c.in_ok-extend_from_slice.ensures.items ∙ ap (λ more. c.tell_rows.new.text.items ++ more) c.as_slice-2.ensures.value);
 }

@@ -19,10 +19,13 @@ pub returns-clause-tells : goal.returns-clause-tells
 returns-clause-tells c =
     c.in_ok-push_change.ensures
     ∙ ap (λ more. c.args.text.now.items ++ more)
-    (verdict_told c.args.after.now c.call_table.result.now c.site_table.result.now c.args.question.now c.in_ok-change.change (changes_at c.args.before.now c.args.after.now c.args.question.now) c.call_table.ensures.told c.site_table.ensures.told c.in_ok-change.ensures.by_the_rule)
+    (verdict_told c.args.after.now c.call_table.result.now c.site_table.result.now c.args.question.now c.in_ok-change.change
+    (changes_at c.args.before.now c.args.after.now c.args.question.now) c.call_table.ensures.told c.site_table.ensures.told
+    c.in_ok-change.ensures.by_the_rule)
 
 pub returns-clause-counts : goal.returns-clause-counts
 returns-clause-counts c =
     c.in_ok-push_kind.ensures
     ∙ ap (λ more. c.args.kinds.now.items ++ more)
-    (verdict_counted c.args.question.now c.in_ok-change.change (changes_at c.args.before.now c.args.after.now c.args.question.now) c.in_ok-change.ensures.by_the_rule)
+    (verdict_counted c.args.question.now c.in_ok-change.change
+    (changes_at c.args.before.now c.args.after.now c.args.question.now) c.in_ok-change.ensures.by_the_rule)

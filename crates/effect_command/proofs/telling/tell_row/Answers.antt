@@ -16,10 +16,12 @@ pub returns-clause-tells : goal.returns-clause-tells
 returns-clause-tells c =
     c.in_ok-push_turn.ensures
     ∙ ap (λ more. c.args.text.now.items ++ more)
-    (folder_told c.args.after.now c.args.row.now.path c.folder_change-change.result (turns_at c.args.before.now c.args.after.now c.args.row.now) c.folder_change-change.ensures.by_the_rule)
+    (folder_told c.args.after.now c.args.row.now.path c.folder_change-change.result
+    (turns_at c.args.before.now c.args.after.now c.args.row.now) c.folder_change-change.ensures.by_the_rule)
 
 pub returns-clause-counts : goal.returns-clause-counts
 returns-clause-counts c =
     c.in_ok-push_turn_kind.ensures
     ∙ ap (λ more. c.args.kinds.now.items ++ more)
-    (folder_counted c.args.row.now.path c.folder_change-change.result (turns_at c.args.before.now c.args.after.now c.args.row.now) c.folder_change-change.ensures.by_the_rule)
+    (folder_counted c.args.row.now.path c.folder_change-change.result
+    (turns_at c.args.before.now c.args.after.now c.args.row.now) c.folder_change-change.ensures.by_the_rule)

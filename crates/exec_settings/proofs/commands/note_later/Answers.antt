@@ -5,6 +5,8 @@ use Rattle.exec_settings.proofs.commands.note_later.Goals as goal
 
 pub loop-value-preserved : goal.loop-value-preserved
 loop-value-preserved c = (
-  any_next is_command c.args.values.now c.loop-value.value-index c.value-item.result _ _ (omega arith) c.value-item.is c.loop-value.invariant.0 c.in_ok-seen.ensures.seen,
-  later_next c.args.values.now c.loop-value.value-index c.value-item.result _ _ _ _ (omega arith) c.value-item.is c.loop-value.invariant.0 c.loop-value.invariant.1 c.in_ok-seen.ensures.noted,
+  any_next is_command c.args.values.now c.loop-value.value-index c.value-item.result _ _
+      (omega arith) c.value-item.is c.loop-value.invariant.0 c.in_ok-seen.ensures.seen,
+  later_next c.args.values.now c.loop-value.value-index c.value-item.result _ _ _ _
+      (omega arith) c.value-item.is c.loop-value.invariant.0 c.loop-value.invariant.1 c.in_ok-seen.ensures.noted,
 )

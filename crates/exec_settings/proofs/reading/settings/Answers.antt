@@ -13,21 +13,25 @@ returns-in_err-program-clause-refuses_first c =
 pub returns-in_err-own-clause-refuses_first : goal.returns-in_err-own-clause-refuses_first
 returns-in_err-own-clause-refuses_first c =
     handed_on _ _ _ c.from_residual-in_err-own.ensures.1
-    (identity_next c.args.unit.now c.args.calls.now c.args.site.now c.in_ok-program.ensures.refuses_first _ c.in_err-own.ensures.refuses_first)
+    (identity_next c.args.unit.now c.args.calls.now c.args.site.now c.in_ok-program.ensures.refuses_first _
+    c.in_err-own.ensures.refuses_first)
 
 pub returns-in_err-made-clause-refuses_first : goal.returns-in_err-made-clause-refuses_first
 returns-in_err-made-clause-refuses_first c =
     handed_on _ _ _ c.from_residual-in_err-made.ensures.1
-    (missing_next c.args.unit.now c.args.calls.now c.args.site.now c.in_ok-program.ensures.refuses_first c.in_ok-own.ensures.refuses_first _ c.in_err-made.ensures.refuses_first)
+    (missing_next c.args.unit.now c.args.calls.now c.args.site.now c.in_ok-program.ensures.refuses_first c.in_ok-own.ensures.refuses_first
+    _ c.in_err-made.ensures.refuses_first)
 
 pub returns-in_err-mentions-clause-refuses_first : goal.returns-in_err-mentions-clause-refuses_first
 returns-in_err-mentions-clause-refuses_first c =
     handed_on _ _ _ c.from_residual-in_err-mentions.ensures.1
-    (paths_last c.args.unit.now c.args.calls.now c.args.site.now c.in_ok-program.ensures.refuses_first c.in_ok-own.ensures.refuses_first c.in_ok-made.ensures.refuses_first _ c.in_err-mentions.ensures.too_many)
+    (paths_last c.args.unit.now c.args.calls.now c.args.site.now c.in_ok-program.ensures.refuses_first c.in_ok-own.ensures.refuses_first
+    c.in_ok-made.ensures.refuses_first _ c.in_err-mentions.ensures.too_many)
 
 pub returns-clause-refuses_first : goal.returns-clause-refuses_first
 returns-clause-refuses_first c =
-    no_reason c.args.unit.now c.args.calls.now c.args.site.now c.in_ok-program.ensures.refuses_first c.in_ok-own.ensures.refuses_first c.in_ok-made.ensures.refuses_first
+    no_reason c.args.unit.now c.args.calls.now c.args.site.now c.in_ok-program.ensures.refuses_first c.in_ok-own.ensures.refuses_first
+    c.in_ok-made.ensures.refuses_first
     c.in_ok-mentions.ensures.too_many
 
 pub returns-clause-settles : goal.returns-clause-settles
@@ -37,11 +41,14 @@ returns-clause-settles c =
     record {
       launches_the_first_command = c.in_ok-program.ensures.program;
       runs_as = c.in_ok-own.ensures.ids;
-      bounding_without_what_is_taken = bounding_is unit table _ _ _ c.in_ok-own.ensures.bounding c.in_ok-made.ensures.taken c.minus.ensures.minus;
+      bounding_without_what_is_taken = bounding_is unit table _ _ _ c.in_ok-own.ensures.bounding c.in_ok-made.ensures.taken
+          c.minus.ensures.minus;
       ambient = c.in_ok-own.ensures.ambient;
       new_privileges =
           new_privileges_are unit table c.in_ok-made.made.filters.items _ _ _ _ _
-          c.in_ok-made.ensures.as_wanted.exactly_those_on c.in_ok-own.ensures.sets (ap not c.is_empty-has_filter.ensures ∙ ap (λ n. not (n == 0)) c.in_ok-made.made.filters.ok.0) c.in_ok-own.ensures.ambient c.no_new_privs.ensures.set_or_implied;
+          c.in_ok-made.ensures.as_wanted.exactly_those_on c.in_ok-own.ensures.sets
+          (ap not c.is_empty-has_filter.ensures ∙ ap (λ n. not (n == 0)) c.in_ok-made.made.filters.ok.0) c.in_ok-own.ensures.ambient
+          c.no_new_privs.ensures.set_or_implied;
       filters_as_wanted = c.in_ok-made.ensures.as_wanted;
       mentions_written_and_implied = c.in_ok-mentions.ensures.mentions;
       leaves_the_root = c.in_ok-mentions.ensures.leaves_the_root c.in_ok-program.ensures.leaves_the_root;
@@ -49,7 +56,8 @@ returns-clause-settles c =
       all_notes_in_order =
           in_order _ _ _
           (key_by_key unit table _ _ _ _ _ _ c.in_ok-notes.ensures.of_the_unit
-          (c.in_ok-paths.ensures.notes_behind ∙ ap (λ notes. c.in_ok-notes.notes.items ++ notes) c.in_ok-written_paths.ensures.notes_the_unread)
+          (c.in_ok-paths.ensures.notes_behind ∙ ap (λ notes. c.in_ok-notes.notes.items ++ notes)
+          c.in_ok-written_paths.ensures.notes_the_unread)
           c.in_ok-program.ensures.notes_the_others c.in_ok-own.ensures.noted c.in_ok-made.ensures.noted c.in_ok-mentions.ensures.noted)
           c.in_ok-put_in_order.ensures.the_same c.in_ok-put_in_order.ensures.by_files_and_lines c.in_ok-put_in_order.ensures.as_they_stood;
     }

@@ -4,7 +4,11 @@ use Rattle.filter_check.proofs.Found.{memory_found, same_found, differs_found}
 use Rattle.filter_check.proofs.checking.found.Goals as goal
 
 pub returns-in_err-least_by_rules : goal.returns-in_err-least_by_rules
-returns-in_err-least_by_rules c = record { finds = λ code form paths are. memory_found code (wanted_by c.args.rules.now) c.from_residual.result c.from_residual.ensures.1 }
+returns-in_err-least_by_rules c =
+    record {
+      finds = λ code form paths are. memory_found code
+          (wanted_by c.args.rules.now) c.from_residual.result c.from_residual.ensures.1;
+    }
 
 pub returns-in-None : goal.returns-in-None
 returns-in-None c = record {

@@ -8,7 +8,8 @@ use Rattle.filter_command.proofs.printing.print_filter.Goals as goal
 pub returns-in_err-put_line-clause-takes_the_text : goal.returns-in_err-put_line-clause-takes_the_text
 returns-in_err-put_line-clause-takes_the_text g c =
     text_at_error _ _ _ c.in_err-put_line.field-0.0 c.from_residual.result c.from_residual.ensures.0
-    (text_cut _ _ (head_line c.args.filter.now) (flat_map insn_line c.args.filter.now.program) c.in_err-put_line.field-0.0 (c.in_err-put_line.ensures.takes_the_line _ c.head_line.ensures.tells_the_filter))
+    (text_cut _ _ (head_line c.args.filter.now) (flat_map insn_line c.args.filter.now.program) c.in_err-put_line.field-0.0
+    (c.in_err-put_line.ensures.takes_the_line _ c.head_line.ensures.tells_the_filter))
 
 pub returns-clause-takes_the_text : goal.returns-clause-takes_the_text
 returns-clause-takes_the_text g c =
@@ -17,4 +18,5 @@ returns-clause-takes_the_text g c =
     (rw c.insns.ensures.insns at c.print_insns.ensures.takes_the_text)
 
 pub returns-clause-fault_rose : goal.returns-clause-fault_rose
-returns-clause-fault_rose g c = subst (λ before. HasWriteCause before (g.K.Sink.faults c.print_insns.new.out) c.print_insns.result) c.in_ok-put_line.ensures.fault_rose.no_other_fault c.print_insns.ensures.fault_rose
+returns-clause-fault_rose g c = subst (λ before. HasWriteCause before (g.K.Sink.faults c.print_insns.new.out) c.print_insns.result)
+    c.in_ok-put_line.ensures.fault_rose.no_other_fault c.print_insns.ensures.fault_rose

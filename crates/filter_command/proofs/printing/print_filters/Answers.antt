@@ -5,11 +5,14 @@ use Rattle.filter_command.proofs.printing.print_filters.Goals as goal
 
 pub loop-filter-preserved : goal.loop-filter-preserved
 loop-filter-preserved g c = record {
-  taken = items_more filter_text c.args.filters.now c.loop-filter.filter-index c.filter-item.result c.filter-item.result _ _ _ (omega arith) c.filter-item.is c.loop-filter.invariant.taken c.in_ok-print_filter.ensures.takes_the_text;
+  taken = items_more filter_text c.args.filters.now c.loop-filter.filter-index c.filter-item.result c.filter-item.result _ _ _
+      (omega arith) c.filter-item.is c.loop-filter.invariant.taken c.in_ok-print_filter.ensures.takes_the_text;
   same = c.in_ok-print_filter.ensures.fault_rose.no_other_fault ∙ c.loop-filter.invariant.same;
 }
 
 pub returns-in_err-print_filter-clause-takes_the_text : goal.returns-in_err-print_filter-clause-takes_the_text
 returns-in_err-print_filter-clause-takes_the_text g c =
     text_at_error _ _ _ c.in_err-print_filter.field-0.0 c.from_residual.result c.from_residual.ensures.0
-    (items_cut filter_text c.args.filters.now c.loop-filter.filter-index c.filter-item.result c.filter-item.result _ _ _ c.in_err-print_filter.field-0.0 (omega arith) c.filter-item.is c.loop-filter.invariant.taken c.in_err-print_filter.ensures.takes_the_text)
+    (items_cut filter_text c.args.filters.now c.loop-filter.filter-index c.filter-item.result c.filter-item.result _ _ _
+    c.in_err-print_filter.field-0.0 (omega arith) c.filter-item.is c.loop-filter.invariant.taken
+    c.in_err-print_filter.ensures.takes_the_text)

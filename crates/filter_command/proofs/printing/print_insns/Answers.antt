@@ -5,11 +5,16 @@ use Rattle.filter_command.proofs.printing.print_insns.Goals as goal
 
 pub loop-insn-preserved : goal.loop-insn-preserved
 loop-insn-preserved g c = record {
-  taken = items_more insn_line c.args.insns.now c.loop-insn.insn-index (record { code = 0; jt = 0; jf = 0; k = 0 }) (get_or c.args.insns.now c.loop-insn.insn-index (record { code = 0; jt = 0; jf = 0; k = 0 })) _ _ _ (omega arith) refl c.loop-insn.invariant.taken (c.in_ok-put_line.ensures.takes_the_line _ c.insn_line.ensures.tells_the_instruction);
+  taken = items_more insn_line c.args.insns.now c.loop-insn.insn-index (record { code = 0; jt = 0; jf = 0; k = 0 })
+      (get_or c.args.insns.now c.loop-insn.insn-index (record { code = 0; jt = 0; jf = 0; k = 0 })) _ _ _
+      (omega arith) refl c.loop-insn.invariant.taken (c.in_ok-put_line.ensures.takes_the_line _ c.insn_line.ensures.tells_the_instruction);
   same = c.in_ok-put_line.ensures.fault_rose.no_other_fault ∙ c.loop-insn.invariant.same;
 }
 
 pub returns-in_err-put_line-clause-takes_the_text : goal.returns-in_err-put_line-clause-takes_the_text
 returns-in_err-put_line-clause-takes_the_text g c =
     text_at_error _ _ _ c.in_err-put_line.field-0.0 c.from_residual.result c.from_residual.ensures.0
-    (items_cut insn_line c.args.insns.now c.loop-insn.insn-index (record { code = 0; jt = 0; jf = 0; k = 0 }) (get_or c.args.insns.now c.loop-insn.insn-index (record { code = 0; jt = 0; jf = 0; k = 0 })) _ _ _ c.in_err-put_line.field-0.0 (omega arith) refl c.loop-insn.invariant.taken (c.in_err-put_line.ensures.takes_the_line _ c.insn_line.ensures.tells_the_instruction))
+    (items_cut insn_line c.args.insns.now c.loop-insn.insn-index (record { code = 0; jt = 0; jf = 0; k = 0 })
+    (get_or c.args.insns.now c.loop-insn.insn-index (record { code = 0; jt = 0; jf = 0; k = 0 })) _ _ _ c.in_err-put_line.field-0.0
+    (omega arith) refl c.loop-insn.invariant.taken
+    (c.in_err-put_line.ensures.takes_the_line _ c.insn_line.ensures.tells_the_instruction))

@@ -19,7 +19,9 @@ returns-clause-means c =
 pub returns-clause-noted : goal.returns-clause-noted
 unfolding unit_call_list_notes unit_family_list_notes list_notes filter_notes
 returns-clause-noted c =
-    five_said _ _ _ _ _ _ c.in_ok-error_action_of_key.ensures.noted c.in_ok-noted_in.ensures.notes_behind c.in_ok-namespaces_of_key.ensures.noted c.in_ok-noted_in-2.ensures.notes_behind
-    c.in_ok-list_of_key.ensures.noted c.in_ok-noted_in-3.ensures.notes_behind c.in_ok-list_of_key-2.ensures.noted c.in_ok-noted_in-4.ensures.notes_behind c.in_ok-second_refused_by_key.ensures.noted c.in_ok-noted_in-5.ensures.notes_behind
+    five_said _ _ _ _ _ _ c.in_ok-error_action_of_key.ensures.noted c.in_ok-noted_in.ensures.notes_behind
+    c.in_ok-namespaces_of_key.ensures.noted c.in_ok-noted_in-2.ensures.notes_behind
+    c.in_ok-list_of_key.ensures.noted c.in_ok-noted_in-3.ensures.notes_behind c.in_ok-list_of_key-2.ensures.noted
+    c.in_ok-noted_in-4.ensures.notes_behind c.in_ok-second_refused_by_key.ensures.noted c.in_ok-noted_in-5.ensures.notes_behind
     ∙ ap (λ notes. notes ++ list_notes c.args.unit.now c.args.table.now) c.in_ok-flags.ensures.noted
     ∙ append_assoc _ (restriction_notes c.args.unit.now ++ protection_notes c.args.unit.now) (list_notes c.args.unit.now c.args.table.now)

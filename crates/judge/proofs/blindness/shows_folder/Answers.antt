@@ -7,4 +7,6 @@ use Rattle.judge.proofs.blindness.shows_folder.Goals as goal
 pub returns-in-Some : goal.returns-in-Some
 returns-in-Some c =
     c.is_clear.ensures
-    ∙ at_folder c.args.source.now c.args.folder.now c.in-Some.rest.now (λ rest. is_clear c.args.uncover (c.args.place.now ++ rest) (drop (c.args.at + 1) (steps_of c.args.table.now))) c.in-Some.ensures.behind c.in-Some.ensures.normal
+    ∙ at_folder c.args.source.now c.args.folder.now c.in-Some.rest.now
+    (λ rest. is_clear c.args.uncover (c.args.place.now ++ rest) (drop (c.args.at + 1) (steps_of c.args.table.now)))
+    c.in-Some.ensures.behind c.in-Some.ensures.normal

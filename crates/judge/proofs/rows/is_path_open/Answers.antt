@@ -4,7 +4,8 @@ use Rattle.ceilings.specs.kernel_laws.Launched.{launch_of}
 use Rattle.judge.proofs.rows.is_path_open.Goals as goal
 
 pub can_reach-requires-clause-of_the_row : goal.can_reach-requires-clause-of_the_row
-can_reach-requires-clause-of_the_row c = c.leads_to.ensures.of_the_row (launch_of c.args.world.now) c.in-Some.row.now c.requires.its_own_ceiling (sym c.in-Some.ensures)
+can_reach-requires-clause-of_the_row c = c.leads_to.ensures.of_the_row
+    (launch_of c.args.world.now) c.in-Some.row.now c.requires.its_own_ceiling (sym c.in-Some.ensures)
 
 pub returns-in-None : goal.returns-in-None
 returns-in-None c =

@@ -6,7 +6,8 @@ use Rattle.judge.proofs.two_sites.alike.Goals as goal
 pub returns : goal.returns
 returns c = record {
   to_what_is_blind = λ settings plan last steps are kept path planned mounts launches blind agree.
-      blind_to_others c.args.folder.now c.args.unit.now c.args.calls.now c.args.site.now c.args.other.now settings plan (given_bytes c.args.programs.now) last steps
+      blind_to_others c.args.folder.now c.args.unit.now c.args.calls.now c.args.site.now c.args.other.now settings plan
+      (given_bytes c.args.programs.now) last steps
       (record {
         whole = c.look_at.ensures.whole;
         is_site = c.know_site.ensures;

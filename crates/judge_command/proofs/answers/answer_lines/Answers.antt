@@ -32,12 +32,15 @@ pub returns-in-Denied : goal.returns-in-Denied
 returns-in-Denied c =
     let asked = c.args.asked.now in
     let question = c.args.question.now in
-    subst (λ text. IfOk c.verdict_line.result (λ told. told.items ≡ text)) (denied_text asked question (not_open c.args.found (is_open (launch_in asked) question) c.requires.found c.in-Denied.is))
-    (own_line asked question c.args.found Denied c.call_table-table.result.now c.site_table-site.result.now c.verdict_line.result c.call_table-table.ensures.told c.site_table-site.ensures.told c.in-Denied.is c.verdict_line.ensures.tells_the_verdict)
+    subst (λ text. IfOk c.verdict_line.result (λ told. told.items ≡ text))
+    (denied_text asked question (not_open c.args.found (is_open (launch_in asked) question) c.requires.found c.in-Denied.is))
+    (own_line asked question c.args.found Denied c.call_table-table.result.now c.site_table-site.result.now c.verdict_line.result
+    c.call_table-table.ensures.told c.site_table-site.ensures.told c.in-Denied.is c.verdict_line.ensures.tells_the_verdict)
 
 pub returns-in_ok-list-in-Open : goal.returns-in_ok-list-in-Open
 returns-in_ok-list-in-Open c =
     let asked = c.args.asked.now in
     let question = c.args.question.now in
-    own_lines asked question c.as_slice.result.now c.call_table-table.result.now c.site_table-site.result.now c.open_lines.result c.call_table-table.ensures.told c.site_table-site.ensures.told
+    own_lines asked question c.as_slice.result.now c.call_table-table.result.now c.site_table-site.result.now c.open_lines.result
+    c.call_table-table.ensures.told c.site_table-site.ensures.told
     (c.as_slice.ensures.value ∙ c.in_ok-list-in-Open.ensures.the_choice ∙ chosen_for_it asked c.args.service.now c.requires.its_service question) (c.requires.found.0 c.in-Open.is) c.open_lines.ensures.verdict_and_calls

@@ -11,7 +11,8 @@ pub verdict-found-requires : goal.verdict-found-requires
 verdict-found-requires g c = record {
   launched = c.requires.asked.bounded.served.launched;
   its_own_ceiling = c.requires.asked.bounded.ceiling;
-  asked = listed_at c.args.asked.now.bounded.service.world.calls c.args.asked.now.bounded.service.world.site c.args.list.now c.loop-question.question-index c.loop-question-test.true c.requires.all;
+  asked = listed_at c.args.asked.now.bounded.service.world.calls c.args.asked.now.bounded.service.world.site c.args.list.now
+      c.loop-question.question-index c.loop-question-test.true c.requires.all;
 }
 
 pub of-requires : goal.of-requires
@@ -20,7 +21,8 @@ of-requires g c = record { launched = c.requires.asked.bounded.served.launched; 
 pub print_answer-requires : goal.print_answer-requires
 print_answer-requires g c = record {
   asked = c.requires.asked;
-  listed = listed_at c.args.asked.now.bounded.service.world.calls c.args.asked.now.bounded.service.world.site c.args.list.now c.loop-question.question-index c.loop-question-test.true c.requires.all;
+  listed = listed_at c.args.asked.now.bounded.service.world.calls c.args.asked.now.bounded.service.world.site c.args.list.now
+      c.loop-question.question-index c.loop-question-test.true c.requires.all;
   found = c.verdict-found.ensures.by_the_rule;
   its_service = c.in-Ok.ensures.of_the_launch;
 }
@@ -29,10 +31,14 @@ pub loop-question-preserved : goal.loop-question-preserved
 loop-question-preserved g c =
     let once = at_most_one c.verdict-found.result in
     record {
-      taken = items_more (answer_text c.args.asked.now) c.args.list.now c.loop-question.question-index some_question (get_or c.args.list.now c.loop-question.question-index some_question) _ _ _ c.loop-question-test.true refl c.loop-question.invariant.taken c.in_ok-print_answer.ensures.takes_the_text;
+      taken = items_more (answer_text c.args.asked.now) c.args.list.now c.loop-question.question-index some_question
+          (get_or c.args.list.now c.loop-question.question-index some_question) _ _ _ c.loop-question-test.true refl
+          c.loop-question.invariant.taken c.in_ok-print_answer.ensures.takes_the_text;
       counted =
           ap₂ (λ before more. before + more) c.loop-question.invariant.counted c.denied_once.ensures
-          ∙ one_more c.args.asked.now c.args.list.now c.loop-question.question-index some_question (get_or c.args.list.now c.loop-question.question-index some_question) c.verdict-found.result c.loop-question-test.true refl c.verdict-found.ensures.by_the_rule;
+          ∙ one_more c.args.asked.now c.args.list.now c.loop-question.question-index some_question
+          (get_or c.args.list.now c.loop-question.question-index some_question) c.verdict-found.result c.loop-question-test.true refl
+          c.verdict-found.ensures.by_the_rule;
       few = omega (arith, once, c.denied_once.ensures, c.loop-question.invariant.few);
       same = c.in_ok-print_answer.ensures.fault_rose.no_other_fault ∙ c.loop-question.invariant.same;
     }
@@ -40,7 +46,10 @@ loop-question-preserved g c =
 pub returns-in_err-print_answer-clause-takes_the_text : goal.returns-in_err-print_answer-clause-takes_the_text
 returns-in_err-print_answer-clause-takes_the_text g c =
     text_at_error _ _ _ c.in_err-print_answer.field-0.0 c.from_residual.result c.from_residual.ensures.0
-    (items_cut (answer_text c.args.asked.now) c.args.list.now c.loop-question.question-index some_question (get_or c.args.list.now c.loop-question.question-index some_question) _ _ _ c.in_err-print_answer.field-0.0 c.loop-question-test.true refl c.loop-question.invariant.taken c.in_err-print_answer.ensures.takes_the_text)
+    (items_cut (answer_text c.args.asked.now) c.args.list.now c.loop-question.question-index some_question
+    (get_or c.args.list.now c.loop-question.question-index some_question) _ _ _ c.in_err-print_answer.field-0.0
+    c.loop-question-test.true refl c.loop-question.invariant.taken c.in_err-print_answer.ensures.takes_the_text)
 
 pub returns-in_default-clause-takes_the_text : goal.returns-in_default-clause-takes_the_text
-returns-in_default-clause-takes_the_text g c = nothing_taken (g.K.Sink.taken c.args.out.now) (flat_map (answer_text c.args.asked.now) c.args.list.now) Memory
+returns-in_default-clause-takes_the_text g c = nothing_taken (g.K.Sink.taken c.args.out.now)
+    (flat_map (answer_text c.args.asked.now) c.args.list.now) Memory

@@ -5,5 +5,6 @@ pub blind-requires : goal.blind-requires
 blind-requires c = record {
   launched = c.requires.asked.bounded.served.launched;
   its_own_ceiling = c.requires.asked.bounded.ceiling;
-  folder = dir_listed c.args.asked.now.bounded.service.world.site c.requires.asked.bounded.served.offers.site c.requires.row.0 c.args.row.now c.requires.row.1 c.in-Dir.is;
+  folder = dir_listed c.args.asked.now.bounded.service.world.site c.requires.asked.bounded.served.offers.site c.requires.row.0
+      c.args.row.now c.requires.row.1 c.in-Dir.is;
 }

@@ -5,11 +5,13 @@ use Rattle.judge_command.proofs.folders.print_folders.Goals as goal
 
 pub loop-row-preserved : goal.loop-row-preserved
 loop-row-preserved g c = record {
-  taken = items_more (folder_text c.args.asked.now) c.args.rows.now c.loop-row.row-index c.row-item.result c.row-item.result _ _ _ (omega arith) c.row-item.is c.loop-row.invariant.taken c.in_ok-print_folder.ensures.takes_the_text;
+  taken = items_more (folder_text c.args.asked.now) c.args.rows.now c.loop-row.row-index c.row-item.result c.row-item.result _ _ _
+      (omega arith) c.row-item.is c.loop-row.invariant.taken c.in_ok-print_folder.ensures.takes_the_text;
   same = c.in_ok-print_folder.ensures.fault_rose.no_other_fault ∙ c.loop-row.invariant.same;
 }
 
 pub returns-in_err-print_folder-clause-takes_the_text : goal.returns-in_err-print_folder-clause-takes_the_text
 returns-in_err-print_folder-clause-takes_the_text g c =
     text_at_error _ _ _ c.in_err-print_folder.field-0.0 c.from_residual.result c.from_residual.ensures.0
-    (items_cut (folder_text c.args.asked.now) c.args.rows.now c.loop-row.row-index c.row-item.result c.row-item.result _ _ _ c.in_err-print_folder.field-0.0 (omega arith) c.row-item.is c.loop-row.invariant.taken c.in_err-print_folder.ensures.takes_the_text)
+    (items_cut (folder_text c.args.asked.now) c.args.rows.now c.loop-row.row-index c.row-item.result c.row-item.result _ _ _
+    c.in_err-print_folder.field-0.0 (omega arith) c.row-item.is c.loop-row.invariant.taken c.in_err-print_folder.ensures.takes_the_text)

@@ -14,7 +14,9 @@ use Rattle.judge_command.proofs.preparing.prepare.Goals as goal
 
 pub returns-in_err-plan-clause-prepares : goal.returns-in_err-plan-clause-prepares
 returns-in_err-plan-clause-prepares g c =
-    at_stop (λ result. IfSome (g.S.Shelf.told c.args.shelf.now) (λ files. Prepares (IsPrepared files c.args.unit.now) (plan_refusals files c.args.unit.now) result)) c.from_residual-in_err-plan.result c.in_err-plan.field-0.0 c.from_residual-in_err-plan.ensures.1
+    at_stop (λ result. IfSome (g.S.Shelf.told c.args.shelf.now)
+    (λ files. Prepares (IsPrepared files c.args.unit.now) (plan_refusals files c.args.unit.now) result))
+    c.from_residual-in_err-plan.result c.in_err-plan.field-0.0 c.from_residual-in_err-plan.ensures.1
     (stops_at_paths (g.S.Shelf.told c.args.shelf.now) c.args.unit.now c.in_ok-one.one c.deref.result.now.mentions c.deref-2.result.now
     (ap (λ settings. settings.mentions) c.deref.ensures ∙ c.in_ok-one.ensures.has_settings.mentions_written_and_implied)
     c.deref-2.ensures
@@ -34,9 +36,16 @@ returns-clause-prepares g c =
 
 pub returns-in_err-plan-clause-asks_in_order : goal.returns-in_err-plan-clause-asks_in_order
 returns-in_err-plan-clause-asks_in_order g c =
-    order_quiet_stopped g.S.Shelf.asks (g.S.Shelf.told c.args.shelf.now) (λ files. input_asks files c.args.unit.now) c.args.shelf.now c.settle_unit.new.shelf (List MountStep) c.from_residual-in_err-plan.result c.in_err-plan.field-0.0 c.from_residual-in_err-plan.ensures.1 c.in_err-plan.ensures.reads_nothing c.in_ok-one.ensures.asks_in_order
+    order_quiet_stopped g.S.Shelf.asks (g.S.Shelf.told c.args.shelf.now)
+    (λ files. input_asks files c.args.unit.now) c.args.shelf.now c.settle_unit.new.shelf
+    (List MountStep) c.from_residual-in_err-plan.result c.in_err-plan.field-0.0 c.from_residual-in_err-plan.ensures.1
+    c.in_err-plan.ensures.reads_nothing c.in_ok-one.ensures.asks_in_order
 
 pub returns-in_err-one-clause-prepares : goal.returns-in_err-one-clause-prepares
 returns-in_err-one-clause-prepares g c =
-    at_stop (λ result. IfSome (g.S.Shelf.told c.args.shelf.now) (λ files. Prepares (IsPrepared files c.args.unit.now) (plan_refusals files c.args.unit.now) result)) c.from_residual.result c.in_err-one.field-0.0 c.from_residual.ensures.1
-    (stops_before_paths (g.S.Shelf.told c.args.shelf.now) c.args.unit.now (λ one files. inputs_of files c.args.unit.now ≡ Some (inputs_view one.inputs)) c.in_err-one.field-0.0 c.in_err-one.ensures.settles_by_the_files)
+    at_stop (λ result. IfSome (g.S.Shelf.told c.args.shelf.now)
+    (λ files. Prepares (IsPrepared files c.args.unit.now) (plan_refusals files c.args.unit.now) result)) c.from_residual.result
+    c.in_err-one.field-0.0 c.from_residual.ensures.1
+    (stops_before_paths (g.S.Shelf.told c.args.shelf.now) c.args.unit.now
+    (λ one files. inputs_of files c.args.unit.now ≡ Some (inputs_view one.inputs)) c.in_err-one.field-0.0
+    c.in_err-one.ensures.settles_by_the_files)

@@ -6,11 +6,18 @@ use Rattle.judge_command.proofs.printing.print_notes.Goals as goal
 
 pub loop-note-preserved : goal.loop-note-preserved
 loop-note-preserved g c = record {
-  taken = items_more (note_line c.args.unit.now.files) c.args.notes.now c.loop-note.note-index (record { place = record { file = 0; line = 0 }; cause = NoSection }) (get_or c.args.notes.now c.loop-note.note-index (record { place = record { file = 0; line = 0 }; cause = NoSection })) _ _ _ (omega arith) refl c.loop-note.invariant.taken (c.in_ok-put_line.ensures.takes_the_line _ c.note_line.ensures.tells_where_and_why);
+  taken = items_more (note_line c.args.unit.now.files) c.args.notes.now c.loop-note.note-index
+      (record { place = record { file = 0; line = 0 }; cause = NoSection })
+      (get_or c.args.notes.now c.loop-note.note-index (record { place = record { file = 0; line = 0 }; cause = NoSection })) _ _ _
+      (omega arith) refl c.loop-note.invariant.taken (c.in_ok-put_line.ensures.takes_the_line _ c.note_line.ensures.tells_where_and_why);
   same = c.in_ok-put_line.ensures.fault_rose.no_other_fault ∙ c.loop-note.invariant.same;
 }
 
 pub returns-in_err-put_line-clause-takes_the_text : goal.returns-in_err-put_line-clause-takes_the_text
 returns-in_err-put_line-clause-takes_the_text g c =
     text_at_error _ _ _ c.in_err-put_line.field-0.0 c.from_residual.result c.from_residual.ensures.0
-    (items_cut (note_line c.args.unit.now.files) c.args.notes.now c.loop-note.note-index (record { place = record { file = 0; line = 0 }; cause = NoSection }) (get_or c.args.notes.now c.loop-note.note-index (record { place = record { file = 0; line = 0 }; cause = NoSection })) _ _ _ c.in_err-put_line.field-0.0 (omega arith) refl c.loop-note.invariant.taken (c.in_err-put_line.ensures.takes_the_line _ c.note_line.ensures.tells_where_and_why))
+    (items_cut (note_line c.args.unit.now.files) c.args.notes.now c.loop-note.note-index
+    (record { place = record { file = 0; line = 0 }; cause = NoSection })
+    (get_or c.args.notes.now c.loop-note.note-index (record { place = record { file = 0; line = 0 }; cause = NoSection })) _ _ _
+    c.in_err-put_line.field-0.0 (omega arith) refl c.loop-note.invariant.taken
+    (c.in_err-put_line.ensures.takes_the_line _ c.note_line.ensures.tells_where_and_why))

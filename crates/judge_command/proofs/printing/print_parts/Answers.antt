@@ -8,19 +8,24 @@ use Rattle.judge_command.proofs.printing.print_parts.Goals as goal
 pub returns-in_err-put_line-clause-takes_the_text : goal.returns-in_err-put_line-clause-takes_the_text
 returns-in_err-put_line-clause-takes_the_text g c =
     text_at_error _ _ _ c.in_err-put_line.field-0.0 c.from_residual.result c.from_residual.ensures.0
-    (text_cut _ _ (unit_line c.args.name.now) (flat_map (note_line c.args.unit.now.files) c.args.notes.now ++ told_text c.args.outcome.now) c.in_err-put_line.field-0.0
+    (text_cut _ _ (unit_line c.args.name.now)
+    (flat_map (note_line c.args.unit.now.files) c.args.notes.now ++ told_text c.args.outcome.now) c.in_err-put_line.field-0.0
     (c.in_err-put_line.ensures.takes_the_line _ c.unit_line.ensures.names_the_unit))
 
 pub returns-in_err-print_notes-clause-takes_the_text : goal.returns-in_err-print_notes-clause-takes_the_text
 returns-in_err-print_notes-clause-takes_the_text g c =
-    text_at_error _ _ _ c.in_err-print_notes.field-0.0 c.from_residual-in_err-print_notes.result c.from_residual-in_err-print_notes.ensures.0
-    (text_then _ _ _ (unit_line c.args.name.now) (flat_map (note_line c.args.unit.now.files) c.args.notes.now ++ told_text c.args.outcome.now) (Err c.in_err-print_notes.field-0.0)
+    text_at_error _ _ _ c.in_err-print_notes.field-0.0 c.from_residual-in_err-print_notes.result
+    c.from_residual-in_err-print_notes.ensures.0
+    (text_then _ _ _ (unit_line c.args.name.now)
+    (flat_map (note_line c.args.unit.now.files) c.args.notes.now ++ told_text c.args.outcome.now) (Err c.in_err-print_notes.field-0.0)
     (c.in_ok-put_line.ensures.takes_the_line _ c.unit_line.ensures.names_the_unit)
-    (text_cut _ _ (flat_map (note_line c.args.unit.now.files) c.args.notes.now) (told_text c.args.outcome.now) c.in_err-print_notes.field-0.0 c.in_err-print_notes.ensures.takes_the_text))
+    (text_cut _ _ (flat_map (note_line c.args.unit.now.files) c.args.notes.now)
+    (told_text c.args.outcome.now) c.in_err-print_notes.field-0.0 c.in_err-print_notes.ensures.takes_the_text))
 
 pub returns-clause-takes_the_text : goal.returns-clause-takes_the_text
 returns-clause-takes_the_text g c =
-    text_then _ _ _ (unit_line c.args.name.now) (flat_map (note_line c.args.unit.now.files) c.args.notes.now ++ told_text c.args.outcome.now) c.print_outcome.result
+    text_then _ _ _ (unit_line c.args.name.now)
+    (flat_map (note_line c.args.unit.now.files) c.args.notes.now ++ told_text c.args.outcome.now) c.print_outcome.result
     (c.in_ok-put_line.ensures.takes_the_line _ c.unit_line.ensures.names_the_unit)
     (text_then _ _ _ (flat_map (note_line c.args.unit.now.files) c.args.notes.now) (told_text c.args.outcome.now) c.print_outcome.result
     c.in_ok-print_notes.ensures.takes_the_text c.print_outcome.ensures.takes_the_text)

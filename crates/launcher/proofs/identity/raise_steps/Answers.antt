@@ -6,6 +6,8 @@ use Rattle.launcher.proofs.identity.raise_steps.Goals as goal
 
 pub loop-cap-preserved : goal.loop-cap-preserved
 loop-cap-preserved c =
-    step_more (λ cap. prctl_step c.args.table.now.calls cap_ambient ambient_raise cap) (has c.args.settings.now.ambient) c.loop-cap.steps c.push_if.new.self c.loop-cap.cap c.from.result c.contains.result _
-    (omega (arith, c.loop-cap-test.true)) c.from.ensures c.contains.ensures.has c.prctl-call.ensures.of_the_option c.in_ok-push_if.ensures.goes_last_where_wanted
+    step_more (λ cap. prctl_step c.args.table.now.calls cap_ambient ambient_raise cap)
+    (has c.args.settings.now.ambient) c.loop-cap.steps c.push_if.new.self c.loop-cap.cap c.from.result c.contains.result _
+    (omega (arith, c.loop-cap-test.true)) c.from.ensures c.contains.ensures.has c.prctl-call.ensures.of_the_option
+    c.in_ok-push_if.ensures.goes_last_where_wanted
     ∙ c.loop-cap.invariant

@@ -7,5 +7,6 @@ use Rattle.mount_plan.proofs.here.any_is_tmp.Goals as goal
 
 pub returns : goal.returns
 returns c =
-    any_from_yields_List (λ mention. is_tmp mention.now.kind) _ _ _ c.any.ensures.ran (YieldsList-from_slice c.args.here.now c.iter.ensures.rest) (λ x b q k. search (rules, tests))
+    any_from_yields_List (λ mention. is_tmp mention.now.kind) _ _ _ c.any.ensures.ran
+    (YieldsList-from_slice c.args.here.now c.iter.ensures.rest) (λ x b q k. search (rules, tests))
     ∙ any_lent (λ mention. is_tmp mention.kind) c.args.here.now

@@ -9,5 +9,6 @@ returns c = record {
   those_at_the_path =
       map_from_collect _ c.collect.ensures.ran
       (YieldsList-from_filter _ (λ mention. is_same mention.path c.args.path.now)
-      (YieldsList-at c.filter.ensures.source (YieldsList-from_slice c.args.mentions.now c.iter.ensures.rest)) c.filter.ensures.closure (λ x r q k. search (rules, tests)));
+      (YieldsList-at c.filter.ensures.source (YieldsList-from_slice c.args.mentions.now c.iter.ensures.rest)) c.filter.ensures.closure
+      (λ x r q k. search (rules, tests)));
 }

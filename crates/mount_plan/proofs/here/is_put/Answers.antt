@@ -9,6 +9,7 @@ use Rattle.mount_plan.proofs.here.is_put.Goals as goal
 pub returns : goal.returns
 returns c = record {
   some_is_put =
-      any_from_yields_List (λ mention. puts (host_of c.args.site.now) c.args.beneath mention.now) _ _ _ c.any.ensures.ran (YieldsList-from_slice c.args.here.now c.iter.ensures.rest) (λ x b q k. search (rules, tests))
+      any_from_yields_List (λ mention. puts (host_of c.args.site.now) c.args.beneath mention.now) _ _ _ c.any.ensures.ran
+      (YieldsList-from_slice c.args.here.now c.iter.ensures.rest) (λ x b q k. search (rules, tests))
       ∙ any_lent (puts (host_of c.args.site.now) c.args.beneath) c.args.here.now;
 }

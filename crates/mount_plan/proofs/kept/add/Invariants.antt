@@ -5,5 +5,7 @@ use Rattle.mount_plan.specs.Here.{fate_beside}
 use Rattle.mount_plan.proofs.kept.add.Given as goal
 
 abbrev pub invariant-loop-mention : goal.invariant-loop-mention
-invariant-loop-mention l = l.kept.items ++ filter (λ mention. is_kept (fate_beside (host_of l.site) l.beneath l.is_put mention)) (map (λ mention. mention.now) (drop l.mention-index l.here))
-    ≡ l.initial.kept.items ++ filter (λ mention. is_kept (fate_beside (host_of l.site) l.beneath l.is_put mention)) (map (λ mention. mention.now) l.here)
+invariant-loop-mention l = l.kept.items ++ filter (λ mention. is_kept (fate_beside (host_of l.site) l.beneath l.is_put mention))
+    (map (λ mention. mention.now) (drop l.mention-index l.here))
+    ≡ l.initial.kept.items ++ filter (λ mention. is_kept (fate_beside (host_of l.site) l.beneath l.is_put mention))
+    (map (λ mention. mention.now) l.here)

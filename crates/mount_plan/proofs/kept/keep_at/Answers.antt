@@ -11,5 +11,6 @@ returns c =
     let beneath = c.beneath_at-beneath.ensures.by_the_longest_above ∙ ap (λ kept. beneath_at row_at kept c.args.path.now) c.deref.ensures.value in
     let here = ap (map (λ mention. mention.now)) c.deref-3.ensures.value ∙ c.in_ok-here-2.ensures.none_is_beaten ∙ ap unbeaten (ap (map (λ mention. mention.now)) c.deref-2.ensures.value ∙ c.in_ok-here.ensures.those_at_the_path) in
     subst (λ (found : Result (List Mention) Refusal). AddsKept found c.args.kept.now.items c.keep.new.kept.items c.keep.result)
-    (ap (λ b. kept_among row_at b (map (λ mention. mention.now) c.deref-3.result.now)) beneath ∙ ap (kept_among row_at (beneath_at row_at c.args.kept.now.items c.args.path.now)) here)
+    (ap (λ b. kept_among row_at b (map (λ mention. mention.now) c.deref-3.result.now)) beneath
+    ∙ ap (kept_among row_at (beneath_at row_at c.args.kept.now.items c.args.path.now)) here)
     c.keep.ensures

@@ -16,12 +16,14 @@ returns-in_err-keep_at c =
       kept_or_refused =
           rw (told.1, told.2) (subst (λ (found : Result (List Mention) Refusal). Keeps found (Err c.in_err-keep_at.field-0.0))
           (ap (λ paths. kept_from row_at c.args.mentions.now paths c.loop-path.kept.items) (sym next) ∙ c.loop-path.invariant)
-          (from_refused row_at c.args.mentions.now c.loop-path.kept.items c.keep_at.new.kept.items c.path-item.result (drop (c.loop-path.path-index + 1) c.args.paths.now) c.in_err-keep_at.field-0.0 c.in_err-keep_at.ensures));
+          (from_refused row_at c.args.mentions.now c.loop-path.kept.items c.keep_at.new.kept.items c.path-item.result
+          (drop (c.loop-path.path-index + 1) c.args.paths.now) c.in_err-keep_at.field-0.0 c.in_err-keep_at.ensures));
     }
 
 pub loop-path-preserved : goal.loop-path-preserved
 loop-path-preserved c =
     let row_at = host_of c.args.site.now in
     let next = drop_item c.args.paths.now c.loop-path.path-index c.path-item.result c.loop-path-test.true c.path-item.is in
-    sym (from_goes row_at c.args.mentions.now c.loop-path.kept.items c.keep_at.new.kept.items c.path-item.result (drop (c.loop-path.path-index + 1) c.args.paths.now) c.in_ok-keep_at.ensures)
+    sym (from_goes row_at c.args.mentions.now c.loop-path.kept.items c.keep_at.new.kept.items c.path-item.result
+    (drop (c.loop-path.path-index + 1) c.args.paths.now) c.in_ok-keep_at.ensures)
     ∙ ap (λ paths. kept_from row_at c.args.mentions.now paths c.loop-path.kept.items) (sym next) ∙ c.loop-path.invariant

@@ -4,7 +4,8 @@ use Rattle.mount_plan.specs.Host.{host_of}
 use Rattle.mount_plan.specs.Answers.{Plans}
 use Rattle.mount_plan.proofs.Hosts.{proc_row}
 use Rattle.mount_plan.proofs.PlanLaws.{leave_the_root}
-use Rattle.mount_plan.proofs.Planned.{are_whole, are_normal, finds_as_view, by_rules, begins, ascends, mentioned, at_most, no_suid, plain_hidden, has_proc, can_be_mounted}
+use Rattle.mount_plan.proofs.Planned.{are_whole, are_normal, finds_as_view, by_rules, begins, ascends, mentioned, at_most, no_suid}
+use Rattle.mount_plan.proofs.Planned.{plain_hidden, has_proc, can_be_mounted}
 use Rattle.mount_plan.proofs.planning.plan.Goals as goal
 
 pub returns : goal.returns

@@ -14,7 +14,8 @@ table_of-requires c =
     let mentions = c.args.mentions.now in
     let whole = are_whole mentions c.requires.whole in
     subst (λ (kept : List Mention). HaveShortHosts kept (places_of kept)) (sym c.deref.ensures.value)
-    (short_places (host_of c.args.site.now) mentions c.in_ok-kept.kept.items (short_rows c.args.site.now c.rows-rows.ensures.holds_of_each_site) whole (are_normal mentions whole)
+    (short_places (host_of c.args.site.now) mentions c.in_ok-kept.kept.items
+    (short_rows c.args.site.now c.rows-rows.ensures.holds_of_each_site) whole (are_normal mentions whole)
     (leave_the_root mentions c.requires.root_is_the_hosts) c.in_ok-kept.ensures)
 
 pub returns : goal.returns

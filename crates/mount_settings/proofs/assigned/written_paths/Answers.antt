@@ -12,8 +12,10 @@ use Rattle.mount_settings.proofs.assigned.written_paths.Goals as goal
 
 pub loop-place-preserved : goal.loop-place-preserved
 loop-place-preserved c = record {
-  means = after_more (assigned_by c.args.unit.now.name) _ _ (c.in-Some.place, c.in-Some.assignment.now) _ _ _ c.in-Some.ensures.steps c.loop-place.invariant.means c.in_ok-add_assigned.ensures.means;
-  noted = added_more (notes_by c.args.unit.now.name) _ _ (c.in-Some.place, c.in-Some.assignment.now) _ _ _ c.in-Some.ensures.steps c.loop-place.invariant.noted c.in_ok-add_assigned.ensures.noted;
+  means = after_more (assigned_by c.args.unit.now.name) _ _ (c.in-Some.place, c.in-Some.assignment.now) _ _ _ c.in-Some.ensures.steps
+      c.loop-place.invariant.means c.in_ok-add_assigned.ensures.means;
+  noted = added_more (notes_by c.args.unit.now.name) _ _ (c.in-Some.place, c.in-Some.assignment.now) _ _ _ c.in-Some.ensures.steps
+      c.loop-place.invariant.noted c.in_ok-add_assigned.ensures.noted;
 }
 
 pub new-requires : goal.new-requires
@@ -27,5 +29,6 @@ pub returns-clause-in_order_of_assignments : goal.returns-clause-in_order_of_ass
 unfolding unit_written
 returns-clause-in_order_of_assignments c =
     c.new.ensures.holds_them
-    ∙ sym (c.loop-place.invariant.means ∙ ap (λ ones. after c.loop-place.paths.items (filter_map (assigned_by c.args.unit.now.name) ones)) c.in-None.ensures.steps.0)
+    ∙ sym (c.loop-place.invariant.means ∙ ap (λ ones. after c.loop-place.paths.items (filter_map (assigned_by c.args.unit.now.name) ones))
+    c.in-None.ensures.steps.0)
     ∙ written_is (assigned_of c.args.unit.now)

@@ -11,5 +11,6 @@ use Rattle.mount_settings.proofs.assigned.written_paths.Given as goal
 abbrev pub invariant-loop-place : goal.invariant-loop-place
 invariant-loop-place l = record {
   means : after [] (assigned_of l.unit) ≡ after l.paths.items (filter_map (assigned_by l.unit.name) (assignments_left l.place-iterator));
-  noted : flat_map (notes_by l.unit.name) (service_assignments l.unit) ≡ l.notes.items ++ flat_map (notes_by l.unit.name) (assignments_left l.place-iterator);
+  noted : flat_map (notes_by l.unit.name) (service_assignments l.unit)
+      ≡ l.notes.items ++ flat_map (notes_by l.unit.name) (assignments_left l.place-iterator);
 }

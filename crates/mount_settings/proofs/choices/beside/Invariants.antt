@@ -3,4 +3,5 @@ use Rattle.mount_settings.specs.Choices.{beside}
 use Rattle.mount_settings.proofs.choices.beside.Given as goal
 
 abbrev pub invariant-loop-row : goal.invariant-loop-row
-invariant-loop-row g l = beside (map (λ row. (row.0.now, row.1)) (drop l.row-index l.rows)) l.text ≡ beside (map (λ row. (row.0.now, row.1)) l.rows) l.text
+invariant-loop-row g l = beside (map (λ row. (row.0.now, row.1)) (drop l.row-index l.rows)) l.text
+    ≡ beside (map (λ row. (row.0.now, row.1)) l.rows) l.text

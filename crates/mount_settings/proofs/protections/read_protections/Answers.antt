@@ -20,7 +20,8 @@ returns-clause-noted c =
     behind _ _ _ _ _ c.in_ok-protect_control_groups.ensures.notes_behind
     (behind _ _ _ _ _ c.in_ok-protect_kernel_tunables.ensures.notes_behind
     (behind _ _ _ _ _ c.in_ok-private_tmp.ensures.notes_behind
-    (behind _ _ _ _ _ c.in_ok-protect_home.ensures.notes_behind c.in_ok-protect_system.ensures.notes_the_unread c.in_ok-home.ensures.notes_the_unread)
+    (behind _ _ _ _ _ c.in_ok-protect_home.ensures.notes_behind c.in_ok-protect_system.ensures.notes_the_unread
+    c.in_ok-home.ensures.notes_the_unread)
     c.in_ok-tmp.ensures.notes_the_unread)
     c.in_ok-tunables.ensures.notes_the_unread)
     c.in_ok-groups.ensures.notes_the_unread

@@ -11,16 +11,20 @@ use Rattle.mount_settings.proofs.settings.mount_settings.Goals as goal
 pub listed-requires : goal.listed-requires
 listed-requires c =
     let P : List Mention → Type 0 = λ mentions. length mentions ≤ 160 in
-    subst P (sym c.in_ok-mentions.ensures) (few_mentions c.args.site.now c.args.switches c.in_effect-protections.result c.list-paths.result.now c.if-paths-gt-MOST_WRITTEN.false)
+    subst P (sym c.in_ok-mentions.ensures)
+    (few_mentions c.args.site.now c.args.switches c.in_effect-protections.result c.list-paths.result.now
+    c.if-paths-gt-MOST_WRITTEN.false)
 
 pub returns-clause-leaves_the_root : goal.returns-clause-leaves_the_root
 returns-clause-leaves_the_root c = λ none.
     ap leaves_the_root
-    (c.in_ok-listed.ensures ∙ c.in_ok-mentions.ensures ∙ ap (mentions_of c.args.site.now c.args.switches c.in_effect-protections.result) c.list-paths.ensures.all_in_order)
+    (c.in_ok-listed.ensures ∙ c.in_ok-mentions.ensures ∙ ap (mentions_of c.args.site.now c.args.switches c.in_effect-protections.result)
+    c.list-paths.ensures.all_in_order)
     ∙ mentions_leave c.args.site.now c.args.switches c.in_effect-protections.result c.args.paths.now c.list-paths.ensures.as_held none
 
 pub returns-clause-short_paths : goal.returns-clause-short_paths
 returns-clause-short_paths c =
     ap (list_all is_short)
-    (c.in_ok-listed.ensures ∙ c.in_ok-mentions.ensures ∙ ap (mentions_of c.args.site.now c.args.switches c.in_effect-protections.result) c.list-paths.ensures.all_in_order)
+    (c.in_ok-listed.ensures ∙ c.in_ok-mentions.ensures ∙ ap (mentions_of c.args.site.now c.args.switches c.in_effect-protections.result)
+    c.list-paths.ensures.all_in_order)
     ∙ mentions_are_short c.args.site.now c.args.switches c.in_effect-protections.result c.args.paths.now c.list-paths.ensures.as_held

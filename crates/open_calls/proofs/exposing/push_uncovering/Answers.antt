@@ -15,7 +15,9 @@ loop-at-preserved-in_ok-push c =
     let before = c.loop-at.invariant.1 ∙ ap (λ n. c.args.calls.now.items ++ calls_from (place_in c.args.first) c.args.path.now (steps_of c.args.table.now) n) step in (
       omega arith,
       c.in_ok-push.ensures.items ∙ ap (λ (call : Call). c.loop-at.calls.items ++ call ∷ []) c.in_ok-umount_call.ensures
-          ∙ covers_here (place_in c.args.first) c.args.path.now (steps_of c.args.table.now) (c.loop-at.at - 1) c.entry.result.now c.entry.ensures.entry (sym c.if-is_prefix.ensures.by_whole_parts) c.args.calls.now.items c.loop-at.calls.items before,
+          ∙ covers_here (place_in c.args.first) c.args.path.now (steps_of c.args.table.now)
+          (c.loop-at.at - 1) c.entry.result.now c.entry.ensures.entry
+          (sym c.if-is_prefix.ensures.by_whole_parts) c.args.calls.now.items c.loop-at.calls.items before,
     )
 
 pub loop-at-preserved : goal.loop-at-preserved
@@ -27,4 +29,5 @@ loop-at-preserved c =
 pub returns : goal.returns
 returns c =
     let end : c.loop-at.at ≡ c.args.from = omega (arith, c.loop-at.invariant.0) in
-    c.loop-at.invariant.1 ∙ ap (λ n. c.args.calls.now.items ++ calls_from (place_in c.args.first) c.args.path.now (steps_of c.args.table.now) n) end
+    c.loop-at.invariant.1 ∙ ap
+    (λ n. c.args.calls.now.items ++ calls_from (place_in c.args.first) c.args.path.now (steps_of c.args.table.now) n) end

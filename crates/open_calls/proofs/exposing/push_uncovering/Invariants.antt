@@ -6,4 +6,5 @@ use Rattle.open_calls.proofs.exposing.push_uncovering.Given as goal
 
 -- the calls for the entries from this number on
 abbrev pub invariant-loop-at : goal.invariant-loop-at
-invariant-loop-at l = (l.from ≤ l.at) × (l.calls.items ≡ l.initial.calls.items ++ calls_from (place_in l.first) l.path (steps_of l.table) l.at)
+invariant-loop-at l = (l.from ≤ l.at) ×
+    (l.calls.items ≡ l.initial.calls.items ++ calls_from (place_in l.first) l.path (steps_of l.table) l.at)

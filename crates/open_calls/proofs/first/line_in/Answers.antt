@@ -10,9 +10,12 @@ use Rattle.open_calls.proofs.first.line_in.Goals as goal
 pub returns-in_err-name : goal.returns-in_err-name
 returns-in_err-name c =
     let name = found_name (lets_name (launch_of c.args.world.now) c.args.kind c.args.abi) c.names_of.result.now (names_of c.args.kind) c.first_name.result c.names_of.ensures c.first_name.ensures in
-    ap option_copied c.from_residual.ensures ∙ sym (ap (option_and_then (λ name. named name (calls_in c.args.world.now.calls c.args.abi))) (name ∙ ap option_copied c.in_err-name.was))
+    ap option_copied c.from_residual.ensures
+    ∙ sym (ap (option_and_then (λ name. named name (calls_in c.args.world.now.calls c.args.abi)))
+    (name ∙ ap option_copied c.in_err-name.was))
 
 pub returns : goal.returns
 returns c =
     let name = found_name (lets_name (launch_of c.args.world.now) c.args.kind c.args.abi) c.names_of.result.now (names_of c.args.kind) c.first_name.result c.names_of.ensures c.first_name.ensures in
-    c.line_named.ensures ∙ sym (ap (option_and_then (λ name. named name (calls_in c.args.world.now.calls c.args.abi))) (name ∙ ap option_copied c.in_ok-name.was))
+    c.line_named.ensures ∙ sym
+    (ap (option_and_then (λ name. named name (calls_in c.args.world.now.calls c.args.abi))) (name ∙ ap option_copied c.in_ok-name.was))

@@ -11,9 +11,11 @@ returns c =
     let site = c.args.site.now in
     record {
       in_their_order =
-          seven_parts c.new-list.result.items c.push_rows.new.list.items c.push_calls.new.list.items c.push_families.new.list.items c.extend_from_slice.new.self.items
+          seven_parts c.new-list.result.items c.push_rows.new.list.items c.push_calls.new.list.items c.push_families.new.list.items
+          c.extend_from_slice.new.self.items
           c.push_caps.new.list.items c.push_uids.new.list.items c.push_gids.new.list.items
-          (of_rows 0 site.rows) (of_calls (every_call calls) 0 (every_call calls)) (of_families 0 calls.families) other_questions (map Cap (count_from 0 41)) (map Uid (uids_of site)) (map Gid (gids_of site))
+          (of_rows 0 site.rows) (of_calls (every_call calls) 0 (every_call calls)) (of_families 0 calls.families) other_questions
+          (map Cap (count_from 0 41)) (map Uid (uids_of site)) (map Gid (gids_of site))
           c.new-list.ensures.items
           (c.in_ok-push_rows.ensures ∙ ap (λ r. c.new-list.result.items ++ of_rows 0 r) c.rows.ensures.rows)
           c.in_ok-push_calls.ensures

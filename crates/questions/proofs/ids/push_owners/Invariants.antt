@@ -4,4 +4,5 @@ use Rattle.questions.proofs.ids.push_owners.Given as goal
 
 -- what was added, and what is left to add
 abbrev pub invariant-loop-row : goal.invariant-loop-row
-invariant-loop-row l = l.ids.items ++ some_ids (map (λ row. row.setuid) (drop l.row-index l.rows)) ≡ l.initial.ids.items ++ some_ids (map (λ row. row.setuid) l.rows)
+invariant-loop-row l = l.ids.items ++ some_ids (map (λ row. row.setuid) (drop l.row-index l.rows))
+    ≡ l.initial.ids.items ++ some_ids (map (λ row. row.setuid) l.rows)

@@ -12,4 +12,5 @@ returns-in-None c =
 pub returns-in-Some : goal.returns-in-Some
 returns-in-Some c =
     c.is_behind.ensures ∙ some_behind c.in-Some.rest.now
-    ∙ ap (λ o. is_some (option_and_then behind_only o)) (strip_text c.args.front.now c.args.text.now (Some c.in-Some.rest) c.in-Some.ensures.cases)
+    ∙ ap (λ o. is_some (option_and_then behind_only o))
+    (strip_text c.args.front.now c.args.text.now (Some c.in-Some.rest) c.in-Some.ensures.cases)

@@ -12,10 +12,12 @@ returns-then-shows c =
 
 pub loop-at-preserved : goal.loop-at-preserved
 loop-at-preserved c = elim c.else-allows.branch [
-  | else-allows-via-then-allows+else-shows w ↦ hides_here c.args.uncover c.args.row.now c.args.wish (steps_of c.args.table.now) c.loop-at.at c.entry.result.now c.entry.ensures.entry
+  | else-allows-via-then-allows+else-shows w ↦ hides_here c.args.uncover c.args.row.now c.args.wish
+      (steps_of c.args.table.now) c.loop-at.at c.entry.result.now c.entry.ensures.entry
       (sym c.allows.ensures ∙ w.if-allows.true) (sym (w.shows.ensures c.entry.result.now c.entry.ensures.entry) ∙ w.if-shows.false)
       ∙ c.loop-at.invariant
-  | else-allows-via-else-allows w ↦ forbids_here c.args.uncover c.args.row.now c.args.wish (steps_of c.args.table.now) c.loop-at.at c.entry.result.now c.entry.ensures.entry
+  | else-allows-via-else-allows w ↦ forbids_here c.args.uncover c.args.row.now c.args.wish
+      (steps_of c.args.table.now) c.loop-at.at c.entry.result.now c.entry.ensures.entry
       (sym c.allows.ensures ∙ w.if-allows.false)
       ∙ c.loop-at.invariant
 ]

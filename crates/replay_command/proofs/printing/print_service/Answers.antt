@@ -13,7 +13,9 @@ returns-in_err-put_line-clause-takes_the_text g c =
     let lines = run_text c.args.calls.now c.args.service.now.world c.args.script.now in
     text_at_error _ _ _ c.in_err-put_line.field-0.0 c.from_residual.result c.from_residual.ensures.0
     (text_cut _ _ line (lines ++ count_line (length c.args.script.now)) c.in_err-put_line.field-0.0
-    (c.in_err-put_line.ensures.takes_the_line line (subst (λ own. IfOk c.launched_line.result (λ put. put.items ≡ launched_line own)) c.told.ensures.tells_the_first_process c.launched_line.ensures.tells_the_launch)))
+    (c.in_err-put_line.ensures.takes_the_line line
+    (subst (λ own. IfOk c.launched_line.result (λ put. put.items ≡ launched_line own)) c.told.ensures.tells_the_first_process
+    c.launched_line.ensures.tells_the_launch)))
 
 pub returns-in_err-replay-clause-takes_the_text : goal.returns-in_err-replay-clause-takes_the_text
 returns-in_err-replay-clause-takes_the_text g c =
@@ -21,7 +23,9 @@ returns-in_err-replay-clause-takes_the_text g c =
     let lines = run_text c.args.calls.now c.args.service.now.world c.args.script.now in
     text_at_error _ _ _ c.in_err-replay.field-0.0 c.from_residual-in_err-replay.result c.from_residual-in_err-replay.ensures.0
     (text_then _ _ _ line (lines ++ count_line (length c.args.script.now)) (Err c.in_err-replay.field-0.0)
-    (c.in_ok-put_line.ensures.takes_the_line line (subst (λ own. IfOk c.launched_line.result (λ put. put.items ≡ launched_line own)) c.told.ensures.tells_the_first_process c.launched_line.ensures.tells_the_launch))
+    (c.in_ok-put_line.ensures.takes_the_line line
+    (subst (λ own. IfOk c.launched_line.result (λ put. put.items ≡ launched_line own)) c.told.ensures.tells_the_first_process
+    c.launched_line.ensures.tells_the_launch))
     (text_cut _ _ lines (count_line (length c.args.script.now)) c.in_err-replay.field-0.0 c.in_err-replay.ensures.takes_the_lines))
 
 pub returns-clause-takes_the_text : goal.returns-clause-takes_the_text
@@ -29,8 +33,11 @@ returns-clause-takes_the_text g c =
     let line = launched_line (told_of c.args.service.now.world c.args.service.now.steps) in
     let lines = run_text c.args.calls.now c.args.service.now.world c.args.script.now in
     text_then _ _ _ line (lines ++ count_line (length c.args.script.now)) c.put_line-2.result
-    (c.in_ok-put_line.ensures.takes_the_line line (subst (λ own. IfOk c.launched_line.result (λ put. put.items ≡ launched_line own)) c.told.ensures.tells_the_first_process c.launched_line.ensures.tells_the_launch))
+    (c.in_ok-put_line.ensures.takes_the_line line
+    (subst (λ own. IfOk c.launched_line.result (λ put. put.items ≡ launched_line own)) c.told.ensures.tells_the_first_process
+    c.launched_line.ensures.tells_the_launch))
     (text_then _ _ _ lines (count_line (length c.args.script.now)) c.put_line-2.result
     c.in_ok-replay.ensures.takes_the_lines
     (c.put_line-2.ensures.takes_the_line (count_line (length c.args.script.now))
-    (subst (λ own. IfOk c.count_line.result (λ put. put.items ≡ count_line (length own))) c.list.ensures.all_in_order c.count_line.ensures.counts)))
+    (subst (λ own. IfOk c.count_line.result (λ put. put.items ≡ count_line (length own))) c.list.ensures.all_in_order
+    c.count_line.ensures.counts)))

@@ -5,4 +5,5 @@ use Rattle.replay_command.proofs.script.read_script.Goals as goal
 
 pub returns-clause-asks_for_it : goal.returns-clause-asks_for_it
 returns-clause-asks_for_it g c =
-    went_quiet g.S.Shelf.asks c.args.shelf.now c.read_input.new.shelf (input_file c.args.path.now ∷ []) c.script_of_bytes.result c.script_of_bytes.ensures.reads_nothing c.in_ok-bytes.ensures.asks_for_it
+    went_quiet g.S.Shelf.asks c.args.shelf.now c.read_input.new.shelf
+    (input_file c.args.path.now ∷ []) c.script_of_bytes.result c.script_of_bytes.ensures.reads_nothing c.in_ok-bytes.ensures.asks_for_it

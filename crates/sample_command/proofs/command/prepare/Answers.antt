@@ -8,8 +8,10 @@ pub launch_sample-requires : goal.launch_sample-requires
 launch_sample-requires c =
     let inputs = c.in_ok-inputs.inputs in
     record {
-      never_refused = never_refused c.args.number inputs.unit.value inputs.calls.value inputs.site.value c.in_ok-inputs.ensures.unit_says c.in_ok-inputs.ensures.site_rows
-          (subst IsWhole c.deref.ensures c.look_at.ensures.whole) c.settings.ensures.not_refused c.settings.ensures.are_these c.plan.ensures.not_refused c.plan.ensures.finds_its_program c.launches_end_well.ensures.of_settings;
+      never_refused = never_refused c.args.number inputs.unit.value inputs.calls.value inputs.site.value c.in_ok-inputs.ensures.unit_says
+          c.in_ok-inputs.ensures.site_rows
+          (subst IsWhole c.deref.ensures c.look_at.ensures.whole) c.settings.ensures.not_refused c.settings.ensures.are_these
+          c.plan.ensures.not_refused c.plan.ensures.finds_its_program c.launches_end_well.ensures.of_settings;
     }
 
 pub judge_sample-requires : goal.judge_sample-requires

@@ -7,7 +7,8 @@ use Rattle.sample_inputs.proofs.calls.sample_calls.Goals as goal
 
 pub of_memory-requires : goal.of_memory-requires
 of_memory-requires c =
-    memory_of_calls (table_of c.as_bytes.result.now) sample_table c.in-Err.error (ap table_of (c.as_bytes.ensures.value ∙ c.calls_text.ensures) ∙ calls_read) c.in-Err.ensures.first_refusal
+    memory_of_calls (table_of c.as_bytes.result.now) sample_table c.in-Err.error
+    (ap table_of (c.as_bytes.ensures.value ∙ c.calls_text.ensures) ∙ calls_read) c.in-Err.ensures.first_refusal
 
 pub returns-in_ok-new-in-Ok : goal.returns-in_ok-new-in-Ok
 returns-in_ok-new-in-Ok c =

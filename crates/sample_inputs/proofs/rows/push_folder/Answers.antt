@@ -7,7 +7,8 @@ use Rattle.sample_inputs.proofs.rows.push_folder.Goals as goal
 pub loop-object-init : goal.loop-object-init
 loop-object-init c =
     let old = map view c.args.rows.now.items in
-    pushed c.args.rows.now.items c.push.new.self.items c.in_ok-plain_row.field-0 (dir_row (folder_path c.args.folder)) c.in_ok-push.ensures.items
+    pushed c.args.rows.now.items c.push.new.self.items c.in_ok-plain_row.field-0
+    (dir_row (folder_path c.args.folder)) c.in_ok-push.ensures.items
     (c.in_ok-plain_row.ensures.of_kind_and_path ∙ ap (plain_row (codes "dir")) (c.as_str.ensures.value ∙ c.in_ok-path.ensures.ok))
     ∙ ap (λ rows. old ++ rows) (sym (no_object c.args.n c.args.folder))
 
@@ -25,5 +26,6 @@ returns c = record {
   rows_go_last =
       let old = map view c.args.rows.now.items in
       let all : c.loop-object.object ≡ 64 = omega arith in
-      c.loop-object.invariant ∙ ap (λ count. old ++ objects_so_far c.args.n c.args.folder count) all ∙ ap (λ rows. old ++ rows) (all_objects c.args.n c.args.folder);
+      c.loop-object.invariant ∙ ap (λ count. old ++ objects_so_far c.args.n c.args.folder count) all
+      ∙ ap (λ rows. old ++ rows) (all_objects c.args.n c.args.folder);
 }

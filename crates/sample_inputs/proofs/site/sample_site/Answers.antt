@@ -12,7 +12,8 @@ use Rattle.sample_inputs.proofs.site.sample_site.Goals as goal
 pub of_memory-requires : goal.of_memory-requires
 of_memory-requires c =
     let tree = text_reads c.args.n c.as_bytes.result.now c.as_bytes.ensures.utf8 (ap parse_document (c.as_bytes.ensures.value ∙ c.as_str.ensures.value) ∙ c.in_ok-text.ensures) in
-    memory_of_site (site_of c.as_bytes.result.now) (site_in (table (site_tree c.args.n))) c.in-Err.error (tree_reads c.args.n c.as_bytes.result.now tree) c.in-Err.ensures.first_fault
+    memory_of_site (site_of c.as_bytes.result.now) (site_in (table (site_tree c.args.n))) c.in-Err.error
+    (tree_reads c.args.n c.as_bytes.result.now tree) c.in-Err.ensures.first_fault
 
 pub returns-in-Ok-clause-rows : goal.returns-in-Ok-clause-rows
 returns-in-Ok-clause-rows c =

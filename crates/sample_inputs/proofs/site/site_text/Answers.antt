@@ -7,7 +7,9 @@ use Rattle.sample_inputs.proofs.site.site_text.Goals as goal
 
 pub returns-in-Ok : goal.returns-in-Ok
 returns-in-Ok c =
-    c.in-Ok.ensures.reads_back (subst (λ (members : Members). members_depth members ≤ 80) (sym c.in_ok-tree.ensures) (site_depth c.args.n)) ∙ ap Some c.in_ok-tree.ensures
+    c.in-Ok.ensures.reads_back
+    (subst (λ (members : Members). members_depth members ≤ 80) (sym c.in_ok-tree.ensures) (site_depth c.args.n))
+    ∙ ap Some c.in_ok-tree.ensures
 
 pub printing_memory-requires : goal.printing_memory-requires
 printing_memory-requires c =

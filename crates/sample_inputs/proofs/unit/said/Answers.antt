@@ -7,7 +7,8 @@ use Rattle.sample_inputs.proofs.unit.said.Goals as goal
 
 pub of_memory-requires : goal.of_memory-requires
 of_memory-requires c =
-    memory_of_unit (unit_of c.as_bytes.result.now) (unit_said c.args.n) c.in-Err.error (ap unit_of (c.as_bytes.ensures.value ∙ c.in_ok-text.ensures) ∙ unit_reads c.args.n) c.in-Err.ensures.first_fault
+    memory_of_unit (unit_of c.as_bytes.result.now) (unit_said c.args.n) c.in-Err.error
+    (ap unit_of (c.as_bytes.ensures.value ∙ c.in_ok-text.ensures) ∙ unit_reads c.args.n) c.in-Err.ensures.first_fault
 
 pub returns-in-Ok : goal.returns-in-Ok
 returns-in-Ok c =

@@ -6,7 +6,8 @@ use Rattle.sample_inputs.proofs.unit.unit_text.Goals as goal
 
 pub loop-folder-init : goal.loop-folder-init
 loop-folder-init c =
-    before_folders c.args.n _ _ _ _ c.in_ok-text.ensures.ok c.in_ok-push_setting.ensures c.in_ok-push_setting-2.ensures c.in_ok-push_privileges.ensures
+    before_folders c.args.n _ _ _ _ c.in_ok-text.ensures.ok c.in_ok-push_setting.ensures c.in_ok-push_setting-2.ensures
+    c.in_ok-push_privileges.ensures
 
 pub loop-folder-preserved : goal.loop-folder-preserved
 loop-folder-preserved c =

@@ -5,4 +5,5 @@ use Rattle.score_command.proofs.policies.read_policy.Goals as goal
 
 pub returns-clause-asks_for_it : goal.returns-clause-asks_for_it
 returns-clause-asks_for_it g c =
-    went_quiet g.S.Shelf.asks c.args.shelf.now c.read_input.new.shelf (input_file c.args.path.now ∷ []) c.policy_of_bytes.result c.policy_of_bytes.ensures.reads_nothing c.in_ok-bytes.ensures.asks_for_it
+    went_quiet g.S.Shelf.asks c.args.shelf.now c.read_input.new.shelf
+    (input_file c.args.path.now ∷ []) c.policy_of_bytes.result c.policy_of_bytes.ensures.reads_nothing c.in_ok-bytes.ensures.asks_for_it

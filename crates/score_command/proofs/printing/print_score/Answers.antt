@@ -9,11 +9,14 @@ use Rattle.score_command.proofs.printing.print_score.Goals as goal
 pub returns-in_err-print_rows-clause-takes_the_text : goal.returns-in_err-print_rows-clause-takes_the_text
 returns-in_err-print_rows-clause-takes_the_text g c =
     text_at_error _ _ _ c.in_err-print_rows.field-0.0 c.from_residual.result c.from_residual.ensures.0
-    (text_cut _ _ (flat_map score_line c.args.score.now.rows) (exposure_line c.args.score.now.exposure c.args.threshold) c.in_err-print_rows.field-0.0
-    (subst (λ rows. TakesText (g.K.Sink.taken c.args.out.now) (g.K.Sink.taken c.print_rows.new.out) (flat_map score_line rows) (Err c.in_err-print_rows.field-0.0)) c.list.ensures.all_in_order c.in_err-print_rows.ensures.takes_the_text))
+    (text_cut _ _ (flat_map score_line c.args.score.now.rows)
+    (exposure_line c.args.score.now.exposure c.args.threshold) c.in_err-print_rows.field-0.0
+    (subst (λ rows. TakesText (g.K.Sink.taken c.args.out.now) (g.K.Sink.taken c.print_rows.new.out) (flat_map score_line rows)
+    (Err c.in_err-print_rows.field-0.0)) c.list.ensures.all_in_order c.in_err-print_rows.ensures.takes_the_text))
 
 pub returns-clause-takes_the_text : goal.returns-clause-takes_the_text
 returns-clause-takes_the_text g c =
     text_then _ _ _ (flat_map score_line c.args.score.now.rows) (exposure_line c.args.score.now.exposure c.args.threshold) c.put_line.result
-    (subst (λ rows. Grew (g.K.Sink.taken c.args.out.now) (g.K.Sink.taken c.print_rows.new.out) (flat_map score_line rows)) c.list.ensures.all_in_order c.in_ok-print_rows.ensures.takes_the_text)
+    (subst (λ rows. Grew (g.K.Sink.taken c.args.out.now) (g.K.Sink.taken c.print_rows.new.out) (flat_map score_line rows))
+    c.list.ensures.all_in_order c.in_ok-print_rows.ensures.takes_the_text)
     (c.put_line.ensures.takes_the_line _ c.exposure_line.ensures.tells_both)

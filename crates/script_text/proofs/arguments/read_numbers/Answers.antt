@@ -13,4 +13,6 @@ returns-in_default c =
 
 pub loop-word-preserved : goal.loop-word-preserved
 loop-word-preserved c =
-    goes_on number_value (λ (word : Bor (List ℕ)). word.now) c.args.words.now c.loop-word.word-index no_text c.loop-word.numbers.items c.push.new.self.items c.in-Some.number c.loop-word-test.true c.loop-word.invariant (sym c.in-Some.ensures.decimal_or_hex) c.in_ok-push.ensures.items
+    goes_on number_value (λ (word : Bor (List ℕ)). word.now) c.args.words.now c.loop-word.word-index no_text c.loop-word.numbers.items
+    c.push.new.self.items c.in-Some.number c.loop-word-test.true c.loop-word.invariant
+    (sym c.in-Some.ensures.decimal_or_hex) c.in_ok-push.ensures.items

@@ -4,4 +4,5 @@ use Rattle.script_text.proofs.MarksFound.{before_known}
 use Rattle.script_text.proofs.payloads.before_bracket.Goals as goal
 
 pub returns : goal.returns
-returns c = before_known 93 c.args.word.now c.strip_suffix.result (strip_suffix_char 93 c.args.word.now c.strip_suffix.result c.strip_suffix.ensures.cases (lit< tt))
+returns c = before_known 93 c.args.word.now c.strip_suffix.result
+    (strip_suffix_char 93 c.args.word.now c.strip_suffix.result c.strip_suffix.ensures.cases (lit< tt))

@@ -5,4 +5,5 @@ use Rattle.script_text.proofs.payloads.between_commas.Goals as goal
 
 pub returns : goal.returns
 returns c =
-    subst (λ (wanted : List (List ℕ)). IfOk c.pieces_of.result (λ pieces. map (λ piece. piece.now) pieces.items ≡ wanted)) (commas_of c.args.text.now c.if-is_empty.ensures) c.pieces_of.ensures
+    subst (λ (wanted : List (List ℕ)). IfOk c.pieces_of.result (λ pieces. map (λ piece. piece.now) pieces.items ≡ wanted))
+    (commas_of c.args.text.now c.if-is_empty.ensures) c.pieces_of.ensures

@@ -13,4 +13,5 @@ returns-in_default c =
 
 pub loop-piece-preserved : goal.loop-piece-preserved
 loop-piece-preserved c =
-    goes_on number_of (λ (piece : Bor (List ℕ)). piece.now) c.args.pieces.now c.loop-piece.piece-index no_text c.loop-piece.ids.items c.push.new.self.items c.in-Some.id c.loop-piece-test.true c.loop-piece.invariant (sym c.in-Some.ensures) c.in_ok-push.ensures.items
+    goes_on number_of (λ (piece : Bor (List ℕ)). piece.now) c.args.pieces.now c.loop-piece.piece-index no_text c.loop-piece.ids.items
+    c.push.new.self.items c.in-Some.id c.loop-piece-test.true c.loop-piece.invariant (sym c.in-Some.ensures) c.in_ok-push.ensures.items

@@ -8,4 +8,6 @@ returns-in_default c = no_text c.args.calls.now c.args.bytes.now c.in_default.en
 
 pub returns : goal.returns
 returns c =
-    of_text c.args.calls.now c.args.bytes.now c.in-Some.text.now (map line_view c.as_slice.result.now) c.read_calls.result c.in-Some.ensures.text (ap (map line_view) c.as_slice.ensures.value ∙ c.in-Ok.ensures.counted) c.read_calls.ensures
+    of_text c.args.calls.now c.args.bytes.now c.in-Some.text.now
+    (map line_view c.as_slice.result.now) c.read_calls.result c.in-Some.ensures.text
+    (ap (map line_view) c.as_slice.ensures.value ∙ c.in-Ok.ensures.counted) c.read_calls.ensures

@@ -17,7 +17,8 @@ returns-in_err-read_numbered c =
     let i = c.loop-line.line-index in
     let lines = c.args.lines.now in
     rw (p.1, p.2)
-    (stops c.args.calls.now (map line_view lines) (map line_view (take i lines)) (line_view (get_or lines i no_line)) (map line_view (drop (suc i) lines)) c.loop-line.made.items c.in_err-read_numbered.field-0.0
+    (stops c.args.calls.now (map line_view lines) (map line_view (take i lines)) (line_view (get_or lines i no_line))
+    (map line_view (drop (suc i) lines)) c.loop-line.made.items c.in_err-read_numbered.field-0.0
     (split_made line_view lines i no_line c.loop-line-test.true) c.loop-line.invariant c.in_err-read_numbered.ensures)
 
 pub returns-in_err-add : goal.returns-in_err-add
@@ -26,13 +27,17 @@ returns-in_err-add c =
     let i = c.loop-line.line-index in
     let lines = c.args.lines.now in
     rw (p.1, p.2)
-    (stops_full c.args.calls.now (map line_view lines) (map line_view (take i lines)) (line_view (get_or lines i no_line)) (map line_view (drop (suc i) lines)) c.loop-line.made.items c.add.new.made.items c.in_ok-read_numbered.field-0
-    c.in_err-add.field-0.0 (split_made line_view lines i no_line c.loop-line-test.true) c.loop-line.invariant c.in_ok-read_numbered.ensures c.in_err-add.ensures)
+    (stops_full c.args.calls.now (map line_view lines) (map line_view (take i lines)) (line_view (get_or lines i no_line))
+    (map line_view (drop (suc i) lines)) c.loop-line.made.items c.add.new.made.items c.in_ok-read_numbered.field-0
+    c.in_err-add.field-0.0 (split_made line_view lines i no_line c.loop-line-test.true) c.loop-line.invariant
+    c.in_ok-read_numbered.ensures c.in_err-add.ensures)
 
 pub loop-line-preserved : goal.loop-line-preserved
 loop-line-preserved c =
     let i = c.loop-line.line-index in
     let lines = c.args.lines.now in
-    subst (λ (ls : List Line). HasRead c.args.calls.now ls c.add.new.made.items) (sym (take_made line_view lines i no_line c.loop-line-test.true))
-    (reads_more c.args.calls.now (map line_view (take i lines)) (line_view (get_or lines i no_line)) c.loop-line.made.items c.add.new.made.items c.in_ok-read_numbered.field-0 c.loop-line.invariant
+    subst (λ (ls : List Line). HasRead c.args.calls.now ls c.add.new.made.items)
+    (sym (take_made line_view lines i no_line c.loop-line-test.true))
+    (reads_more c.args.calls.now (map line_view (take i lines))
+    (line_view (get_or lines i no_line)) c.loop-line.made.items c.add.new.made.items c.in_ok-read_numbered.field-0 c.loop-line.invariant
     c.in_ok-read_numbered.ensures c.in_ok-add.ensures.0 c.in_ok-add.ensures.1)

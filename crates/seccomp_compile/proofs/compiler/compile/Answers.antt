@@ -23,14 +23,17 @@ made-requires c =
     let decision = decision_of c.in_ok-tree.tree in
     let placed = subst (λ before. Placed decision before c.place.new.code.items c.in_ok-place.field-0) c.new-code.ensures.items c.in_ok-place.ensures.placed in
     subst IsProgram (sym c.into_vec.ensures.items)
-    (placed_program decision c.place.new.code.items c.in_ok-place.field-0 (omega (arith, c.in_ok-tree.ensures.decides_the_rules.most, most_insns-le c.args.rules.now c.requires)) c.in_ok-place.ensures.fit placed)
+    (placed_program decision c.place.new.code.items c.in_ok-place.field-0
+    (omega (arith, c.in_ok-tree.ensures.decides_the_rules.most, most_insns-le c.args.rules.now c.requires)) c.in_ok-place.ensures.fit
+    placed)
 
 pub returns-clause-decides_every_call : goal.returns-clause-decides_every_call
 returns-clause-decides_every_call c =
     let decision = decision_of c.in_ok-tree.tree in
     let placed = subst (λ before. Placed decision before c.place.new.code.items c.in_ok-place.field-0) c.new-code.ensures.items c.in_ok-place.ensures.placed in
     subst (λ code. Decides code c.args.rules.now) (sym (c.made.ensures.of_the_instructions ∙ c.into_vec.ensures.items))
-    (placed_decides c.args.rules.now decision c.place.new.code.items c.in_ok-place.field-0 c.in_ok-tree.ensures.decides_the_rules.tree placed c.in_ok-tree.ensures.decides_the_rules)
+    (placed_decides c.args.rules.now decision c.place.new.code.items c.in_ok-place.field-0 c.in_ok-tree.ensures.decides_the_rules.tree
+    placed c.in_ok-tree.ensures.decides_the_rules)
 
 pub returns-clause-is_never_too_long : goal.returns-clause-is_never_too_long
 returns-clause-is_never_too_long c = most_insns-le c.args.rules.now c.requires
@@ -40,4 +43,5 @@ returns-clause-within_the_path_length c = λ short.
     let decision = decision_of c.in_ok-tree.tree in
     let placed = subst (λ before. Placed decision before c.place.new.code.items c.in_ok-place.field-0) c.new-code.ensures.items c.in_ok-place.ensures.placed in
     subst (λ code. DecidesWithin longest_path code c.args.rules.now) (sym (c.made.ensures.of_the_instructions ∙ c.into_vec.ensures.items))
-    (placed_within c.args.rules.now decision c.place.new.code.items c.in_ok-place.field-0 c.in_ok-tree.ensures.decides_the_rules.tree placed c.in_ok-tree.ensures.decides_the_rules short)
+    (placed_within c.args.rules.now decision c.place.new.code.items c.in_ok-place.field-0 c.in_ok-tree.ensures.decides_the_rules.tree
+    placed c.in_ok-tree.ensures.decides_the_rules short)

@@ -24,7 +24,8 @@ returns-then-is_end-clause-placed t c =
     ap (λ tree. is_end (decision_of tree)) (c.deref-then-is_end-2.ensures ∙ sym c.deref-in-Split.ensures) ∙ sym c.is_end.ensures.ends ∙ c.if-is_end.true in
     let whole : decision_of c.args.tree.now ≡ splits c.in-Split.comparison c.in-Split.number miss hit =
     ap decision_of c.in-Split.is
-    ∙ ap (λ tree. splits c.in-Split.comparison c.in-Split.number (decision_of tree) (decision_of c.in-Split.hit.value)) (sym c.deref-then-is_end.ensures)
+    ∙ ap (λ tree. splits c.in-Split.comparison c.in-Split.number (decision_of tree) (decision_of c.in-Split.hit.value))
+    (sym c.deref-then-is_end.ensures)
     ∙ ap (λ tree. splits c.in-Split.comparison c.in-Split.number miss (decision_of tree)) (sym c.deref-then-is_end-2.ensures) in
     subst (λ decision. Placed decision c.args.code.now.items c.compare.new.code.items c.len-then-is_end.result) (sym whole)
     (split_by_end c.in-Split.comparison c.in-Split.number c.in_ok-miss_at-in-Split.miss_at c.in_ok-hit_at-in-Split.hit_at c.len-then-is_end.result miss hit

@@ -17,7 +17,9 @@ returns-then-count-eq1 t c = record {
 
 pub returns : goal.returns
 returns t c = record {
-  joins = joined_lowest c.args.runs.now.items c.join.new.runs.items c.join-2.new.runs.items c.args.count _ _ c.in_ok-low.low c.in_ok-high.high _ c.in_ok-low.ensures.joins c.in_ok-high.ensures.joins (omega arith) (omega arith) (omega arith) refl
-      (ap (λ tree. splits AtLeast c.in_ok-high.high.from (decision_of tree) (decision_of c.in_ok-new-2.field-0.value)) c.in_ok-new.ensures.ok
+  joins = joined_lowest c.args.runs.now.items c.join.new.runs.items c.join-2.new.runs.items c.args.count _ _ c.in_ok-low.low
+      c.in_ok-high.high _ c.in_ok-low.ensures.joins c.in_ok-high.ensures.joins (omega arith) (omega arith) (omega arith) refl
+      (ap (λ tree. splits AtLeast c.in_ok-high.high.from (decision_of tree) (decision_of c.in_ok-new-2.field-0.value))
+      c.in_ok-new.ensures.ok
       ∙ ap (λ tree. splits AtLeast c.in_ok-high.high.from (decision_of c.in_ok-low.low.tree) (decision_of tree)) c.in_ok-new-2.ensures.ok);
 }

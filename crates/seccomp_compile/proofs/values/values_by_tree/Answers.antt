@@ -17,15 +17,18 @@ loop-value-init c = record {
 
 pub loop-value-preserved : goal.loop-value-preserved
 loop-value-preserved c = record {
-  valued = valued_more c.args.cases.now c.args.rest c.in-Some.value.now c.action_of_value-action.result c.loop-value.left.now c.in-Some.others.now c.loop-value.runs.items c.add_number.new.runs.items
-      c.in_ok-add_number.ensures.there c.in-Some.ensures.cases.0 c.loop-value.invariant.rises c.loop-value.invariant.valued c.in_ok-add_number.ensures.adds c.action_of_value-action.ensures;
+  valued = valued_more c.args.cases.now c.args.rest c.in-Some.value.now c.action_of_value-action.result c.loop-value.left.now
+      c.in-Some.others.now c.loop-value.runs.items c.add_number.new.runs.items
+      c.in_ok-add_number.ensures.there c.in-Some.ensures.cases.0 c.loop-value.invariant.rises c.loop-value.invariant.valued
+      c.in_ok-add_number.ensures.adds c.action_of_value-action.ensures;
   rises = rises_before c.in-Some.others.now _ (subst Rises c.in-Some.ensures.cases.0 c.loop-value.invariant.rises);
 }
 
 pub returns : goal.returns
 returns c =
     let none : c.loop-value.left.now ≡ [] = no_members c.loop-value.left.now c.in_default.ensures.cases in
-    if_ok (λ tree. Closes c.loop-value.runs.items c.args.rest (decision_of tree)) (λ tree. DecidesValues c.args.cases.now c.args.rest (decision_of tree)) c.close.result
+    if_ok (λ tree. Closes c.loop-value.runs.items c.args.rest (decision_of tree))
+    (λ tree. DecidesValues c.args.cases.now c.args.rest (decision_of tree)) c.close.result
     (λ tree closed. values_closed c.args.cases.now c.args.rest c.loop-value.runs.items (decision_of tree) c.requires
     (subst (λ left. Valued c.args.cases.now c.args.rest left c.loop-value.runs.items) none c.loop-value.invariant.valued) closed)
     c.close.ensures.closes

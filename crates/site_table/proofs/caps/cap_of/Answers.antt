@@ -20,4 +20,5 @@ returns-else-eq-clause-number c =
     no_cap c.args.name.now (λ k small e.
     let found = (c.in_ok-number.ensures.named k small).1 (ap in_lower_case e) in
     let same : c.in_ok-number.number ≡ k = cc in
-    false≢true (sym c.if-eq.false ∙ c.eq.ensures ∙ part_itself c.name.result.now c.args.name.now (c.name.ensures.its_name ∙ ap name_of same ∙ e)))
+    false≢true (sym c.if-eq.false ∙ c.eq.ensures ∙ part_itself c.name.result.now c.args.name.now
+    (c.name.ensures.its_name ∙ ap name_of same ∙ e)))

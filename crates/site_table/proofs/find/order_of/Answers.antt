@@ -13,6 +13,8 @@ pub returns : goal.returns
 returns c =
     let text = c.args.text.now in
     let front = c.args.front.now in
-    c.then-2.ensures ∙ ap (λ o. ordering_then o c.cmp-3.result) (c.cmp-2.ensures ∙ ap (λ xs. slice_cmp nat_cmp xs front) c.split_at-2.ensures.front)
-    ∙ ap (ordering_then (slice_cmp nat_cmp (take (length front) text) front)) (c.cmp-3.ensures ∙ ap (λ xs. slice_cmp nat_cmp xs c.args.rest.now) c.split_at-2.ensures.back)
+    c.then-2.ensures ∙ ap (λ o. ordering_then o c.cmp-3.result)
+    (c.cmp-2.ensures ∙ ap (λ xs. slice_cmp nat_cmp xs front) c.split_at-2.ensures.front)
+    ∙ ap (ordering_then (slice_cmp nat_cmp (take (length front) text) front))
+    (c.cmp-3.ensures ∙ ap (λ xs. slice_cmp nat_cmp xs c.args.rest.now) c.split_at-2.ensures.back)
     ∙ sym (longer_order text front c.args.rest.now c.if-text-front.false)

@@ -13,5 +13,6 @@ returns c =
     record {
       searches =
           searched c.args.rows.now text c.binary_search_by.result c.requires.ascending facts.bound
-          (facts.position (λ (row : Row). slice_cmp nat_cmp (tail_of row.path) text) (always_returns_same _ _ _ (λ a r f called. (search rules, search rules))));
+          (facts.position (λ (row : Row). slice_cmp nat_cmp (tail_of row.path) text)
+          (always_returns_same _ _ _ (λ a r f called. (search rules, search rules))));
     }

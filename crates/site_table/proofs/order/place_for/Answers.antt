@@ -10,5 +10,6 @@ returns c = record {
   where_it_goes =
       rw c.err.ensures.value
       (place_searched c.args.ordered.now c.args.path.now c.search.result c.list.ensures.as_held c.search.ensures.normal
-      (subst (λ (rows : List Row). Searches rows (tail_of c.args.path.now ++ []) c.search.result) c.list.ensures.all_in_order c.search.ensures.searches));
+      (subst (λ (rows : List Row). Searches rows (tail_of c.args.path.now ++ []) c.search.result) c.list.ensures.all_in_order
+      c.search.ensures.searches));
 }

@@ -11,7 +11,8 @@ use Rattle.site_table.proofs.reader.read_bytes.Goals as goal
 pub returns-in-Ok : goal.returns-in-Ok
 returns-in-Ok c =
     rw (of_tree c.args.bytes.now (table_view c.in-Ok.table) c.in-Ok.ensures.ok.0 c.in-Ok.ensures.ok.1)
-    (subst (λ (site : Data). IsUnlessMemory (λ (table : Site). table) c.read_tree.result (unless_fault (faults_of site) (site_in site))) (view-Table c.in-Ok.table) c.read_tree.ensures)
+    (subst (λ (site : Data). IsUnlessMemory (λ (table : Site). table) c.read_tree.result (unless_fault (faults_of site) (site_in site)))
+    (view-Table c.in-Ok.table) c.read_tree.ensures)
 
 pub returns-else-is_memory : goal.returns-else-is_memory
 returns-else-is_memory c =

@@ -13,8 +13,10 @@ loop-row-init c = λ text. ap (λ texts. has_text texts text) c.new-folders.ensu
 pub loop-row-preserved : goal.loop-row-preserved
 loop-row-preserved c =
     folders_more (map view c.args.rows.now) c.loop-row.row-index (view c.row-item.result) c.loop-row.folders c.add_folder.new.folders
-    (stands_at c.args.rows.now c.loop-row.row-index c.row-item.result c.loop-row-test.true c.row-item.is) c.loop-row.invariant c.in_ok-add_folder.ensures
+    (stands_at c.args.rows.now c.loop-row.row-index c.row-item.result c.loop-row-test.true c.row-item.is) c.loop-row.invariant
+    c.in_ok-add_folder.ensures
 
 pub returns : goal.returns
 returns c = λ text.
-    c.loop-row.invariant text ∙ ap (λ rows. has_folder rows text) (take_all c.loop-row.row-index (map view c.args.rows.now) (omega (arith, length-map c.args.rows.now view)))
+    c.loop-row.invariant text ∙ ap (λ rows. has_folder rows text)
+    (take_all c.loop-row.row-index (map view c.args.rows.now) (omega (arith, length-map c.args.rows.now view)))

@@ -18,7 +18,8 @@ returns-in_err-ordered c =
     record {
       reads_the_rows =
           rw (p.1, p.2)
-          (stops_also (λ (ordered : List Row). ordered) (λ (read : Vec Row Global). read.items) (row_faults rows) (rows_in_order (map row_of rows)) (rows_in_order (with_fixed (map row_of rows)))
+          (stops_also (λ (ordered : List Row). ordered) (λ (read : Vec Row Global). read.items) (row_faults rows)
+          (rows_in_order (map row_of rows)) (rows_in_order (with_fixed (map row_of rows)))
           c.in_err-ordered.field-0.0 c.in_err-ordered.ensures);
     }
 

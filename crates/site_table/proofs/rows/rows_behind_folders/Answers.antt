@@ -15,9 +15,13 @@ loop-value-init c =
 
 pub loop-value-preserved : goal.loop-value-preserved
 loop-value-preserved c =
-    behind_more (map view c.args.rows.now) c.loop-value.value-index c.loop-value.ordered (view c.value-item.result) c.place_behind.new.ordered c.loop-value.invariant
+    behind_more (map view c.args.rows.now) c.loop-value.value-index c.loop-value.ordered
+    (view c.value-item.result) c.place_behind.new.ordered c.loop-value.invariant
     (stands_at c.args.rows.now c.loop-value.value-index c.value-item.result c.loop-value-test.true c.value-item.is)
-    (subst (λ (found : Option ℕ). IfSome found (λ at. PlacesBehind c.loop-value.ordered (view c.value-item.result) c.place_behind.new.ordered)) c.in-Some.is c.in_ok-folder.ensures)
+    (subst (λ (found : Option ℕ). IfSome found
+    (λ at. PlacesBehind c.loop-value.ordered (view c.value-item.result) c.place_behind.new.ordered)) c.in-Some.is
+    c.in_ok-folder.ensures)
 
 pub returns : goal.returns
-returns c = rows_all (map view c.args.rows.now) c.loop-value.value-index c.loop-value.ordered c.loop-value.invariant.placed (omega (arith, length-map c.args.rows.now view))
+returns c = rows_all (map view c.args.rows.now) c.loop-value.value-index c.loop-value.ordered c.loop-value.invariant.placed
+    (omega (arith, length-map c.args.rows.now view))

@@ -5,7 +5,8 @@ use Rattle.text_forms.proofs.SoFar.{starts, all_read}
 use Rattle.text_forms.proofs.splitting.words.Goals as goal
 
 pub loop-left-init : goal.loop-left-init
-loop-left-init c = starts c.nothing-so_far.result c.as_bytes-left.result.now c.nothing-so_far.ensures ∙ ap words_of c.as_bytes-left.ensures.value
+loop-left-init c = starts c.nothing-so_far.result c.as_bytes-left.result.now c.nothing-so_far.ensures
+    ∙ ap words_of c.as_bytes-left.ensures.value
 
 pub returns : goal.returns
 returns c =

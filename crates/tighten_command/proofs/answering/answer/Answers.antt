@@ -13,7 +13,8 @@ tell_tight-requires g c = record { are_items = c.in-Ok.ensures.tightens.are_item
 pub returns-in-Ok-clause-answers : goal.returns-in-Ok-clause-answers
 returns-in-Ok-clause-answers g c =
     let tried = tried_with c.args.unit.now c.args.calls.now c.args.site.now c.args.keep.now (wishes_by (λ wish. wish.must_open) (λ wish shown answer. (goal.Fn-dyn g).post (wish.test.vtable, wish.test.value) (shown, tt) answer) c.args.wishes.now) in
-    told_as (λ ending text. (ending ≡ Done) × (text ≡ tight_text c.in-Ok.tight)) (TellsTight c.args.name.now tried) (tells_tight c.args.name.now tried c.in-Ok.tight c.in-Ok.ensures.tightens) c.tell_tight.result c.tell_tight.ensures
+    told_as (λ ending text. (ending ≡ Done) × (text ≡ tight_text c.in-Ok.tight)) (TellsTight c.args.name.now tried)
+    (tells_tight c.args.name.now tried c.in-Ok.tight c.in-Ok.ensures.tightens) c.tell_tight.result c.tell_tight.ensures
 
 pub returns-in-Ok-clause-reads_nothing : goal.returns-in-Ok-clause-reads_nothing
 returns-in-Ok-clause-reads_nothing g c = told_reads_nothing (λ ending text. (ending ≡ Done) × (text ≡ tight_text c.in-Ok.tight)) c.tell_tight.result c.tell_tight.ensures
@@ -21,7 +22,8 @@ returns-in-Ok-clause-reads_nothing g c = told_reads_nothing (λ ending text. (en
 pub returns-in-Err-clause-answers : goal.returns-in-Err-clause-answers
 returns-in-Err-clause-answers g c =
     let tried = tried_with c.args.unit.now c.args.calls.now c.args.site.now c.args.keep.now (wishes_by (λ wish. wish.must_open) (λ wish shown answer. (goal.Fn-dyn g).post (wish.test.vtable, wish.test.value) (shown, tt) answer) c.args.wishes.now) in
-    told_as (TellsError c.args.name.now c.in-Err.error) (TellsTight c.args.name.now tried) (tells_error c.args.name.now tried c.in-Err.error c.in-Err.ensures.tightens) c.tell_error.result c.tell_error.ensures
+    told_as (TellsError c.args.name.now c.in-Err.error) (TellsTight c.args.name.now tried)
+    (tells_error c.args.name.now tried c.in-Err.error c.in-Err.ensures.tightens) c.tell_error.result c.tell_error.ensures
 
 pub returns-in-Err-clause-reads_nothing : goal.returns-in-Err-clause-reads_nothing
 returns-in-Err-clause-reads_nothing g c = told_reads_nothing (TellsError c.args.name.now c.in-Err.error) c.tell_error.result c.tell_error.ensures

@@ -13,7 +13,8 @@ returns-in-Ok-clause-says c = a_keep c.in-Ok.keep c.in-Ok.ensures.reads
 pub returns-in-Err-clause-says : goal.returns-in-Err-clause-says
 returns-in-Err-clause-says c =
     let ne : c.in-Err.error ≢ Memory = search rules in
-    said_refused (λ (keep : List Question). keep) (IsKeepOf c.args.calls.now c.args.site.now c.args.path.now c.args.bytes.now) c.keep_line.result (keep_line c.args.path.now c.in-Err.error) c.refuse.result c.refuse.ensures.tells_the_line c.keep_line.ensures
+    said_refused (λ (keep : List Question). keep) (IsKeepOf c.args.calls.now c.args.site.now c.args.path.now c.args.bytes.now)
+    c.keep_line.result (keep_line c.args.path.now c.in-Err.error) c.refuse.result c.refuse.ensures.tells_the_line c.keep_line.ensures
     (no_keep c.in-Err.error ne c.in-Err.ensures.reads)
 
 pub returns-in-Ok-clause-listed : goal.returns-in-Ok-clause-listed

@@ -10,7 +10,8 @@ returns-in_default c = record { reads = not_text (no_text c.args.bytes.now c.in_
 
 pub returns-in_err-lines : goal.returns-in_err-lines
 returns-in_err-lines c = record {
-  reads = at_memory (ReadsKeep c.args.calls.now c.args.site.now c.args.bytes.now) c.from_residual.result c.from_residual.ensures.1 (text_lines _ (some_text c.args.bytes.now c.in-Some.text.now c.in-Some.ensures.text).0 no_memory);
+  reads = at_memory (ReadsKeep c.args.calls.now c.args.site.now c.args.bytes.now) c.from_residual.result c.from_residual.ensures.1
+      (text_lines _ (some_text c.args.bytes.now c.in-Some.text.now c.in-Some.ensures.text).0 no_memory);
 }
 
 pub returns : goal.returns
@@ -19,5 +20,7 @@ returns c =
     record {
       reads =
           text_lines c.keep_of_lines.result is.0
-          (subst (λ lines. ReadsLines c.args.calls.now c.args.site.now lines c.keep_of_lines.result) (ap (map line_view) c.as_slice.ensures.value ∙ c.in_ok-lines.ensures.counted ∙ ap lines_of is.1) c.keep_of_lines.ensures.reads);
+          (subst (λ lines. ReadsLines c.args.calls.now c.args.site.now lines c.keep_of_lines.result)
+          (ap (map line_view) c.as_slice.ensures.value ∙ c.in_ok-lines.ensures.counted ∙ ap lines_of is.1)
+          c.keep_of_lines.ensures.reads);
     }

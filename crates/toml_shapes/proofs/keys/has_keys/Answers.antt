@@ -10,14 +10,16 @@ pub returns-then-each_is_known : goal.returns-then-each_is_known
 returns-then-each_is_known c = record {
   known_and_needed =
       ap (λ b. b && c.lacks_none.result) (sym c.if-each_is_known.true)
-      ∙ keys_are c.args.keys.now (view c.args.value.now) c.in-Some.table.now.entries c.each_is_known.result c.lacks_none.result c.in-Some.ensures c.each_is_known.ensures c.lacks_none.ensures;
+      ∙ keys_are c.args.keys.now (view c.args.value.now) c.in-Some.table.now.entries c.each_is_known.result c.lacks_none.result
+      c.in-Some.ensures c.each_is_known.ensures c.lacks_none.ensures;
 }
 
 pub returns-else-each_is_known : goal.returns-else-each_is_known
 returns-else-each_is_known c = record {
   known_and_needed =
       c.if-each_is_known.false ∙ ap (λ b. b && each) (sym c.if-each_is_known.false)
-      ∙ keys_are c.args.keys.now (view c.args.value.now) c.in-Some.table.now.entries c.each_is_known.result each c.in-Some.ensures c.each_is_known.ensures refl;
+      ∙ keys_are c.args.keys.now (view c.args.value.now) c.in-Some.table.now.entries c.each_is_known.result each c.in-Some.ensures
+      c.each_is_known.ensures refl;
 }
   where
     each : Bool

@@ -42,7 +42,8 @@ use Rattle.top_call.proofs.running.answer_request.Goals as goal
 pub returns-in-Help-clause-runs : goal.returns-in-Help-clause-runs
 returns-in-Help-clause-runs g c =
     rw c.in-Help.is
-    (ran_fixed c.help.result Done help_text (Unit {0}) _ c.finish.result refl (λ all. refl) c.help.ensures.ending c.help.ensures.text refl c.finish.ensures.finishes)
+    (ran_fixed c.help.result Done help_text (Unit {0}) _ c.finish.result refl
+    (λ all. refl) c.help.ensures.ending c.help.ensures.text refl c.finish.ensures.finishes)
 
 pub returns-in-Version-clause-runs : goal.returns-in-Version-clause-runs
 returns-in-Version-clause-runs g c =
@@ -127,7 +128,8 @@ returns-in-Sample-clause-runs g c =
 pub returns-in-Help-clause-reads_in_order : goal.returns-in-Help-clause-reads_in_order
 returns-in-Help-clause-reads_in_order g c =
     rw c.in-Help.is
-    (asked_fixed g.S.Shelf.asks (g.S.Shelf.told c.args.shelf.now) c.args.shelf.now c.help.result Done c.finish.result _ refl c.help.ensures.ending c.finish.ensures.finishes)
+    (asked_fixed g.S.Shelf.asks (g.S.Shelf.told c.args.shelf.now) c.args.shelf.now c.help.result Done c.finish.result _ refl
+    c.help.ensures.ending c.finish.ensures.finishes)
 
 pub returns-in-Version-clause-reads_in_order : goal.returns-in-Version-clause-reads_in_order
 returns-in-Version-clause-reads_in_order g c =

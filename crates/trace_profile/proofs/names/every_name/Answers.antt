@@ -6,5 +6,6 @@ use Rattle.trace_profile.proofs.names.every_name.Goals as goal
 pub loop-place-preserved : goal.loop-place-preserved
 loop-place-preserved c =
     c.in_ok-push_first.ensures
-    ∙ ap (λ (these : List ℕ). these ++ cond (is_first_line c.args.calls.now c.loop-place.place) (c.loop-place.place ∷ []) []) c.loop-place.invariant
+    ∙ ap (λ (these : List ℕ). these ++ cond (is_first_line c.args.calls.now c.loop-place.place) (c.loop-place.place ∷ []) [])
+    c.loop-place.invariant
     ∙ sym (range_more (is_first_line c.args.calls.now) c.loop-place.place)

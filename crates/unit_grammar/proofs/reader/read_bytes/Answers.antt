@@ -7,4 +7,5 @@ returns-in_default c = not_utf8 c.args.bytes.now c.in_default.ensures.cases.0
 
 pub returns : goal.returns
 returns c =
-    of_text c.args.bytes.now c.in-Ok.text.now c.read_text.result c.in-Ok.ensures.cases.1 (sym c.if-contains.ensures.value) c.in-Ok.ensures.cases.0 c.read_text.ensures
+    of_text c.args.bytes.now c.in-Ok.text.now c.read_text.result c.in-Ok.ensures.cases.1
+    (sym c.if-contains.ensures.value) c.in-Ok.ensures.cases.0 c.read_text.ensures

@@ -14,14 +14,16 @@ returns-in_err-take_line c =
     rw (p.1, p.2)
     (of_joined text (Err c.in_err-take_line.field-0.0)
     (c.in_err-take_line.ensures (joined (file_parts text)) (slice_split (λ byte. eqb byte 10) c.in-Some.behind.now)
-    (stands_before_line _ _ c.loop-line.number c.loop-line.rest.now (c.in-Some.line.now, c.in-Some.behind.now) _ _ _ (sym c.in-Some.ensures) c.loop-line.invariant.1)))
+    (stands_before_line _ _ c.loop-line.number c.loop-line.rest.now (c.in-Some.line.now, c.in-Some.behind.now) _ _ _
+    (sym c.in-Some.ensures) c.loop-line.invariant.1)))
 
 pub loop-line-preserved : goal.loop-line-preserved
 loop-line-preserved c =
     let text = c.args.text.now in (
       search rules,
       c.in_ok-take_line.ensures (joined (file_parts text)) (slice_split (λ byte. eqb byte 10) c.in-Some.behind.now)
-          (stands_before_line _ _ c.loop-line.number c.loop-line.rest.now (c.in-Some.line.now, c.in-Some.behind.now) _ _ _ (sym c.in-Some.ensures) c.loop-line.invariant.1),
+          (stands_before_line _ _ c.loop-line.number c.loop-line.rest.now (c.in-Some.line.now, c.in-Some.behind.now) _ _ _
+          (sym c.in-Some.ensures) c.loop-line.invariant.1),
       omega (arith, c.loop-line.invariant.2, shorter c.loop-line.rest.now (c.in-Some.line.now, c.in-Some.behind.now) (sym c.in-Some.ensures)),
     )
 
@@ -31,7 +33,8 @@ returns-in_err-take_line-2 c =
     let text = c.args.text.now in
     rw (p.1, p.2)
     (of_joined text (Err c.in_err-take_line-2.field-0.0)
-    (c.in_err-take_line-2.ensures (joined (file_parts text)) [] (stands_before_last _ _ c.loop-line.number c.loop-line.rest.now _ _ _ (sym c.in_default.ensures) c.loop-line.invariant.1)))
+    (c.in_err-take_line-2.ensures (joined (file_parts text)) []
+    (stands_before_last _ _ c.loop-line.number c.loop-line.rest.now _ _ _ (sym c.in_default.ensures) c.loop-line.invariant.1)))
 
 pub returns-in_err-take_begun : goal.returns-in_err-take_begun
 returns-in_err-take_begun c =

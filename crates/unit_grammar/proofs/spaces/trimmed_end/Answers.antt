@@ -11,4 +11,5 @@ overflow_sub-text c =
     omega (arith, same, suffix_len-le-length is_white c.args.text.now)
 
 pub range-requires-clause-end_boundary : goal.range-requires-clause-end_boundary
-range-requires-clause-end_boundary c = trailing_boundary c.args.text.now c.trailing_white.result (c.trailing_white.ensures ∙ ap (suffix_len is_white) c.as_bytes.ensures.value)
+range-requires-clause-end_boundary c = trailing_boundary c.args.text.now c.trailing_white.result
+    (c.trailing_white.ensures ∙ ap (suffix_len is_white) c.as_bytes.ensures.value)

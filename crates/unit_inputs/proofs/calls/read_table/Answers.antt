@@ -4,4 +4,5 @@ use Rattle.unit_inputs.proofs.calls.read_table.Goals as goal
 
 pub returns-clause-asks_for_it : goal.returns-clause-asks_for_it
 returns-clause-asks_for_it g c =
-    went_quiet g.S.Shelf.asks c.args.shelf.now c.read_input.new.shelf table_asks c.table_of_bytes.result c.table_of_bytes.ensures.reads_nothing c.in_ok-bytes.ensures.asks_for_it
+    went_quiet g.S.Shelf.asks c.args.shelf.now c.read_input.new.shelf table_asks c.table_of_bytes.result
+    c.table_of_bytes.ensures.reads_nothing c.in_ok-bytes.ensures.asks_for_it

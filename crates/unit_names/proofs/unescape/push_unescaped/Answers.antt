@@ -9,10 +9,12 @@ returns-in_err-byte c =
     record {
       adds_its_meaning =
           rw (p.1, p.2)
-          (part_refused c.args.bytes.now.items c.loop-byte.bytes.items c.loop-byte.bytes.items c.args.text.now c.loop-byte.rest.now c.in_err-byte.field-0.0 c.loop-byte.invariant c.in_err-byte.ensures);
+          (part_refused c.args.bytes.now.items c.loop-byte.bytes.items c.loop-byte.bytes.items c.args.text.now c.loop-byte.rest.now
+          c.in_err-byte.field-0.0 c.loop-byte.invariant c.in_err-byte.ensures);
     }
 
 pub loop-byte-preserved : goal.loop-byte-preserved
 loop-byte-preserved c =
-    part_taken c.loop-byte.bytes.items c.extend_from_slice.new.self.items c.loop-byte.rest.now c.in_ok-byte.field-0 c.in-Some.byte c.in-Some.behind c.in_ok-byte.ensures c.in-Some.is c.in_ok-extend_from_slice.ensures.items
+    part_taken c.loop-byte.bytes.items c.extend_from_slice.new.self.items c.loop-byte.rest.now c.in_ok-byte.field-0 c.in-Some.byte
+    c.in-Some.behind c.in_ok-byte.ensures c.in-Some.is c.in_ok-extend_from_slice.ensures.items
     ∙ c.loop-byte.invariant

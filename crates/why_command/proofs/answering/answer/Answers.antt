@@ -11,14 +11,17 @@ use Rattle.why_command.proofs.answering.answer.Goals as goal
 pub returns-in_err-launch-clause-answers : goal.returns-in_err-launch-clause-answers
 returns-in_err-launch-clause-answers c =
     let tried = tried_of c.args.trial.now in
-    at_stop (λ result. Prepares (λ made. TellsWhy tried (ending_of made) (text_of made)) (start_refusals tried.name tried.inputs) result) c.from_residual.result c.in_err-launch.field-0.0 c.from_residual.ensures.1
+    at_stop (λ result. Prepares (λ made. TellsWhy tried (ending_of made) (text_of made)) (start_refusals tried.name tried.inputs) result)
+    c.from_residual.result c.in_err-launch.field-0.0 c.from_residual.ensures.1
     (answers_stop tried c.in_err-launch.field-0.0 c.in_err-launch.ensures.starts)
 
 pub tell_launch-requires : goal.tell_launch-requires
 tell_launch-requires c = record { can_be_tried = c.requires.can_be_tried; starts = c.in_ok-launch.ensures.starts.1 }
 
 pub returns-clause-answers : goal.returns-clause-answers
-returns-clause-answers c = answers_launch (tried_of c.args.trial.now) c.in_ok-launch.launch c.in_ok-launch.ensures.starts c.tell_launch.result c.tell_launch.ensures
+returns-clause-answers c = answers_launch (tried_of c.args.trial.now) c.in_ok-launch.launch c.in_ok-launch.ensures.starts
+    c.tell_launch.result c.tell_launch.ensures
 
 pub returns-clause-reads_nothing : goal.returns-clause-reads_nothing
-returns-clause-reads_nothing c = ready_reads_nothing (TellsLaunch (tried_of c.args.trial.now) c.in_ok-launch.launch) c.tell_launch.result c.tell_launch.ensures
+returns-clause-reads_nothing c = ready_reads_nothing (TellsLaunch (tried_of c.args.trial.now) c.in_ok-launch.launch) c.tell_launch.result
+    c.tell_launch.ensures

@@ -21,7 +21,8 @@ calls-requires c =
     record {
       served = maker_served bounded maker is c.requires.can_be_asked.is_bounded.served;
       program = maker_runs bounded maker is c.requires.can_be_asked.program;
-      asked = maker_lists bounded maker is tried.question (lists_it tried bounded c.requires.can_be_asked tried.question c.requires.can_be_tried);
+      asked = maker_lists bounded maker is tried.question
+          (lists_it tried bounded c.requires.can_be_asked tried.question c.requires.can_be_tried);
       reachable = maker_opens bounded maker is tried.question c.requires.is_open;
     }
 
@@ -31,6 +32,9 @@ returns c =
     let bounded = c.args.bounded.now in
     let list = c.in_ok-list.list in
     told_as (TellsService tried bounded.service) (answer_lines tried.inputs.calls tried.inputs.site (Open tried.question list.items))
-    (tells_open bounded c.in_ok-service.service c.in_ok-service.ensures.of_the_launch tried c.args.trial.now.question refl c.requires.is_so list.items c.in_ok-list.ensures.shown c.in_ok-list.ensures.made_by_the_service _ refl)
+    (tells_open bounded c.in_ok-service.service c.in_ok-service.ensures.of_the_launch tried c.args.trial.now.question refl
+    c.requires.is_so list.items c.in_ok-list.ensures.shown c.in_ok-list.ensures.made_by_the_service _ refl)
     c.open_lines.result
-    (subst (λ own. IfOk c.open_lines.result (λ text. text.items ≡ verdict_line tried.inputs.calls tried.inputs.site tried.question verdict.Open ++ flat_map (call_line tried.inputs.calls) own)) c.deref.ensures.value c.open_lines.ensures.verdict_and_calls)
+    (subst (λ own. IfOk c.open_lines.result (λ text. text.items
+    ≡ verdict_line tried.inputs.calls tried.inputs.site tried.question verdict.Open ++ flat_map (call_line tried.inputs.calls) own))
+    c.deref.ensures.value c.open_lines.ensures.verdict_and_calls)

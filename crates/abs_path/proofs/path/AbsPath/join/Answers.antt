@@ -8,4 +8,5 @@ returns-then-len-rest-gt-LONGEST c = record {
 }
 
 pub with_rest-requires-clause-short : goal.with_rest-requires-clause-short
-with_rest-requires-clause-short c = omega (arith, joined_length c.self.inside.tail c.args.rest.now _ c.self.invariant c.requires c.self.view_is)
+with_rest-requires-clause-short c =
+    omega (arith, joined_length c.self.inside.tail c.args.rest.now _ c.self.invariant c.requires c.self.view_is)

@@ -8,7 +8,8 @@ invariant_of-result c =
     let text = c.args.text.now in
     let rooted = sym c.is_rooted.ensures ∙ c.if-is_rooted.true in
     let plain = sym c.is_plain.ensures ∙ c.if-is_plain.true in
-    read_is text c.in_ok-tail.tail (omega arith) (plain_clean _ text plain) rooted (plain_level text rooted plain) (c.in_ok-tail.ensures ∙ plain_whole text rooted plain)
+    read_is text c.in_ok-tail.tail (omega arith) (plain_clean _ text plain) rooted (plain_level text rooted plain)
+    (c.in_ok-tail.ensures ∙ plain_whole text rooted plain)
 
 pub returns-then-is_plain : goal.returns-then-is_plain
 returns-then-is_plain c =
@@ -18,6 +19,7 @@ returns-then-is_plain c =
     record {
       reads_or_first_fault = (
         no_fault text (omega arith) (plain_clean _ text plain) rooted (plain_level text rooted plain),
-        read_parts text c.in_ok-tail.tail (plain_clean _ text plain) (plain_level text rooted plain) (c.in_ok-tail.ensures ∙ plain_whole text rooted plain),
+        read_parts text c.in_ok-tail.tail (plain_clean _ text plain) (plain_level text rooted plain)
+            (c.in_ok-tail.ensures ∙ plain_whole text rooted plain),
       );
     }

@@ -11,4 +11,5 @@ invariant_of-result c =
 pub returns : goal.returns
 returns c =
     let text = c.in_ok-tail.ensures in
-    ap parts_of text ∙ joined_parts c.self.inside.tail c.args.rest.now c.self.invariant c.requires.is_rest ∙ ap (λ p. p ++ parts_of c.args.rest.now) c.self.view_is
+    ap parts_of text ∙ joined_parts c.self.inside.tail c.args.rest.now c.self.invariant c.requires.is_rest
+    ∙ ap (λ p. p ++ parts_of c.args.rest.now) c.self.view_is

@@ -12,7 +12,8 @@ use Rattle.abs_path.proofs.place_tree.arena.add_child.Goals as goal
 pub returns-in_err-insert-clause-grows : goal.returns-in_err-insert-clause-grows
 returns-in_err-insert-clause-grows c =
     let bare : IsBare c.new.result = record { no_way = c.new.ensures.no_way; no_place = c.new.ensures.no_place } in
-    unmade_grows c.args.nodes.now.items c.push.new.self.items c.new.result c.index_mut.result.now _ c.args.at c.in_ok-push.ensures.items bare c.requires.arena c.requires.in_range c.index_mut.ensures.value refl
+    unmade_grows c.args.nodes.now.items c.push.new.self.items c.new.result c.index_mut.result.now _ c.args.at c.in_ok-push.ensures.items
+    bare c.requires.arena c.requires.in_range c.index_mut.ensures.value refl
     (λ part. ap (lookup _) c.in_err-insert.ensures.err)
 
 pub returns : goal.returns
@@ -28,8 +29,10 @@ returns c =
       node_is = c.index_mut.ensures.value;
       number = refl;
       ways = λ step.
-          btree_map_updates_text (string_bytes c.in_ok-name.name) c.index_mut.result.now.children c.insert.new.self _ c.in_ok-insert.ensures.updates step
-          ∙ ap (λ text. cond (bytes_eq text step) (Some c.len-number.result) (get_by_text c.index_mut.result.now.children step)) c.in_ok-name.ensures.ok
+          btree_map_updates_text (string_bytes c.in_ok-name.name) c.index_mut.result.now.children c.insert.new.self _
+          c.in_ok-insert.ensures.updates step
+          ∙ ap (λ text. cond (bytes_eq text step) (Some c.len-number.result) (get_by_text c.index_mut.result.now.children step))
+          c.in_ok-name.ensures.ok
           ∙ ap (λ n. cond (bytes_eq c.args.part.now step) (Some n) (get_by_text c.index_mut.result.now.children step)) size;
     } in
     record {

@@ -16,7 +16,9 @@ loop-part-preserved c = (
   search rules,
   c.in_ok-at.ensures.in_range,
   grows_on c.args.nodes.now.items c.loop-part.nodes.items c.child_for.new.nodes.items c.loop-part.invariant.2 c.in_ok-at.ensures.grows,
-  on_step c.child_for.new.nodes.items c.args.path.now c.loop-part.at c.in_ok-at.at c.loop-part.rest.now c.in-Some.part.now c.in-Some.more.now
-      (on_grown c.loop-part.nodes.items c.child_for.new.nodes.items c.args.path.now c.loop-part.at c.loop-part.rest.now c.in_ok-at.ensures.grows c.loop-part.invariant.3)
+  on_step c.child_for.new.nodes.items c.args.path.now c.loop-part.at c.in_ok-at.at c.loop-part.rest.now c.in-Some.part.now
+      c.in-Some.more.now
+      (on_grown c.loop-part.nodes.items c.child_for.new.nodes.items c.args.path.now c.loop-part.at c.loop-part.rest.now
+      c.in_ok-at.ensures.grows c.loop-part.invariant.3)
       c.in-Some.ensures.first_and_rest c.in_ok-at.ensures.way,
 )

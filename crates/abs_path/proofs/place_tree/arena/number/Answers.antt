@@ -11,7 +11,10 @@ loop-index-preserved c =
     let lt : c.loop-index.index < length c.args.places.now = omega arith in
     elim c.match-node_of.branch [
       | in-Some w ↦ subst (λ (nodes : List Node). IsTree nodes (take (c.loop-index.index + 1) c.args.places.now) × HasNodes nodes c.args.places.now) (sym w.nodes-is)
-          (numbered_turn c.loop-index.nodes w.index-nodes-at.result _ w.in-Some.at c.loop-index.index c.args.places.now c.index-places-index.result c.loop-index.invariant.0 c.loop-index.invariant.1 lt c.index-places-index.is
-          (sym w.in-Some.ensures.node) w.in-Some.ensures.in_range w.index-nodes-at.is (λ part. ap (λ (node : Node). get_by_text node.children part) (sym w.index-nodes-at.is)) refl)
-      | in_default w ↦ absurd (numbered_each c.loop-index.nodes c.loop-index.index c.args.places.now c.index-places-index.result c.loop-index.invariant.1 lt c.index-places-index.is (sym w.in_default.ensures.node))
+          (numbered_turn c.loop-index.nodes w.index-nodes-at.result _ w.in-Some.at c.loop-index.index c.args.places.now
+          c.index-places-index.result c.loop-index.invariant.0 c.loop-index.invariant.1 lt c.index-places-index.is
+          (sym w.in-Some.ensures.node) w.in-Some.ensures.in_range w.index-nodes-at.is
+          (λ part. ap (λ (node : Node). get_by_text node.children part) (sym w.index-nodes-at.is)) refl)
+      | in_default w ↦ absurd (numbered_each c.loop-index.nodes c.loop-index.index c.args.places.now c.index-places-index.result
+          c.loop-index.invariant.1 lt c.index-places-index.is (sym w.in_default.ensures.node))
     ]

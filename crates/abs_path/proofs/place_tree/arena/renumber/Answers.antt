@@ -6,4 +6,5 @@ pub number-requires-clause-arena : goal.number-requires-clause-arena
 number-requires-clause-arena c = arena_same c.args.nodes.now c.forget.new.nodes c.requires.arena (omega arith) c.forget.ensures.same_ways
 
 pub number-requires-clause-has_nodes : goal.number-requires-clause-has_nodes
-number-requires-clause-has_nodes c = have_same_nodes c.args.nodes.now c.forget.new.nodes c.args.places.now c.forget.ensures.same_ways c.requires.has_nodes
+number-requires-clause-has_nodes c = have_same_nodes c.args.nodes.now c.forget.new.nodes c.args.places.now c.forget.ensures.same_ways
+    c.requires.has_nodes

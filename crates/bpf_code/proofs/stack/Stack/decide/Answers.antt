@@ -8,4 +8,5 @@ returns-in-None-clause-decides c =
 
 pub returns-in-Some-clause-decides : goal.returns-in-Some-clause-decides
 returns-in-Some-clause-decides c =
-    asked_decides c.deref.result.now _ _ _ _ (c.deref.ensures.value ∙ c.self.view_is) c.in-Some.ensures.deciding c.in-Some.ensures.each c.decision_for.ensures
+    asked_decides c.deref.result.now _ _ _ _ (c.deref.ensures.value ∙ c.self.view_is) c.in-Some.ensures.deciding c.in-Some.ensures.each
+    c.decision_for.ensures

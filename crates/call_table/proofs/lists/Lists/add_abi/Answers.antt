@@ -17,5 +17,8 @@ other_arch arch native h = grind (arith, nat_tests)
 
 pub returns-clause-sound : goal.returns-clause-sound
 returns-clause-sound c =
-    opens_sound (made c.args.self.now) c.in_ok-new.field-0 c.in-Some.arch c.new-2.result c.new-2.ensures.no_line c.requires (alone c.args.self.now.second (sym c.is_some.ensures ∙ c.if-is_some.false))
-    (ap (λ name. bytes_eq name c.args.self.now.name) c.in_ok-new.ensures.same_text ∙ ap (bytes_eq c.args.name.now) (sym c.as_str.ensures.same_text) ∙ sym c.eq-2.ensures ∙ c.if-eq-2.false) (other_arch c.in-Some.arch c.args.self.now.arch c.if-arch-self.false)
+    opens_sound (made c.args.self.now) c.in_ok-new.field-0 c.in-Some.arch c.new-2.result c.new-2.ensures.no_line c.requires
+    (alone c.args.self.now.second (sym c.is_some.ensures ∙ c.if-is_some.false))
+    (ap (λ name. bytes_eq name c.args.self.now.name) c.in_ok-new.ensures.same_text
+    ∙ ap (bytes_eq c.args.name.now) (sym c.as_str.ensures.same_text) ∙ sym c.eq-2.ensures ∙ c.if-eq-2.false)
+    (other_arch c.in-Some.arch c.args.self.now.arch c.if-arch-self.false)

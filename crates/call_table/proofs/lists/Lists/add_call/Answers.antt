@@ -9,7 +9,9 @@ use Rattle.call_table.proofs.lists.Lists.add_call.Goals as goal
 
 pub returns-in-None-clause-sound : goal.returns-in-None-clause-sound
 returns-in-None-clause-sound c =
-    native_sound (made c.args.self.now) _ c.args.at (cons_option (listed_as 0 (seen_entry c.args.row)) []) c.add_entry.new.lines c.add_entry.result c.requires (ap (option_map made_second) c.in-None.is) c.add_entry.ensures.steps c.add_entry.ensures.sound c.add_entry.ensures.of_abi
+    native_sound (made c.args.self.now) _ c.args.at (cons_option (listed_as 0 (seen_entry c.args.row)) []) c.add_entry.new.lines
+    c.add_entry.result c.requires (ap (option_map made_second) c.in-None.is) c.add_entry.ensures.steps c.add_entry.ensures.sound
+    c.add_entry.ensures.of_abi
 
 pub returns-in-Some-clause-sound : goal.returns-in-Some-clause-sound
 returns-in-Some-clause-sound c =

@@ -13,7 +13,8 @@ is_open_of-requires c =
 
 pub returns-in-Launched : goal.returns-in-Launched
 returns-in-Launched c =
-    tells_service (tried_of c.args.self.now) c.args.places.now c.in-Launched.service (rw c.in-Launched.is at c.requires.starts) c.is_open_of.result c.is_open_of.ensures.tells
+    tells_service (tried_of c.args.self.now) c.args.places.now c.in-Launched.service
+    (rw c.in-Launched.is at c.requires.starts) c.is_open_of.result c.is_open_of.ensures.tells
 
 pub returns : goal.returns
 returns c = launch_refused c.in-Refused.field-0 (rw c.in-Refused.is at c.requires.starts)

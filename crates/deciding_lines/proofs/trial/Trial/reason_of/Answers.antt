@@ -7,13 +7,16 @@ is_open_of-requires c =
     let tried = tried_of c.args.self.now in
     record {
       served = served (inputs_without tried.inputs c.args.places.items) c.args.service c.requires.starts;
-      listed = listed (inputs_without tried.inputs c.args.places.items) c.args.service c.requires.starts tried.question c.requires.can_be_tried;
+      listed = listed (inputs_without tried.inputs c.args.places.items) c.args.service c.requires.starts tried.question
+          c.requires.can_be_tried;
     }
 
 pub fewest-requires-clause-is_open : goal.fewest-requires-clause-is_open
 fewest-requires-clause-is_open c =
-    open_as (tried_of c.args.self.now) c.args.places.items c.args.service c.requires.starts c.in_ok-is_open.is_open c.if-is_open.true c.in_ok-is_open.ensures.tells
+    open_as (tried_of c.args.self.now) c.args.places.items c.args.service c.requires.starts c.in_ok-is_open.is_open c.if-is_open.true
+    c.in_ok-is_open.ensures.tells
 
 pub returns-else-is_open : goal.returns-else-is_open
 returns-else-is_open c =
-    denied_as (tried_of c.args.self.now) c.args.places.items c.args.service c.requires.starts c.in_ok-is_open.is_open c.if-is_open.false c.in_ok-is_open.ensures.tells
+    denied_as (tried_of c.args.self.now) c.args.places.items c.args.service c.requires.starts c.in_ok-is_open.is_open c.if-is_open.false
+    c.in_ok-is_open.ensures.tells

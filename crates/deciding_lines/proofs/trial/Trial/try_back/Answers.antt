@@ -7,10 +7,13 @@ pub returns-then-is_open : goal.returns-then-is_open
 returns-then-is_open c =
     goes_back (tried_of c.args.self.now) c.args.before.now c.args.kept.items c.args.place
     (open_by (tried_of c.args.self.now) c.deref-2.result.now (c.args.before.now ++ c.args.kept.items) c.in_ok-is_open.is_open
-    (c.deref-2.ensures.value ∙ c.in_ok-others.ensures ∙ ap (λ these. c.args.before.now ++ these) c.deref.ensures.value) c.if-is_open.true c.in_ok-is_open.ensures.tells)
+    (c.deref-2.ensures.value ∙ c.in_ok-others.ensures ∙ ap (λ these. c.args.before.now ++ these) c.deref.ensures.value) c.if-is_open.true
+    c.in_ok-is_open.ensures.tells)
 
 pub returns-else-is_open : goal.returns-else-is_open
 returns-else-is_open c =
-    stays_away (tried_of c.args.self.now) c.args.before.now c.args.kept.items c.args.place c.deref-else-is_open.result.now c.deref-else-is_open.ensures.value c.in_front.result c.in_front.ensures
+    stays_away (tried_of c.args.self.now) c.args.before.now c.args.kept.items c.args.place c.deref-else-is_open.result.now
+    c.deref-else-is_open.ensures.value c.in_front.result c.in_front.ensures
     (shut_by (tried_of c.args.self.now) c.deref-2.result.now (c.args.before.now ++ c.args.kept.items) c.in_ok-is_open.is_open
-    (c.deref-2.ensures.value ∙ c.in_ok-others.ensures ∙ ap (λ these. c.args.before.now ++ these) c.deref.ensures.value) c.if-is_open.false c.in_ok-is_open.ensures.tells)
+    (c.deref-2.ensures.value ∙ c.in_ok-others.ensures ∙ ap (λ these. c.args.before.now ++ these) c.deref.ensures.value) c.if-is_open.false
+    c.in_ok-is_open.ensures.tells)

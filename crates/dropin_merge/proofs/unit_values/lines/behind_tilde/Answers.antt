@@ -4,4 +4,5 @@ use Rattle.unit_grammar.proofs.Ends.{behind_known}
 use Rattle.dropin_merge.proofs.unit_values.lines.behind_tilde.Goals as goal
 
 pub returns : goal.returns
-returns c = behind_known 126 c.args.text.now c.strip_prefix.result (strip_prefix_char 126 c.args.text.now c.strip_prefix.result c.strip_prefix.ensures.cases (lit< tt))
+returns c = behind_known 126 c.args.text.now c.strip_prefix.result
+    (strip_prefix_char 126 c.args.text.now c.strip_prefix.result c.strip_prefix.ensures.cases (lit< tt))

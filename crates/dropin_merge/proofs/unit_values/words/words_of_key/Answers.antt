@@ -14,11 +14,16 @@ pub loop-place-preserved : goal.loop-place-preserved
 loop-place-preserved c =
     record {
       means =
-          folds_more (fold words_behind) (λ a o. unwrap_or (option_map (words_behind a) o) a) words_steps (given_by c.args.unit.now.name c.args.key.now) _ _ (c.in-Some.place, c.in-Some.assignment.now) _ _ _ _ c.in-Some.ensures.steps c.in_ok-value.ensures.given
+          folds_more (fold words_behind) (λ a o. unwrap_or (option_map (words_behind a) o) a) words_steps
+          (given_by c.args.unit.now.name c.args.key.now) _ _
+          (c.in-Some.place, c.in-Some.assignment.now) _ _ _ _ c.in-Some.ensures.steps c.in_ok-value.ensures.given
           c.loop-place.invariant.means c.in_ok-words.ensures.means;
-      notes = found_more (note_of c.args.unit.now.name c.args.key.now) _ _ (c.in-Some.place, c.in-Some.assignment.now) _ _ _ c.in-Some.ensures.steps c.loop-place.invariant.notes c.in_ok-value.ensures.noted;
+      notes = found_more (note_of c.args.unit.now.name c.args.key.now) _ _
+          (c.in-Some.place, c.in-Some.assignment.now) _ _ _ c.in-Some.ensures.steps c.loop-place.invariant.notes
+          c.in_ok-value.ensures.noted;
       unread =
-          adds_more (unread_notes split) (unread_parts split) (given_by c.args.unit.now.name c.args.key.now) _ _ (c.in-Some.place, c.in-Some.assignment.now) _ _ _ _ c.in-Some.ensures.steps c.in_ok-value.ensures.given
+          adds_more (unread_notes split) (unread_parts split) (given_by c.args.unit.now.name c.args.key.now) _ _
+          (c.in-Some.place, c.in-Some.assignment.now) _ _ _ _ c.in-Some.ensures.steps c.in_ok-value.ensures.given
           c.loop-place.invariant.unread c.in_ok-words.ensures.noted;
     }
 

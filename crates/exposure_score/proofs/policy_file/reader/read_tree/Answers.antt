@@ -8,16 +8,19 @@ pub returns-then-len-gt-MOST_TESTS : goal.returns-then-len-gt-MOST_TESTS
 returns-then-len-gt-MOST_TESTS c =
     let entries = c.in-Some.members.now.entries in
     sym (ap policy_of_object c.in-Some.ensures)
-    ∙ all_read (read_members entries) true c.in_ok-tests.ensures.0 (too_many entries c.len.result c.len.ensures.len c.if-len-gt-MOST_TESTS.true)
+    ∙ all_read (read_members entries) true c.in_ok-tests.ensures.0
+    (too_many entries c.len.result c.len.ensures.len c.if-len-gt-MOST_TESTS.true)
 
 pub new-requires : goal.new-requires
 new-requires c =
     let entries = c.in-Some.members.now.entries in
-    is_policy_read entries c.len.result c.in_ok-tests.tests.items c.len.ensures.len c.if-len-gt-MOST_TESTS.false c.len.ensures.ordered c.in_ok-tests.ensures.0 c.in_ok-tests.ensures.1
+    is_policy_read entries c.len.result c.in_ok-tests.tests.items c.len.ensures.len c.if-len-gt-MOST_TESTS.false c.len.ensures.ordered
+    c.in_ok-tests.ensures.0 c.in_ok-tests.ensures.1
 
 pub returns : goal.returns
 returns c =
     let entries = c.in-Some.members.now.entries in
     sym (ap policy_of_object c.in-Some.ensures)
-    ∙ all_read (read_members entries) false c.in_ok-tests.ensures.0 (few_enough entries c.len.result c.len.ensures.len c.if-len-gt-MOST_TESTS.false)
+    ∙ all_read (read_members entries) false c.in_ok-tests.ensures.0
+    (few_enough entries c.len.result c.len.ensures.len c.if-len-gt-MOST_TESTS.false)
     ∙ ap Ok (sym c.in_ok-tests.ensures.1) ∙ ap Ok (sym c.new.ensures.holds_them)

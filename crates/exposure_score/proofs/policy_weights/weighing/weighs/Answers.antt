@@ -10,6 +10,7 @@ pub returns : goal.returns
 returns g c = record {
   some_weight =
       c.have_weight.ensures
-      ∙ ap (list_any (λ (test : PolicyTest). nat_lt 0 test.weight && is_counted c.args.calls.now (λ test. test.id) c.args.tests.now test.id)) c.list.ensures.all_in_order
+      ∙ ap (list_any (λ (test : PolicyTest). nat_lt 0 test.weight && is_counted c.args.calls.now
+      (λ test. test.id) c.args.tests.now test.id)) c.list.ensures.all_in_order
       ∙ any_weighs (λ (test : PolicyTest). is_counted c.args.calls.now (λ test. test.id) c.args.tests.now test.id) c.args.policy.now;
 }

@@ -7,4 +7,5 @@ use Rattle.exposure_score.proofs.service_facts.each.is_cap.Goals as goal
 
 pub returns : goal.returns
 returns c =
-    any_from_yields_List (λ cap. bytes_eq (name_of cap) c.args.name.now) _ _ _ c.any.ensures.ran (YieldsList-from_range 0 41 41 refl refl) (λ x b q k. search (rules, tests))
+    any_from_yields_List (λ cap. bytes_eq (name_of cap) c.args.name.now) _ _ _ c.any.ensures.ran (YieldsList-from_range 0 41 41 refl refl)
+    (λ x b q k. search (rules, tests))

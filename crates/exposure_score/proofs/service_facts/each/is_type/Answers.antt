@@ -8,5 +8,6 @@ use Rattle.exposure_score.proofs.service_facts.each.is_type.Goals as goal
 
 pub returns : goal.returns
 returns c =
-    any_from_yields_List (λ x. bytes_eq (type_name x) c.args.name.now) _ _ _ c.any.ensures.ran (YieldsList-from_slice c.args.kinds.now c.iter.ensures.rest) (λ x b q k. search (rules, tests))
+    any_from_yields_List (λ x. bytes_eq (type_name x) c.args.name.now) _ _ _ c.any.ensures.ran
+    (YieldsList-from_slice c.args.kinds.now c.iter.ensures.rest) (λ x b q k. search (rules, tests))
     ∙ sym (list_any-map (λ one. bytes_eq one c.args.name.now) (type_name) c.args.kinds.now)

@@ -15,6 +15,8 @@ returns c =
         no_new_privs = c.with_settings.ensures.privileges;
         writable_paths = c.with_settings.ensures.paths ∙ c.count_writable-writable.ensures.count ∙ counted _ c.args.unit.now written;
         few_writable_paths = omega arith;
-        tests = subst (AreTests _ c.args.calls.now) (sym c.with_settings.ensures.facts) (subst (λ sandbox. AreTests sandbox c.args.calls.now c.in_ok-tests.tests) c.in_ok-sandbox.ensures.of_the_unit c.in_ok-tests.ensures);
+        tests = subst (AreTests _ c.args.calls.now) (sym c.with_settings.ensures.facts)
+            (subst (λ sandbox. AreTests sandbox c.args.calls.now c.in_ok-tests.tests) c.in_ok-sandbox.ensures.of_the_unit
+            c.in_ok-tests.ensures);
       };
     }

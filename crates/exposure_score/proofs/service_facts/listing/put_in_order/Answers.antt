@@ -6,4 +6,5 @@ use Rattle.exposure_score.proofs.service_facts.listing.put_in_order.Goals as goa
 
 pub returns-clause-by_identifiers : goal.returns-clause-by_identifiers
 returns-clause-by_identifiers c =
-    c.sort_unstable_by.ensures.sorted _ (ranks_by nat_list_cmp_total (λ (fact : Fact). fact.id)) (answers_always _ _ _ (λ f a r g h. search rules))
+    c.sort_unstable_by.ensures.sorted _ (ranks_by nat_list_cmp_total (λ (fact : Fact). fact.id))
+    (answers_always _ _ _ (λ f a r g h. search rules))

@@ -10,7 +10,9 @@ pub returns-else-is_none : goal.returns-else-is_none
 returns-else-is_none c =
     record {
       by_the_filters =
-          any_from_yields_List (allows_place c.args.calls.now c.args.filters.now) _ _ _ c.any.ensures.ran (YieldsList-from_slice c.list.result.now c.iter.ensures.rest) (λ x b q k. search (rules, tests))
+          any_from_yields_List (allows_place c.args.calls.now c.args.filters.now) _ _ _ c.any.ensures.ran
+          (YieldsList-from_slice c.list.result.now c.iter.ensures.rest) (λ x b q k. search (rules, tests))
           ∙ (ap (list_any (allows_place c.args.calls.now c.args.filters.now)) c.list.ensures.all_in_order
-          ∙ sym (ap (λ off. off || list_any (allows_place c.args.calls.now c.args.filters.now) c.args.group.now.members) (ap not (c.is_none.ensures ∙ ap not c.if-is_none.false))));
+          ∙ sym (ap (λ off. off || list_any (allows_place c.args.calls.now c.args.filters.now) c.args.group.now.members)
+          (ap not (c.is_none.ensures ∙ ap not c.if-is_none.false))));
     }

@@ -10,5 +10,6 @@ returns c =
     record {
       the_lines =
           ap (map (λ line. line.now)) c.pop.ensures.rest
-          ∙ lines_cut (λ line. line.now) old.items (slice_split (λ byte. byte == 10) c.args.text.now) (vec_len old) (omega (arith, old.ok.0)) c.in_ok-lines.ensures;
+          ∙ lines_cut (λ line. line.now) old.items (slice_split (λ byte. byte == 10) c.args.text.now) (vec_len old)
+          (omega (arith, old.ok.0)) c.in_ok-lines.ensures;
     }

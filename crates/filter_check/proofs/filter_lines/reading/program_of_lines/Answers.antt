@@ -4,7 +4,10 @@ use Rattle.filter_check.proofs.Read.{lines_refused}
 use Rattle.filter_check.proofs.filter_lines.reading.program_of_lines.Goals as goal
 
 pub returns-in_err-code : goal.returns-in_err-code
-returns-in_err-code c = record { reads = lines_refused (map (λ line. line.now) c.args.lines.now) c.in_err-code.field-0.0 c.from_residual.result c.from_residual.ensures.1 c.in_err-code.ensures.refused }
+returns-in_err-code c = record {
+  reads = lines_refused (map (λ line. line.now) c.args.lines.now) c.in_err-code.field-0.0 c.from_residual.result
+      c.from_residual.ensures.1 c.in_err-code.ensures.refused;
+}
 
 pub returns : goal.returns
 returns c = record {

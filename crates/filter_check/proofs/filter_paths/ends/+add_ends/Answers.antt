@@ -8,7 +8,8 @@ pub returns-then-len-most-clause-adds : goal.returns-then-len-most-clause-adds
 returns-then-len-most-clause-adds t c =
     let steps = subst (StepsTo c.args.insns.now c.args.state) c.in-End.is c.in_ok-end.ensures.steps in
     let full : c.args.most ≤ length c.args.found.now.items = omega (arith, c.len.ensures, c.if-len-most.true) in
-    adds_none c.args.insns.now c.args.state c.args.most c.args.found.now.items c.args.found.now.items c.in-End.end steps.0 steps.1 steps.2 full
+    adds_none c.args.insns.now c.args.state c.args.most c.args.found.now.items c.args.found.now.items c.in-End.end steps.0 steps.1 steps.2
+    full
 
 pub returns-then-not-branch-clause-adds : goal.returns-then-not-branch-clause-adds
 returns-then-not-branch-clause-adds t c =
@@ -24,7 +25,9 @@ returns-in_ok-push-in-End-clause-adds t c =
 pub returns-in-One-clause-adds : goal.returns-in-One-clause-adds
 returns-in-One-clause-adds t c =
     let steps = subst (StepsTo c.args.insns.now c.args.state) c.in-One.is c.in_ok-end.ensures.steps in
-    ok_more c.add_ends.result _ _ (λ all h. adds_more c.args.insns.now c.args.state c.in-One.state c.args.most c.args.found.now.items c.add_ends.new.found.items all steps.0 steps.1 h) c.add_ends.ensures.adds
+    ok_more c.add_ends.result _ _
+    (λ all h. adds_more c.args.insns.now c.args.state c.in-One.state c.args.most c.args.found.now.items c.add_ends.new.found.items all
+    steps.0 steps.1 h) c.add_ends.ensures.adds
 
 pub returns-else-not-branch-clause-adds : goal.returns-else-not-branch-clause-adds
 returns-else-not-branch-clause-adds t c =

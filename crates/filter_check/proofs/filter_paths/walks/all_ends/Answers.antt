@@ -10,7 +10,8 @@ returns-then-branch c =
     let new = c.add_ends.new.found in
     let adds = subst (λ old. AddsEnds code c.start.result c.args.most old new.items c.in_ok-add_ends.field-0) c.new-found.ensures.items c.in_ok-add_ends.ensures.adds in
     record {
-      tells_paths = tells_all code c.start.result c.args.most new record { first = c.start.ensures.first; nothing = c.start.ensures.nothing }
+      tells_paths = tells_all code c.start.result c.args.most new record
+          { first = c.start.ensures.first; nothing = c.start.ensures.nothing }
           (λ input fits. subst (λ region. IsWithin region input) (sym c.start.ensures.region) (c.in_ok-all.ensures.every_call input fits))
           c.in_ok-add_ends.ensures.few
           (subst (AddsEnds code c.start.result c.args.most [] new.items) c.if-branch.true adds);
@@ -22,6 +23,7 @@ returns-else-branch c =
     let new = c.add_ends.new.found in
     let adds = subst (λ old. AddsEnds code c.start.result c.args.most old new.items c.in_ok-add_ends.field-0) c.new-found.ensures.items c.in_ok-add_ends.ensures.adds in
     record {
-      tells_paths = tells_more code c.start.result c.args.most new.items record { first = c.start.ensures.first; nothing = c.start.ensures.nothing }
+      tells_paths = tells_more code c.start.result c.args.most new.items record
+          { first = c.start.ensures.first; nothing = c.start.ensures.nothing }
           (subst (AddsEnds code c.start.result c.args.most [] new.items) c.if-branch.false adds);
     }

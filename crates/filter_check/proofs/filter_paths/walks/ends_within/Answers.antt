@@ -11,6 +11,7 @@ returns c =
     let adds = subst (λ old. AddsEnds code c.start.result 18446744073709551615 old new.items c.in_ok-add_ends.field-0) c.new-found.ensures.items c.in_ok-add_ends.ensures.adds in
     let same = ap sets_of c.start.ensures.region ∙ c.in_ok-copy.ensures.same in
     record {
-      ends = ends_within code c.start.result c.args.region.now 18446744073709551615 new.items c.in_ok-add_ends.field-0 record { first = c.start.ensures.first; nothing = c.start.ensures.nothing } same adds
+      ends = ends_within code c.start.result c.args.region.now 18446744073709551615 new.items c.in_ok-add_ends.field-0 record
+          { first = c.start.ensures.first; nothing = c.start.ensures.nothing } same adds
           (λ none. let full = c.in_ok-add_ends.ensures.full none in omega (arith, full, new.small));
     }

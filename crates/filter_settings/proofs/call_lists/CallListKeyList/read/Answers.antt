@@ -14,10 +14,12 @@ loop-one-preserved c =
     let below = c.loop-one-test.true in
     let now = c.loop-one.notes.items in
     record {
-      mode = c.next_mode-mode.ensures.kept_or_set ∙ ap (λ mode. next_mode mode one) c.loop-one.invariant.mode ∙ sym (mode_next all i one below c.one-item.is);
+      mode = c.next_mode-mode.ensures.kept_or_set ∙ ap (λ mode. next_mode mode one) c.loop-one.invariant.mode
+          ∙ sym (mode_next all i one below c.one-item.is);
       noted =
           notes_next c.args.table.now all i one c.args.notes.now.items now _ below c.one-item.is c.loop-one.invariant.noted
           (c.in_ok-note_words.ensures.noted
-          ∙ ap (λ mode. now ++ line_notes c.args.table.now mode one) (c.unwrap_or.ensures ∙ ap (unwrap_or c.loop-one.mode) c.mode_of.ensures.denies_where_inverted)
+          ∙ ap (λ mode. now ++ line_notes c.args.table.now mode one)
+          (c.unwrap_or.ensures ∙ ap (unwrap_or c.loop-one.mode) c.mode_of.ensures.denies_where_inverted)
           ∙ ap (λ mode. now ++ line_notes c.args.table.now (unwrap_or mode (mode_of one.line)) one) c.loop-one.invariant.mode);
     }

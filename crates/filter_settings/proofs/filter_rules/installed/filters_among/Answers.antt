@@ -1,4 +1,5 @@
-use Rattle.std.proofs.Common.{◌≡◌, ℕ, ◌+◌, ◌<◌, true, false, cond, List, [], ◌∷◌, ◌++◌, length, map, take, get_or, sym, ap, ◌∙◌, subst, append-nil}
+use Rattle.std.proofs.Common.{◌≡◌, ℕ, ◌+◌, ◌<◌, true, false, cond, List, [], ◌∷◌, ◌++◌, length, map, take, get_or, sym, ap, ◌∙◌, subst}
+use Rattle.std.proofs.Common.{append-nil}
 use Rattle.std.specs.Prelude.{filter}
 use Rattle.std.specs.List.{All}
 use Rattle.std.proofs.lemmas.List.{map-append, take_more, get_or_default}
@@ -20,7 +21,8 @@ no_place = record { name = Families; abi = 0 }
 module _ (settings : FilterSettings) (places : List FilterPlace) (i : ℕ) (place : FilterPlace) (on : List Place) (before : i < length places) (is : place ≡ get_or places i place) (so_far : on ≡ filter (is_installed settings) (map shown (take i places))) where
   one_more : filter (is_installed settings) (map shown (take (i + 1) places)) ≡ on ++ cond (is_on settings place.name) (shown place ∷ []) []
   one_more =
-      ap (λ ps. filter (is_installed settings) (map shown ps)) (take_more places i place before ∙ ap (λ p. take i places ++ p ∷ []) (sym is))
+      ap (λ ps. filter (is_installed settings) (map shown ps))
+      (take_more places i place before ∙ ap (λ p. take i places ++ p ∷ []) (sym is))
       ∙ ap (filter (is_installed settings)) (map-append shown (take i places) (place ∷ []))
       ∙ filter-append (is_installed settings) (map shown (take i places)) (shown place ∷ [])
       ∙ ap (λ ps. ps ++ cond (is_on settings place.name) (shown place ∷ []) []) (sym so_far)
@@ -46,13 +48,17 @@ loop-place-preserved c =
       | then-is_on+in_ok-rules+in_ok-push w ↦
           let items = ap (λ filters. filters.items) w.filters-is ∙ w.in_ok-push.ensures.items in
           record {
-            on = ap (map place_of) items ∙ map-append place_of c.loop-place.filters.items _ ∙ on_more settings places i place _ c.loop-place-test.true itself c.loop-place.invariant.on (sym c.is_on.ensures ∙ w.if-is_on.true);
-            rules = subst (All Fits) (sym items) (All-push Fits c.loop-place.filters.items _ c.loop-place.invariant.rules w.in_ok-rules.ensures);
+            on = ap (map place_of) items ∙ map-append place_of c.loop-place.filters.items _
+                ∙ on_more settings places i place _ c.loop-place-test.true itself c.loop-place.invariant.on
+                (sym c.is_on.ensures ∙ w.if-is_on.true);
+            rules = subst (All Fits) (sym items)
+                (All-push Fits c.loop-place.filters.items _ c.loop-place.invariant.rules w.in_ok-rules.ensures);
           }
       | else-is_on w ↦
           let items = ap (λ filters. filters.items) w.filters-is in
           record {
-            on = ap (map place_of) items ∙ off_more settings places i place _ c.loop-place-test.true itself c.loop-place.invariant.on (sym c.is_on.ensures ∙ w.if-is_on.false);
+            on = ap (map place_of) items ∙ off_more settings places i place _ c.loop-place-test.true itself c.loop-place.invariant.on
+                (sym c.is_on.ensures ∙ w.if-is_on.false);
             rules = subst (All Fits) (sym items) c.loop-place.invariant.rules;
           }
     ]

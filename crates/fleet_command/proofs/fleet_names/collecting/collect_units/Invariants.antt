@@ -8,6 +8,8 @@ abbrev pub invariant-loop-folder : goal.invariant-loop-folder
 invariant-loop-folder g l = record {
   told : g.S.Shelf.told l.shelf ≡ g.S.Shelf.told l.fn.shelf;
   stays : g.S.Shelf.faults l.shelf ≡ g.S.Shelf.faults l.fn.shelf;
-  collected : (files : Files) → g.S.Shelf.told l.fn.shelf ≡ Some files → Collected files l.units (map (λ folder. folder.now) (drop l.folder-index l.folders)) (map (λ folder. folder.now) l.folders);
-  asks : (files : Files) → g.S.Shelf.told l.fn.shelf ≡ Some files → GoesThrough g.S.Shelf.asks l.fn.shelf l.shelf l.folders l.folder-index files;
+  collected : (files : Files) → g.S.Shelf.told l.fn.shelf ≡ Some files
+      → Collected files l.units (map (λ folder. folder.now) (drop l.folder-index l.folders)) (map (λ folder. folder.now) l.folders);
+  asks : (files : Files) → g.S.Shelf.told l.fn.shelf ≡ Some files
+      → GoesThrough g.S.Shelf.asks l.fn.shelf l.shelf l.folders l.folder-index files;
 }

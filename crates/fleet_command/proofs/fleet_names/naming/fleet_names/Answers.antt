@@ -12,7 +12,8 @@ returns-then-len-gt-MOST_UNITS-clause-names_the_units g c =
 
 pub returns-clause-names_the_units : goal.returns-clause-names_the_units
 returns-clause-names_the_units g c =
-    names_units (g.S.Shelf.told c.args.shelf.now) c.in_ok-units.units c.in_ok-in_byte_order.field-0 c.len.ensures.ordered c.in_ok-units.ensures.collects_the_units
+    names_units (g.S.Shelf.told c.args.shelf.now) c.in_ok-units.units c.in_ok-in_byte_order.field-0 c.len.ensures.ordered
+    c.in_ok-units.ensures.collects_the_units
     (omega (arith, c.if-len-gt-MOST_UNITS.false, c.len.ensures.len)) c.in_ok-in_byte_order.ensures.by_their_names
 
 pub returns-in_err-in_byte_order-clause-asks_in_order : goal.returns-in_err-in_byte_order-clause-asks_in_order

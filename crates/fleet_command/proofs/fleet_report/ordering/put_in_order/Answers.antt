@@ -6,4 +6,6 @@ use Rattle.fleet_command.proofs.fleet_report.ordering.put_in_order.Goals as goal
 
 pub returns-clause-in_order : goal.returns-clause-in_order
 returns-clause-in_order c =
-    in_order c.sort_unstable_by.new.self (c.sort_unstable_by.ensures.sorted _ (ranks_by rows_total (λ (row : FleetRow). row)) (answers_always _ _ _ (λ f a r g h. search rules)))
+    in_order c.sort_unstable_by.new.self
+    (c.sort_unstable_by.ensures.sorted _ (ranks_by rows_total (λ (row : FleetRow). row))
+    (answers_always _ _ _ (λ f a r g h. search rules)))

@@ -17,32 +17,44 @@ loop-name-preserved g c =
       stays = c.in_ok-row_of.ensures.fault_rose.no_other_fault ∙ c.loop-name.invariant.stays;
       names =
           rw c.in_ok-push.ensures.items
-          (names_more c.loop-name.rows.items c.in_ok-row_of.field-0 c.args.names.now c.loop-name.name-index c.name-item.result c.name-item.result c.loop-name-test.true c.name-item.is c.in_ok-row_of.ensures.same_name c.loop-name.invariant.names);
+          (names_more c.loop-name.rows.items c.in_ok-row_of.field-0 c.args.names.now c.loop-name.name-index c.name-item.result
+          c.name-item.result c.loop-name-test.true c.name-item.is c.in_ok-row_of.ensures.same_name c.loop-name.invariant.names);
       rows = λ files known.
           rw c.in_ok-push.ensures.items
-          (rows_more (λ files. IsRowOf files c.args.calls.now c.args.site.now c.args.policy.now stored) (g.S.Shelf.told c.args.shelf.now) (g.S.Shelf.told c.loop-name.shelf) c.loop-name.rows.items c.in_ok-row_of.field-0
+          (rows_more (λ files. IsRowOf files c.args.calls.now c.args.site.now c.args.policy.now stored) (g.S.Shelf.told c.args.shelf.now)
+          (g.S.Shelf.told c.loop-name.shelf) c.loop-name.rows.items c.in_ok-row_of.field-0
           c.loop-name.invariant.told c.in_ok-row_of.ensures.is_the_row c.loop-name.invariant.rows files known);
       asks =
-          row_more g.S.Shelf.asks (g.S.Shelf.told c.args.shelf.now) (g.S.Shelf.told c.loop-name.shelf) c.loop-name.invariant.told c.args.shelf.now c.loop-name.shelf _ c.args.names.now c.loop-name.name-index c.name-item.result c.name-item.result
+          row_more g.S.Shelf.asks (g.S.Shelf.told c.args.shelf.now)
+          (g.S.Shelf.told c.loop-name.shelf) c.loop-name.invariant.told c.args.shelf.now c.loop-name.shelf _ c.args.names.now
+          c.loop-name.name-index c.name-item.result c.name-item.result
           c.loop-name-test.true c.name-item.is c.loop-name.invariant.asks c.in_ok-row_of.ensures.asks_in_order;
-      faultless = rw c.in_ok-push.ensures.items (All-push (λ row. TellsNoFault row.outcome) c.loop-name.rows.items c.in_ok-row_of.field-0 c.loop-name.invariant.faultless c.in_ok-row_of.ensures.tells_no_fault);
+      faultless = rw c.in_ok-push.ensures.items
+          (All-push (λ row. TellsNoFault row.outcome) c.loop-name.rows.items c.in_ok-row_of.field-0 c.loop-name.invariant.faultless
+          c.in_ok-row_of.ensures.tells_no_fault);
     }
 
 pub returns-clause-by_their_files : goal.returns-clause-by_their_files
 returns-clause-by_their_files g c =
     let stored = stored_by (λ test. test.id) (λ test. test.range) (λ test shown answer. (goal.Fn-dyn g).post (test.check.vtable, test.check.value) (shown, tt) answer) c.args.tests.now in
-    rows_all (λ files. IsRowOf files c.args.calls.now c.args.site.now c.args.policy.now stored) (g.S.Shelf.told c.args.shelf.now) c.loop-name.rows.items c.loop-name.invariant.rows
+    rows_all (λ files. IsRowOf files c.args.calls.now c.args.site.now c.args.policy.now stored)
+    (g.S.Shelf.told c.args.shelf.now) c.loop-name.rows.items c.loop-name.invariant.rows
 
 pub returns-in_err-row_of-clause-asks_in_order : goal.returns-in_err-row_of-clause-asks_in_order
 returns-in_err-row_of-clause-asks_in_order g c =
     let p = err_from_is_err_and c.from_residual.result c.from_residual.ensures.1 in
     rw (p.1, p.2)
-    (row_stops g.S.Shelf.asks (g.S.Shelf.told c.args.shelf.now) (g.S.Shelf.told c.loop-name.shelf) c.loop-name.invariant.told c.args.shelf.now c.loop-name.shelf _ c.args.names.now c.loop-name.name-index c.name-item.result c.name-item.result
-    c.loop-name-test.true c.name-item.is c.loop-name.invariant.asks (Vec FleetRow Global) c.in_err-row_of.field-0.0 c.in_err-row_of.ensures.never_weightless c.in_err-row_of.ensures.asks_in_order)
+    (row_stops g.S.Shelf.asks (g.S.Shelf.told c.args.shelf.now)
+    (g.S.Shelf.told c.loop-name.shelf) c.loop-name.invariant.told c.args.shelf.now c.loop-name.shelf _ c.args.names.now
+    c.loop-name.name-index c.name-item.result c.name-item.result
+    c.loop-name-test.true c.name-item.is c.loop-name.invariant.asks
+    (Vec FleetRow Global) c.in_err-row_of.field-0.0 c.in_err-row_of.ensures.never_weightless c.in_err-row_of.ensures.asks_in_order)
 
 pub returns-in_err-push-clause-asks_in_order : goal.returns-in_err-push-clause-asks_in_order
 returns-in_err-push-clause-asks_in_order g c =
     let p = err_from_is_err_and c.from_residual-in_err-push.result c.from_residual-in_err-push.ensures.1 in
     rw (p.1, p.2)
-    (row_cut g.S.Shelf.asks (g.S.Shelf.told c.args.shelf.now) (g.S.Shelf.told c.loop-name.shelf) c.loop-name.invariant.told c.args.shelf.now c.loop-name.shelf _ c.args.names.now c.loop-name.name-index c.name-item.result c.name-item.result
+    (row_cut g.S.Shelf.asks (g.S.Shelf.told c.args.shelf.now)
+    (g.S.Shelf.told c.loop-name.shelf) c.loop-name.invariant.told c.args.shelf.now c.loop-name.shelf _ c.args.names.now
+    c.loop-name.name-index c.name-item.result c.name-item.result
     c.loop-name-test.true c.name-item.is c.loop-name.invariant.asks c.in_ok-row_of.ensures.asks_in_order)

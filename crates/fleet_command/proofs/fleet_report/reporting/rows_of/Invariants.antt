@@ -12,7 +12,10 @@ invariant-loop-name g l = record {
   stays : g.S.Shelf.faults l.shelf ≡ g.S.Shelf.faults l.fn.shelf;
   names : map (λ row. row.name) l.rows.items ≡ take l.name-index l.names;
   rows : (files : Files) → g.S.Shelf.told l.fn.shelf ≡ Some files
-      → All (IsRowOf files l.calls l.site l.policy (stored_by (λ test. test.id) (λ test. test.range) (λ test shown answer. (goal.Fn-dyn g).post (test.check.vtable, test.check.value) (shown, tt) answer) l.tests)) l.rows.items;
-  asks : (files : Files) → g.S.Shelf.told l.fn.shelf ≡ Some files → GoesThrough g.S.Shelf.asks l.fn.shelf l.shelf l.names l.name-index files;
+      → All (IsRowOf files l.calls l.site l.policy
+      (stored_by (λ test. test.id) (λ test. test.range)
+      (λ test shown answer. (goal.Fn-dyn g).post (test.check.vtable, test.check.value) (shown, tt) answer) l.tests)) l.rows.items;
+  asks : (files : Files) → g.S.Shelf.told l.fn.shelf ≡ Some files
+      → GoesThrough g.S.Shelf.asks l.fn.shelf l.shelf l.names l.name-index files;
   faultless : All (λ row. TellsNoFault row.outcome) l.rows.items;
 }

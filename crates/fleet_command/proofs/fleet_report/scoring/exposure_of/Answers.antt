@@ -9,5 +9,6 @@ facts-requires g c = record { few_paths = few_paths c.args.unit.now c.args.calls
 pub unreachable-requires : goal.unreachable-requires
 unreachable-requires g c =
     let stored = stored_by (λ test. test.id) (λ test. test.range) (λ test shown answer. (goal.Fn-dyn g).post (test.check.vtable, test.check.value) (shown, tt) answer) c.args.tests.now in
-    weighs_each c.args.unit.now c.args.calls.now c.args.made.now c.in_ok-known.known stored c.args.policy.now c.in_ok-known.ensures.facts c.requires.weighs
+    weighs_each c.args.unit.now c.args.calls.now c.args.made.now c.in_ok-known.known stored c.args.policy.now c.in_ok-known.ensures.facts
+    c.requires.weighs
     (c.in-Err-NoWeight.ensures.no_weight c.in-Err-NoWeight.field-0-is)

@@ -8,5 +8,7 @@ pub returns : goal.returns
 returns c = record {
   by_the_rule =
       c.turned.ensures c.args.row.now.path
-      ∙ turned_is c.is_named.result c.is_named-2.result (is_named_by (launch_in c.args.before.now) c.args.row.now) (is_named_by (launch_in c.args.after.now) c.args.row.now) c.args.row.now.path c.is_named.ensures.by_the_rule c.is_named-2.ensures.by_the_rule;
+      ∙ turned_is c.is_named.result c.is_named-2.result (is_named_by (launch_in c.args.before.now) c.args.row.now)
+      (is_named_by (launch_in c.args.after.now) c.args.row.now) c.args.row.now.path c.is_named.ensures.by_the_rule
+      c.is_named-2.ensures.by_the_rule;
 }

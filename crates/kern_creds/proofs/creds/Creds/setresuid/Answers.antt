@@ -11,6 +11,7 @@ returns c =
     record {
       by_the_rule =
           ids_made (with_uids old) (has old.effective 7) old.uids c.args.real c.args.effective c.args.saved c.in_ok-uids.uids
-          (c.in_ok-uids.ensures ∙ ap (λ b. set_all_ids (λ i. i) b old.uids c.args.real c.args.effective c.args.saved) c.contains-privileged.ensures.has)
+          (c.in_ok-uids.ensures ∙ ap (λ b. set_all_ids (λ i. i) b old.uids c.args.real c.args.effective c.args.saved)
+          c.contains-privileged.ensures.has)
           ∙ ap Ok (sym c.take_uids.ensures);
     }

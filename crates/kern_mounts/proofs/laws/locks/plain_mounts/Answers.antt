@@ -1,4 +1,5 @@
-use Rattle.kern_mounts.proofs.Plain.{umount_alike, remount_alike, push_alike, bind_alike, umount_plain, remount_plain, push_plain, bind_plain}
+use Rattle.kern_mounts.proofs.Plain.{umount_alike, remount_alike, push_alike, bind_alike, umount_plain, remount_plain, push_plain}
+use Rattle.kern_mounts.proofs.Plain.{bind_plain}
 use Rattle.kern_mounts.proofs.laws.locks.plain_mounts.Goals as goal
 
 pub returns : goal.returns

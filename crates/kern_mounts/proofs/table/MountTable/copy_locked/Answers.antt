@@ -14,5 +14,7 @@ invariant_of-result c =
     let same : steps_of items ≡ steps_of c.in_ok-copied_locked.field-0.items =
     sym (locked_steps items) ∙ ap (λ (mounts : Mounts). steps_of (locked_copy mounts)) (sym c.deref.ensures.value) ∙ ap steps_of (sym c.in_ok-copied_locked.ensures.locked) in (
       subst IsTable same c.self.invariant.0,
-      subst (λ (places : List Path). Knows c.self.inside.known (steps_of c.in_ok-copied_locked.field-0.items) places) (sym c.in_ok-copy.ensures.same) (subst (λ (table : Table). Knows c.self.inside.known table c.self.inside.places) same c.self.invariant.1),
+      subst (λ (places : List Path). Knows c.self.inside.known (steps_of c.in_ok-copied_locked.field-0.items) places)
+          (sym c.in_ok-copy.ensures.same)
+          (subst (λ (table : Table). Knows c.self.inside.known table c.self.inside.places) same c.self.invariant.1),
     )

@@ -19,7 +19,8 @@ was_true true e = refl
 was_true false e = cc
 
 -- one element, read twice
-element : (items : Mounts) (at : ℕ) (x y : Mount) {mounts : Mounts} → at < length mounts → items ≡ mounts → x ≡ get_or items at x → y ≡ get_or items at y → x ≡ y
+element : (items : Mounts) (at : ℕ) (x y : Mount) {mounts : Mounts} → at < length mounts → items ≡ mounts → x ≡ get_or items at x
+    → y ≡ get_or items at y → x ≡ y
 element items at x y lt view e f = e ∙ get_or_default items at x y (rw view lt) ∙ sym f
 
 pub returns-then-ne : goal.returns-then-ne
@@ -46,12 +47,14 @@ returns c =
     let same : c.index.result.now ≡ c.index_mut.result.now = element c.self.inside.mounts.items c.resolve-at.result _ _ lt c.self.view_is c.index.ensures c.index_mut.ensures.value in
     let again : c.index-2.result.now ≡ c.index_mut.result.now = element c.self.inside.mounts.items c.resolve-at.result _ _ lt c.self.view_is c.index-2.ensures c.index_mut.ensures.value in
     record {
-      remounts = remount_done _ _ c.args.place.now c.args.flags c.resolve-at.result c.index_mut.result.now stands (ap (stands_at c.args.place.now) (sym same) ∙ own)
+      remounts = remount_done _ _ c.args.place.now c.args.flags c.resolve-at.result c.index_mut.result.now stands
+          (ap (stands_at c.args.place.now) (sym same) ∙ own)
           (ap (λ (m : Mount). lacks m.kept c.args.flags) (sym again) ∙ sym c.if-lacks.ensures);
     }
 
 pub invariant_of-self : goal.invariant_of-self
 invariant_of-self c = (
   mounts_stay c.self.inside.mounts.items c.resolve-at.result c.index_mut.result.now _ c.self.invariant.0 c.index_mut.ensures.value refl,
-  knows_same _ _ _ _ c.self.invariant.1 (mount_places_stay c.self.inside.mounts.items c.resolve-at.result c.index_mut.result.now _ c.index_mut.ensures.value refl),
+  knows_same _ _ _ _ c.self.invariant.1
+      (mount_places_stay c.self.inside.mounts.items c.resolve-at.result c.index_mut.result.now _ c.index_mut.ensures.value refl),
 )

@@ -11,7 +11,8 @@ use Rattle.kern_mounts.proofs.Changing.{Stands, umount_elsewhere, umount_locked,
 use Rattle.kern_mounts.proofs.Steps.{unmounted_mounts}
 use Rattle.kern_mounts.proofs.Known.{mounts_known}
 use Rattle.kern_mounts.proofs.table.MountTable.umount.Goals as goal
-use Rattle.kern_mounts.proofs.table.MountTable.umount.Goals.{else-not-detach-via-then-not-detach+else-any_below, else-not-detach-via-else-not-detach}
+use Rattle.kern_mounts.proofs.table.MountTable.umount.Goals.{else-not-detach-via-then-not-detach+else-any_below}
+use Rattle.kern_mounts.proofs.table.MountTable.umount.Goals.{else-not-detach-via-else-not-detach}
 
 was_false : (b : Bool) → true ≡ not b → b ≡ false
 was_false true e = cc
@@ -30,7 +31,8 @@ detached true some e = refl
 detached false some e = cc
 
 -- one element, read twice
-element : (items : Mounts) (at : ℕ) (x y : Mount) {mounts : Mounts} → at < length mounts → items ≡ mounts → x ≡ get_or items at x → y ≡ get_or items at y → x ≡ y
+element : (items : Mounts) (at : ℕ) (x y : Mount) {mounts : Mounts} → at < length mounts → items ≡ mounts → x ≡ get_or items at x
+    → y ≡ get_or items at y → x ≡ y
 element items at x y lt view e f = e ∙ get_or_default items at x y (rw view lt) ∙ sym f
 
 pub returns-then-ne : goal.returns-then-ne
@@ -41,7 +43,9 @@ returns-then-ne c =
 
 -- what the first reading of the mount said of its place holds at the second
 same_mount : (c : goal.Then-index) → c.index.result.now ≡ c.index-2.result.now
-same_mount c = element c.self.inside.mounts.items c.resolve-at.result _ _ (in_range c.args.self.now c.args.path.now c.resolve-at.result c.resolve-at.ensures.last_that_leads) c.self.view_is c.index.ensures c.index-2.ensures
+same_mount c = element c.self.inside.mounts.items c.resolve-at.result _ _
+    (in_range c.args.self.now c.args.path.now c.resolve-at.result c.resolve-at.ensures.last_that_leads) c.self.view_is c.index.ensures
+    c.index-2.ensures
 
 pub returns-then-index : goal.returns-then-index
 returns-then-index c =
@@ -69,10 +73,13 @@ done c =
     let same : c.index.result.now ≡ c.index-2.result.now = element c.self.inside.mounts.items c.resolve-at.result _ _ lt c.self.view_is c.index.ensures c.index-2.ensures in
     let some : Bool = list_any (stands_below c.args.path.now) (drop (c.resolve-at.result + 1) c.self.inside.mounts.items) in
     let none : (not c.args.detach && some) ≡ false = elim c.else-not-detach.branch [
-      | else-not-detach-via-then-not-detach+else-any_below w ↦ neither c.args.detach some (sym (w.if-any_below.ensures ∙ ap (list_any (stands_below c.args.path.now)) (w.later_than.ensures.behind ∙ ap (drop (c.resolve-at.result + 1)) w.deref.ensures.value)))
+      | else-not-detach-via-then-not-detach+else-any_below w ↦ neither c.args.detach some
+          (sym (w.if-any_below.ensures ∙ ap (list_any (stands_below c.args.path.now))
+          (w.later_than.ensures.behind ∙ ap (drop (c.resolve-at.result + 1)) w.deref.ensures.value)))
       | else-not-detach-via-else-not-detach w ↦ detached c.args.detach some w.if-not-detach.false
     ] in
-    umount_done _ _ c.args.path.now c.args.detach c.resolve-at.result c.index-2.result.now stands (sym c.if-is_root.ensures.without_parts) (ap (λ (m : Mount). stands_at c.args.path.now m) (sym same) ∙ was_true _ c.if-ne.ensures) c.if-index.false none
+    umount_done _ _ c.args.path.now c.args.detach c.resolve-at.result c.index-2.result.now stands (sym c.if-is_root.ensures.without_parts)
+    (ap (λ (m : Mount). stands_at c.args.path.now m) (sym same) ∙ was_true _ c.if-ne.ensures) c.if-index.false none
     ∙ ap Ok (sym c.take_away.ensures.the_mount_and_below)
 
 pub invariant_of-self : goal.invariant_of-self
@@ -80,7 +87,8 @@ invariant_of-self c =
     let is : IsTable (steps_of c.args.self.now) = subst (λ (mounts : Mounts). IsTable (steps_of mounts)) c.self.view_is c.self.invariant.0 in
     let lt : c.resolve-at.result < length c.self.inside.mounts.items = subst (λ (mounts : Mounts). c.resolve-at.result < length mounts) (sym c.self.view_is) (in_range c.args.self.now c.args.path.now c.resolve-at.result c.resolve-at.ensures.last_that_leads) in (
       unmounted_mounts c.args.path.now c.args.detach c.args.self.now c.take_away.new.mounts.items is (done c),
-      mounts_known c.self.inside.mounts.items c.take_away.new.mounts.items _ c.self.inside.places c.known_still-self-inside.new.places c.self.inside.known c.known_still-self-inside.result c.resolve-at.result
+      mounts_known c.self.inside.mounts.items c.take_away.new.mounts.items _ c.self.inside.places c.known_still-self-inside.new.places
+          c.self.inside.known c.known_still-self-inside.result c.resolve-at.result
           c.known_still-self-inside.ensures.knows_those c.self.invariant.1 lt c.take_away.ensures.the_mount_and_below,
     )
 

@@ -11,7 +11,8 @@ returns-then-uncovers-clause-by_the_rule c =
     let binds : Binds c.args.mounts.now.items (cond c.args.recursive (drop (c.args.at + 1) c.args.mounts.now.items) []) c.args.source.now c.args.recursive c.args.at here.0 =
     record { belongs = c.requires.belongs; entry_is = here.1; later_is = refl } in (
       bind_uncovers _ _ c.args.source.now c.args.target.now c.args.recursive c.args.at here.0 binds
-          (ap (λ (items : Mounts). uncovers items c.args.source.now c.args.recursive c.args.at) (sym c.deref.ensures.value) ∙ sym c.if-uncovers.ensures),
+          (ap (λ (items : Mounts). uncovers items c.args.source.now c.args.recursive c.args.at) (sym c.deref.ensures.value)
+          ∙ sym c.if-uncovers.ensures),
       refl,
     )
 
@@ -22,6 +23,9 @@ returns-then-len-le-MOUNT_MAX-clause-by_the_rule c =
       | then-recursive w ↦ w.end-is ∙ size ∙ sym (ap (λ b. cond b (length c.args.mounts.now.items) (c.args.at + 1)) w.if-recursive.true)
       | else-recursive w ↦ w.end-is ∙ sym (ap (λ b. cond b (length c.args.mounts.now.items) (c.args.at + 1)) w.if-recursive.false)
     ] in
-    bind_made c.args.mounts.now.items c.push_bound.new.mounts.items c.args.source.now c.args.target.now c.args.recursive c.args.at c.if-recursive.end c.requires.belongs
-    (ap (λ (items : Mounts). uncovers items c.args.source.now c.args.recursive c.args.at) (sym c.deref.ensures.value) ∙ sym c.if-uncovers.ensures)
-    end (c.in-Ok-true.ensures.pushed c.in-Ok-true.field-0-test) (omega (arith, c.len.ensures, c.if-len-le-MOUNT_MAX.true, c.push_bound.new.mounts.ok.0))
+    bind_made c.args.mounts.now.items c.push_bound.new.mounts.items c.args.source.now c.args.target.now c.args.recursive c.args.at
+    c.if-recursive.end c.requires.belongs
+    (ap (λ (items : Mounts). uncovers items c.args.source.now c.args.recursive c.args.at) (sym c.deref.ensures.value)
+    ∙ sym c.if-uncovers.ensures)
+    end (c.in-Ok-true.ensures.pushed c.in-Ok-true.field-0-test)
+    (omega (arith, c.len.ensures, c.if-len-le-MOUNT_MAX.true, c.push_bound.new.mounts.ok.0))

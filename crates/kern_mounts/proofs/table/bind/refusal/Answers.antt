@@ -17,7 +17,8 @@ returns-then-mounts-copies-gt-MOUNT_MAX c =
     let mount = (stands c.args.mounts.now c.args.at (in_range c.args.mounts.now c.args.source.now c.args.at c.requires.belongs)).0 in
     let binds : Binds c.args.mounts.now c.copied_among.result.now c.args.source.now c.args.recursive c.args.at mount =
     record { belongs = c.requires.belongs; entry_is = (stands c.args.mounts.now c.args.at (in_range c.args.mounts.now c.args.source.now c.args.at c.requires.belongs)).1; later_is = c.copied_among.ensures } in
-    bind_full _ _ c.args.source.now c.args.target.now c.args.recursive c.args.at mount c.in-Some.copies binds c.requires.covered c.in-Some.ensures.0 c.in-Some.ensures.1 c.if-mounts-copies-gt-MOUNT_MAX.true
+    bind_full _ _ c.args.source.now c.args.target.now c.args.recursive c.args.at mount c.in-Some.copies binds c.requires.covered
+    c.in-Some.ensures.0 c.in-Some.ensures.1 c.if-mounts-copies-gt-MOUNT_MAX.true
 
 pub returns-else-mounts-copies-gt-MOUNT_MAX : goal.returns-else-mounts-copies-gt-MOUNT_MAX
 returns-else-mounts-copies-gt-MOUNT_MAX c =

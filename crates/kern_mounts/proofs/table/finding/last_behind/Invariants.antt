@@ -7,4 +7,5 @@ use Rattle.kern_mounts.proofs.table.finding.last_behind.Given as goal
 
 -- no place from this number on leads to the path
 abbrev pub invariant-loop-index : goal.invariant-loop-index
-invariant-loop-index l = (l.known ≤ l.index) × (l.index ≤ length l.mounts) × AllWithin (λ place. is_prefix place l.path ≡ false) (places_of (steps_of l.mounts)) l.index (length l.mounts)
+invariant-loop-index l = (l.known ≤ l.index) × (l.index ≤ length l.mounts) × AllWithin (λ place. is_prefix place l.path ≡ false)
+    (places_of (steps_of l.mounts)) l.index (length l.mounts)

@@ -3,7 +3,11 @@ use Rattle.kern_mounts.proofs.Known.{knows_still, knows_less}
 use Rattle.kern_mounts.proofs.table.umount.known_still.Goals as goal
 
 pub returns-then-known-at : goal.returns-then-known-at
-returns-then-known-at c = record { knows_those = λ table rest knows le. knows_still table rest _ _ _ knows (omega (arith, c.if-known-at.true)) le }
+returns-then-known-at c =
+    record { knows_those = λ table rest knows le. knows_still table rest _ _ _ knows (omega (arith, c.if-known-at.true)) le }
 
 pub returns : goal.returns
-returns c = record { knows_those = λ table rest knows le. knows_less table rest _ _ _ _ _ knows (omega (arith, c.if-known-at.false)) (omega arith) c.truncate.ensures.first_stay }
+returns c = record {
+  knows_those = λ table rest knows le. knows_less table rest _ _ _ _ _ knows (omega (arith, c.if-known-at.false))
+      (omega arith) c.truncate.ensures.first_stay;
+}

@@ -1,4 +1,5 @@
-use Rattle.kernel_model.proofs.MountsCall.{mount_alike, umount_answer_alike, mount_stays_plain, umount_stays_plain, mount_entries, umount_answer_entries}
+use Rattle.kernel_model.proofs.MountsCall.{mount_alike, umount_answer_alike, mount_stays_plain, umount_stays_plain, mount_entries}
+use Rattle.kernel_model.proofs.MountsCall.{umount_answer_entries}
 use Rattle.kernel_model.proofs.kern_files.laws.calls_on_plain_mounts.Goals as goal
 
 pub returns : goal.returns

@@ -9,7 +9,9 @@ returns-clause-same_there c =
     let service = c.args.service.now in
     let programs : given_bytes c.list.result.now ≡ given_bytes service.filters = ap given_bytes c.list.ensures.all_in_order in
     λ is agree.
-    subst (λ (bytes : List (List ℕ)). IsAlike asked.unit.now asked.calls.now asked.other.now c.args.settings.now c.args.plan.now bytes service.world service.steps) programs
+    subst (λ (bytes : List (List ℕ)). IsAlike asked.unit.now asked.calls.now asked.other.now c.args.settings.now c.args.plan.now bytes
+    service.world service.steps) programs
     (c.know_alike.ensures.whichever_programs service.world service.steps
-    (ap (λ (bytes : List (List ℕ)). launch_with asked.calls.now asked.site.now c.args.settings.now c.args.plan.now bytes) programs ∙ c.requires.launched.launches.ends)
+    (ap (λ (bytes : List (List ℕ)). launch_with asked.calls.now asked.site.now c.args.settings.now c.args.plan.now bytes) programs
+    ∙ c.requires.launched.launches.ends)
     (c.blind.ensures.blind is) agree)

@@ -7,10 +7,12 @@ use Rattle.open_calls.proofs.Listed.{row_is}
 use Rattle.open_calls.proofs.service.Service.push_path.Goals as goal
 
 pub push_row-requires-clause-known : goal.push_row-requires-clause-known
-push_row-requires-clause-known c = known_at c.args.self.now.world.now.site c.requires.served.offers.site c.args.at c.in-Some.row.now (sym c.in-Some.ensures)
+push_row-requires-clause-known c = known_at c.args.self.now.world.now.site c.requires.served.offers.site c.args.at c.in-Some.row.now
+    (sym c.in-Some.ensures)
 
 pub push_row-requires-clause-of_the_row : goal.push_row-requires-clause-of_the_row
-push_row-requires-clause-of_the_row c = c.leads_to.ensures.of_the_row (launch_of c.args.self.now.world.now) c.in-Some.row.now c.args.self.now.its_ceiling (sym c.in-Some.ensures)
+push_row-requires-clause-of_the_row c = c.leads_to.ensures.of_the_row
+    (launch_of c.args.self.now.world.now) c.in-Some.row.now c.args.self.now.its_ceiling (sym c.in-Some.ensures)
 
 pub returns : goal.returns
 returns c =

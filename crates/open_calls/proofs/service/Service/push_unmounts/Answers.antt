@@ -7,11 +7,15 @@ use Rattle.open_calls.proofs.service.Service.push_unmounts.Goals as goal
 
 pub shown_at-requires-clause-in_range : goal.shown_at-requires-clause-in_range
 shown_at-requires-clause-in_range c =
-    (leads_by c.args.self.now.world.now c.requires.served c.args.row.now c.requires.known c.args.wish Unmounting (inr refl) c.requires.reached (steps_of c.launched_table-table.result.now) c.args.at c.launched_table-table.ensures.its_own c.requires.number).in_range
+    (leads_by c.args.self.now.world.now c.requires.served c.args.row.now c.requires.known c.args.wish Unmounting
+    (inr refl) c.requires.reached (steps_of c.launched_table-table.result.now) c.args.at c.launched_table-table.ensures.its_own
+    c.requires.number).in_range
 
 pub shown_at-requires-clause-leads : goal.shown_at-requires-clause-leads
 shown_at-requires-clause-leads c =
-    (leads_by c.args.self.now.world.now c.requires.served c.args.row.now c.requires.known c.args.wish Unmounting (inr refl) c.requires.reached (steps_of c.launched_table-table.result.now) c.args.at c.launched_table-table.ensures.its_own c.requires.number).leads
+    (leads_by c.args.self.now.world.now c.requires.served c.args.row.now c.requires.known c.args.wish Unmounting
+    (inr refl) c.requires.reached (steps_of c.launched_table-table.result.now) c.args.at c.launched_table-table.ensures.its_own
+    c.requires.number).leads
 
 pub overflow_add-at : goal.overflow_add-at
 overflow_add-at c =

@@ -7,5 +7,6 @@ use Rattle.path_settings.proofs.view_map.longest.longest.Given as goal
 
 abbrev pub invariant-loop-index : goal.invariant-loop-index
 invariant-loop-index l =
-    fold longer (option_map shown l.best) (saying (is_said l.says) (filter (λ one. is_prefix one.1.path l.path) (enumerate_from l.index (drop l.index l.kept))))
+    fold longer (option_map shown l.best)
+    (saying (is_said l.says) (filter (λ one. is_prefix one.1.path l.path) (enumerate_from l.index (drop l.index l.kept))))
     ≡ longest (is_said l.says) (leading_to l.path l.kept)

@@ -8,5 +8,6 @@ use Rattle.path_settings.proofs.view_map.longest.origin_above.Given as goal
 
 abbrev pub invariant-loop-index : goal.invariant-loop-index
 invariant-loop-index l =
-    fold longer (option_map shown l.best) (saying is_origin (filter (λ one. is_below l.path one.1.path) (enumerate_from l.index (drop l.index l.kept))))
+    fold longer (option_map shown l.best)
+    (saying is_origin (filter (λ one. is_below l.path one.1.path) (enumerate_from l.index (drop l.index l.kept))))
     ≡ longest is_origin (above l.path l.kept)

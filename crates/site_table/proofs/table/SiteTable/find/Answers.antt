@@ -11,11 +11,15 @@ pub returns-clause-place_of_the_text : goal.returns-clause-place_of_the_text
 returns-clause-place_of_the_text c =
     let text = tail_of c.args.front.now ++ c.args.rest.now in
     c.ok.ensures.value
-    ∙ text_place c.self.inside.rows.items text c.search.result c.self.invariant.ascending (subst (λ (rows : List Row). Searches rows text c.search.result) c.deref.ensures.value c.search.ensures.searches)
+    ∙ text_place c.self.inside.rows.items text c.search.result c.self.invariant.ascending
+    (subst (λ (rows : List Row). Searches rows text c.search.result) c.deref.ensures.value c.search.ensures.searches)
     ∙ ap (λ (site : Site). place_of_text site.rows text) c.self.view_is
 
 pub returns-clause-place_of_the_path : goal.returns-clause-place_of_the_path
 returns-clause-place_of_the_path c = λ is_rest.
     let rows = c.args.self.now.rows in
     returns-clause-place_of_the_text c
-    ∙ joined_place rows c.args.front.now c.args.rest.now (normal_rows rows rows (subst (λ (site : Site). AllByRecursion (IsRowOf site.rows) site.rows) c.self.view_is c.self.invariant.each_row)) c.search.ensures.normal is_rest
+    ∙ joined_place rows c.args.front.now c.args.rest.now
+    (normal_rows rows rows
+    (subst (λ (site : Site). AllByRecursion (IsRowOf site.rows) site.rows) c.self.view_is c.self.invariant.each_row))
+    c.search.ensures.normal is_rest

@@ -10,5 +10,6 @@ pub returns-in-Some : goal.returns-in-Some
 returns-in-Some c = record {
   the_row =
       sym c.row.ensures.row
-      ∙ row_of_the_place c.args.self.now.rows (c.args.front.now ++ parts_of c.args.rest.now) c.in-Some.at (sym (c.in-Some.ensures.place_of_the_path c.requires));
+      ∙ row_of_the_place c.args.self.now.rows (c.args.front.now ++ parts_of c.args.rest.now) c.in-Some.at
+      (sym (c.in-Some.ensures.place_of_the_path c.requires));
 }

@@ -5,4 +5,5 @@ use Rattle.text_forms.proofs.line_text.lines.counted_lines.Given as goal
 
 abbrev pub invariant-loop-at : goal.invariant-loop-at
 invariant-loop-at l =
-    map line_view l.lines.items ++ counted_from (l.at + 1) (map (λ text. text.now) (drop l.at l.texts)) ≡ counted_from 1 (map (λ text. text.now) l.texts)
+    map line_view l.lines.items ++ counted_from (l.at + 1) (map (λ text. text.now) (drop l.at l.texts))
+    ≡ counted_from 1 (map (λ text. text.now) l.texts)

@@ -8,5 +8,8 @@ returns c =
     record {
       between_spaces =
           map_from_collect _ c.collect.ensures.ran
-          (YieldsList-from_filter _ _ (YieldsList-at c.filter.ensures.source (YieldsList-from_str_split 32 c.args.line.now (lit< tt) c.split.ensures.text c.split.ensures.has_more c.split.ensures.pattern)) c.filter.ensures.closure (λ x r q k. search (rules, tests)));
+          (YieldsList-from_filter _ _
+          (YieldsList-at c.filter.ensures.source
+          (YieldsList-from_str_split 32 c.args.line.now (lit< tt) c.split.ensures.text c.split.ensures.has_more
+          c.split.ensures.pattern)) c.filter.ensures.closure (λ x r q k. search (rules, tests)));
     }

@@ -9,4 +9,7 @@ pub returns-then-contains : goal.returns-then-contains
 returns-then-contains c = record { text = sym (has_nul c.args.bytes.now (sym c.contains.ensures.value ∙ c.if-contains.true)) }
 
 pub returns : goal.returns
-returns c = record { text = ap Some c.in-Ok.ensures.cases.0 ∙ sym (is_text c.args.bytes.now c.in-Ok.ensures.cases.1 (sym c.if-contains.ensures.value)) }
+returns c = record {
+  text = ap Some c.in-Ok.ensures.cases.0 ∙ sym
+      (is_text c.args.bytes.now c.in-Ok.ensures.cases.1 (sym c.if-contains.ensures.value));
+}

@@ -8,7 +8,8 @@ pub returns-in-Part : goal.returns-in-Part
 returns-in-Part c =
     let new : SoFar = record { opened = c.mark_of-mark.result.1; begun = c.push_part.new.begun; whole = c.args.self.now.whole } in
     on_ok_weaker c.push_part.result
-    (part_passed c.args.self.now new c.args.symbol c.in-Part.byte c.mark_of-mark.ensures.open_behind (sym c.in-Part.is ∙ c.mark_of-mark.ensures.mark) refl)
+    (part_passed c.args.self.now new c.args.symbol c.in-Part.byte c.mark_of-mark.ensures.open_behind
+    (sym c.in-Part.is ∙ c.mark_of-mark.ensures.mark) refl)
     c.push_part.ensures
 
 pub returns-in-Edge : goal.returns-in-Edge
@@ -19,5 +20,6 @@ returns-in-Edge c =
 
 pub returns-in-Gap : goal.returns-in-Gap
 returns-in-Gap c =
-    gap_passed c.args.self.now c.end_word.new.self c.args.symbol c.end_word.result (c.end_word.ensures.opened ∙ c.mark_of-mark.ensures.open_behind)
+    gap_passed c.args.self.now c.end_word.new.self c.args.symbol c.end_word.result
+    (c.end_word.ensures.opened ∙ c.mark_of-mark.ensures.open_behind)
     (sym c.in-Gap.is ∙ c.mark_of-mark.ensures.mark) c.end_word.ensures.ended c.end_word.ensures.whole

@@ -17,18 +17,23 @@ loop-question-preserved c =
     let world = c.args.bounded.now.service.world in
     record {
       counted = omega (arith, c.loop-question.invariant.counted);
-      kept = good_more (IsKept world) (IsShut world) c.args.keep.now c.loop-question.question-index some_question c.loop-question-test.true (kept_by world _ c.is_open-is_open.result c.is_open-is_open.ensures.is_so c.if-is_open.true) c.loop-question.invariant.kept;
+      kept = good_more (IsKept world) (IsShut world) c.args.keep.now c.loop-question.question-index some_question
+          c.loop-question-test.true (kept_by world _ c.is_open-is_open.result c.is_open-is_open.ensures.is_so c.if-is_open.true)
+          c.loop-question.invariant.kept;
     }
 
 pub returns-else-is_open : goal.returns-else-is_open
 returns-else-is_open c = record {
   first_that_is_denied =
       let world = c.args.bounded.now.service.world in
-      first_at (IsKept world) (IsShut world) c.args.keep.now c.loop-question.question-index _ some_question c.loop-question-test.true (omega (arith, c.loop-question.invariant.counted)) (shut_by world _ c.is_open-is_open.result c.is_open-is_open.ensures.is_so c.if-is_open.false) c.loop-question.invariant.kept;
+      first_at (IsKept world) (IsShut world) c.args.keep.now c.loop-question.question-index _ some_question c.loop-question-test.true
+      (omega (arith, c.loop-question.invariant.counted))
+      (shut_by world _ c.is_open-is_open.result c.is_open-is_open.ensures.is_so c.if-is_open.false) c.loop-question.invariant.kept;
 }
 
 pub returns : goal.returns
 returns c = record {
   first_that_is_denied =
-      subst (All (IsKept c.args.bounded.now.service.world)) (take_all c.loop-question.question-index c.args.keep.now c.loop-question-test.false) c.loop-question.invariant.kept;
+      subst (All (IsKept c.args.bounded.now.service.world))
+      (take_all c.loop-question.question-index c.args.keep.now c.loop-question-test.false) c.loop-question.invariant.kept;
 }

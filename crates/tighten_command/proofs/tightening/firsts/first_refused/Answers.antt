@@ -12,7 +12,8 @@ loop-wish-preserved g c =
     let own = c.wish-item.result in
     record {
       counted = omega (arith, c.loop-wish.invariant.counted);
-      granted = good_more (IsGranted all c.args.rows.now) (λ wish. all.Answers c.args.rows.now wish false) c.args.wishes.now c.loop-wish.wish-index own c.loop-wish-test.true
+      granted = good_more (IsGranted all c.args.rows.now) (λ wish. all.Answers c.args.rows.now wish false) c.args.wishes.now
+          c.loop-wish.wish-index own c.loop-wish-test.true
           (subst (IsGranted all c.args.rows.now) c.wish-item.is
           (subst (λ (answer : Bool). all.Answers c.args.rows.now own answer) c.if-is_granted.true (record { shown = _; shows = refl; says = c.answer-is_granted.ensures.says }), c.answer-is_granted.ensures.keeps c.if-is_granted.true))
           c.loop-wish.invariant.granted;
@@ -23,9 +24,11 @@ returns-else-is_granted g c = record {
   first_that_answers_false =
       let all = (wishes_by (λ wish. wish.must_open) (λ wish shown answer. (goal.Fn-dyn g).post (wish.test.vtable, wish.test.value) (shown, tt) answer) c.args.wishes.now) in
       let own = c.wish-item.result in
-      first_at (IsGranted all c.args.rows.now) (λ wish. all.Answers c.args.rows.now wish false) c.args.wishes.now c.loop-wish.wish-index _ own c.loop-wish-test.true (omega (arith, c.loop-wish.invariant.counted))
+      first_at (IsGranted all c.args.rows.now) (λ wish. all.Answers c.args.rows.now wish false) c.args.wishes.now c.loop-wish.wish-index _
+      own c.loop-wish-test.true (omega (arith, c.loop-wish.invariant.counted))
       (subst (λ wish. all.Answers c.args.rows.now wish false) c.wish-item.is
-      (subst (λ (answer : Bool). all.Answers c.args.rows.now own answer) c.if-is_granted.false (record { shown = _; shows = refl; says = c.answer-is_granted.ensures.says })))
+      (subst (λ (answer : Bool). all.Answers c.args.rows.now own answer) c.if-is_granted.false
+      (record { shown = _; shows = refl; says = c.answer-is_granted.ensures.says })))
       c.loop-wish.invariant.granted;
 }
 
@@ -33,5 +36,6 @@ pub returns : goal.returns
 returns g c = record {
   first_that_answers_false =
       let all = (wishes_by (λ wish. wish.must_open) (λ wish shown answer. (goal.Fn-dyn g).post (wish.test.vtable, wish.test.value) (shown, tt) answer) c.args.wishes.now) in
-      subst (All (IsGranted all c.args.rows.now)) (take_all c.loop-wish.wish-index c.args.wishes.now c.loop-wish-test.false) c.loop-wish.invariant.granted;
+      subst (All (IsGranted all c.args.rows.now)) (take_all c.loop-wish.wish-index c.args.wishes.now c.loop-wish-test.false)
+      c.loop-wish.invariant.granted;
 }

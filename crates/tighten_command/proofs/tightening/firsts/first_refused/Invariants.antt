@@ -8,5 +8,7 @@ use Rattle.tighten_command.proofs.tightening.firsts.first_refused.Given as goal
 abbrev pub invariant-loop-wish : goal.invariant-loop-wish
 invariant-loop-wish g l = record {
   counted : l.before ≡ l.wish-index;
-  granted : All (IsGranted (wishes_by (λ wish. wish.must_open) (λ wish shown answer. (goal.Fn-dyn g).post (wish.test.vtable, wish.test.value) (shown, tt) answer) l.wishes) l.rows) (take l.wish-index l.wishes);
+  granted : All (IsGranted (wishes_by (λ wish. wish.must_open)
+      (λ wish shown answer. (goal.Fn-dyn g).post (wish.test.vtable, wish.test.value) (shown, tt) answer) l.wishes) l.rows)
+      (take l.wish-index l.wishes);
 }

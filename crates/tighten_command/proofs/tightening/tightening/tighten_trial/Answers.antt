@@ -19,7 +19,9 @@ lack-requires g c =
     let tried = tried_of c.args.trial.now (wishes_by (λ wish. wish.must_open) (λ wish shown answer. (goal.Fn-dyn g).post (wish.test.vtable, wish.test.value) (shown, tt) answer) c.args.wishes.now) in
     record {
       can_be_tried = c.requires.can_be_tried;
-      over_the_tables = is_over tried tried.unit c.in_ok-own.own (own_service tried c.in_ok-service.service c.in_ok-own.own.service c.in_ok-own.ensures.bounds.0 c.in_ok-service.ensures.launches) c.in_ok-own.ensures.bounds.1;
+      over_the_tables = is_over tried tried.unit c.in_ok-own.own
+          (own_service tried c.in_ok-service.service c.in_ok-own.own.service c.in_ok-own.ensures.bounds.0
+          c.in_ok-service.ensures.launches) c.in_ok-own.ensures.bounds.1;
     }
 
 pub tight_from-requires : goal.tight_from-requires
@@ -28,7 +30,8 @@ tight_from-requires g c =
     record {
       can_be_tried = c.requires.can_be_tried;
       serves = record {
-        launched = own_service tried c.in_ok-service.service c.in_ok-own.own.service c.in_ok-own.ensures.bounds.0 c.in_ok-service.ensures.launches;
+        launched = own_service tried c.in_ok-service.service c.in_ok-own.own.service c.in_ok-own.ensures.bounds.0
+            c.in_ok-service.ensures.launches;
         is_bounded = c.in_ok-own.ensures.bounds.1;
         pleases = rw c.in-None.is at c.in_ok-number.ensures.first_lack;
       };
@@ -38,10 +41,14 @@ pub returns-in-Some-Keep : goal.returns-in-Some-Keep
 returns-in-Some-Keep g c =
     let tried = tried_of c.args.trial.now (wishes_by (λ wish. wish.must_open) (λ wish shown answer. (goal.Fn-dyn g).post (wish.test.vtable, wish.test.value) (shown, tt) answer) c.args.wishes.now) in
     rw c.in-Some-Keep.field-0-is
-    (denies_one tried c.in_ok-own.own.service (own_service tried c.in_ok-service.service c.in_ok-own.own.service c.in_ok-own.ensures.bounds.0 c.in_ok-service.ensures.launches) c.in-Some-Keep.number (rw c.in-Some-Keep.field-0-is at (rw c.in-Some-Keep.is at c.in_ok-number.ensures.first_lack)))
+    (denies_one tried c.in_ok-own.own.service
+    (own_service tried c.in_ok-service.service c.in_ok-own.own.service c.in_ok-own.ensures.bounds.0 c.in_ok-service.ensures.launches)
+    c.in-Some-Keep.number (rw c.in-Some-Keep.field-0-is at (rw c.in-Some-Keep.is at c.in_ok-number.ensures.first_lack)))
 
 pub returns-in-Some-Wish : goal.returns-in-Some-Wish
 returns-in-Some-Wish g c =
     let tried = tried_of c.args.trial.now (wishes_by (λ wish. wish.must_open) (λ wish shown answer. (goal.Fn-dyn g).post (wish.test.vtable, wish.test.value) (shown, tt) answer) c.args.wishes.now) in
     rw c.in-Some-Wish.field-0-is
-    (refuses_one tried c.in_ok-own.own.service (own_service tried c.in_ok-service.service c.in_ok-own.own.service c.in_ok-own.ensures.bounds.0 c.in_ok-service.ensures.launches) c.in-Some-Wish.number (rw c.in-Some-Wish.field-0-is at (rw c.in-Some-Wish.is at c.in_ok-number.ensures.first_lack)))
+    (refuses_one tried c.in_ok-own.own.service
+    (own_service tried c.in_ok-service.service c.in_ok-own.own.service c.in_ok-own.ensures.bounds.0 c.in_ok-service.ensures.launches)
+    c.in-Some-Wish.number (rw c.in-Some-Wish.field-0-is at (rw c.in-Some-Wish.is at c.in_ok-number.ensures.first_lack)))

@@ -6,7 +6,8 @@ use Rattle.toml_shapes.proofs.keys.Shape.fits.Goals as goal
 
 pub returns-then-is_array : goal.returns-then-is_array
 returns-then-is_array c =
-    array_of is_text (view c.args.value.now) c.elements_of.result.now c.are_texts.result (sym c.is_array.ensures ∙ c.if-is_array.true) c.elements_of.ensures.elements_or_none c.are_texts.ensures
+    array_of is_text (view c.args.value.now) c.elements_of.result.now c.are_texts.result
+    (sym c.is_array.ensures ∙ c.if-is_array.true) c.elements_of.ensures.elements_or_none c.are_texts.ensures
     ∙ ap (λ shape. has_shape shape (view c.args.value.now)) (sym c.in-Texts.is)
 
 pub returns-then-is_array-2 : goal.returns-then-is_array-2

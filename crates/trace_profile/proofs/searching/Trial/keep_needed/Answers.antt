@@ -5,4 +5,5 @@ use Rattle.trace_profile.proofs.searching.Trial.keep_needed.Goals as goal
 
 pub loop-name-preserved : goal.loop-name-preserved
 loop-name-preserved c =
-    kept_more (tried_of c.args.self.now) c.args.names.now c.loop-name.name-index 0 _ (omega arith) refl c.loop-name.kept.items c.loop-name.invariant c.in_ok-left.left.items c.in_ok-left.ensures
+    kept_more (tried_of c.args.self.now) c.args.names.now c.loop-name.name-index 0 _
+    (omega arith) refl c.loop-name.kept.items c.loop-name.invariant c.in_ok-left.left.items c.in_ok-left.ensures

@@ -18,12 +18,14 @@ returns-in-NoEquals-clause-taken c = λ lines h.
 
 pub returns-in-Some-clause-taken : goal.returns-in-Some-clause-taken
 returns-in-Some-clause-taken c = λ lines h.
-    takes_assignment lines _ c.as_str.result.now c.in-Assigns.key.now c.in-Assigns.value.now _ _ _ _ _ _ _ h (c.in-Some.is ∙ ap Some (sym c.as_str.ensures.same_text)) c.in-Assigns.ensures.its_kind c.add_assignment.ensures refl refl
+    takes_assignment lines _ c.as_str.result.now c.in-Assigns.key.now c.in-Assigns.value.now _ _ _ _ _ _ _ h
+    (c.in-Some.is ∙ ap Some (sym c.as_str.ensures.same_text)) c.in-Assigns.ensures.its_kind c.add_assignment.ensures refl refl
 
 pub returns-in-None-clause-taken : goal.returns-in-None-clause-taken
 returns-in-None-clause-taken c = λ lines h.
     let number = c.args.number in
     let kind = assigns c.in-Assigns.key.now c.in-Assigns.value.now in
     takes_note lines _ kind _ _ _ _ _ _ _ _ h c.in-Assigns.ensures.its_kind refl
-    (ap (λ o. overfull o (length c.args.self.now.assignments)) c.in-None.is) (ap (λ o. unplaced o number) c.in-None.is) (ap (λ o. under o number c.in-Assigns.key.now c.in-Assigns.value.now) c.in-None.is)
+    (ap (λ o. overfull o (length c.args.self.now.assignments)) c.in-None.is) (ap (λ o. unplaced o number) c.in-None.is)
+    (ap (λ o. under o number c.in-Assigns.key.now c.in-Assigns.value.now) c.in-None.is)
     c.add_note-in-None.ensures refl refl

@@ -10,7 +10,8 @@ use Rattle.why_command.proofs.lines_command.answering.answer.Goals as goal
 pub returns-in_err-launch-clause-answers : goal.returns-in_err-launch-clause-answers
 returns-in_err-launch-clause-answers c =
     let inputs = given c.args.unit.now c.args.calls.now c.args.site.now in
-    at_stop (λ result. Prepares (λ made. TellsLines c.args.name.now inputs (ending_of made) (text_of made)) (start_refusals c.args.name.now inputs) result) c.from_residual.result c.in_err-launch.field-0.0 c.from_residual.ensures.1
+    at_stop (λ result. Prepares (λ made. TellsLines c.args.name.now inputs (ending_of made) (text_of made))
+    (start_refusals c.args.name.now inputs) result) c.from_residual.result c.in_err-launch.field-0.0 c.from_residual.ensures.1
     (answers_stop c.args.name.now inputs c.in_err-launch.field-0.0 c.in_err-launch.ensures.starts)
 
 pub tell_launch-requires : goal.tell_launch-requires
@@ -18,8 +19,10 @@ tell_launch-requires c = record { starts = c.in_ok-launch.ensures.starts.1 }
 
 pub returns-clause-answers : goal.returns-clause-answers
 returns-clause-answers c =
-    answers_launch c.args.name.now (given c.args.unit.now c.args.calls.now c.args.site.now) c.in_ok-launch.launch c.in_ok-launch.ensures.starts c.tell_launch.result c.tell_launch.ensures
+    answers_launch c.args.name.now (given c.args.unit.now c.args.calls.now c.args.site.now) c.in_ok-launch.launch
+    c.in_ok-launch.ensures.starts c.tell_launch.result c.tell_launch.ensures
 
 pub returns-clause-reads_nothing : goal.returns-clause-reads_nothing
 returns-clause-reads_nothing c =
-    ready_reads_nothing (TellsLaunch c.args.name.now (given c.args.unit.now c.args.calls.now c.args.site.now) c.in_ok-launch.launch) c.tell_launch.result c.tell_launch.ensures
+    ready_reads_nothing (TellsLaunch c.args.name.now (given c.args.unit.now c.args.calls.now c.args.site.now) c.in_ok-launch.launch)
+    c.tell_launch.result c.tell_launch.ensures

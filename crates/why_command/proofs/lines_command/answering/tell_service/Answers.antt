@@ -40,8 +40,10 @@ lines_text-requires c =
 pub returns : goal.returns
 returns c =
     let inputs = given c.args.unit.now c.args.calls.now c.args.site.now in
-    told_as (TellsService c.args.name.now inputs c.args.service) (lines_text c.args.calls.now c.args.site.now c.args.unit.now.files c.in_ok-told.told.items)
+    told_as (TellsService c.args.name.now inputs c.args.service)
+    (lines_text c.args.calls.now c.args.site.now c.args.unit.now.files c.in_ok-told.told.items)
     (tells_it c.args.name.now inputs c.in_ok-asked.asked.bounded.service c.args.service c.in_ok-asked.ensures.asks.0 c.in_ok-told.told.items
     (c.in_ok-told.ensures.one_each ∙ c.as_slice.ensures.value ∙ c.in_ok-all.ensures.all_in_order) c.in_ok-told.ensures.each_is_so _ refl)
     c.lines_text.result
-    (subst (λ own. IfOk c.lines_text.result (λ text. text.items ≡ lines_text c.args.calls.now c.args.site.now c.args.unit.now.files own)) c.as_slice-2.ensures.value c.lines_text.ensures.tells_all)
+    (subst (λ own. IfOk c.lines_text.result (λ text. text.items ≡ lines_text c.args.calls.now c.args.site.now c.args.unit.now.files own))
+    c.as_slice-2.ensures.value c.lines_text.ensures.tells_all)

@@ -10,4 +10,5 @@ pub renumber-requires-clause-has_nodes : goal.renumber-requires-clause-has_nodes
 renumber-requires-clause-has_nodes c =
     subst (λ (nodes : List Node). HasNodes nodes c.deref.result.now) (sym c.deref_mut.ensures.value)
     (subst (λ (places : List Path). HasNodes c.self.inside.nodes.items places) (sym (c.deref.ensures.value ∙ c.truncate.ensures.items))
-    (take_all (λ place. IsSome (node_at c.self.inside.nodes.items place)) c.self.inside.places.items c.args.len (have_nodes c.self.inside.nodes.items c.self.inside.places.items c.self.invariant.numbers)))
+    (take_all (λ place. IsSome (node_at c.self.inside.nodes.items place)) c.self.inside.places.items c.args.len
+    (have_nodes c.self.inside.nodes.items c.self.inside.places.items c.self.invariant.numbers)))

@@ -6,4 +6,6 @@ use Rattle.exposure_score.proofs.Telling.{Tells}
 use Rattle.exposure_score.proofs.service_facts.line_facts.Teller.push_types.Given as goal
 
 abbrev pub invariant-loop-kind : goal.invariant-loop-kind
-invariant-loop-kind l = Tells (told l.initial.facts.items) l.self.front.now (λ kind. (name_of kind, one_if (permits l.self.sandbox.now.filters.namespaces kind))) (take l.kind-index l.kind-items) (told l.facts.items)
+invariant-loop-kind l = Tells (told l.initial.facts.items) l.self.front.now
+    (λ kind. (name_of kind, one_if (permits l.self.sandbox.now.filters.namespaces kind))) (take l.kind-index l.kind-items)
+    (told l.facts.items)

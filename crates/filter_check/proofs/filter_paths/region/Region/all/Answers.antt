@@ -8,7 +8,9 @@ use Rattle.seccomp_compile.specs.bpf_code.Effects.{words_of}
 use Rattle.filter_check.proofs.Words.{sixteen}
 use Rattle.filter_check.proofs.filter_paths.region.Region.all.Goals as goal
 
-any_words : (sets : List (Vec Cube Global)) (words : List ℕ) → length sets ≡ length words → AllByRecursion (λ set. (0 < length set.items) × ((word : ℕ) → is_in_any set.items word ≡ true)) sets → AllZip (λ (set : List Cube) (word : ℕ). is_in_any set word ≡ true) (map (λ set. set.items) sets) words
+any_words : (sets : List (Vec Cube Global)) (words : List ℕ) → length sets ≡ length words
+    → AllByRecursion (λ set. (0 < length set.items) × ((word : ℕ) → is_in_any set.items word ≡ true)) sets
+    → AllZip (λ (set : List Cube) (word : ℕ). is_in_any set word ≡ true) (map (λ set. set.items) sets) words
 any_words [] [] l h = tt
 any_words [] (word ∷ words) l h = absurd (omega (arith, l))
 any_words (set ∷ sets) [] l h = absurd (omega (arith, l))

@@ -9,7 +9,8 @@ use Rattle.filter_check.proofs.filter_paths.region.Region.least.Goals as goal
 pub returns-clause-is_one : goal.returns-clause-is_one
 returns-clause-is_one c =
     let words = c.least_word.result in
-    zip_from_places (λ (set : List Cube) (word : ℕ). is_in_any set word ≡ true) (sets_of c.args.self.now) _ [] 0 (same_map_length (λ set. set.items) c.args.self.now.words.items ∙ c.args.self.now.whole)
+    zip_from_places (λ (set : List Cube) (word : ℕ). is_in_any set word ≡ true) (sets_of c.args.self.now) _ [] 0
+    (same_map_length (λ set. set.items) c.args.self.now.words.items ∙ c.args.self.now.whole)
     (by_sixteen _
     (subst (λ set. is_in_any set c.least_word.result ≡ true) c.word.ensures.is c.least_word.ensures.is_one)
     (subst (λ set. is_in_any set c.least_word-2.result ≡ true) c.word-2.ensures.is c.least_word-2.ensures.is_one)
@@ -33,7 +34,8 @@ returns-clause-is_least c = λ input within.
     zip_from_places (λ (one other : ℕ). one ≤ other) own words 0 0 (sym l)
     (λ k lt. by_sixteen (λ k. get_or own k 0 ≤ get_or words k 0)
     (c.least_word.ensures.is_least _ (subst (λ set. is_in_any set (get_or words 0 0) ≡ true) (sym c.word.ensures.is) (at 0 (omega arith))))
-    (c.least_word-2.ensures.is_least _ (subst (λ set. is_in_any set (get_or words 1 0) ≡ true) (sym c.word-2.ensures.is) (at 1 (omega arith))))
+    (c.least_word-2.ensures.is_least _
+    (subst (λ set. is_in_any set (get_or words 1 0) ≡ true) (sym c.word-2.ensures.is) (at 1 (omega arith))))
     (c.number.ensures.least_low _ (at 2 (omega arith))) (c.number.ensures.least_high _ (at 3 (omega arith)))
     (c.number-2.ensures.least_low _ (at 4 (omega arith))) (c.number-2.ensures.least_high _ (at 5 (omega arith)))
     (c.number-3.ensures.least_low _ (at 6 (omega arith))) (c.number-3.ensures.least_high _ (at 7 (omega arith)))

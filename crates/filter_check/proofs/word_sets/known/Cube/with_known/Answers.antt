@@ -4,15 +4,24 @@ use Rattle.filter_check.proofs.Bits.{one_known, zero_known, in_wider, wider_clea
 use Rattle.filter_check.proofs.word_sets.known.Cube.with_known.Goals as goal
 
 pub invariant_of-result : goal.invariant_of-result
-invariant_of-result c = record { clear = wider_clear c.args.self.known c.args.self.bits _ _ c.args.place (bit_of true) (one_known c.args.self.known c.args.self.bits c.args.place c.requires.place c.requires.unknown c.args.self.clear) }
+invariant_of-result c = record {
+  clear = wider_clear c.args.self.known c.args.self.bits _ _ c.args.place (bit_of true)
+      (one_known c.args.self.known c.args.self.bits c.args.place c.requires.place c.requires.unknown c.args.self.clear);
+}
 
 pub returns-then-set : goal.returns-then-set
-returns-then-set c = λ word. in_wider c.args.self.known c.args.self.bits _ _ c.args.place word true (one_known c.args.self.known c.args.self.bits c.args.place c.requires.place c.requires.unknown c.args.self.clear)
+returns-then-set c = λ word. in_wider c.args.self.known c.args.self.bits _ _ c.args.place word true
+    (one_known c.args.self.known c.args.self.bits c.args.place c.requires.place c.requires.unknown c.args.self.clear)
     ∙ ap (λ set. is_in c.args.self word && same (is_set word c.args.place) set) (sym c.if-set.true)
 
 pub invariant_of-result-2 : goal.invariant_of-result-2
-invariant_of-result-2 c = record { clear = wider_clear c.args.self.known c.args.self.bits _ _ c.args.place (bit_of false) (zero_known c.args.self.known c.args.self.bits c.args.place c.requires.place c.requires.unknown c.args.self.clear) }
+invariant_of-result-2 c =
+    record {
+      clear = wider_clear c.args.self.known c.args.self.bits _ _ c.args.place (bit_of false)
+          (zero_known c.args.self.known c.args.self.bits c.args.place c.requires.place c.requires.unknown c.args.self.clear);
+    }
 
 pub returns : goal.returns
-returns c = λ word. in_wider c.args.self.known c.args.self.bits _ _ c.args.place word false (zero_known c.args.self.known c.args.self.bits c.args.place c.requires.place c.requires.unknown c.args.self.clear)
+returns c = λ word. in_wider c.args.self.known c.args.self.bits _ _ c.args.place word false
+    (zero_known c.args.self.known c.args.self.bits c.args.place c.requires.place c.requires.unknown c.args.self.clear)
     ∙ ap (λ set. is_in c.args.self word && same (is_set word c.args.place) set) (sym c.if-set.false)

@@ -27,5 +27,9 @@ returns-in-Ok g c = record {
 pub returns : goal.returns
 returns g c = record {
   tells_whether_they_serve =
-      tells_refusal (tried_of c.args.self.now (wishes_by (λ wish. wish.must_open) (λ wish shown answer. (goal.Fn-dyn g).post (wish.test.vtable, wish.test.value) (shown, tt) answer) c.args.wishes.now)) c.args.set.now c.in_ok-unit.unit c.in_ok-unit.ensures c.in-Err.refusal c.none_for.result c.in-Err.ensures.launches c.none_for.ensures;
+      tells_refusal (tried_of c.args.self.now
+      (wishes_by (λ wish. wish.must_open)
+      (λ wish shown answer. (goal.Fn-dyn g).post (wish.test.vtable, wish.test.value) (shown, tt) answer) c.args.wishes.now))
+      c.args.set.now c.in_ok-unit.unit c.in_ok-unit.ensures c.in-Err.refusal c.none_for.result c.in-Err.ensures.launches
+      c.none_for.ensures;
 }
