@@ -1,7 +1,10 @@
-//! Normal absolute paths, by whole parts: reading, prefixes, what lies behind one, byte order.
+//! Reads, compares and joins normal absolute paths by whole parts.
 //!
-//! An `AbsPath` has no empty part, no `.`, no `..` and no NUL, and at most 512 bytes.
-//! The crate rests on std and `arrayvec`; `AbsPath::read(alloc, "/a//b/")?.text()` is `/a/b`.
+//! `AbsPath::read(alloc, "/a//b/")?.text()` is `/a/b`. An `AbsPath` has no empty part, no `.`, no `..` and no NUL, and at most
+//! 512 bytes.
+//!
+//! - [`laws`]: laws of prefixes, joined paths, texts and byte order.
+//! - [`place_tree`]: a tree over the parts of places, which finds the last place that leads to a path.
 #![tactic(auto)]
 
 mod error;

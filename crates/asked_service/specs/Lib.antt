@@ -3,6 +3,9 @@ pub mod Rows
 pub mod unit_launch
 pub mod launched_units
 pub mod started_units
+pub mod judge
+pub mod plan_command
+pub mod report_text
 pub use Rattle.judge.specs.abs_path as abs_path
 pub use Rattle.judge.specs.bpf_code as bpf_code
 pub use Rattle.judge.specs.call_rules as call_rules
@@ -14,7 +17,6 @@ pub use Rattle.judge.specs.dropin_merge as dropin_merge
 pub use Rattle.judge.specs.exec_settings as exec_settings
 pub use Rattle.report_text.specs.filter_settings as filter_settings
 pub use Rattle.plan_command.specs.host_io as host_io
-pub use Rattle.judge.specs as judge
 pub use Rattle.judge.specs.kern_creds as kern_creds
 pub use Rattle.judge.specs.kern_mounts as kern_mounts
 pub use Rattle.judge.specs.kernel_laws as kernel_laws
@@ -25,8 +27,6 @@ pub use Rattle.judge.specs.linux_numbers as linux_numbers
 pub use Rattle.judge.specs.mount_plan as mount_plan
 pub use Rattle.judge.specs.mount_settings as mount_settings
 pub use Rattle.judge.specs.path_settings as path_settings
-pub use Rattle.plan_command.specs as plan_command
-pub use Rattle.report_text.specs as report_text
 pub use Rattle.report_text.specs.script_text as script_text
 pub use Rattle.judge.specs.site_table as site_table
 pub use Rattle.plan_command.specs.text_forms as text_forms

@@ -7,7 +7,8 @@ ghost use Rattle.judge.specs.kernel_ways.Laws.{IsServedWorld};
 ghost use Rattle.asked_service.specs.Asked.{IsBounded, is_open_by};
 ghost use Rattle.asked_service.specs.Rows.{IsSo};
 
-use judge::{Ceiling, Launched, Question, Verdict, ceiling, openness, verdict};
+use judge::{Ceiling, Launched, ceiling, openness, verdict};
+use report_text::{Question, Verdict};
 use std::alloc::{AllocError, Global};
 
 /// A launched service, with what bounds its processes.

@@ -6,7 +6,8 @@ ghost use Rattle.asked_service.specs.Asked.{IsBounded};
 ghost use Rattle.asked_service.specs.Rows.{AreRows, count_open, rows_of};
 
 use crate::bounding::Bounded;
-use judge::{Question, openness};
+use judge::openness;
+use report_text::Question;
 use std::alloc::{AllocError, Global};
 
 /// A question, and whether it is open.

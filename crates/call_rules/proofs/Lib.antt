@@ -1,2 +1,2 @@
 pub mod Ascending
-pub use Rattle.bpf_code.proofs as BpfCode
+pub mod OfBpfCode

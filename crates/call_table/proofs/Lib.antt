@@ -19,4 +19,4 @@ pub mod Versions
 pub mod Lines
 pub mod Cuts
 pub mod Back
-pub use Rattle.text_forms.proofs as TextForms
+pub mod OfTextForms

@@ -16,4 +16,4 @@ pub mod Table
 pub mod Views
 pub mod call_names
 pub mod call_words
-pub use Rattle.text_forms.specs as text_forms
+pub mod text_forms

@@ -1,12 +1,10 @@
-//! The table of system calls that calls.txt gives.
+//! Reads calls.txt, the table of system calls, and looks up calls, groups of calls and families of sockets in it.
 //!
-//! Its lines say which ABI it is for (syscalls(2)), or which two, the calls of each with their numbers and
-//! the capabilities that they ask for, groups of calls, and families of sockets. A `CallTable` answers by
-//! name and by number. It rests on `line_text` for lines and words, on `text_forms` for numbers, on
-//! `cap_sets` for names of capabilities, on `call_names` for the calls that take none, and on `name_table`
-//! for lines by name.
+//! If the first ABI of the file has the line `call read 0`, `read_calls(alloc, bytes)?.number("read")` is `Some(0)`. The file
+//! describes one ABI or two (syscalls(2)). It gives each call and each family its number and, if it needs one, its capability.
 //!
-//! Where a file has the line `call read 0`, `read_calls(alloc, bytes)?.number("read")` is `Some(0)`.
+//! - [`call_names`]: the calls that the modelled kernel knows by name, and their rules.
+//! - [`call_words`]: words that name a call of an ABI, such as `i386:read`.
 #![tactic(auto)]
 
 mod by_number;
@@ -29,4 +27,6 @@ pub use listed::{CallLine, GroupLine, Members};
 pub use names::{Name, behind_at};
 pub use reader::{read_calls, same_reading};
 pub use table::CallTable;
-pub use text_forms;
+pub use text_forms::item_list::ItemList;
+pub use text_forms::line_text::{Line, read_lines, read_text, words};
+pub use text_forms::{push_u64, push_word, read_decimal, read_u64};

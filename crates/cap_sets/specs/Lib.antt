@@ -1,3 +1,3 @@
 pub mod Sets
 pub mod Names
-pub use Rattle.linux_numbers.specs as linux_numbers
+pub mod linux_numbers

@@ -8,7 +8,7 @@ use Rattle.kernel_ways.specs.kernel_laws.Bound.{caps_at, power_of, any_uid, any_
 use Rattle.kernel_ways.specs.kernel_laws.Denied.{IsDenied}
 use Rattle.kernel_ways.specs.kernel_laws.Launched.{launch_of, IsLaunchedWorld}
 use Rattle.kernel_ways.specs.kernel_laws.declared.question_types.question.Question.TheVariants.{Cap, Uid, Gid}
-use Rattle.kernel_ways.proofs.KernelLaws.Verdict.{denial_is_sound}
+use Rattle.kernel_ways.proofs.OfKernelLaws.Verdict.{denial_is_sound}
 use Rattle.kernel_ways.specs.kernel_model.World.{World}
 use Rattle.kernel_ways.specs.Spared.{uids_of, gids_of}
 use Rattle.ceilings.proofs.Given.{has_id}

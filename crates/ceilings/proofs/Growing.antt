@@ -6,7 +6,8 @@ use Rattle.std.proofs.lemmas.Bool.{and_parts, and_from}
 use Rattle.kernel_ways.specs.abs_path.Paths.{Path}
 use Rattle.kernel_ways.specs.abs_path.Prefix.{is_prefix, rest_of}
 use Rattle.kernel_ways.specs.cap_sets.Sets.{has, union, IsWithin}
-use Rattle.kernel_ways.proofs.Caps.Members.{none_within, union_within, within_union_left, within_union_right, within_self, within_through}
+use Rattle.kernel_ways.proofs.OfCapSets.Members.{none_within, union_within, within_union_left, within_union_right, within_self}
+use Rattle.kernel_ways.proofs.OfCapSets.Members.{within_through}
 use Rattle.kernel_ways.specs.linux_numbers.Capabilities.{cap_setuid}
 use Rattle.kernel_ways.specs.site_table.declared.row.Row.{Row}
 use Rattle.kernel_ways.specs.site_table.Kinds.{is_exe}
@@ -23,7 +24,7 @@ use Rattle.kernel_ways.specs.kernel_laws.declared.question_types.power.Power.{Po
 use Rattle.kernel_ways.specs.kernel_laws.declared.question_types.power.Power.TheVariants.{None as Nowise, Unmount as Unmounting}
 use Rattle.kernel_ways.specs.kernel_laws.declared.question_types.power.Power.TheVariants.{Mount as Mounting}
 use Rattle.kernel_ways.specs.kernel_laws.Reach.{fits, shows_row, serves, reach_from, reaches}
-use Rattle.kernel_ways.proofs.KernelLaws.Bound.{gathered_has, gathered_within, within_when}
+use Rattle.kernel_ways.proofs.OfKernelLaws.Bound.{gathered_has, gathered_within, within_when}
 use Rattle.kernel_ways.specs.Spared.{caps_by}
 
 serves_grow : (row : Path) (wish : Wish) (entry : MountStep) (later : Table) → serves false row wish entry later ≡ true

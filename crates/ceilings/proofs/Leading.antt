@@ -7,7 +7,7 @@ use Rattle.std.proofs.lemmas.Bool.{or_from, cases_lt}
 use Rattle.std.proofs.lemmas.Bool.Decides.{nat_tests}
 use Rattle.kernel_ways.specs.abs_path.Paths.{Path}
 use Rattle.kernel_ways.specs.abs_path.Prefix.{is_prefix, is_same, rest_of}
-use Rattle.kernel_ways.proofs.AbsPath.Prefixes.{prefix_and_rest, same_path}
+use Rattle.kernel_ways.proofs.OfAbsPath.Prefixes.{prefix_and_rest, same_path}
 use Rattle.kernel_ways.specs.kern_mounts.Entry.{Belongs, leads_to}
 use Rattle.kernel_ways.specs.kern_mounts.Split.{Table}
 use Rattle.kernel_ways.specs.kern_mounts.declared.step.MountStep.{MountStep}
@@ -15,7 +15,7 @@ use Rattle.kernel_ways.specs.kern_mounts.declared.step.What.TheVariants.{Host}
 use Rattle.kernel_ways.specs.kernel_laws.declared.question_types.wish.Wish.{Wish}
 use Rattle.kernel_ways.specs.kernel_laws.declared.question_types.wish.Wish.TheVariants.{See as ToSee}
 use Rattle.kernel_ways.specs.kernel_laws.Reach.{fits, shows_row, reach_from}
-use Rattle.kernel_ways.proofs.ReachPaths.Looping.{from_here}
+use Rattle.kernel_ways.proofs.OfReachPaths.Looping.{from_here}
 use Rattle.ceilings.specs.Leads.{is_elsewhere, is_moved}
 
 -- ---- entries behind a number

@@ -4,8 +4,8 @@ use Rattle.std.proofs.Common.{length, arith}
 use Rattle.std.specs.Prelude.{find, slice_get, ◌&&◌}
 use Rattle.std.specs.Option.{option_or}
 use Rattle.std.specs.Str.{bytes_eq}
-use Rattle.kernel_ways.proofs.AbsPath.Prefixes.{same_part, part_itself}
-use Rattle.kernel_ways.proofs.CallTable.AllCalls.{front_call}
+use Rattle.kernel_ways.proofs.OfAbsPath.Prefixes.{same_part, part_itself}
+use Rattle.kernel_ways.proofs.OfCallTable.AllCalls.{front_call}
 use Rattle.kernel_ways.specs.call_table.Lookups.{AreOnce, place_named}
 use Rattle.kernel_ways.specs.call_table.Table.{Table, calls_in, every_call}
 use Rattle.kernel_ways.specs.call_table.declared.listed.CallLine.{CallLine}

@@ -3,7 +3,7 @@ use Rattle.std.proofs.Common.{◌≡◌, ◌∙◌, Bool, true, false, List, ref
 use Rattle.std.specs.Prelude.{◌||◌}
 use Rattle.std.specs.List.{list_any}
 use Rattle.std.proofs.lemmas.List.Folds.{list_any-append}
-use Rattle.kernel_ways.proofs.CallTable.AllCalls.{second_are}
+use Rattle.kernel_ways.proofs.OfCallTable.AllCalls.{second_are}
 use Rattle.kernel_ways.specs.call_table.Table.{Table, calls_in, every_call, second_calls}
 use Rattle.kernel_ways.specs.call_table.declared.listed.CallLine.{CallLine}
 use Rattle.kernel_ways.specs.kernel_laws.declared.question_types.kind.CallKind.{CallKind}

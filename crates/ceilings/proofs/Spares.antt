@@ -6,7 +6,7 @@ use Rattle.std.specs.List.{list_any}
 use Rattle.std.proofs.lemmas.Bool.{and_from}
 use Rattle.kernel_ways.specs.linux_numbers.Capabilities.{cap_sys_admin, cap_setuid}
 use Rattle.kernel_ways.specs.cap_sets.Sets.{has, union}
-use Rattle.kernel_ways.proofs.Caps.Members.{within_union_left, within_self}
+use Rattle.kernel_ways.proofs.OfCapSets.Members.{within_union_left, within_self}
 use Rattle.kernel_ways.specs.kernel_laws.Bound.{when, caps_before, caps_at, power_by, power_of, any_uid, any_gid, owned_by, ceiling}
 use Rattle.kernel_ways.specs.kernel_laws.declared.question_types.kind.CallKind.TheVariants.{ChangesMounts, RemovesMounts, TakesUid}
 use Rattle.kernel_ways.specs.kernel_laws.declared.question_types.power.Power.{Power}

@@ -4,7 +4,7 @@ use Rattle.std.proofs.Common.{add-one}
 use Rattle.std.specs.Prelude.{◌||◌}
 use Rattle.std.proofs.lemmas.List.{drop_all}
 use Rattle.kernel_ways.specs.cap_sets.Sets.{has, none, union}
-use Rattle.kernel_ways.proofs.Caps.Members.{has_none, has_union, same_sets}
+use Rattle.kernel_ways.proofs.OfCapSets.Members.{has_none, has_union, same_sets}
 use Rattle.kernel_ways.specs.site_table.declared.row.Row.{Row}
 use Rattle.kernel_ways.specs.kernel_laws.Bound.{gathered, when}
 

@@ -4,6 +4,7 @@ pub mod Ruled
 pub mod Owners
 pub mod Own
 pub mod Sparing
+pub mod kernel_ways
 pub use Rattle.kernel_ways.specs.abs_path as abs_path
 pub use Rattle.kernel_ways.specs.bpf_code as bpf_code
 pub use Rattle.kernel_ways.specs.call_rules as call_rules
@@ -16,7 +17,6 @@ pub use Rattle.kernel_ways.specs.kern_creds as kern_creds
 pub use Rattle.kernel_ways.specs.kern_mounts as kern_mounts
 pub use Rattle.kernel_ways.specs.kernel_laws as kernel_laws
 pub use Rattle.kernel_ways.specs.kernel_model as kernel_model
-pub use Rattle.kernel_ways.specs as kernel_ways
 pub use Rattle.kernel_ways.specs.launcher as launcher
 pub use Rattle.kernel_ways.specs.linux_numbers as linux_numbers
 pub use Rattle.kernel_ways.specs.mount_plan as mount_plan

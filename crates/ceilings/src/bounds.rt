@@ -4,8 +4,8 @@ use crate::ids::IdList;
 use crate::leads::RowLeads;
 use crate::passing::PathCalls;
 use crate::ruled::LineRules;
-use kernel_ways::cap_sets::CapSet;
-use kernel_ways::kernel_laws::question_types::Power;
+use kernel_model::CapSet;
+use kernel_ways::Power;
 
 /// What no process of a launched service passes, in any world that any calls of its processes lead to.
 #[derive(Drop)]

@@ -8,12 +8,9 @@ ghost use Rattle.kernel_ways.specs.kernel_laws.declared.question_types.kind.Call
 ghost use Rattle.kernel_ways.specs.kernel_laws.Launched.{launch_of, lets_line, lets_rule, lets_words};
 
 use crate::kinds::words;
-use kernel_ways::bpf_code::{CallData, Decision};
-use kernel_ways::call_table::call_names::{KnownCall, known_call};
-use kernel_ways::call_table::{CallLine, CallTable};
-use kernel_ways::kernel_laws::question_types::CallKind;
-use kernel_ways::kernel_model::World;
-use kernel_ways::kernel_model::kernel_calls::Rule;
+use kernel_model::kernel_calls::Rule;
+use kernel_model::{CallLine, CallTable, KnownCall, World, known_call};
+use kernel_ways::{CallData, CallKind, Decision};
 
 /// The rule of a line of the table, by its name; None where the kernel lacks the call.
 #[tactic(auto, unfolding(kernel_model::specs::kernel_calls::Rules::rule_of))]

@@ -4,8 +4,7 @@ ghost use Rattle.std.specs.Prelude.{◌≡◌};
 ghost use Rattle.kernel_ways.specs.kern_mounts.Mounts.{steps_of};
 ghost use Rattle.kernel_ways.specs.kernel_laws.Launched.{IsLaunchedWorld, first_of, launch_of};
 
-use kernel_ways::kern_mounts::MountTable;
-use kernel_ways::kernel_model::{Process, World};
+use kernel_model::{MountTable, Process, World};
 
 /// The one process of a world that a launch left, which runs the service's program.
 pub fn launched_process<'a>(world: &'a World<'_>) -> &'a Process

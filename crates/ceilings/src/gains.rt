@@ -11,11 +11,9 @@ ghost use Rattle.kernel_ways.specs.Spared.{caps_by};
 use crate::first::launched_process;
 use crate::passing::Passing;
 use crate::programs::can_run;
-use kernel_ways::cap_sets::CapSet;
-use kernel_ways::kernel_laws::question_types::Power;
-use kernel_ways::kernel_model::World;
+use kernel_model::{CapSet, Row, World};
+use kernel_ways::Power;
 use kernel_ways::linux_numbers::capabilities::CAP_SETUID;
-use kernel_ways::site_table::Row;
 
 // What execve of a row, and capset after it, make effective: all of the bounding set for a program that is run as root; else
 // the file's capabilities of the bounding set, by its effective bit or by capset.

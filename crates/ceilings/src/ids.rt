@@ -6,10 +6,8 @@ ghost use Rattle.ceilings.specs.Owners.{set_id, given_at, given_ids, uids_at, gi
 
 use crate::first::launched_process;
 use crate::programs::can_run;
-use kernel_ways::kernel_laws::question_types::Power;
-use kernel_ways::kernel_model::World;
-use kernel_ways::site_table::Row;
-use kernel_ways::text_forms::item_list::ItemList;
+use kernel_model::{ItemList, Row, World};
+use kernel_ways::Power;
 use std::alloc::{AllocError, Global};
 
 /// Ids of users or of groups, which contracts see as a list.

@@ -5,9 +5,9 @@ ghost use Rattle.kernel_ways.specs.kernel_model.declared.kernel_calls.rule.Rule.
 ghost use Rattle.kernel_ways.specs.kernel_laws.Kinds.{one_word, words};
 ghost use Rattle.kernel_ways.specs.kernel_laws.declared.question_types.kind.CallKind.TheVariants.{ForPath};
 
-use kernel_ways::call_table::call_names::CallRule;
-use kernel_ways::kernel_laws::question_types::{CallKind, Wish};
-use kernel_ways::kernel_model::kernel_calls::Rule;
+use kernel_model::CallRule;
+use kernel_model::kernel_calls::Rule;
+use kernel_ways::{CallKind, Wish};
 
 /// PROT_WRITE and PROT_EXEC of mmap(2).
 const WRITE_AND_EXEC: u64 = 6;

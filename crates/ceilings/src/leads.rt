@@ -9,10 +9,8 @@ ghost use Rattle.ceilings.specs.Own.{IsCeilingOf};
 
 use crate::bounds::Ceiling;
 use crate::first::launched_table;
-use kernel_ways::kernel_laws::question_types::{Power, Wish};
-use kernel_ways::kernel_model::World;
-use kernel_ways::reach_paths::reach;
-use kernel_ways::site_table::Row;
+use kernel_model::{Row, World};
+use kernel_ways::{Power, Wish, reach};
 
 /// The first entries of a mount table that lead to a row, by their numbers, where some do.
 #[derive(Clone, Copy)]

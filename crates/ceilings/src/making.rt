@@ -20,8 +20,8 @@ use crate::passing::{Passing, PathCalls};
 use crate::powers::power_using;
 use crate::ruled::LineRules;
 use crate::searching::all_leads;
-use kernel_ways::cap_sets::CapSet;
-use kernel_ways::launcher::Launched;
+use kernel_model::CapSet;
+use kernel_ways::Launched;
 use kernel_ways::linux_numbers::capabilities::{CAP_SETGID, CAP_SETUID};
 use std::alloc::{AllocError, Global};
 

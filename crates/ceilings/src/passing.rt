@@ -6,8 +6,8 @@ ghost use Rattle.ceilings.specs.Passing.{ArePassing, ArePathCalls, passes};
 ghost use Rattle.ceilings.specs.Ruled.{AreRules};
 
 use crate::ruled::LineRules;
-use kernel_ways::kernel_laws::question_types::{CallKind, Wish};
-use kernel_ways::kernel_model::World;
+use kernel_model::World;
+use kernel_ways::{CallKind, Wish};
 
 /// What processes can ask of paths: whether some call passes that sees, reads, writes or executes what a path finds.
 #[derive(Clone, Copy)]

@@ -8,8 +8,8 @@ ghost use Rattle.kernel_ways.specs.Spared.{power_using};
 
 use crate::gains::caps_by;
 use crate::passing::Passing;
-use kernel_ways::kernel_laws::question_types::Power;
-use kernel_ways::kernel_model::World;
+use kernel_model::World;
+use kernel_ways::Power;
 use kernel_ways::linux_numbers::capabilities::CAP_SYS_ADMIN;
 
 // By whether CAP_SYS_ADMIN can be had on the launched table, and which calls pass.

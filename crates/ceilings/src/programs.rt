@@ -5,10 +5,8 @@ ghost use Rattle.kernel_ways.specs.kernel_laws.Bound.{can_run, is_barred};
 ghost use Rattle.kernel_ways.specs.kernel_laws.Launched.{IsLaunchedWorld, launch_of};
 
 use crate::first::{launched_process, launched_table};
-use kernel_ways::kernel_laws::question_types::{Power, Wish};
-use kernel_ways::kernel_model::World;
-use kernel_ways::reach_paths::reach;
-use kernel_ways::site_table::{Row, RowKind};
+use kernel_model::{Row, RowKind, World};
+use kernel_ways::{Power, Wish, reach};
 
 /// Whether execve(2) refuses the row to every process that heeds its marks: its effective bit is set, and the bounding set of
 /// the launch withholds one of its capabilities (capabilities(7), "Safety checking for capability-dumb binaries").

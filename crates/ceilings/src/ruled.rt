@@ -7,10 +7,9 @@ ghost use Rattle.kernel_ways.specs.kernel_laws.Launched.{can_make_user, launch_o
 ghost use Rattle.ceilings.specs.Ruled.{AreRules};
 
 use crate::calls::{lets_rule, rule_of};
-use kernel_ways::call_table::CallLine;
-use kernel_ways::kernel_laws::question_types::{CallKind, NamespaceType};
-use kernel_ways::kernel_model::World;
-use kernel_ways::kernel_model::kernel_calls::Rule;
+use kernel_model::kernel_calls::Rule;
+use kernel_model::{CallLine, World};
+use kernel_ways::{CallKind, NamespaceType};
 use std::alloc::{AllocError, Global};
 
 /// The rules of all calls, by their positions; None where the kernel lacks the call.

@@ -15,12 +15,9 @@ ghost use Rattle.ceilings.specs.Leads.{AreLeads, is_moved, leads_of};
 
 use crate::first::launched_table;
 use crate::leads::RowLeads;
-use kernel_ways::abs_path::AbsPath;
-use kernel_ways::kern_mounts::{Flags, MountStep, MountTable, What};
-use kernel_ways::kernel_laws::question_types::Wish;
-use kernel_ways::kernel_model::World;
-use kernel_ways::reach_paths::is_covered;
-use kernel_ways::site_table::Row;
+use abs_path::AbsPath;
+use kernel_model::{Flags, MountStep, MountTable, Row, What, World};
+use kernel_ways::{Wish, is_covered};
 use std::alloc::{AllocError, Global};
 
 // Whether what is wished may be done on a mount with these flags, mount(2).

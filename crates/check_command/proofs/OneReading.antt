@@ -9,7 +9,7 @@ use Rattle.filter_check.specs.bpf_code.Reading.{Refuses}
 use Rattle.filter_check.specs.bpf_code.declared.machine.Insn.{Insn}
 use Rattle.filter_check.specs.bpf_code.declared.program.ProgramError.{ProgramError}
 use Rattle.filter_check.specs.bpf_code.declared.program.ProgramError.TheVariants as program
-use Rattle.filter_check.proofs.BpfCode.Refusals.{accepted_unrefused, refusal_alone}
+use Rattle.filter_check.proofs.OfBpfCode.Refusals.{accepted_unrefused, refusal_alone}
 use Rattle.filter_check.specs.filter_lines.Digits.{hex_byte, hex_digit}
 use Rattle.filter_check.specs.filter_lines.Lines.{AreLines, IsFirstOther, IsLine, lines_in}
 use Rattle.filter_check.specs.filter_lines.Reading.{Reads, ReadsCode, ReadsLines, code_lines, is_program, no_memory, no_memory_lines}

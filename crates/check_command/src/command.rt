@@ -9,9 +9,9 @@ ghost use Rattle.check_command.specs.Prints.{check_laws};
 use crate::comparing::compare;
 use crate::preparing::read_all;
 use crate::ready::Checked;
+use host_io::Shelf;
 use std::alloc::Global;
 use unit_inputs::command_answers::Stop;
-use unit_inputs::host_io::Shelf;
 
 /// Prepares `check`, the name of a unit, the name of a filter and the path of a file: reads the unit, calls.txt, site.toml and the
 /// file, finds the first refusal of them and of the settings, and compares the program of the file with the filter of that name,

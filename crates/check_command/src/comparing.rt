@@ -12,12 +12,10 @@ ghost use Rattle.check_command.specs.Prepared.{inputs_in};
 use crate::naming::named_filter;
 use crate::preparing::Prepared;
 use crate::ready::Checked;
-use filter_check::bpf_code::Program;
-use filter_check::call_rules::RuleSet;
-use filter_check::{CheckError, check};
+use filter_check::{CheckError, Program, RuleSet, check};
 use std::alloc::{AllocError, Global};
 use unit_inputs::command_answers::{Stop, refuse, refused_line};
-use unit_inputs::text_forms::push_word;
+use unit_inputs::push_word;
 
 // Why a program is not compared.
 fn check_cause(alloc: Global, error: CheckError) -> Result<Vec<u8>, AllocError>

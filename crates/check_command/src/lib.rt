@@ -17,6 +17,6 @@ mod programs;
 mod ready;
 
 pub use command::prepare;
-pub use filter_check::bpf_code;
+pub use filter_check::{CallData, Program, run};
 pub use laws::one_answer;
 pub use ready::Checked;

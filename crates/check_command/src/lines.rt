@@ -2,10 +2,9 @@
 ghost use Rattle.std.specs.Prelude.{◌≡◌, ◌++◌, flat_map, IfOk, OnOk};
 ghost use Rattle.check_command.specs.Lines.{arg_text, differs_line, outcome_text, same_line};
 
-use filter_check::Outcome;
-use filter_check::bpf_code::CallData;
+use filter_check::{CallData, Outcome};
 use std::alloc::{AllocError, Global};
-use unit_inputs::text_forms::push_u64;
+use unit_inputs::push_u64;
 
 // How many paths a program has that decides every call alike.
 fn same_line(alloc: Global, count: u32) -> Result<Vec<u8>, AllocError>

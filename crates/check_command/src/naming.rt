@@ -4,8 +4,7 @@ ghost use Rattle.std.specs.Str.{bytes_eq};
 ghost use Rattle.unit_inputs.specs.filter_settings.filter_rules.Installed.{place_of};
 ghost use Rattle.check_command.specs.Naming.{means, means_native, means_with_abi};
 
-use unit_inputs::call_table::CallTable;
-use unit_inputs::filter_settings::filter_rules::Filter;
+use unit_inputs::{CallTable, Filter};
 
 // Whether a word is the name of a filter and that of an ABI, with `@` between them.
 fn is_joined(word: &str, name: &str, abi: &str) -> bool

@@ -7,10 +7,10 @@ ghost use Rattle.unit_inputs.specs.Settled.{AreSettled};
 ghost use Rattle.check_command.specs.Prepared.{IsPrepared, inputs_in};
 
 use crate::programs::read_program;
-use filter_check::bpf_code::Program;
+use filter_check::Program;
+use host_io::Shelf;
 use std::alloc::Global;
 use unit_inputs::command_answers::Stop;
-use unit_inputs::host_io::Shelf;
 use unit_inputs::{SettledUnit, read_inputs, settle};
 
 /// All that a comparison is made from.

@@ -7,11 +7,11 @@ ghost use Rattle.unit_inputs.specs.command_answers.Said.{IsSaid};
 ghost use Rattle.check_command.specs.Causes.{file_cause, file_line, placed, program_cause};
 ghost use Rattle.check_command.specs.Programs.{IsProgramIn, IsProgramOf};
 
-use filter_check::bpf_code::{Program, ProgramError};
 use filter_check::filter_lines::{FileError, read_program as read_bytes};
+use filter_check::{Program, ProgramError};
+use host_io::Shelf;
 use std::alloc::{AllocError, Global};
 use unit_inputs::command_answers::{Stop, refuse, refused_line};
-use unit_inputs::host_io::Shelf;
 use unit_inputs::read_input;
 
 // A cause, and the number of the instruction.

@@ -4,9 +4,9 @@ ghost use Rattle.check_command.specs.Lines.{ending_by};
 
 use crate::lines::outcome_line;
 use filter_check::Outcome;
+use host_io::{Sink, SinkError};
 use std::alloc::Global;
 use unit_inputs::command_answers::{Ending, Ready, put_line};
-use unit_inputs::host_io::{Sink, SinkError};
 
 /// What the comparison of a program with a filter of a unit found.
 #[derive(Drop)]

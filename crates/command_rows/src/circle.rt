@@ -2,8 +2,8 @@
 use crate::rows::Rows;
 use crate::runs::run_over;
 use crate::sought::push_line;
+use host_io::are_files;
 use std::alloc::{AllocError, Global};
-use top_call::are_files;
 
 /// Where the script of a list lies.
 const SCRIPT: &str = "list";

@@ -1,9 +1,9 @@
 //! A run over files in memory, with faults or without.
+use host_io::{MemShelf, MemSink, are_files};
 use row_tools::said;
 use std::alloc::{AllocError, Global};
 use top_call::{
-    CustomTest, Facts, MemShelf, MemSink, Question, StoredWish, VerdictRow, Wish, ambient_count,
-    are_files, run, writable_paths,
+    CustomTest, Facts, Question, StoredWish, VerdictRow, Wish, ambient_count, run, writable_paths,
 };
 
 /// What fails in a run, how much the sink takes at once, and what wishes answer.

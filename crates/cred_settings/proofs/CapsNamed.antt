@@ -8,7 +8,7 @@ use Rattle.std.proofs.lemmas.List.Quantifiers.{position-Some}
 use Rattle.std.proofs.lemmas.List.Sums.{position_or_len_is}
 use Rattle.std.proofs.lemmas.Slice.Eq.{bytes_eq-Decides}
 use Rattle.site_table.specs.cap_sets.Names.{names, name_of, in_lower_case}
-use Rattle.site_table.proofs.Caps.Naming.{distinct}
+use Rattle.site_table.proofs.OfCapSets.Naming.{distinct}
 use Rattle.cred_settings.specs.CapNames.{cap_named}
 
 no_cap : (word : List ℕ) → ((k : ℕ) → k ≤ 40 → in_lower_case (name_of k) ≡ in_lower_case word → ⊥) → None ≡ cap_named word

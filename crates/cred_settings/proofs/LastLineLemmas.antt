@@ -9,7 +9,7 @@ use Rattle.dropin_merge.specs.declared.unit_values.lines.Line.{Line}
 use Rattle.dropin_merge.specs.declared.unit_values.listed.Listed.{Listed}
 use Rattle.dropin_merge.specs.unit_values.Listed.{is_reset}
 use Rattle.site_table.specs.cap_sets.Sets.{has, none, all, union}
-use Rattle.site_table.proofs.Caps.Members.{has_union, has_minus, has_none, has_all}
+use Rattle.site_table.proofs.OfCapSets.Members.{has_union, has_minus, has_none, has_all}
 use Rattle.cred_settings.specs.CapNames.{named_caps}
 use Rattle.cred_settings.specs.CapLists.{with_plain, with_inverted, with_line, with_listed, caps_by}
 use Rattle.cred_settings.specs.Writings.{is_name_of}

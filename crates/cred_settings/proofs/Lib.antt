@@ -6,8 +6,8 @@ pub mod LastLineLemmas
 pub mod Folding
 pub mod InRange
 pub mod DynamicUsers
-pub use Rattle.site_table.proofs.Caps as Caps
-pub use Rattle.dropin_merge.proofs as DropinMerge
-pub use Rattle.dropin_merge.proofs.HostIo as HostIo
-pub use Rattle.site_table.proofs as SiteTable
-pub use Rattle.dropin_merge.proofs.TextForms as TextForms
+pub mod OfDropinMerge
+pub mod OfSiteTable
+pub use Rattle.site_table.proofs.OfCapSets as OfCapSets
+pub use Rattle.dropin_merge.proofs.OfHostIo as OfHostIo
+pub use Rattle.dropin_merge.proofs.OfTextForms as OfTextForms

@@ -8,7 +8,7 @@ use Rattle.std.proofs.lemmas.List.Quantifiers.{position-Some}
 use Rattle.std.proofs.lemmas.Slice.Eq.{bytes_eq-Decides}
 use Rattle.site_table.specs.cap_sets.Names.{names, name_of, in_lower_case}
 use Rattle.site_table.specs.cap_sets.Sets.{has, none, union, single}
-use Rattle.site_table.proofs.Caps.Members.{has_none, has_with}
+use Rattle.site_table.proofs.OfCapSets.Members.{has_none, has_with}
 use Rattle.cred_settings.specs.CapNames.{cap_named, named_caps}
 use Rattle.cred_settings.specs.Writings.{is_name_of}
 use Rattle.cred_settings.proofs.CapsNamed.{the_cap}

@@ -6,7 +6,7 @@ use Rattle.std.proofs.lemmas.Bool.{eq-eqb, ne_eqb, eqb-true}
 use Rattle.dropin_merge.specs.declared.unit_values.listed.Listed.{Listed}
 use Rattle.dropin_merge.specs.unit_values.Listed.{is_reset}
 use Rattle.site_table.specs.cap_sets.Sets.{has, none, all, union, minus}
-use Rattle.site_table.proofs.Caps.Members.{same_sets, has_union, has_none}
+use Rattle.site_table.proofs.OfCapSets.Members.{same_sets, has_union, has_none}
 use Rattle.cred_settings.specs.CapNames.{named_caps}
 use Rattle.cred_settings.specs.CapLists.{with_plain, with_line, with_listed, caps_by}
 use Rattle.cred_settings.specs.Writings.{IsLine}

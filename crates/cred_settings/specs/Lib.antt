@@ -13,11 +13,11 @@ pub mod Steps
 pub mod Writings
 pub mod LastLines
 pub mod Ranges
+pub mod dropin_merge
+pub mod site_table
 pub use Rattle.site_table.specs.cap_sets as cap_sets
-pub use Rattle.dropin_merge.specs as dropin_merge
 pub use Rattle.dropin_merge.specs.host_io as host_io
 pub use Rattle.dropin_merge.specs.linux_numbers as linux_numbers
-pub use Rattle.site_table.specs as site_table
 pub use Rattle.dropin_merge.specs.text_forms as text_forms
 pub use Rattle.site_table.specs.toml_shapes as toml_shapes
 pub use Rattle.dropin_merge.specs.unit_grammar as unit_grammar

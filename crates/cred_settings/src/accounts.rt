@@ -1,7 +1,7 @@
 //! Whom a service runs as.
 ghost use Rattle.std.specs.Prelude.{◌≡◌, ◌++◌, ◌∷◌, [], OnOk, OnErr};
 
-use dropin_merge::text_forms::item_list::ItemList;
+use dropin_merge::ItemList;
 use std::alloc::AllocError;
 
 /// Ids of groups in order, which contracts see as a list of numbers.

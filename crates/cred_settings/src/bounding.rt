@@ -5,7 +5,7 @@ ghost use Rattle.cred_settings.specs.Bounding.{bounding_of, bounding_notes};
 use crate::cap_lists::cap_set_of_key;
 use dropin_merge::Resolved;
 use dropin_merge::unit_values::Said;
-use site_table::cap_sets::CapSet;
+use site_table::CapSet;
 use std::alloc::{AllocError, Global};
 
 /// The capabilities that a service can come to at all, by CapabilityBoundingSet=; without it all.

@@ -3,10 +3,9 @@ ghost use Rattle.std.specs.Prelude.{◌≡◌, ◌++◌, IfOk, OnOk, flat_map};
 ghost use Rattle.cred_settings.specs.CapLists.{with_plain, with_inverted, with_listed, caps_by, names_notes, unit_caps, unit_caps_notes};
 
 use crate::cap_names::{named_caps, note_words};
-use dropin_merge::Resolved;
-use dropin_merge::unit_grammar::Text;
 use dropin_merge::unit_values::{FileNote, Listed, Said, lines_of_key};
-use site_table::cap_sets::CapSet;
+use dropin_merge::{Resolved, Text};
+use site_table::CapSet;
 use std::alloc::{AllocError, Global};
 
 // What a plain line with these capabilities makes of a set.

@@ -2,9 +2,9 @@
 ghost use Rattle.std.specs.Prelude.{◌≡◌, ◌≤◌, ◌++◌, IfSome, OnOk, flat_map};
 ghost use Rattle.cred_settings.specs.CapNames.{cap_named, named_caps, word_notes};
 
-use dropin_merge::unit_grammar::{NoteCause, Text};
 use dropin_merge::unit_values::{FileNote, Value, note_value};
-use site_table::cap_sets::CapSet;
+use dropin_merge::{NoteCause, Text};
+use site_table::CapSet;
 use std::alloc::AllocError;
 
 fn cap_named(word: &str) -> Option<u8>

@@ -2,7 +2,7 @@
 ghost use Rattle.std.specs.Prelude.{◌≡◌};
 ghost use Rattle.cred_settings.specs.declared.error.IdentityError.TheVariants.{Memory};
 
-use dropin_merge::unit_grammar::Text;
+use dropin_merge::Text;
 use std::alloc::AllocError;
 use thiserror::Error;
 

@@ -13,9 +13,8 @@ use crate::accounts::{Account, Gids, Identity};
 use crate::error::IdentityError;
 use crate::groups::gid_meant;
 use crate::users::account;
-use dropin_merge::Resolved;
-use dropin_merge::unit_grammar::Text;
 use dropin_merge::unit_values::{Said, Words, last_text_of_key, words_of_key};
+use dropin_merge::{Resolved, Text};
 use site_table::SiteTable;
 use std::alloc::{AllocError, Global};
 

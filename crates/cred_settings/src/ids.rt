@@ -2,7 +2,7 @@
 ghost use Rattle.std.specs.Prelude.{◌≡◌};
 ghost use Rattle.cred_settings.specs.Ids.{id_number};
 
-use dropin_merge::text_forms::read_decimal;
+use dropin_merge::read_decimal;
 
 /// The greatest id. The number above stands for none in setresuid(2) and the like.
 const GREATEST_ID: u64 = 4_294_967_294;

@@ -23,10 +23,16 @@ mod users;
 pub use accounts::{Gids, Identity};
 pub use ambient::ambient_set;
 pub use bounding::bounding_set;
-pub use dropin_merge;
-pub use dropin_merge::{host_io, linux_numbers, text_forms, unit_grammar};
+pub use dropin_merge::unit_values::{
+    FileNote, Place, Value, flag_of_key, in_force, note_value, read_words, service_assignments,
+    values_of_key, words_of_key,
+};
+pub use dropin_merge::{
+    Assignment, Assignments, Held, HeldList, ItemList, Line, NoteCause, Notes, ResolveError,
+    Resolved, Text, UnitError, UnitFile, UnitFiles, UnitText, linux_numbers, push_u64, push_word,
+    read_bool, read_decimal, read_lines, read_text, read_unit, resolve, words,
+};
 pub use error::IdentityError;
 pub use identities::identity_of_unit;
 pub use new_privileges::{is_no_new_privileges_set, no_new_privs};
-pub use site_table;
-pub use site_table::cap_sets;
+pub use site_table::{CapSet, Row, RowCause, RowKind, SiteError, SiteTable, read_site};

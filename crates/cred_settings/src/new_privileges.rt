@@ -5,7 +5,7 @@ ghost use Rattle.cred_settings.specs.NewPrivileges.{is_in_effect, is_set_by, new
 use dropin_merge::Resolved;
 use dropin_merge::linux_numbers::capabilities::CAP_SYS_ADMIN;
 use dropin_merge::unit_values::{Said, flag_of_key};
-use site_table::cap_sets::CapSet;
+use site_table::CapSet;
 use std::alloc::{AllocError, Global};
 
 /// Whether NoNewPrivileges= is in effect: where it is set, and where a filter is on for a service whose uid is not 0

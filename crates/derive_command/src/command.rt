@@ -8,7 +8,8 @@ ghost use Rattle.replay_command.specs.unit_inputs.command_answers.ReadyTexts.{en
 ghost use Rattle.derive_command.specs.Prints.{derive_laws};
 
 use crate::answering::answer;
-use replay_command::{ReadyText, Shelf, Stop, read_inputs, read_script};
+use host_io::Shelf;
+use replay_command::{ReadyText, Stop, read_inputs, read_script};
 use std::alloc::Global;
 
 /// Prepares `derive`, the name of a unit and the path of a script: reads the unit, calls.txt, site.toml and the script, finds the

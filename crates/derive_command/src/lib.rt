@@ -11,7 +11,3 @@ mod command;
 mod refusals;
 
 pub use command::prepare;
-pub use replay_command::{
-    DirShelf, Ending, MemShelf, MemSink, Shelf, Sink, SinkError, StdSink, UnitInputsReady as Ready,
-    VerdictRow, are_files, finish, put_piece, read_decimal,
-};

@@ -14,6 +14,6 @@ pub mod OneMore
 pub mod Looping
 pub mod Folding
 pub mod Sections
-pub use Rattle.host_io.proofs as HostIo
-pub use Rattle.unit_grammar.proofs.TextForms as TextForms
-pub use Rattle.unit_grammar.proofs as UnitGrammar
+pub mod OfHostIo
+pub mod OfUnitGrammar
+pub use Rattle.unit_grammar.proofs.OfTextForms as OfTextForms

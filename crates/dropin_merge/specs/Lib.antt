@@ -7,8 +7,8 @@ pub mod Resolving
 pub mod Steps
 pub mod Winners
 pub mod unit_values
-pub use Rattle.host_io.specs as host_io
+pub mod host_io
+pub mod unit_grammar
+pub mod unit_names
 pub use Rattle.unit_grammar.specs.linux_numbers as linux_numbers
 pub use Rattle.unit_grammar.specs.text_forms as text_forms
-pub use Rattle.unit_grammar.specs as unit_grammar
-pub use Rattle.unit_names.specs as unit_names

@@ -1,9 +1,9 @@
-//! Which files say what a unit is, and what they say.
+//! Finds the files that define a unit, and reads the values that they give to its keys.
 //!
-//! A unit has a fragment and drop-ins that change it, in folders of several locations; systemd.unit(5) has
-//! the rules. It reads them over a `host_io` shelf, each by `unit_grammar`; `exec_settings` reads what they set.
+//! `resolve(alloc, &mut shelf, "web.service")?` has the files in force, in the order of use. They are the unit's fragment and the
+//! drop-ins that change it, from several locations (systemd.unit(5)). The crate reads them from a `host_io` shelf.
 //!
-//! `resolve(alloc, &mut shelf, "web.service")?` has the files in force, in the order of use.
+//! - [`unit_values`]: the values of a key over all files of a unit, as booleans, words or lines.
 #![tactic(auto)]
 
 mod dropins;
@@ -18,9 +18,11 @@ pub mod unit_values;
 mod winners;
 
 pub use errors::ResolveError;
-pub use host_io;
 pub use resolved::{Resolved, UnitFile, UnitFiles};
 pub use resolving::resolve;
-pub use unit_grammar;
-pub use unit_grammar::{linux_numbers, text_forms};
-pub use unit_names;
+pub use unit_grammar::{
+    Assignment, Assignments, Held, HeldList, ItemList, Line, NoteCause, Notes, Text, UnitError,
+    UnitText, linux_numbers, push_u64, push_word, read_bool, read_decimal, read_lines, read_text,
+    read_unit, words,
+};
+pub use unit_names::{NameError, UnitName, expand};

@@ -4,8 +4,7 @@
 ghost use Rattle.std.specs.Prelude.{◌≡◌, ◌++◌, ◌∷◌, [], IfOk};
 
 use std::alloc::{AllocError, Global};
-use unit_grammar::text_forms::item_list::ItemList;
-use unit_grammar::{Text, UnitText};
+use unit_grammar::{ItemList, Text, UnitText};
 use unit_names::UnitName;
 
 /// A file in force.

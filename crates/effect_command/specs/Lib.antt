@@ -4,5 +4,5 @@ pub mod Refusals
 pub mod Prints
 pub mod Told
 pub mod Stopping
-pub use Rattle.judge_command.specs as judge_command
+pub mod judge_command
 pub use Rattle.judge_command.specs.kernel_laws as kernel_laws

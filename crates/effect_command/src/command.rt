@@ -9,7 +9,8 @@ ghost use Rattle.effect_command.specs.Prints.{effect_laws};
 
 use crate::answering::answer;
 use crate::dropin::read_dropin;
-use judge_command::{ReadyText, Shelf, Stop, read_inputs};
+use host_io::Shelf;
+use judge_command::{ReadyText, Stop, read_inputs};
 use std::alloc::Global;
 
 /// Prepares `effect`, the name of a unit and the path of a drop-in: reads the unit, calls.txt, site.toml and the drop-in, finds the

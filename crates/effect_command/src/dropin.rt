@@ -7,8 +7,9 @@ ghost use Rattle.judge_command.specs.unit_inputs.command_answers.Stops.{HasReadC
 ghost use Rattle.judge_command.specs.unit_inputs.UnitRefusals.{text_cause};
 ghost use Rattle.effect_command.specs.Longer.{dropin_in, dropin_said};
 
+use host_io::Shelf;
 use judge_command::{
-    ResolveError, Shelf, Stop, Text, UnitError, UnitText, read_input, read_unit, refuse, unit_line,
+    ResolveError, Stop, Text, UnitError, UnitText, read_input, read_unit, refuse, unit_line,
 };
 use std::alloc::{AllocError, Global};
 

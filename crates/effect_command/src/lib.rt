@@ -17,4 +17,3 @@ mod starting;
 mod telling;
 
 pub use command::prepare;
-pub use judge_command::{Question, Wish};

@@ -10,10 +10,10 @@ ghost use Rattle.effect_command.specs.Told.{changes_at, folder_kinds, folder_lin
 
 use crate::kinds::Kind;
 use crate::lines::{counts_line, folder_line};
+use abs_path::AbsPath;
 use judge_command::verdict_changes::{FolderChange, VerdictChange, folder_change, verdict_change};
 use judge_command::{
-    AbsPath, Asked, Call, CallTable, Question, Row, Service, SiteTable, push_call_lines,
-    question_line,
+    Asked, Call, CallTable, Question, Row, Service, SiteTable, push_call_lines, question_line,
 };
 use std::alloc::{AllocError, Global};
 

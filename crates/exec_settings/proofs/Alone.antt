@@ -7,7 +7,7 @@ use Rattle.cred_settings.specs.dropin_merge.declared.unit_values.value.Place.{Pl
 use Rattle.cred_settings.specs.dropin_merge.declared.unit_values.value.Value.{Value}
 use Rattle.cred_settings.specs.dropin_merge.unit_values.Notes.{note_at, noted}
 use Rattle.cred_settings.specs.dropin_merge.unit_values.Lines.{listed_line}
-use Rattle.cred_settings.proofs.DropinMerge.OneMore.{after_last-push}
+use Rattle.cred_settings.proofs.OfDropinMerge.OneMore.{after_last-push}
 use Rattle.std.proofs.Common.{◌≡◌, ℕ, Bool, true, false, Ok, Option, Some, None, List, [], ◌∷◌, ◌++◌, map, codes, refl, sym, ap, ◌∙◌}
 use Rattle.std.proofs.Common.{append-nil, subst}
 use Rattle.std.specs.Prelude.{◌||◌, ◌&&◌, ◌==◌, not, is_some, nat_lt, length, slice_get, flat_map, Result, filter, find, cond}

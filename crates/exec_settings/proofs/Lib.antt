@@ -11,12 +11,12 @@ pub mod Reasons
 pub mod Seen
 pub mod Whole
 pub mod OtherSites
-pub use Rattle.mount_settings.proofs.AbsPath as AbsPath
-pub use Rattle.cred_settings.proofs.Caps as Caps
-pub use Rattle.cred_settings.proofs as CredSettings
-pub use Rattle.cred_settings.proofs.DropinMerge as DropinMerge
-pub use Rattle.filter_settings.proofs as FilterSettings
-pub use Rattle.cred_settings.proofs.HostIo as HostIo
-pub use Rattle.mount_settings.proofs.PathSettings as PathSettings
-pub use Rattle.cred_settings.proofs.SiteTable as SiteTable
-pub use Rattle.cred_settings.proofs.TextForms as TextForms
+pub mod OfCredSettings
+pub mod OfFilterSettings
+pub use Rattle.mount_settings.proofs.OfAbsPath as OfAbsPath
+pub use Rattle.cred_settings.proofs.OfCapSets as OfCapSets
+pub use Rattle.cred_settings.proofs.OfDropinMerge as OfDropinMerge
+pub use Rattle.cred_settings.proofs.OfHostIo as OfHostIo
+pub use Rattle.mount_settings.proofs.OfPathSettings as OfPathSettings
+pub use Rattle.cred_settings.proofs.OfSiteTable as OfSiteTable
+pub use Rattle.cred_settings.proofs.OfTextForms as OfTextForms

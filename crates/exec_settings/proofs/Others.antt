@@ -15,7 +15,7 @@ use Rattle.cred_settings.specs.dropin_merge.unit_values.Lasting.{unread_notes}
 use Rattle.cred_settings.specs.dropin_merge.unit_values.Lines.{listed_line}
 use Rattle.cred_settings.specs.dropin_merge.unit_values.Listed.{listed, unit_listed, unit_listed_notes}
 use Rattle.cred_settings.specs.dropin_merge.unit_values.Words.{split, unit_words, unit_words_notes, words_in}
-use Rattle.cred_settings.proofs.DropinMerge.Sections.{same_assignments, same_notes, same_values}
+use Rattle.cred_settings.proofs.OfDropinMerge.Sections.{same_assignments, same_notes, same_values}
 use Rattle.filter_settings.specs.call_table.Table.{Table}
 use Rattle.cred_settings.specs.site_table.Table.{Site}
 use Rattle.filter_settings.specs.CallLists.{call_list, call_notes, unit_call_list, unit_call_list_notes}

@@ -7,8 +7,8 @@ use Rattle.cred_settings.specs.unit_grammar.declared.notes.NoteCause.TheVariants
 use Rattle.cred_settings.specs.dropin_merge.declared.unit_values.value.FileNote.{FileNote}
 use Rattle.cred_settings.specs.dropin_merge.declared.unit_values.value.Value.{Value}
 use Rattle.cred_settings.specs.dropin_merge.unit_values.Notes.{notes_at, noted}
-use Rattle.cred_settings.proofs.DropinMerge.Looping.{noted_next}
-use Rattle.cred_settings.proofs.DropinMerge.OneMore.{take_item}
+use Rattle.cred_settings.proofs.OfDropinMerge.Looping.{noted_next}
+use Rattle.cred_settings.proofs.OfDropinMerge.OneMore.{take_item}
 use Rattle.exec_settings.specs.Commands.{is_command, later_causes}
 
 or_false : (a b : Bool) → (a || b) ≡ (a || (b || false))

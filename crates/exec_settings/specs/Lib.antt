@@ -14,15 +14,15 @@ pub mod AreSettings
 pub mod Bare
 pub mod Sections
 pub mod OtherSites
+pub mod cred_settings
+pub mod filter_settings
+pub mod mount_settings
 pub use Rattle.mount_settings.specs.abs_path as abs_path
 pub use Rattle.filter_settings.specs.call_rules as call_rules
 pub use Rattle.filter_settings.specs.call_table as call_table
 pub use Rattle.cred_settings.specs.cap_sets as cap_sets
-pub use Rattle.cred_settings.specs as cred_settings
 pub use Rattle.cred_settings.specs.dropin_merge as dropin_merge
-pub use Rattle.filter_settings.specs as filter_settings
 pub use Rattle.cred_settings.specs.host_io as host_io
-pub use Rattle.mount_settings.specs as mount_settings
 pub use Rattle.mount_settings.specs.path_settings as path_settings
 pub use Rattle.cred_settings.specs.site_table as site_table
 pub use Rattle.cred_settings.specs.text_forms as text_forms

@@ -2,7 +2,7 @@
 ghost use Rattle.std.specs.Prelude.{◌≡◌};
 ghost use Rattle.exec_settings.specs.Bounding.{clock_caps, device_caps, log_caps, module_caps, only_if, taken_caps};
 
-use cred_settings::cap_sets::CapSet;
+use cred_settings::CapSet;
 use cred_settings::linux_numbers::capabilities::{
     CAP_MKNOD, CAP_SYS_MODULE, CAP_SYS_RAWIO, CAP_SYS_TIME, CAP_SYSLOG, CAP_WAKE_ALARM,
 };

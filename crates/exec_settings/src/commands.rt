@@ -7,12 +7,10 @@ ghost use Rattle.cred_settings.specs.unit_grammar.declared.notes.NoteCause.TheVa
 ghost use Rattle.cred_settings.specs.dropin_merge.unit_values.Notes.{notes_at, noted};
 ghost use Rattle.exec_settings.specs.Commands.{is_command, is_prefix, is_unread, keeps_privileges, prefixes_of, behind_prefixes, program_of, command_of_word, command_of, later_causes, unread_note, unit_command, unit_command_notes};
 
-use cred_settings::dropin_merge::Resolved;
-use cred_settings::dropin_merge::unit_values::{
-    FileNote, Value, in_force, note_value, read_words, values_of_key,
+use abs_path::{AbsPath, PathError};
+use cred_settings::{
+    FileNote, NoteCause, Resolved, Value, in_force, note_value, read_words, values_of_key,
 };
-use cred_settings::unit_grammar::NoteCause;
-use mount_settings::abs_path::{AbsPath, PathError};
 use std::alloc::{AllocError, Global};
 
 /// The most bytes that a path in a setting has.

@@ -9,12 +9,9 @@ ghost use Rattle.exec_settings.specs.Refusals.{RefusesFirst, identity_refusal};
 
 use crate::dynamic::is_dynamic;
 use crate::errors::SettingsError;
-use cred_settings::cap_sets::CapSet;
-use cred_settings::dropin_merge::Resolved;
-use cred_settings::dropin_merge::unit_values::FileNote;
-use cred_settings::site_table::SiteTable;
 use cred_settings::{
-    Identity, IdentityError, ambient_set, bounding_set, identity_of_unit, is_no_new_privileges_set,
+    CapSet, FileNote, Identity, IdentityError, Resolved, SiteTable, ambient_set, bounding_set,
+    identity_of_unit, is_no_new_privileges_set,
 };
 use std::alloc::Global;
 

@@ -2,8 +2,7 @@
 ghost use Rattle.std.specs.Prelude.{◌≡◌, ◌++◌, IfOk, OnOk};
 ghost use Rattle.exec_settings.specs.Dynamic.{dynamic_notes, is_dynamic, with_dynamic_user};
 
-use cred_settings::dropin_merge::Resolved;
-use cred_settings::dropin_merge::unit_values::{FileNote, flag_of_key};
+use cred_settings::{FileNote, Resolved, flag_of_key};
 use filter_settings::filter_rules::FilterSettings;
 use std::alloc::{AllocError, Global};
 

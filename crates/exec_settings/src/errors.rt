@@ -2,7 +2,7 @@
 ghost use Rattle.std.specs.Prelude.{◌≡◌};
 ghost use Rattle.exec_settings.specs.declared.errors.SettingsError.TheVariants.{Memory};
 
-use cred_settings::unit_grammar::Text;
+use cred_settings::Text;
 use std::alloc::AllocError;
 use thiserror::Error;
 

@@ -13,13 +13,9 @@ use crate::bounding::taken_caps;
 use crate::dynamic::with_dynamic_user;
 use crate::errors::SettingsError;
 use crate::groups::missing_group;
-use cred_settings::cap_sets::CapSet;
-use cred_settings::dropin_merge::Resolved;
-use cred_settings::dropin_merge::unit_values::FileNote;
-use cred_settings::unit_grammar::Text;
-use filter_settings::call_table::CallTable;
+use cred_settings::{CapSet, FileNote, Resolved, Text};
 use filter_settings::filter_rules::{Filter, FilterSettings, filters};
-use filter_settings::filter_settings;
+use filter_settings::{CallTable, filter_settings};
 use mount_settings::Switches;
 use std::alloc::Global;
 

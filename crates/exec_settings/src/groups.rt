@@ -3,7 +3,7 @@ ghost use Rattle.std.specs.Prelude.{◌≡◌};
 ghost use Rattle.std.specs.Option.{option_copied};
 ghost use Rattle.exec_settings.specs.Groups.{begins_with_default, is_missing, missing_group};
 
-use filter_settings::call_table::CallTable;
+use filter_settings::CallTable;
 use filter_settings::filter_rules::{CallList, FilterSettings, Mode};
 
 // Whether the list begins with `@default`, as one that allows does.

@@ -6,9 +6,7 @@ ghost use Rattle.exec_settings.specs.Keys.{is_judged};
 ghost use Rattle.exec_settings.specs.Judged.{unjudged_at, unjudged_notes};
 
 use crate::keys::{Meaning, keys};
-use cred_settings::dropin_merge::Resolved;
-use cred_settings::dropin_merge::unit_values::{FileNote, Place, service_assignments};
-use cred_settings::unit_grammar::{Assignment, NoteCause};
+use cred_settings::{Assignment, FileNote, NoteCause, Place, Resolved, service_assignments};
 use std::alloc::AllocError;
 
 fn is_named(rows: &[(&str, Meaning)], key: &str) -> bool

@@ -3,7 +3,7 @@ ghost use Rattle.std.specs.Prelude.{◌≡◌, map};
 ghost use Rattle.exec_settings.specs.Keys.{keys};
 
 use Meaning::{Command, Credentials, Filter, Path, Place, Protection, Refused};
-use mount_settings::path_settings::PathKey;
+use mount_settings::PathKey;
 
 /// What a key means here (systemd.exec(5), systemd.service(5)).
 #[derive(Clone, Copy)]

@@ -26,15 +26,24 @@ mod program;
 mod reading;
 mod service;
 
-pub use cred_settings;
 pub use cred_settings::{
-    cap_sets, dropin_merge, host_io, linux_numbers, site_table, text_forms, unit_grammar,
+    Assignment, Assignments, CapSet, FileNote, Held, HeldList, ItemList, Line, Notes, Place,
+    ResolveError, Resolved, Row, RowCause, RowKind, SiteError, SiteTable, Text, UnitError,
+    UnitFile, UnitFiles, UnitText, flag_of_key, identity_of_unit, linux_numbers, push_u64,
+    push_word, read_decimal, read_lines, read_site, read_text, read_unit, resolve,
+    service_assignments, words, words_of_key,
 };
 pub use errors::SettingsError;
-pub use filter_settings;
-pub use filter_settings::call_table;
+pub use filter_settings::filter_rules::{
+    Filter, FilterName, FilterSettings, NamespaceType, all_types, allows_call, permits_family,
+};
+pub use filter_settings::{
+    CallLine, CallTable, CallsCause, CallsError, GroupLine, filter_settings, name_at, read_calls,
+};
 pub use judged::is_judged;
-pub use mount_settings;
-pub use mount_settings::{abs_path, path_settings, unit_names};
+pub use mount_settings::{
+    HomeProtection, Mentions, MountSettingsError, NameError, PathKey, Protections, Switches,
+    SystemProtection, UnitName, WrittenPath, WrittenPaths, expand, mount_settings, written_paths,
+};
 pub use reading::settings;
 pub use service::Settings;

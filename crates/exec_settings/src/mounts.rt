@@ -9,11 +9,8 @@ ghost use Rattle.exec_settings.specs.Mounts.{paths_refusal, unit_mentions, unit_
 ghost use Rattle.exec_settings.specs.Refusals.{RefusesFirst};
 
 use crate::errors::SettingsError;
-use cred_settings::dropin_merge::Resolved;
-use cred_settings::dropin_merge::unit_values::FileNote;
-use cred_settings::site_table::SiteTable;
-use mount_settings::path_settings::Mentions;
-use mount_settings::{MountSettingsError, Switches, WrittenPaths, mount_settings};
+use cred_settings::{FileNote, Resolved, SiteTable};
+use mount_settings::{Mentions, MountSettingsError, Switches, WrittenPaths, mount_settings};
 use std::alloc::Global;
 
 /// The mentions of a unit with these written paths, and what is noted of the keys that protect the file system behind

@@ -5,8 +5,7 @@ ghost use Rattle.exec_settings.specs.Notes.{grammar_notes, grammar_notes_in, tex
 ghost use Rattle.exec_settings.specs.Order.{place_cmp, place_of};
 
 use crate::judged::note_unjudged;
-use cred_settings::dropin_merge::unit_values::{FileNote, Place};
-use cred_settings::dropin_merge::{Resolved, UnitFile};
+use cred_settings::{FileNote, Place, Resolved, UnitFile};
 use std::alloc::{AllocError, Global};
 
 // The notes of one file.

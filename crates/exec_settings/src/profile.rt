@@ -6,10 +6,7 @@ ghost use Rattle.exec_settings.specs.Profile.{asked_by, asks, is_asked, is_outsi
 
 use crate::commands::{Command, Program};
 use crate::keys::{Meaning, keys};
-use cred_settings::dropin_merge::Resolved;
-use cred_settings::dropin_merge::unit_values::service_assignments;
-use cred_settings::text_forms::read_bool;
-use cred_settings::unit_grammar::Assignment;
+use cred_settings::{Assignment, Resolved, read_bool, service_assignments};
 use mount_settings::{WrittenPaths, mentions_root};
 
 // Whether a text asks for what a key is for: an empty one and a false boolean do not.

@@ -11,11 +11,9 @@ ghost use Rattle.exec_settings.specs.Settings.{path_of, unit_program};
 use crate::commands::{Command, Program, launched_command};
 use crate::errors::SettingsError;
 use crate::profile::outside_key;
-use cred_settings::dropin_merge::Resolved;
-use cred_settings::dropin_merge::unit_values::FileNote;
-use cred_settings::unit_grammar::Text;
+use abs_path::AbsPath;
+use cred_settings::{FileNote, Resolved, Text};
 use mount_settings::WrittenPaths;
-use mount_settings::abs_path::AbsPath;
 use std::alloc::Global;
 
 // The program of a command that uses no privileges.

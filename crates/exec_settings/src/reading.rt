@@ -10,10 +10,8 @@ use crate::mounts::read_mentions;
 use crate::notes::{put_in_order, text_notes};
 use crate::program::launched_program;
 use crate::service::Settings;
-use cred_settings::dropin_merge::Resolved;
-use cred_settings::site_table::SiteTable;
-use cred_settings::{Identity, no_new_privs};
-use filter_settings::call_table::CallTable;
+use cred_settings::{Identity, Resolved, SiteTable, no_new_privs};
+use filter_settings::CallTable;
 use mount_settings::written_paths;
 use std::alloc::Global;
 

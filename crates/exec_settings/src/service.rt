@@ -1,10 +1,8 @@
 //! What the settings of a unit are.
-use cred_settings::Gids;
-use cred_settings::cap_sets::CapSet;
-use cred_settings::dropin_merge::unit_values::FileNote;
+use abs_path::AbsPath;
+use cred_settings::{CapSet, FileNote, Gids};
 use filter_settings::filter_rules::Filter;
-use mount_settings::abs_path::AbsPath;
-use mount_settings::path_settings::Mentions;
+use mount_settings::Mentions;
 
 /// The settings of a unit.
 #[derive(Drop)]

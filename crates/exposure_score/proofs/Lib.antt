@@ -17,7 +17,7 @@ pub mod Mapped
 pub mod Telling
 pub mod Weights
 pub mod PolicyWeightsSums
-pub use Rattle.exec_settings.proofs.AbsPath as AbsPath
-pub use Rattle.exec_settings.proofs.DropinMerge as DropinMerge
-pub use Rattle.exec_settings.proofs.SiteTable as SiteTable
-pub use Rattle.exec_settings.proofs.TextForms as TextForms
+pub use Rattle.exec_settings.proofs.OfAbsPath as OfAbsPath
+pub use Rattle.exec_settings.proofs.OfDropinMerge as OfDropinMerge
+pub use Rattle.exec_settings.proofs.OfSiteTable as OfSiteTable
+pub use Rattle.exec_settings.proofs.OfTextForms as OfTextForms

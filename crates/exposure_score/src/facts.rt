@@ -3,8 +3,7 @@
 ghost use Rattle.std.specs.Prelude.{◌<◌, ◌^◌};
 
 use crate::policy_file::TestId;
-use exec_settings::cap_sets::CapSet;
-use exec_settings::text_forms::item_list::ItemList;
+use exec_settings::{CapSet, ItemList};
 
 /// How bad a service is by one test that its settings decide.
 #[derive(Drop)]

@@ -1,10 +1,13 @@
-//! The exposure of a service: what its sandbox leaves open, weighed by a policy.
+//! Scores what the sandbox of a service leaves open, weighed by a policy.
 //!
-//! Each test of a policy has a badness, by a fact of the service's settings or by a stored test that is handed in; the more
-//! of its range that is, the more of its weight counts. It stands on `policy_file` for policies and on `cap_sets` for the
-//! sets of capabilities among the facts.
+//! `score(alloc, &policy, &facts, &tests)?.exposure` is 0 if no test is bad, and 100 if every test is as bad as its range allows.
+//! A test takes its badness from a fact of the service's settings, or else from a stored test that the caller passes. Its term is
+//! `ceil(min(badness, range) * weight / range)`. The exposure is `ceil(100 * terms / weights)`, over the sums of both.
 //!
-//! `score(alloc, &policy, &facts, &tests)?.exposure` is 0 where nothing is bad and 100 where everything is.
+//! - [`laws`]: laws of the rounding and the bounds of scores.
+//! - [`policy_file`]: policies, which are JSON objects.
+//! - [`policy_weights`]: whether a policy gives weight to any test, whatever the service.
+//! - [`service_facts`]: the facts of a unit that tests look at (systemd-analyze(1), security).
 #![tactic(auto)]
 
 mod arithmetic;
@@ -24,7 +27,9 @@ pub use crate::policy_file::TestId as FactId;
 pub use custom_test::{Check, CustomTest, Stored};
 pub use error::ScoreError;
 pub use exec_settings::{
-    abs_path, call_table, cap_sets, dropin_merge, site_table, text_forms, unit_grammar,
+    Assignment, Assignments, CallLine, CallTable, CapSet, FileNote, Notes, Place, ResolveError,
+    Resolved, Row, RowKind, SiteTable, Text, UnitError, UnitFile, UnitFiles, UnitText, name_at,
+    push_u64, push_word, read_unit, resolve, service_assignments,
 };
 pub use facts::{Fact, FactList, Facts};
 pub use rows::{Score, ScoreRow, ScoreRows};

@@ -1,7 +1,7 @@
 //! The type of a score: what each test of a policy came to, and the exposure.
 
 use crate::policy_file::TestId;
-use exec_settings::text_forms::item_list::ItemList;
+use exec_settings::ItemList;
 
 /// What one test of a policy came to. Where it is skipped, its numbers are 0.
 #[derive(Drop)]

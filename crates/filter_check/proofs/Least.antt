@@ -10,7 +10,7 @@ use Rattle.seccomp_compile.specs.bpf_code.declared.machine.Insn.{Insn}
 use Rattle.seccomp_compile.specs.bpf_code.declared.machine.CallData.{CallData}
 use Rattle.seccomp_compile.specs.bpf_code.Effects.{words_of}
 use Rattle.seccomp_compile.specs.bpf_code.Meaning.{Answers}
-use Rattle.seccomp_compile.proofs.BpfCode.Endings.{run_by_answers, only_answer_by_run}
+use Rattle.seccomp_compile.proofs.OfBpfCode.Endings.{run_by_answers, only_answer_by_run}
 use Rattle.filter_check.specs.filter_paths.Regions.{IsWithin}
 use Rattle.filter_check.specs.filter_paths.Walked.{AreEndsFor, IsEndFor}
 use Rattle.filter_check.specs.declared.filter_paths.states.End.{End}

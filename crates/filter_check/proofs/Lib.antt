@@ -14,4 +14,4 @@ pub mod OnePath
 pub mod Told
 pub mod Lined
 pub mod Read
-pub use Rattle.seccomp_compile.proofs.BpfCode as BpfCode
+pub use Rattle.seccomp_compile.proofs.OfBpfCode as OfBpfCode

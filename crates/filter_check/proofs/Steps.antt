@@ -20,8 +20,8 @@ use Rattle.seccomp_compile.specs.bpf_code.Ops.{op_of}
 use Rattle.seccomp_compile.specs.bpf_code.Effects.{effect_by, effect_of, words_of, holds}
 use Rattle.seccomp_compile.specs.bpf_code.Accepted.{fault_by, op_fault, is_return}
 use Rattle.seccomp_compile.specs.bpf_code.Reading.{IsProgram}
-use Rattle.seccomp_compile.proofs.BpfCode.FirstFaults.{fine_at, ends_by_last}
-use Rattle.seccomp_compile.proofs.BpfCode.Runs.{unless_none}
+use Rattle.seccomp_compile.proofs.OfBpfCode.FirstFaults.{fine_at, ends_by_last}
+use Rattle.seccomp_compile.proofs.OfBpfCode.Runs.{unless_none}
 use Rattle.filter_check.specs.filter_paths.Comparing.{compares}
 use Rattle.filter_check.specs.filter_paths.Regions.{IsWithin, sets_of, held_word}
 use Rattle.filter_check.specs.filter_paths.Covered.{Comes, EndsAt, IsComparison, LeadsOn, LeadsAll}

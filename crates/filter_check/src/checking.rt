@@ -12,9 +12,7 @@ ghost use Rattle.filter_check.specs.Finding.{Finds, IsLeastByRules, wanted_by};
 use crate::differences::{Difference, least_difference};
 use crate::filter_paths::{End, all_ends, first_foreign};
 use crate::outcome::{CheckError, Outcome};
-use seccomp_compile::bpf_code::{Insn, Program};
-use seccomp_compile::call_rules::RuleSet;
-use seccomp_compile::compile;
+use seccomp_compile::{Insn, Program, RuleSet, compile};
 use std::alloc::{AllocError, Global};
 
 /// How many paths a program may have.

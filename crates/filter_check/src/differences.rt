@@ -6,7 +6,7 @@ ghost use Rattle.filter_check.specs.Differing.{IsLeastFrom, IsLesser};
 
 use crate::filter_paths::{End, ends_within};
 use crate::order::comes_before;
-use seccomp_compile::bpf_code::{CallData, Insn};
+use seccomp_compile::{CallData, Insn};
 use std::alloc::{AllocError, Global};
 
 /// Call data at which two programs answer otherwise, and both answers.

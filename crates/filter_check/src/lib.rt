@@ -1,8 +1,11 @@
-//! Whether a program of another maker decides every call as the rules of a filter do.
+//! Checks whether a seccomp(2) program from elsewhere decides every call as the rules of a filter do.
 //!
-//! It stands on `filter_paths` for the paths of programs and on `seccomp_compile` for the program of the rules:
-//! `check(alloc, &program, &rules)?` is `Same` with the number of paths, or `Differs` with the least call data at which the two
-//! answer otherwise.
+//! If they agree on every call, `check(alloc, &program, &rules)?` is `Same` with the number of paths. Otherwise it is `Differs`
+//! with the least call data at which their answers differ.
+//!
+//! - [`filter_lines`]: a program as lines of hex digits.
+//! - [`filter_paths`]: the paths of a program, and the call data that take each path.
+//! - [`word_sets`]: sets of 32-bit words.
 #![tactic(auto)]
 
 mod checking;
@@ -17,5 +20,6 @@ pub mod word_sets;
 pub use checking::check;
 pub use laws::one_finding;
 pub use outcome::{CheckError, Outcome};
-pub use seccomp_compile;
-pub use seccomp_compile::{bpf_code, call_rules};
+pub use seccomp_compile::{
+    Action, CallData, CallRules, Program, ProgramError, RuleSet, Stack, can_compile, run,
+};

@@ -4,7 +4,7 @@ ghost use Rattle.std.specs.Bool.{OnTrue, OnFalse};
 ghost use Rattle.seccomp_compile.specs.bpf_code.Effects.{words_of};
 ghost use Rattle.filter_check.specs.Order.{IsNotAfter};
 
-use seccomp_compile::bpf_code::CallData;
+use seccomp_compile::CallData;
 
 fn low(number: u64) -> u32
     ensures { result ≡ number % 2 ^ 32 }

@@ -2,7 +2,7 @@
 ghost use Rattle.std.specs.Prelude.{◌≡◌};
 ghost use Rattle.filter_check.specs.declared.outcome.CheckError.TheVariants.{Memory};
 
-use seccomp_compile::bpf_code::CallData;
+use seccomp_compile::CallData;
 use std::alloc::AllocError;
 use thiserror::Error;
 

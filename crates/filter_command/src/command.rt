@@ -12,11 +12,10 @@ ghost use Rattle.filter_command.specs.Prints.{ending_of, filter_laws, filters_te
 
 use crate::lines::count_line;
 use crate::printing::print_filters;
-use launcher::filter_settings::filter_rules::Filter;
-use launcher::{FilterPrograms, compile_all};
+use host_io::{Shelf, Sink, SinkError};
+use launcher::{Filter, FilterPrograms, compile_all};
 use std::alloc::Global;
 use unit_inputs::command_answers::{Ending, Ready, Stop, put_line};
-use unit_inputs::host_io::{Shelf, Sink, SinkError};
 use unit_inputs::settle_unit;
 
 /// The compiled filters of a unit, ready to be printed.

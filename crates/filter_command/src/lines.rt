@@ -2,8 +2,7 @@
 ghost use Rattle.std.specs.Prelude.{◌≡◌, ◌<◌, ◌++◌, flat_map, IfOk, OnOk};
 ghost use Rattle.filter_command.specs.Lines.{count_line, head_line, hex_byte, hex_digit, insn_line};
 
-use launcher::FilterProgram;
-use launcher::bpf_code::Insn;
+use launcher::{FilterProgram, Insn};
 use std::alloc::{AllocError, Global};
 
 fn lower_digit(n: u8) -> u8

@@ -4,11 +4,10 @@ ghost use Rattle.unit_inputs.specs.command_answers.Printing.{HasWriteCause, Take
 ghost use Rattle.filter_command.specs.Lines.{filter_text, insn_line};
 
 use crate::lines::{head_line, insn_line};
-use launcher::FilterProgram;
-use launcher::bpf_code::Insn;
+use host_io::{Sink, SinkError};
+use launcher::{FilterProgram, Insn};
 use std::alloc::Global;
 use unit_inputs::command_answers::put_line;
-use unit_inputs::host_io::{Sink, SinkError};
 
 // Prints instructions.
 fn print_insns<K: Sink>(alloc: Global, insns: &[Insn], out: &mut K) -> Result<(), SinkError>

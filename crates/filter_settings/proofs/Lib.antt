@@ -18,5 +18,5 @@ pub mod SuitedModes
 pub mod SuitedNamespaces
 pub mod SuitedSimple
 pub mod Walked
-pub use Rattle.call_rules.proofs.BpfCode as BpfCode
-pub use Rattle.call_table.proofs as CallTable
+pub mod OfCallTable
+pub use Rattle.call_rules.proofs.OfBpfCode as OfBpfCode

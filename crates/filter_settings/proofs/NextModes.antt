@@ -2,7 +2,7 @@
 use Rattle.std.proofs.Common.{◌≡◌, ℕ, ◌+◌, ◌<◌, Bool, true, false, cond, Some, None, List, [], ◌∷◌, ◌++◌, length, take, get_or, refl, ap}
 use Rattle.std.proofs.Common.{◌∙◌, sym, append_assoc}
 use Rattle.std.specs.Prelude.{unwrap_or}
-use Rattle.dropin_merge.proofs.UnitGrammar.Befores.{given_more}
+use Rattle.dropin_merge.proofs.OfUnitGrammar.Befores.{given_more}
 use Rattle.dropin_merge.specs.declared.unit_values.listed.Listed.{Listed}
 use Rattle.dropin_merge.specs.declared.unit_values.value.FileNote.{FileNote}
 use Rattle.dropin_merge.specs.unit_values.Listed.{is_reset}

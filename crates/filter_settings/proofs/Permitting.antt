@@ -4,7 +4,7 @@ use Rattle.std.specs.Prelude.{◌||◌, ◌&&◌, not, unwrap_or}
 use Rattle.std.specs.List.{filter_map, list_any}
 use Rattle.std.proofs.lemmas.List.Folds.{list_any-append}
 use Rattle.dropin_merge.specs.unit_grammar.Before.{with_before, last_of}
-use Rattle.dropin_merge.proofs.UnitGrammar.Befores.{last_more}
+use Rattle.dropin_merge.proofs.OfUnitGrammar.Befores.{last_more}
 use Rattle.dropin_merge.specs.declared.unit_values.listed.Listed.{Listed}
 use Rattle.dropin_merge.specs.unit_values.Listed.{is_reset}
 use Rattle.dropin_merge.proofs.OneMore.{after_last-push, take_item, unwrap_later}

@@ -6,7 +6,7 @@ use Rattle.std.specs.Str.{bytes_eq, byte as ascii}
 use Rattle.std.proofs.lemmas.List.Elements.{All-append, All-nil, All-cons}
 use Rattle.dropin_merge.specs.linux_numbers.Limits.{max_errno}
 use Rattle.dropin_merge.specs.text_forms.Errnos.{errno_value}
-use Rattle.dropin_merge.proofs.TextForms.Bounded.{errno_bounded}
+use Rattle.dropin_merge.proofs.OfTextForms.Bounded.{errno_bounded}
 use Rattle.dropin_merge.specs.unit_grammar.Kinds.{cut_at}
 use Rattle.dropin_merge.specs.declared.resolved.Resolved.{Resolved}
 use Rattle.dropin_merge.specs.declared.unit_values.listed.Listed.{Listed}

@@ -9,7 +9,7 @@ pub mod Namespaces
 pub mod Settings
 pub mod Steps
 pub mod filter_rules
+pub mod call_rules
+pub mod call_table
 pub use Rattle.call_rules.specs.bpf_code as bpf_code
-pub use Rattle.call_rules.specs as call_rules
-pub use Rattle.call_table.specs as call_table
 pub use Rattle.dropin_merge.specs.linux_numbers as linux_numbers

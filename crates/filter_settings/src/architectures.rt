@@ -4,11 +4,10 @@ ghost use Rattle.std.specs.List.{list_any};
 ghost use Rattle.filter_settings.specs.Architectures.{is_second, is_abi_name, value_words, is_read, word_notes, value_notes, unit_refuses_second, unit_architectures_notes};
 
 use call_table::CallTable;
-use dropin_merge::Resolved;
-use dropin_merge::unit_grammar::{NoteCause, Text};
 use dropin_merge::unit_values::{
     FileNote, Said, Value, in_force, note_value, read_words, values_of_key, words_of_key,
 };
+use dropin_merge::{NoteCause, Resolved, Text};
 use std::alloc::{AllocError, Global};
 
 // Whether the second ABI of the table has this name.

@@ -8,7 +8,7 @@ use crate::lines::in_force;
 use crate::list_words::{add_lines, note_words};
 use crate::modes::{mode_of, next_mode};
 use call_table::CallTable;
-use dropin_merge::unit_grammar::Text;
+use dropin_merge::Text;
 use dropin_merge::unit_values::{FileNote, Listed};
 use std::alloc::{AllocError, Global};
 

@@ -11,8 +11,8 @@ use crate::filter_rules::{Mention, Mode};
 use crate::list_words::ListMention;
 use call_rules::Action;
 use call_table::{CallTable, behind_at};
-use dropin_merge::unit_grammar::{NoteCause, Text};
 use dropin_merge::unit_values::{FileNote, Value, note_value};
+use dropin_merge::{NoteCause, Text};
 use std::alloc::{AllocError, Global};
 
 /// A word of a line.

@@ -2,9 +2,8 @@
 ghost use Rattle.std.specs.Prelude.{◌≡◌, IfOk};
 ghost use Rattle.filter_settings.specs.ErrorActions.{error_action, default_action, error_action_value, unit_error_action, unit_error_action_notes};
 
-use call_rules::Action;
+use call_rules::{Action, errno_number};
 use dropin_merge::Resolved;
-use dropin_merge::text_forms::errno_number;
 use dropin_merge::unit_values::{KeyValue, Said, last_of_key};
 use std::alloc::{AllocError, Global};
 

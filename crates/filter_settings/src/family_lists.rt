@@ -9,8 +9,8 @@ use crate::lines::in_force;
 use crate::list_words::{ListMention, add_lines, note_words};
 use crate::modes::{list_mode, mode_of};
 use call_table::CallTable;
-use dropin_merge::unit_grammar::{NoteCause, Text};
 use dropin_merge::unit_values::{FileNote, Listed, Value, note_value};
+use dropin_merge::{NoteCause, Text};
 use std::alloc::{AllocError, Global};
 
 fn is_none_word(words: &[Text]) -> bool

@@ -1,10 +1,9 @@
-//! What the keys of the system call filters say.
+//! Reads the settings of a unit that ask for system call filters, and turns them into rules.
 //!
-//! The values that a unit gives to a key are read in their order, and what cannot be read is noted and passed over;
-//! systemd.exec(5) has the keys. It stands on `unit_values` for the values, on `call_table` for names and numbers,
-//! and on `filter_rules` for what the settings are.
+//! `filter_settings(alloc, &unit, &table)?` has the settings that `filter_rules::filters` takes, and notes. The crate reads the
+//! values of each key in their order (systemd.exec(5)). It ignores what it cannot read or does not know, and notes it.
 //!
-//! `filter_settings(alloc, &unit, &table)?` has the settings that `filter_rules::filters` takes, with the notes.
+//! - [`filter_rules`]: what the filters of settings mean, and their rules.
 #![tactic(auto)]
 
 mod architectures;
@@ -20,7 +19,9 @@ mod modes;
 mod namespaces;
 mod settings;
 
-pub use call_rules::bpf_code;
-pub use call_table;
+pub use call_rules::{CallData, Decision, Insn, Program};
+pub use call_table::call_names::is_known;
+pub use call_table::call_words::name_at;
+pub use call_table::{CallLine, CallTable, CallsCause, CallsError, GroupLine, read_calls};
 pub use dropin_merge::linux_numbers;
 pub use settings::filter_settings;

@@ -4,10 +4,9 @@ ghost use Rattle.filter_settings.specs.Namespaces.{switch_of, is_plain, has_word
 ghost use Rattle.filter_settings.specs.Steps.{next_type, next_types, next_plain};
 
 use crate::filter_rules::{NamespaceType, NamespaceTypes, all_types};
-use dropin_merge::Resolved;
-use dropin_merge::text_forms::read_bool;
-use dropin_merge::unit_grammar::{NoteCause, Text};
+use call_rules::read_bool;
 use dropin_merge::unit_values::{FileNote, Line, Listed, Said, Value, lines_of_key, note_value};
+use dropin_merge::{NoteCause, Resolved, Text};
 use std::alloc::{AllocError, Global};
 
 // What a value is by itself: true permits no type, false permits all.

@@ -9,4 +9,4 @@ pub mod Taking
 pub mod Keyed
 pub mod Named
 pub mod FleetNamesAsked
-pub use Rattle.score_command.proofs as OfScoreCommand
+pub mod OfScoreCommand

@@ -6,5 +6,5 @@ pub mod Prints
 pub mod Asking
 pub mod fleet_report
 pub mod fleet_names
+pub mod score_command
 pub use Rattle.score_command.specs.exposure_score as exposure_score
-pub use Rattle.score_command.specs as score_command

@@ -10,7 +10,8 @@ ghost use Rattle.fleet_command.specs.Prints.{ending_of, fleet_laws, text_of};
 use crate::preparing::read_all;
 use crate::ready::Fleet;
 use crate::reporting::report;
-use score_command::{CustomTest, Shelf, Stop, Stored};
+use host_io::Shelf;
+use score_command::{CustomTest, Stop, Stored};
 use std::alloc::Global;
 
 /// Prepares `fleet` and the path of a policy: names the units, reads calls.txt, site.toml and the policy, finds the first refusal

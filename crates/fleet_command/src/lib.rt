@@ -19,4 +19,3 @@ mod wording;
 
 pub use command::prepare;
 pub use ready::Fleet;
-pub use score_command::{CustomTest, Facts, Stored, ambient_count, writable_paths};

@@ -7,7 +7,8 @@ ghost use Rattle.score_command.specs.unit_inputs.Asking.{AsksInOrder};
 ghost use Rattle.fleet_command.specs.Refusals.{names_in};
 
 use crate::fleet_names::{NamesError, fleet_names};
-use score_command::{Shelf, Stop, UnitName, refuse, refused_line};
+use host_io::Shelf;
+use score_command::{Stop, UnitName, refuse, refused_line};
 use std::alloc::Global;
 
 /// The names of the units in byte order, or the line that there are too many.

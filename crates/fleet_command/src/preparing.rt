@@ -8,8 +8,9 @@ ghost use Rattle.fleet_command.specs.Inputs.{AreInputs, inputs_view};
 ghost use Rattle.fleet_command.specs.Refusals.{read_refusals};
 
 use crate::naming::read_names;
+use host_io::Shelf;
 use score_command::{
-    CallTable, Policy, Shelf, SiteTable, Stop, UnitName, read_policy, read_site, read_table,
+    CallTable, Policy, SiteTable, Stop, UnitName, read_policy, read_site, read_table,
 };
 use std::alloc::Global;
 

@@ -5,7 +5,8 @@ ghost use Rattle.fleet_command.specs.Texts.{fleet_text, row_line};
 
 use crate::fleet_report::FleetRow;
 use crate::wording::{count_refused, counts_line, row_line};
-use score_command::{Sink, SinkError, put_line};
+use host_io::{Sink, SinkError};
+use score_command::put_line;
 use std::alloc::Global;
 
 // Prints what came of each unit.

@@ -2,7 +2,8 @@
 
 use crate::fleet_report::FleetRow;
 use crate::printing::print_fleet;
-use score_command::{Ending, Sink, SinkError, UnitInputsReady as Ready};
+use host_io::{Sink, SinkError};
+use score_command::{Ending, UnitInputsReady as Ready};
 use std::alloc::Global;
 
 /// What came of all units.

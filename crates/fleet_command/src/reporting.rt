@@ -11,7 +11,8 @@ ghost use Rattle.fleet_command.specs.Reports.{AreFleet};
 
 use crate::fleet_report::{FleetError, FleetRow, fleet};
 use crate::preparing::FleetInputs;
-use score_command::{CustomTest, Shelf, Stop, Stored, refuse, refused_line};
+use host_io::Shelf;
+use score_command::{CustomTest, Stop, Stored, refuse, refused_line};
 use std::alloc::Global;
 
 /// The rows of the units by the policy of this path, or the line of a policy that weighs nothing, which is told before a unit is

@@ -1,12 +1,12 @@
 pub mod Sites
 pub mod Worlds
 pub mod Alike
+pub mod ceilings
 pub use Rattle.ceilings.specs.abs_path as abs_path
 pub use Rattle.ceilings.specs.bpf_code as bpf_code
 pub use Rattle.ceilings.specs.call_rules as call_rules
 pub use Rattle.ceilings.specs.call_table as call_table
 pub use Rattle.ceilings.specs.cap_sets as cap_sets
-pub use Rattle.ceilings.specs as ceilings
 pub use Rattle.ceilings.specs.cred_settings as cred_settings
 pub use Rattle.ceilings.specs.dropin_merge as dropin_merge
 pub use Rattle.ceilings.specs.exec_settings as exec_settings

@@ -14,10 +14,9 @@ ghost use Rattle.ceilings.specs.kernel_ways.Blindness.{IsExposed};
 ghost use Rattle.ceilings.specs.kernel_ways.Laws.{IsServedWorld};
 ghost use Rattle.ceilings.specs.Own.{IsCeilingOf};
 
-use ceilings::{
-    AbsPath, Ceiling, Launched, MountStep, MountTable, Power, What, World, is_covered,
-    launched_table,
-};
+use abs_path::AbsPath;
+use ceilings::{Ceiling, Launched, MountStep, MountTable, What, is_covered, launched_table};
+use questions::{Power, World};
 
 // Whether no entry behind this number covers the path that the front and the rest make, or what covers it can be taken away.
 fn is_clear(table: &MountTable, at: usize, front: &AbsPath, rest: &str, uncover: bool) -> bool

@@ -9,7 +9,8 @@ ghost use Rattle.ceilings.specs.kernel_ways.Laws.{IsServedWorld, IsShown};
 ghost use Rattle.ceilings.specs.Own.{IsCeilingOf};
 
 use crate::open::is_open;
-use ceilings::{Ceiling, Launched, Question, Verdict};
+use ceilings::{Ceiling, Launched};
+use questions::{Question, Verdict};
 
 /// The verdict on a question of the list, for a launched service and its own ceiling. It is denied where no process of any
 /// run of calls, in any order and of however many processes, ever does or has what is asked: over forks, programs that are

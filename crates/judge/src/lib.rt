@@ -18,11 +18,10 @@ mod two_sites;
 
 pub use blindness::blind;
 pub use ceilings::{
-    AbsPath, Call, CallTable, Ceiling, FileNote, FilterProgram, Flags, LaunchError, Launched,
-    Mentions, MountStep, MountSteps, MountTable, PathError, Place, PlanError, Question, Reply,
-    ResolveError, Resolved, Row, RowKind, Settings, SettingsError, SiteTable, UnitFile, UnitFiles,
-    Verdict, What, Wish, World, blindness as kernel_ways_blindness, ceiling, fits, is_judged,
-    launch, openness, plan, service_assignments, settings,
+    Ceiling, FilterProgram, Flags, LaunchError, Launched, Mentions, MountStep, MountSteps,
+    MountTable, PlanError, Settings, SettingsError, What, blindness as kernel_ways_blindness,
+    ceiling, is_judged, launch, openness, plan, settings,
 };
 pub use judging::verdict;
+pub use questions::{Call, Reply, World, fits};
 pub use two_sites::alike;

@@ -11,10 +11,8 @@ ghost use Rattle.ceilings.specs.kernel_laws.declared.question_types.question.Que
 ghost use Rattle.ceilings.specs.kernel_laws.Launched.{Launch, can_make_user, launch_of, lets, lets_line};
 ghost use Rattle.ceilings.specs.Own.{IsCeilingOf};
 
-use ceilings::{
-    CAP_SYS_ADMIN, CallKind, CallLine, Ceiling, NamespaceType, World, can_make_user, is_known,
-    plain_line_at,
-};
+use ceilings::{CAP_SYS_ADMIN, CallLine, Ceiling, can_make_user, is_known, plain_line_at};
+use questions::{CallKind, NamespaceType, World};
 
 // Whether the capability, if one is asked for, can become effective.
 fn can_have_cap(top: &Ceiling, cap: Option<u8>) -> bool

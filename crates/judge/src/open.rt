@@ -8,7 +8,8 @@ ghost use Rattle.ceilings.specs.Own.{IsCeilingOf};
 use crate::ids::{is_gid_open, is_uid_open};
 use crate::lines::{is_call_open, is_namespace_open, is_socket_open, passes};
 use crate::rows::is_path_open;
-use ceilings::{CallKind, Ceiling, Question, World};
+use ceilings::Ceiling;
+use questions::{CallKind, Question, World};
 
 // Whether the question is open, by the ceiling of the launched world and the calls that its filters let through.
 pub(crate) fn is_open(world: &World<'_>, ceiling: &Ceiling, question: &Question) -> bool

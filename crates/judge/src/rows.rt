@@ -8,7 +8,8 @@ ghost use Rattle.ceilings.specs.Leads.{leads_of};
 ghost use Rattle.ceilings.specs.Own.{IsCeilingOf};
 
 use crate::lines::makes_user;
-use ceilings::{Ceiling, Power, Row, RowLeads, Wish, World, is_barred, reach_by};
+use ceilings::{Ceiling, Row, RowLeads, is_barred, reach_by};
+use questions::{Power, Wish, World};
 
 // Whether execve refuses the row by its marks on every table that the power makes, and in every user namespace: only mount(2) makes
 // a mount on which they are not looked at, MS_NOSUID, and in a newer user namespace the bounding set is full.

@@ -18,7 +18,8 @@ ghost use Rattle.ceilings.specs.site_table.declared.kinds.RowKind.TheVariants.{D
 ghost use Rattle.judge.specs.Alike.{IsAlike};
 ghost use Rattle.judge.specs.Sites.{AgreeForUnit};
 
-use ceilings::{AbsPath, CallTable, FilterProgram, Resolved, SiteTable};
+use abs_path::AbsPath;
+use ceilings::{CallTable, FilterProgram, Resolved, SiteTable};
 
 // What holds of every site; its parts are lent with it.
 fn know_site(site: &SiteTable)

@@ -8,6 +8,6 @@ pub mod Lent
 pub mod InOrder
 pub mod Found
 pub mod Changed
-pub use Rattle.asked_service.proofs as OfAskedService
+pub mod OfAskedService
 pub use Rattle.asked_service.proofs.OfReportText as OfReportText
 pub use Rattle.asked_service.proofs.OfUnitInputs as OfUnitInputs

@@ -8,8 +8,9 @@ pub mod Started
 pub mod Prints
 pub mod Lent
 pub mod verdict_changes
+pub mod asked_service
+pub mod open_calls
 pub use Rattle.asked_service.specs.abs_path as abs_path
-pub use Rattle.asked_service.specs as asked_service
 pub use Rattle.asked_service.specs.call_table as call_table
 pub use Rattle.asked_service.specs.dropin_merge as dropin_merge
 pub use Rattle.asked_service.specs.exec_settings as exec_settings
@@ -20,7 +21,6 @@ pub use Rattle.asked_service.specs.kernel_model as kernel_model
 pub use Rattle.asked_service.specs.kernel_ways as kernel_ways
 pub use Rattle.asked_service.specs.launcher as launcher
 pub use Rattle.asked_service.specs.mount_plan as mount_plan
-pub use Rattle.open_calls.specs as open_calls
 pub use Rattle.asked_service.specs.report_text as report_text
 pub use Rattle.asked_service.specs.site_table as site_table
 pub use Rattle.asked_service.specs.text_forms as text_forms

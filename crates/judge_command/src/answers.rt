@@ -7,10 +7,10 @@ ghost use Rattle.judge_command.specs.Lent.{IsServiceOf};
 
 use crate::asking::Asked;
 use crate::counting::denied_once;
-use asked_service::{
-    Question, Sink, SinkError, Verdict, open_lines, put_lines, verdict, verdict_line,
-};
+use asked_service::{open_lines, put_lines, verdict, verdict_line};
+use host_io::{Sink, SinkError};
 use open_calls::{Service, calls};
+use questions::{Question, Verdict};
 use std::alloc::{AllocError, Global};
 
 // The lines of the answer to a question, of which this is found; below one that is open the calls that show it.

@@ -5,8 +5,8 @@ ghost use Rattle.asked_service.specs.kernel_ways.Laws.{IsServedWorld};
 ghost use Rattle.asked_service.specs.kernel_ways.Offers.{RunsProgram};
 ghost use Rattle.judge_command.specs.Asked.{IsAsked};
 
-use asked_service::{Bounded, Launched, Question, bound};
-use questions::questions;
+use asked_service::{Bounded, Launched, bound};
+use questions::{Question, questions};
 use std::alloc::{AllocError, Global};
 
 /// A launched service, with what bounds its processes, and all that is asked of it.

@@ -13,7 +13,8 @@ use crate::launching::{ending_behind, start};
 use crate::preparing::{Prepared, prepare};
 use crate::printing::print_report;
 use crate::reasons::truths;
-use asked_service::{Ending, Shelf, Sink, ending_after, finish_stop};
+use asked_service::{Ending, ending_after, finish_stop};
+use host_io::{Shelf, Sink};
 use std::alloc::Global;
 
 // Launches what is prepared and prints the report.

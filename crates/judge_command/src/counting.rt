@@ -2,7 +2,7 @@
 ghost use Rattle.std.specs.Prelude.{◌≡◌};
 ghost use Rattle.judge_command.specs.Asked.{denied_once};
 
-use asked_service::Verdict;
+use questions::Verdict;
 
 /// How many of one answer are denied.
 pub(crate) fn denied_once(found: Verdict) -> usize

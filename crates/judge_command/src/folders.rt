@@ -5,7 +5,9 @@ ghost use Rattle.asked_service.specs.report_text.Answers.{blind_line};
 ghost use Rattle.judge_command.specs.Asked.{IsAsked, IsRowIn, folder_text, is_named};
 
 use crate::asking::Asked;
-use asked_service::{AbsPath, Row, RowKind, Sink, SinkError, blind, push_blind_line, put_line};
+use abs_path::AbsPath;
+use asked_service::{Row, RowKind, blind, push_blind_line, put_line};
+use host_io::{Sink, SinkError};
 use std::alloc::{AllocError, Global};
 
 /// Whether a row is a folder that is blind. It takes no memory.

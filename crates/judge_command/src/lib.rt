@@ -22,14 +22,14 @@ pub use asked_service::launched_units::{UnitRefusal, launch_whole};
 pub use asked_service::started_units::start;
 pub use asked_service::unit_launch::{LaunchRefusal, UnitLaunch, refusal_line};
 pub use asked_service::{
-    AbsPath, Bounded, Call, CallTable, Ending, Launched, Place, Question, Ready, ReadyText,
-    ResolveError, Resolved, Row, Shelf, Sink, SinkError, SiteTable, Stop, Text, UnitError,
-    UnitFile, UnitText, Verdict, Wish, bound, count_open, open_lines, push_call_lines, push_word,
-    put_line, question_line, read_input, read_inputs, read_unit, refuse,
-    unit_inputs_unit_line as unit_line, verdict_line,
+    Bounded, CallTable, Ending, Launched, Place, Ready, ReadyText, ResolveError, Resolved, Row,
+    SiteTable, Stop, Text, UnitError, UnitFile, UnitText, bound, count_open, open_lines,
+    push_call_lines, push_word, put_line, question_line, read_input, read_inputs, read_unit,
+    refuse, unit_inputs_unit_line as unit_line, verdict_line,
 };
 pub use asking::{Asked, ask};
 pub use command::answer;
 pub use folders::is_named;
 pub use open_calls::{Service, calls};
+pub use questions::{Call, Question, Verdict, Wish};
 pub use reasons::truths;

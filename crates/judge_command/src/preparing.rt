@@ -7,7 +7,8 @@ ghost use Rattle.asked_service.specs.unit_inputs.Asking.{AsksInOrder, input_asks
 ghost use Rattle.asked_service.specs.unit_inputs.ReadsFor.{ReadsFor};
 ghost use Rattle.judge_command.specs.Prepared.{CanBeStarted, IsPrepared};
 
-use asked_service::{MountSteps, SettledUnit, Shelf, Stop, plan_mounts, settle_unit};
+use asked_service::{MountSteps, SettledUnit, Stop, plan_mounts, settle_unit};
+use host_io::Shelf;
 use std::alloc::Global;
 
 /// All that a report starts with.

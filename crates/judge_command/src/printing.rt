@@ -13,9 +13,10 @@ use crate::folders::print_folders;
 use crate::launching::Outcome;
 use asked_service::unit_launch::{refusal_line, told};
 use asked_service::{
-    FileNote, Resolved, SettledUnit, Sink, SinkError, launched_line, note_line, put_line,
+    FileNote, Resolved, SettledUnit, launched_line, note_line, put_line,
     report_text_unit_line as unit_line, summary_line,
 };
+use host_io::{Sink, SinkError};
 use std::alloc::Global;
 
 // Prints notes, one behind the other.

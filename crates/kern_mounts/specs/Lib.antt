@@ -20,4 +20,4 @@ pub mod Copying
 pub mod Pushed
 pub mod Backing
 pub mod Changes
-pub use Rattle.linux_numbers.specs as linux_numbers
+pub mod linux_numbers

@@ -5,13 +5,13 @@ use Rattle.std.specs.Prelude.{not, option_and_then, ◌-◌}
 use Rattle.std.proofs.lemmas.Bool.{and_parts, and_from, or_left, or_right, not-true}
 use Rattle.kernel_model.specs.abs_path.Paths.{Path}
 use Rattle.kernel_model.specs.abs_path.Prefix.{is_prefix, is_same, rest_of, is_below}
-use Rattle.kernel_model.proofs.AbsPath.Prefixes.{prefix-append, prefix_itself, prefix_chain, same_path, rest-append}
+use Rattle.kernel_model.proofs.OfAbsPath.Prefixes.{prefix-append, prefix_itself, prefix_chain, same_path, rest-append}
 use Rattle.kernel_model.specs.kern_mounts.Entry.{leads_to, entry_of}
 use Rattle.kernel_model.specs.kern_mounts.Finds.{host_place, host_place_by}
 use Rattle.kernel_model.specs.kern_mounts.declared.step.What.{What}
 use Rattle.kernel_model.specs.kern_mounts.declared.step.What.TheVariants.{Host, Empty, Hidden}
 use Rattle.kernel_model.specs.kern_mounts.declared.step.MountStep.{MountStep}
-use Rattle.kernel_model.proofs.KernMounts.Entries.{entry_leads}
+use Rattle.kernel_model.proofs.OfKernMounts.Entries.{entry_leads}
 use Rattle.kernel_laws.specs.Blind.{is_clear, shows_below, exposes, blind_at, SeesBelow, BlindIsSound}
 use Rattle.kernel_laws.specs.Bound.{power_of, ceiling}
 use Rattle.kernel_laws.specs.Ceiling.{CanHave, TableIn}
@@ -25,9 +25,9 @@ use Rattle.kernel_laws.specs.declared.question_types.power.Power.TheVariants.{No
 use Rattle.kernel_model.specs.Runs.{run}
 use Rattle.kernel_model.specs.kern_mounts.Unmounts.{IsTrimmed}
 use Rattle.kernel_model.specs.World.{mounts_of, table_of}
-use Rattle.kernel_model.proofs.KernMounts.Paths.{behind, leads_not, either}
-use Rattle.kernel_model.proofs.KernMounts.Splits.{None_have, split_some, split_of}
-use Rattle.kernel_model.proofs.KernMounts.Unmounting.{part_has, trimmed_part}
+use Rattle.kernel_model.proofs.OfKernMounts.Paths.{behind, leads_not, either}
+use Rattle.kernel_model.proofs.OfKernMounts.Splits.{None_have, split_some, split_of}
+use Rattle.kernel_model.proofs.OfKernMounts.Unmounting.{part_has, trimmed_part}
 use Rattle.kernel_laws.proofs.Reach.{none_any}
 use Rattle.kernel_laws.proofs.Numbered.{lives}
 use Rattle.kernel_laws.proofs.Runs.{own_allowed}

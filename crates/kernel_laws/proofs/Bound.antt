@@ -5,8 +5,8 @@ use Rattle.std.specs.Prelude.{slice_get, not, ◌&&◌, ◌||◌}
 use Rattle.std.specs.List.{list_any, AllByRecursion}
 use Rattle.std.proofs.lemmas.Bool.{or_left, or_right, and_parts, and_from, eqb-true, eq-eqb}
 use Rattle.kernel_model.specs.cap_sets.Sets.{has, none, union, cut, within, IsWithin}
-use Rattle.kernel_model.proofs.Caps.Members.{has_none, has_union, none_within, union_within, within_union_left, within_union_right}
-use Rattle.kernel_model.proofs.Caps.Members.{within_self, within_through, cut_within_left, cut_within_right, within-from_IsWithin}
+use Rattle.kernel_model.proofs.OfCapSets.Members.{has_none, has_union, none_within, union_within, within_union_left, within_union_right}
+use Rattle.kernel_model.proofs.OfCapSets.Members.{within_self, within_through, cut_within_left, cut_within_right, within-from_IsWithin}
 use Rattle.kernel_model.specs.site_table.declared.row.Row.{Row}
 use Rattle.kernel_model.specs.kern_creds.declared.creds.Creds.{Creds}
 use Rattle.kernel_laws.specs.Bounds.{Bounds, IsSettled, Admits, Keeps}

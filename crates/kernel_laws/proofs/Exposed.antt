@@ -8,7 +8,7 @@ use Rattle.std.proofs.lemmas.Bool.{and_parts, and_from, or_left, or_right, or_ca
 use Rattle.std.proofs.lemmas.Slice.Eq.{bytes_eq-Decides}
 use Rattle.kernel_model.specs.abs_path.Paths.{Path, tail_of, text_of, is_part, is_normal}
 use Rattle.kernel_model.specs.abs_path.Prefix.{is_prefix, is_same, rest_of, is_below}
-use Rattle.kernel_model.proofs.AbsPath.Prefixes.{prefix-append, same_path, rest-append}
+use Rattle.kernel_model.proofs.OfAbsPath.Prefixes.{prefix-append, same_path, rest-append}
 use Rattle.kernel_model.specs.kern_mounts.Entry.{leads_to, entry_of}
 use Rattle.kernel_model.specs.kern_mounts.Launch.{HasShortPlace}
 use Rattle.kernel_model.specs.kern_mounts.Finds.{host_place, host_place_by}
@@ -20,9 +20,9 @@ use Rattle.kernel_model.specs.kernel_calls.Calls.{IsPath}
 use Rattle.kernel_laws.specs.Launched.{launch_of, first_of}
 use Rattle.kernel_model.specs.kern_mounts.Split.{Table, split_at}
 use Rattle.kernel_model.specs.kern_mounts.Unmounts.{Unmounts}
-use Rattle.kernel_model.proofs.KernMounts.Paths.{behind}
-use Rattle.kernel_model.proofs.KernMounts.Splits.{None_have, split_is, of_split}
-use Rattle.kernel_model.proofs.KernMounts.Unmounting.{stands_uncovered}
+use Rattle.kernel_model.proofs.OfKernMounts.Paths.{behind}
+use Rattle.kernel_model.proofs.OfKernMounts.Splits.{None_have, split_is, of_split}
+use Rattle.kernel_model.proofs.OfKernMounts.Unmounting.{stands_uncovered}
 use Rattle.kernel_laws.proofs.Living.{first_lives}
 use Rattle.kernel_laws.proofs.ReachLaws.{any_none}
 

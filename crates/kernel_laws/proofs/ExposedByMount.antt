@@ -6,13 +6,13 @@ use Rattle.std.specs.List.{AllByRecursion}
 use Rattle.std.proofs.lemmas.Bool.Decides.{nat_tests}
 use Rattle.kernel_model.specs.abs_path.Paths.{Path, is_root, proc}
 use Rattle.kernel_model.specs.abs_path.Prefix.{is_prefix, rest_of}
-use Rattle.kernel_model.proofs.AbsPath.Prefixes.{prefix-append}
+use Rattle.kernel_model.proofs.OfAbsPath.Prefixes.{prefix-append}
 use Rattle.kernel_model.specs.site_table.declared.row.Row.{Row}
 use Rattle.kernel_model.specs.kern_mounts.Entry.{leads_to, entry_of}
 use Rattle.kernel_model.specs.kern_mounts.Finds.{finds, found_at, found_by, row_or_nothing, host_place, host_place_by}
 use Rattle.kernel_model.specs.kern_mounts.declared.step.What.TheVariants.{Host}
 use Rattle.kernel_model.specs.kern_mounts.declared.step.MountStep.{MountStep}
-use Rattle.kernel_model.proofs.KernMounts.Entries.{entry_push}
+use Rattle.kernel_model.proofs.OfKernMounts.Entries.{entry_push}
 use Rattle.kernel_laws.specs.Blind.{SeesBelow, ExposedByMount}
 use Rattle.kernel_model.specs.kern_mounts.Split.{Table, split_at}
 use Rattle.kernel_model.specs.kern_mounts.Bind.{bound, after_bind}
@@ -20,7 +20,7 @@ use Rattle.kernel_model.specs.kern_mounts.Bind.{bound_entry}
 use Rattle.kernel_model.specs.site_table.Kinds.{is_dir}
 use Rattle.kernel_model.specs.kern_files.MountCall.{kind_found, target_kind, after_mount}
 use Rattle.kernel_model.specs.kern_files.MountCall.{bind_found, mount_onto}
-use Rattle.kernel_model.proofs.KernMounts.Splits.{None_have, split_is, of_split}
+use Rattle.kernel_model.proofs.OfKernMounts.Splits.{None_have, split_is, of_split}
 use Rattle.kernel_laws.proofs.Exposed.{below_by_part}
 
 -- no entry below the root leads to it

@@ -13,8 +13,8 @@ use Rattle.filter_settings.specs.bpf_code.declared.machine.CallData.{CallData}
 use Rattle.filter_settings.specs.bpf_code.declared.decision.Decision.TheVariants as decision
 use Rattle.filter_settings.specs.bpf_code.Stack.{decision_of}
 use Rattle.kernel_model.specs.cap_sets.Sets.{has, none, cut, union, single, within}
-use Rattle.kernel_model.proofs.Caps.Members.{has_cut, has_none, has_union, has_single, same_sets, within_through, IsWithin-from_within}
-use Rattle.kernel_model.proofs.Caps.Members.{within-from_IsWithin}
+use Rattle.kernel_model.proofs.OfCapSets.Members.{has_cut, has_none, has_union, has_single, same_sets, within_through, IsWithin-from_within}
+use Rattle.kernel_model.proofs.OfCapSets.Members.{within-from_IsWithin}
 use Rattle.filter_settings.specs.call_table.declared.listed.CallLine.{CallLine}
 use Rattle.filter_settings.specs.call_table.call_names.Known.{known_call}
 use Rattle.filter_settings.specs.declared.filter_rules.mentions.FamilyList.{FamilyList}

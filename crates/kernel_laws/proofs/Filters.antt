@@ -10,10 +10,10 @@ use Rattle.filter_settings.specs.bpf_code.declared.decision.Decision.{Decision}
 use Rattle.filter_settings.specs.bpf_code.declared.decision.Decision.TheVariants as decision
 use Rattle.filter_settings.specs.bpf_code.Meaning.{IsCallData}
 use Rattle.filter_settings.specs.bpf_code.Stack.{decision_on}
-use Rattle.filter_settings.proofs.BpfCode.Stacks.{refusals_stand}
+use Rattle.filter_settings.proofs.OfBpfCode.Stacks.{refusals_stand}
 use Rattle.filter_settings.specs.call_table.declared.listed.CallLine.{CallLine}
 use Rattle.std.proofs.lemmas.List.Folds.{find_at, list_any-append}
-use Rattle.filter_settings.proofs.CallTable.Places.{place_is, found_holds}
+use Rattle.filter_settings.proofs.OfCallTable.Places.{place_is, found_holds}
 use Rattle.filter_settings.specs.call_table.Table.{Abi, Table, native, second_calls, every_call, arch_of, calls_in}
 use Rattle.std.proofs.lemmas.List.Elements.{All-head, All-tail, All-cons}
 use Rattle.std.specs.Option.{option_map_or, option_to_list}

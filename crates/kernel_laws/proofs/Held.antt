@@ -9,7 +9,7 @@ use Rattle.kernel_model.specs.kern_creds.declared.creds.Creds.{Creds}
 use Rattle.kernel_model.specs.kern_mounts.Split.{Table}
 use Rattle.kernel_model.specs.kern_mounts.Mounts.{Mounts}
 use Rattle.kernel_model.specs.kern_mounts.Table.{StartsAtRoot}
-use Rattle.kernel_model.proofs.KernMounts.Unmounting.{trimmed_self}
+use Rattle.kernel_model.proofs.OfKernMounts.Unmounting.{trimmed_self}
 use Rattle.kernel_model.specs.declared.kernel_calls.call.Call.{Call}
 use Rattle.kernel_model.specs.kernel_calls.Calls.{IsCall, AreCalls}
 use Rattle.kernel_laws.specs.Bound.{bounds_by, power_of, ceiling}

@@ -7,11 +7,11 @@ use Rattle.kernel_model.specs.kern_creds.declared.creds.Creds.{Creds}
 use Rattle.kernel_model.specs.kern_creds.Capset.{may_capset, with_sets, after_capset}
 use Rattle.kernel_model.specs.kern_creds.Prctl.{after_drop_bounding, after_raise, after_lower, after_clear_ambient, after_set_keepcaps}
 use Rattle.kernel_model.specs.kern_creds.Prctl.{after_set_no_new_privs}
-use Rattle.kernel_model.proofs.KernCreds.Answers.{Leaves, left_err, left_ok, left_if}
+use Rattle.kernel_model.proofs.OfKernCreds.Answers.{Leaves, left_err, left_ok, left_if}
 use Rattle.kernel_laws.specs.Bounds.{Bounds, Keeps}
-use Rattle.kernel_model.proofs.Caps.Members.{within_self, within_through, none_within, cut_within_left, cut_within_right, within_cut}
-use Rattle.kernel_model.proofs.Caps.Members.{union_within, within_union_left, within_union_right, minus_within, single_within}
-use Rattle.kernel_model.proofs.Caps.Members.{IsWithin-from_within}
+use Rattle.kernel_model.proofs.OfCapSets.Members.{within_self, within_through, none_within, cut_within_left, cut_within_right, within_cut}
+use Rattle.kernel_model.proofs.OfCapSets.Members.{union_within, within_union_left, within_union_right, minus_within, single_within}
+use Rattle.kernel_model.proofs.OfCapSets.Members.{IsWithin-from_within}
 
 pub cond_within : (b : Bool) (x y a : ℕ) → IsWithin x a → IsWithin y a → IsWithin (cond b x y) a
 cond_within true x y a p q = p

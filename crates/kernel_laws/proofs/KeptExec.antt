@@ -9,9 +9,9 @@ use Rattle.kernel_model.specs.kern_creds.declared.file.FileCreds.{FileCreds}
 use Rattle.kernel_model.specs.kern_creds.Exec.{honours, is_privileged, exec_ids, exec_ambient, exec_gains, exec_permitted, exec_done}
 use Rattle.kernel_model.specs.kern_creds.Exec.{is_refused, after_exec}
 use Rattle.kernel_laws.specs.Bounds.{Bounds, Keeps, IsIdsWithin, IsSettled, Admits}
-use Rattle.kernel_model.proofs.Caps.Members.{none_within, within_self, within_through, cut_within_left, cut_within_right, within_cut}
-use Rattle.kernel_model.proofs.Caps.Members.{union_within, within_union_left, within_union_right}
-use Rattle.kernel_model.proofs.KernCreds.Answers.{Leaves, left_if, left_ok, left_err}
+use Rattle.kernel_model.proofs.OfCapSets.Members.{none_within, within_self, within_through, cut_within_left, cut_within_right, within_cut}
+use Rattle.kernel_model.proofs.OfCapSets.Members.{union_within, within_union_left, within_union_right}
+use Rattle.kernel_model.proofs.OfKernCreds.Answers.{Leaves, left_if, left_ok, left_err}
 use Rattle.kernel_laws.proofs.Kept.{cond_within}
 use Rattle.kernel_laws.proofs.KeptIds.{at_zero}
 

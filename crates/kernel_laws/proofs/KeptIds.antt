@@ -14,8 +14,8 @@ use Rattle.kernel_model.specs.kern_creds.Setuid.{after_setuid, after_setgid}
 use Rattle.kernel_model.specs.kern_creds.Setresuid.{after_setresuid, after_setresgid}
 use Rattle.kernel_model.specs.kern_creds.Setgroups.{after_setgroups}
 use Rattle.kernel_laws.specs.Bounds.{Bounds, Keeps, IsIdsWithin, IsSettled}
-use Rattle.kernel_model.proofs.Caps.Members.{none_within, within_self}
-use Rattle.kernel_model.proofs.KernCreds.Answers.{Leaves, left_if, left_ok, left_err}
+use Rattle.kernel_model.proofs.OfCapSets.Members.{none_within, within_self}
+use Rattle.kernel_model.proofs.OfKernCreds.Answers.{Leaves, left_if, left_ok, left_err}
 use Rattle.kernel_laws.proofs.Kept.{cond_within}
 
 pub at_zero : (ok : ℕ → Bool) (id : ℕ) → ok id ≡ true → eqb id 0 ≡ true → ok 0 ≡ true

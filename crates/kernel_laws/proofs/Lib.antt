@@ -1,6 +1,6 @@
 pub mod Numbered
 pub mod Newer
-pub mod Flags
+pub mod MaskBits
 pub mod NewerSteps
 pub mod Moments
 pub mod Filters
@@ -30,8 +30,8 @@ pub mod NewerTables
 pub mod Blind
 pub mod Exposed
 pub mod ExposedByMount
-pub use Rattle.kernel_model.proofs.AbsPath as AbsPath
-pub use Rattle.filter_settings.proofs.BpfCode as BpfCode
-pub use Rattle.filter_settings.proofs.CallTable as CallTable
-pub use Rattle.kernel_model.proofs.KernMounts as KernMounts
-pub use Rattle.kernel_model.proofs as KernelModel
+pub mod OfKernelModel
+pub use Rattle.kernel_model.proofs.OfAbsPath as OfAbsPath
+pub use Rattle.filter_settings.proofs.OfBpfCode as OfBpfCode
+pub use Rattle.filter_settings.proofs.OfCallTable as OfCallTable
+pub use Rattle.kernel_model.proofs.OfKernMounts as OfKernMounts

@@ -9,7 +9,7 @@ use Rattle.kernel_model.specs.kern_creds.Enter.{entered}
 use Rattle.kernel_model.specs.kern_creds.Exec.{is_refused, exec_done_in, exec_in}
 use Rattle.kernel_model.specs.kern_creds.Prctl.{after_drop_bounding, after_raise, after_lower, after_clear_ambient, after_set_keepcaps}
 use Rattle.kernel_model.specs.kern_creds.Prctl.{after_set_no_new_privs}
-use Rattle.kernel_model.proofs.KernCreds.Answers.{Leaves, left_err, left_ok, left_if}
+use Rattle.kernel_model.proofs.OfKernCreds.Answers.{Leaves, left_err, left_ok, left_if}
 use Rattle.kernel_laws.specs.Bounds.{Bounds, Keeps, KeepsIds, KeepsIn}
 
 -- of a process in whatever user namespace

@@ -13,7 +13,7 @@ use Rattle.filter_settings.specs.linux_numbers.Limits.{no_id}
 use Rattle.kernel_model.specs.kern_creds.declared.creds.Creds.{Creds}
 use Rattle.kernel_model.specs.kern_creds.Prctl.{after_drop_bounding, after_raise, after_lower, after_clear_ambient, after_set_keepcaps}
 use Rattle.kernel_model.specs.kern_creds.Prctl.{after_set_no_new_privs}
-use Rattle.kernel_model.proofs.KernCreds.Answers.{Leaves}
+use Rattle.kernel_model.proofs.OfKernCreds.Answers.{Leaves}
 use Rattle.kernel_model.specs.kern_mounts.Finds.{Found, finds}
 use Rattle.kernel_model.specs.kern_mounts.Mounts.{Mounts as Table, steps_of}
 use Rattle.kernel_model.specs.kern_files.Bits.{has_some, has_all}
@@ -35,7 +35,7 @@ use Rattle.kernel_laws.specs.declared.question_types.kind.CallKind.{CallKind}
 use Rattle.filter_settings.specs.declared.filter_rules.namespace_types.NamespaceType.TheVariants.{User}
 use Rattle.kernel_laws.specs.declared.question_types.power.Power.{Power}
 use Rattle.kernel_laws.specs.declared.question_types.kind.CallKind.TheVariants as k
-use Rattle.kernel_laws.proofs.Flags.{user_flag}
+use Rattle.kernel_laws.proofs.MaskBits.{user_flag}
 use Rattle.kernel_laws.proofs.Newer.{ids-clear_ambient, ids-no_new_privs, ids-keepcaps, ids-lower, ids-drop_bounding, ids-raise, ids-capset}
 use Rattle.kernel_laws.proofs.Newer.{ids-exec}
 

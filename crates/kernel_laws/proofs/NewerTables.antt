@@ -3,7 +3,7 @@ use Rattle.std.proofs.Common.{◌≡◌, true, false, ◌++◌, Option, Some, No
 use Rattle.std.specs.Prelude.{not, option_and_then}
 use Rattle.kernel_model.specs.abs_path.Paths.{Path}
 use Rattle.kernel_model.specs.abs_path.Prefix.{rest_of}
-use Rattle.kernel_model.proofs.AbsPath.Prefixes.{rest-append}
+use Rattle.kernel_model.proofs.OfAbsPath.Prefixes.{rest-append}
 use Rattle.kernel_model.specs.kern_mounts.Entry.{entry_of}
 use Rattle.kernel_model.specs.kern_mounts.Finds.{host_place, host_place_by}
 use Rattle.kernel_model.specs.kern_mounts.Split as table
@@ -12,13 +12,13 @@ use Rattle.kernel_model.specs.kern_mounts.declared.step.Flags.{Flags}
 use Rattle.kernel_model.specs.kern_mounts.declared.step.What.{What}
 use Rattle.kernel_model.specs.kern_mounts.declared.step.What.TheVariants.{Host, Empty, Hidden}
 use Rattle.kernel_model.specs.kern_mounts.declared.step.MountStep.{MountStep}
-use Rattle.kernel_model.proofs.KernMounts.Splits.{split_of}
-use Rattle.kernel_model.proofs.KernMounts.Unmounting.{trimmed_part}
+use Rattle.kernel_model.proofs.OfKernMounts.Splits.{split_of}
+use Rattle.kernel_model.proofs.OfKernMounts.Unmounting.{trimmed_part}
 use Rattle.kernel_model.specs.kern_mounts.Mounts.{Mounts, plain, steps_of}
 use Rattle.kernel_model.specs.kern_mounts.Copying.{locked_copy}
 use Rattle.kernel_model.specs.kern_mounts.Backing.{AreBacked}
-use Rattle.kernel_model.proofs.KernMounts.Backing.{backed_first}
-use Rattle.kernel_model.proofs.KernMounts.Calls.{changes_backed, path_backed}
+use Rattle.kernel_model.proofs.OfKernMounts.Backing.{backed_first}
+use Rattle.kernel_model.proofs.OfKernMounts.Calls.{changes_backed, path_backed}
 use Rattle.kernel_laws.specs.Blind.{SeesBelow}
 use Rattle.kernel_laws.specs.declared.question_types.wish.Wish.{Wish}
 use Rattle.kernel_laws.specs.declared.question_types.power.Power.{Power}
@@ -28,7 +28,7 @@ use Rattle.kernel_laws.specs.Ceiling.{IsStable}
 use Rattle.kernel_model.specs.site_table.Table.{row_at}
 use Rattle.kernel_model.specs.kern_mounts.Unmounts.{IsOrdered}
 use Rattle.kernel_model.specs.kern_mounts.Changes.{still, then_locked}
-use Rattle.kernel_model.proofs.KernMounts.Plain.{plain_again}
+use Rattle.kernel_model.proofs.OfKernMounts.Plain.{plain_again}
 use Rattle.kernel_model.proofs.MountsCall.{mount_changes, umount_changes}
 use Rattle.kernel_laws.specs.Reach.{Leads}
 use Rattle.kernel_laws.specs.Showing.{shown_by, shows_from}

@@ -5,7 +5,7 @@ use Rattle.std.specs.List.{list_any}
 use Rattle.std.proofs.lemmas.Bool.{and_from, or_from}
 use Rattle.kernel_model.specs.abs_path.Paths.{Path}
 use Rattle.kernel_model.specs.abs_path.Prefix.{is_prefix, is_same, rest_of}
-use Rattle.kernel_model.proofs.AbsPath.Prefixes.{prefix-append, same_path, rest-append}
+use Rattle.kernel_model.proofs.OfAbsPath.Prefixes.{prefix-append, same_path, rest-append}
 use Rattle.kernel_model.specs.site_table.declared.row.Row.{Row}
 use Rattle.kernel_model.specs.site_table.Table.{row_at}
 use Rattle.kernel_model.specs.kern_mounts.Entry.{leads_to, entry_of}
@@ -13,7 +13,7 @@ use Rattle.kernel_model.specs.kern_mounts.Finds.{row, empty_directory, nothing, 
 use Rattle.kernel_model.specs.kern_mounts.declared.step.What.{What}
 use Rattle.kernel_model.specs.kern_mounts.declared.step.What.TheVariants.{Host, Empty, Hidden}
 use Rattle.kernel_model.specs.kern_mounts.declared.step.MountStep.{MountStep}
-use Rattle.kernel_model.proofs.KernMounts.Entries.{entry_leads}
+use Rattle.kernel_model.proofs.OfKernMounts.Entries.{entry_leads}
 use Rattle.kernel_model.specs.kern_mounts.Split.{Table}
 use Rattle.kernel_model.specs.kern_mounts.Unmounts.{IsTrimmed}
 use Rattle.kernel_model.specs.kern_files.Looking.{flags_at, flags_by}
@@ -22,9 +22,9 @@ use Rattle.kernel_laws.specs.declared.question_types.power.Power.{Power}
 use Rattle.kernel_laws.specs.declared.question_types.power.Power.TheVariants.{None as Nowise, Unmount as Unmounting, Mount as Mounting}
 use Rattle.kernel_laws.specs.Reach.{fits, Leads, shows_row, serves, reach_from, reaches}
 use Rattle.kernel_laws.specs.Ceiling.{CanHave}
-use Rattle.kernel_model.proofs.KernMounts.Paths.{behind}
-use Rattle.kernel_model.proofs.KernMounts.Splits.{None_have, split_some, split_of}
-use Rattle.kernel_model.proofs.KernMounts.Unmounting.{part_has, trimmed_part}
+use Rattle.kernel_model.proofs.OfKernMounts.Paths.{behind}
+use Rattle.kernel_model.proofs.OfKernMounts.Splits.{None_have, split_some, split_of}
+use Rattle.kernel_model.proofs.OfKernMounts.Unmounting.{part_has, trimmed_part}
 
 pub reach_complete : (uncover : Bool) (target : Path) (wish : Wish) (earlier : Table) (entry : MountStep) (later : Table) (at : ℕ)
     → serves uncover target wish entry later ≡ true → is_some (reach_from uncover target wish (earlier ++ entry ∷ later) at) ≡ true

@@ -3,10 +3,10 @@ use Rattle.std.proofs.Common.{◌≡◌, ℕ, Bool, true, false, [], ◌∷◌, 
 use Rattle.std.specs.Prelude.{not, ◌||◌, is_some}
 use Rattle.std.specs.List.{list_any}
 use Rattle.std.proofs.lemmas.Bool.{and_parts, not-true}
-use Rattle.filter_settings.proofs.CallTable.Places.{or_false}
+use Rattle.filter_settings.proofs.OfCallTable.Places.{or_false}
 use Rattle.kernel_model.specs.abs_path.Paths.{Path}
 use Rattle.kernel_model.specs.abs_path.Prefix.{is_prefix, rest_of}
-use Rattle.kernel_model.proofs.AbsPath.Prefixes.{prefix-append}
+use Rattle.kernel_model.proofs.OfAbsPath.Prefixes.{prefix-append}
 use Rattle.kernel_model.specs.kern_mounts.Entry.{leads_to}
 use Rattle.kernel_model.specs.kern_mounts.declared.step.What.{What}
 use Rattle.kernel_model.specs.kern_mounts.declared.step.What.TheVariants.{Host, Empty, Hidden}
@@ -15,9 +15,9 @@ use Rattle.kernel_model.specs.kern_mounts.Split.{Table, split_at}
 use Rattle.kernel_laws.specs.declared.question_types.wish.Wish.{Wish}
 use Rattle.kernel_laws.specs.Reach.{fits, Leads, shows_row, serves, reach_from}
 use Rattle.kernel_laws.specs.ReachLaws.{ReachOfTheTable, ReachByUnmounts}
-use Rattle.kernel_model.proofs.KernMounts.Paths.{behind}
-use Rattle.kernel_model.proofs.KernMounts.Splits.{None_have, split_is}
-use Rattle.kernel_model.proofs.KernMounts.Unmounting.{stands_uncovered, unmounts_trim}
+use Rattle.kernel_model.proofs.OfKernMounts.Paths.{behind}
+use Rattle.kernel_model.proofs.OfKernMounts.Splits.{None_have, split_is}
+use Rattle.kernel_model.proofs.OfKernMounts.Unmounting.{stands_uncovered, unmounts_trim}
 use Rattle.kernel_laws.proofs.Reach.{reach_nowise-complete, reach_unmounting-complete}
 
 pub any_none : (p : MountStep → Bool) (table : Table) → list_any p table ≡ false → None_have p table

@@ -5,7 +5,7 @@ use Rattle.std.specs.List.{list_any, AllByRecursion}
 use Rattle.std.proofs.lemmas.Bool.{and_parts, and_from, or_left, or_right, or_parts, not-true, false≢true}
 use Rattle.kernel_model.specs.abs_path.Paths.{Path}
 use Rattle.kernel_model.specs.abs_path.Prefix.{is_prefix, is_same, rest_of, is_below}
-use Rattle.kernel_model.proofs.AbsPath.Prefixes.{prefix-append, prefix_chain, prefix_itself, rest-append, rest_through, same_path}
+use Rattle.kernel_model.proofs.OfAbsPath.Prefixes.{prefix-append, prefix_chain, prefix_itself, rest-append, rest_through, same_path}
 use Rattle.kernel_model.specs.kern_mounts.Entry.{leads_to}
 use Rattle.kernel_model.specs.kern_mounts.Split.{Table}
 use Rattle.kernel_model.specs.kern_mounts.Unmounts.{IsPart, nothing, keeps, leaves, IsOrdered}
@@ -13,10 +13,10 @@ use Rattle.kernel_model.specs.kern_mounts.declared.step.Flags.{Flags}
 use Rattle.kernel_model.specs.kern_mounts.declared.step.What.{What}
 use Rattle.kernel_model.specs.kern_mounts.declared.step.What.TheVariants.{Host, Empty, Hidden}
 use Rattle.kernel_model.specs.kern_mounts.declared.step.MountStep.{MountStep}
-use Rattle.kernel_model.proofs.KernMounts.Paths.{leads_not, either}
+use Rattle.kernel_model.proofs.OfKernMounts.Paths.{leads_not, either}
 use Rattle.kernel_model.specs.kern_mounts.Keeping.{lacks, AreAmong}
 use Rattle.kernel_model.specs.kern_mounts.Backing.{Shows, Widens, AreShown}
-use Rattle.kernel_model.proofs.KernMounts.Keeping.{among_trans}
+use Rattle.kernel_model.proofs.OfKernMounts.Keeping.{among_trans}
 use Rattle.kernel_laws.specs.Blind.{is_clear, shows_below, exposes}
 use Rattle.kernel_laws.specs.declared.question_types.wish.Wish.{Wish}
 use Rattle.kernel_laws.specs.declared.question_types.wish.Wish.TheVariants.{See as ToSee, Read as ToRead, Write as ToWrite, Exec as ToExec}

@@ -6,7 +6,7 @@ use Rattle.std.specs.List.{AllByRecursion}
 use Rattle.std.proofs.lemmas.Bool.{eqb-true, and_parts, and_from}
 use Rattle.kernel_model.specs.abs_path.Paths.{Path}
 use Rattle.kernel_model.specs.cap_sets.Sets.{has, cut, none}
-use Rattle.kernel_model.proofs.Caps.Members.{has_cut, has_none}
+use Rattle.kernel_model.proofs.OfCapSets.Members.{has_cut, has_none}
 use Rattle.kernel_model.specs.site_table.declared.row.Row.{Row}
 use Rattle.kernel_model.specs.site_table.Table.{row_at}
 use Rattle.kernel_model.specs.kern_creds.declared.creds.Creds.{Creds}
@@ -15,7 +15,7 @@ use Rattle.kernel_model.specs.kern_mounts.Entry.{entry_of}
 use Rattle.kernel_model.specs.kern_mounts.Finds.{Found, row, finds}
 use Rattle.kernel_model.specs.kern_mounts.declared.step.Flags.{Flags}
 use Rattle.kernel_model.specs.kern_mounts.declared.step.MountStep.{MountStep}
-use Rattle.kernel_model.proofs.KernMounts.Entries.{entry_is}
+use Rattle.kernel_model.proofs.OfKernMounts.Entries.{entry_is}
 use Rattle.std.specs.Int.RustNames.{bit_and}
 use Rattle.kernel_model.specs.kern_files.Bits.{has_some, has_all}
 use Rattle.kernel_model.specs.kern_mounts.Split.{Table}
@@ -34,7 +34,7 @@ use Rattle.kernel_model.specs.declared.process.Process.{Process}
 use Rattle.kernel_model.specs.Step.{most_processes, child_in, moved_in, has_user_left, applied}
 use Rattle.kernel_model.specs.declared.reply.Reply.{Reply}
 use Rattle.kernel_model.specs.declared.reply.Reply.TheVariants as reply
-use Rattle.kernel_laws.proofs.Flags.{user_flag}
+use Rattle.kernel_laws.proofs.MaskBits.{user_flag}
 use Rattle.kernel_model.specs.Runs.{IsDone}
 use Rattle.kernel_laws.specs.declared.question_types.wish.Wish.{Wish}
 use Rattle.kernel_laws.specs.declared.question_types.wish.Wish.TheVariants.{See as ToSee, Read as ToRead, Write as ToWrite, Exec as ToExec}
@@ -48,7 +48,7 @@ use Rattle.kernel_laws.specs.Reach.{fits}
 use Rattle.kernel_laws.specs.Bound.{is_user}
 use Rattle.kernel_laws.specs.Ceiling.{CanHave}
 use Rattle.kernel_laws.proofs.Ran.{ran_program}
-use Rattle.kernel_model.proofs.KernMounts.Unmounting.{trimmed_part}
+use Rattle.kernel_model.proofs.OfKernMounts.Unmounting.{trimmed_part}
 
 -- ---- effects that are done
 -- the reply to an effect on a process

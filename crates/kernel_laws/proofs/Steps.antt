@@ -6,7 +6,7 @@ use Rattle.filter_settings.specs.bpf_code.declared.machine.Insn.{Insn}
 use Rattle.filter_settings.specs.bpf_code.ProgramOf.{program_of}
 use Rattle.filter_settings.specs.bpf_code.Stack.{room_of}
 use Rattle.kernel_model.specs.cap_sets.Sets.{has, IsWithin, within}
-use Rattle.kernel_model.proofs.Caps.Members.{within_through, IsWithin-from_within}
+use Rattle.kernel_model.proofs.OfCapSets.Members.{within_through, IsWithin-from_within}
 use Rattle.filter_settings.specs.call_table.declared.listed.CallLine.{CallLine}
 use Rattle.kernel_model.specs.site_table.declared.row.Row.{Row}
 use Rattle.kernel_model.specs.site_table.Table.{row_at}
@@ -15,7 +15,7 @@ use Rattle.kernel_model.specs.kern_creds.declared.file.FileCreds.{FileCreds}
 use Rattle.kernel_model.specs.kern_creds.Exec.{honours, is_refused, after_exec}
 use Rattle.kernel_model.specs.kern_creds.Prctl.{after_drop_bounding, after_raise, after_lower, after_clear_ambient, after_set_keepcaps}
 use Rattle.kernel_model.specs.kern_creds.Prctl.{after_set_no_new_privs}
-use Rattle.kernel_model.proofs.KernCreds.Answers.{Leaves}
+use Rattle.kernel_model.proofs.OfKernCreds.Answers.{Leaves}
 use Rattle.kernel_model.specs.kern_mounts.Finds.{Found, row, empty_directory, nothing, finds}
 use Rattle.kernel_model.specs.kern_files.Bits.{has_some, has_all}
 use Rattle.kernel_laws.specs.Bounds.{Bounds, Keeps}
@@ -44,13 +44,13 @@ use Rattle.kernel_laws.specs.Kinds.{asks}
 use Rattle.kernel_laws.specs.Launched.{Launch, lets}
 use Rattle.kernel_laws.specs.Ceiling.{CanHave, CanHold, IsClosed, IsSafe}
 use Rattle.kernel_laws.specs.Spared.{Uses}
-use Rattle.kernel_laws.proofs.Flags.{user_flag}
+use Rattle.kernel_laws.proofs.MaskBits.{user_flag}
 use Rattle.kernel_laws.proofs.Kept.{kept-clear_ambient, kept-no_new_privs, kept-keepcaps, kept-lower, kept-drop_bounding, kept-raise}
 use Rattle.kernel_laws.proofs.Kept.{kept-capset}
 use Rattle.kernel_laws.proofs.KeptIds.{kept-setuid, kept-setresuid, kept-setgid, kept-setresgid, kept-setgroups}
 use Rattle.kernel_laws.proofs.KeptExec.{kept-exec, off}
 use Rattle.kernel_laws.proofs.Ran.{ran_program}
-use Rattle.kernel_model.proofs.KernMounts.Unmounting.{trims, trimmed_through, trimmed_top}
+use Rattle.kernel_model.proofs.OfKernMounts.Unmounting.{trims, trimmed_through, trimmed_top}
 
 module _ (launch : Launch) (may_uids may_gids : Bool) (power : Power) (top : Bounds) (below : Mounts → Type 0) (closed : IsClosed launch may_uids may_gids power top) where
   abbrev Safe : Effect → Type 0

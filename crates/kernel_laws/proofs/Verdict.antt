@@ -13,7 +13,7 @@ use Rattle.filter_settings.specs.bpf_code.declared.decision.Decision.TheVariants
 use Rattle.filter_settings.specs.bpf_code.Stack.{decision_on}
 use Rattle.kernel_model.specs.abs_path.Paths.{Path}
 use Rattle.kernel_model.specs.cap_sets.Sets.{has, within, IsWithin}
-use Rattle.kernel_model.proofs.Caps.Members.{within-from_IsWithin, IsWithin-from_within, within_through}
+use Rattle.kernel_model.proofs.OfCapSets.Members.{within-from_IsWithin, IsWithin-from_within, within_through}
 use Rattle.filter_settings.specs.call_table.declared.listed.CallLine.{CallLine}
 use Rattle.filter_settings.specs.call_table.Table as calls
 use Rattle.filter_settings.specs.call_table.Lookups.{numbered}

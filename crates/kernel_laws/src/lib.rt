@@ -1,7 +1,9 @@
-//! What is asked of a launched service, and what the kernel's rules let no list of calls reach.
+//! States what no list of calls can reach in the modelled kernel, and defines the questions about a launched service.
 //!
-//! There is no code: the definitions stand in specs/, and each function's contract is a law over them.
-//! It rests on `kernel_model`; the crates that launch and judge cite its words.
+//! For example, [`denial`] states that no list of calls reaches what the ceiling of a launched service closes. Each function is
+//! a law: its contract states the law, and its body is empty. The definitions are in `specs/`.
+//!
+//! - [`question_types`]: the types of questions, and of their verdicts.
 #![tactic(auto)]
 
 ghost use Rattle.kernel_laws.specs.Blind.{BlindIsSound, ExposedAtOnce, ExposedByMount, ExposesByUnmounts};
@@ -43,7 +45,12 @@ pub fn blindness()
 
 pub mod question_types;
 
-pub use filter_settings;
-pub use filter_settings::{bpf_code, call_table, linux_numbers};
-pub use kernel_model;
-pub use kernel_model::{abs_path, kern_mounts, site_table};
+pub use filter_settings::filter_rules::NamespaceType;
+pub use filter_settings::{
+    CallData, CallLine, CallTable, CallsError, Decision, Insn, Program, is_known, linux_numbers,
+    read_calls,
+};
+pub use kernel_model::kernel_calls::{Bytes, Call, IdList, Payload, Rule, fits};
+pub use kernel_model::{
+    Flags, Group, MountStep, MountTable, Reply, Row, RowKind, SiteTable, User, What, World,
+};

@@ -6,7 +6,7 @@ use Rattle.std.specs.List.{AllByRecursion}
 use Rattle.std.proofs.lemmas.Bool.Decides.{nat_tests}
 use Rattle.site_table.specs.abs_path.Paths.{Path, text_of}
 use Rattle.site_table.specs.abs_path.Prefix.{is_same, rest_of}
-use Rattle.site_table.proofs.AbsPath.Prefixes.{same_path}
+use Rattle.site_table.proofs.OfAbsPath.Prefixes.{same_path}
 use Rattle.site_table.specs.declared.row.Row.{Row}
 use Rattle.site_table.specs.Table.{Site, IsSite, IsRowOf, row_at}
 use Rattle.kern_mounts.specs.declared.step.MountStep.{MountStep}

@@ -18,9 +18,9 @@ mod Seeing
 mod Mounted
 mod Unmounted
 pub mod MountsCall
-pub use Rattle.site_table.proofs.AbsPath as AbsPath
-pub use Rattle.call_table.proofs as CallTable
-pub use Rattle.site_table.proofs.Caps as Caps
-pub use Rattle.kern_creds.proofs as KernCreds
-pub use Rattle.kern_mounts.proofs as KernMounts
-pub use Rattle.call_table.proofs.TextForms as TextForms
+pub mod OfCallTable
+pub mod OfKernCreds
+pub mod OfKernMounts
+pub use Rattle.site_table.proofs.OfAbsPath as OfAbsPath
+pub use Rattle.site_table.proofs.OfCapSets as OfCapSets
+pub use Rattle.call_table.proofs.OfTextForms as OfTextForms

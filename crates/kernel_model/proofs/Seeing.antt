@@ -4,7 +4,7 @@ use Rattle.std.proofs.Common.{option_and_then, refl, ap}
 use Rattle.std.specs.Prelude.{not, ◌==◌}
 use Rattle.site_table.specs.abs_path.Paths.{Path}
 use Rattle.site_table.specs.abs_path.Prefix.{is_same, rest_of}
-use Rattle.site_table.proofs.AbsPath.Prefixes.{same_path, same_itself}
+use Rattle.site_table.proofs.OfAbsPath.Prefixes.{same_path, same_itself}
 use Rattle.kern_mounts.specs.linux_numbers.Errnos.{enoent, eacces, eisdir, einval, erofs}
 use Rattle.site_table.specs.declared.row.Row.{Row}
 use Rattle.site_table.specs.Kinds.{is_dir, is_exe}

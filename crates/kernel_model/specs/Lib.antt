@@ -12,10 +12,10 @@ pub mod Parts
 pub mod State
 pub mod kernel_calls
 pub mod kern_files
+pub mod call_table
+pub mod kern_creds
+pub mod kern_mounts
+pub mod site_table
 pub use Rattle.site_table.specs.abs_path as abs_path
-pub use Rattle.call_table.specs as call_table
 pub use Rattle.site_table.specs.cap_sets as cap_sets
-pub use Rattle.kern_creds.specs as kern_creds
-pub use Rattle.kern_mounts.specs as kern_mounts
-pub use Rattle.site_table.specs as site_table
 pub use Rattle.call_table.specs.text_forms as text_forms

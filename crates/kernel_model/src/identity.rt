@@ -14,10 +14,10 @@ ghost use Rattle.kernel_model.specs.Replies.{Changes};
 use crate::kern_files::program_at;
 use crate::reply::Reply;
 use crate::told::Told;
+use abs_path::AbsPath;
 use kern_creds::{CredError, Creds};
 use kern_mounts::MountTable;
 use kern_mounts::linux_numbers::errnos::EPERM;
-use site_table::abs_path::AbsPath;
 use std::alloc::AllocError;
 
 impl<'a> Told<'a> {

@@ -1,8 +1,11 @@
-//! A modelled Linux kernel: processes that share mount tables, and what each of their calls comes to (syscalls(2)).
+//! Models a Linux kernel: processes that share mount tables, and the result of each of their calls (syscalls(2)).
 //!
-//! A `World` is started with a table of calls and a site, which it borrows, and has one process, as root and without programs:
-//! `World::start(alloc, &calls, &site)?.step(alloc, &call)?` is the reply to its first call. It rests on `kernel_calls` for what
-//! a call asks for, on `bpf_code` for what the caller's programs decide about it, and on `kern_creds` and `kern_files` for rules.
+//! `World::start(alloc, &calls, &site)?.step(alloc, &call)?` is the reply to the first call. A new `World` borrows a table of
+//! calls and a site. It has one process, which runs as root and has no filter programs.
+//!
+//! - [`kern_files`]: calls on paths.
+//! - [`kernel_calls`]: what a call asks for, and the kernel's rule for each call of a table.
+//! - [`laws`]: laws of the kernel's steps, for example that a refused call changes nothing.
 #![tactic(auto)]
 
 mod calls;
@@ -25,11 +28,14 @@ mod steps;
 mod told;
 mod world;
 
-pub use call_table;
-pub use call_table::text_forms;
-pub use kern_mounts;
+pub use call_table::call_names::{CallRule, KnownCall, PayloadForm, form_of, is_known, known_call};
+pub use call_table::call_words::{push_abi, spelled};
+pub use call_table::{
+    CallLine, CallTable, ItemList, Line, push_u64, push_word, read_decimal, read_lines, read_text,
+    read_u64, words,
+};
+pub use kern_mounts::{Flags, MountStep, MountTable, What};
 pub use process::Process;
 pub use reply::Reply;
-pub use site_table;
-pub use site_table::{abs_path, cap_sets};
+pub use site_table::{CapSet, Group, Row, RowKind, SiteTable, User};
 pub use world::World;

@@ -13,11 +13,11 @@ ghost use Rattle.kernel_model.specs.Replies.{Answers, value_reply};
 use crate::kern_files::{open_file, see, write_file};
 use crate::reply::{Reply, value_reply};
 use crate::told::Told;
+use abs_path::AbsPath;
 use call_table::{CallLine, CallTable};
 use kern_creds::Creds;
 use kern_mounts::MountTable;
 use kern_mounts::linux_numbers::errnos::{EAFNOSUPPORT, EINVAL, EPERM};
-use site_table::abs_path::AbsPath;
 
 // The first descriptor behind the three standard ones.
 const DESCRIPTOR: u64 = 3;

@@ -10,11 +10,11 @@ ghost use Rattle.kernel_model.specs.Replies.{Mounts};
 
 use crate::reply::{Reply, zero_reply};
 use crate::told::Told;
+use abs_path::AbsPath;
 use kern_creds::Creds;
 use kern_mounts::linux_numbers::capabilities::CAP_SYS_ADMIN;
 use kern_mounts::linux_numbers::errnos::EPERM;
 use kern_mounts::{MountError, MountTable};
-use site_table::abs_path::AbsPath;
 use std::alloc::{AllocError, Global};
 
 impl<'a> Told<'a> {

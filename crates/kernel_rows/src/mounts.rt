@@ -1,7 +1,8 @@
 //! Rows over tables of many mounts.
 //!
 //! Each row is a call with its words, parted by bars; it is printed with what came out.
-use asked_service::{AbsPath, Flags, MountStep, MountTable, PathError, What};
+use abs_path::{AbsPath, PathError};
+use asked_service::{Flags, MountStep, MountTable, What};
 use row_tools::{Follow, Shown, number, said, words};
 use std::alloc::{AllocError, Global};
 use std::io;

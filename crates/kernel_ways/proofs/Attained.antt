@@ -4,7 +4,7 @@ use Rattle.std.proofs.Common.{inl, inr, arith, ◌<◌, suc}
 use Rattle.std.specs.Prelude.{slice_get, not, ◌&&◌, ◌||◌, ◌^◌, ◌==◌}
 use Rattle.std.proofs.lemmas.Bool.{and_parts, or_cases, or_parts, not-true, not-false, eqb-true}
 use Rattle.launcher.specs.cap_sets.Sets.{has, none, cut, within}
-use Rattle.launcher.proofs.Caps.Members.{has_cut, has_union, has_none}
+use Rattle.launcher.proofs.OfCapSets.Members.{has_cut, has_union, has_none}
 use Rattle.launcher.specs.site_table.declared.row.Row.{Row}
 use Rattle.launcher.specs.kern_creds.declared.creds.Creds.{Creds}
 use Rattle.launcher.specs.kern_creds.declared.ids.Ids.{Ids}

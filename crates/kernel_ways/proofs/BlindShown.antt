@@ -9,8 +9,8 @@ use Rattle.launcher.specs.linux_numbers.Errnos.{enospc, enotdir}
 use Rattle.launcher.specs.linux_numbers.Limits.{mount_max}
 use Rattle.launcher.specs.abs_path.Paths.{Path, tail_of, text_of, is_part, proc}
 use Rattle.launcher.specs.abs_path.Prefix.{is_prefix, is_below, rest_of}
-use Rattle.launcher.proofs.AbsPath.ByteOrder.{tail-append}
-use Rattle.launcher.proofs.AbsPath.Prefixes.{prefix-append}
+use Rattle.launcher.proofs.OfAbsPath.ByteOrder.{tail-append}
+use Rattle.launcher.proofs.OfAbsPath.Prefixes.{prefix-append}
 use Rattle.launcher.specs.cap_sets.Sets.{has}
 use Rattle.launcher.specs.site_table.declared.row.Row.{Row}
 use Rattle.launcher.specs.site_table.Table.{row_at}
@@ -20,15 +20,15 @@ use Rattle.launcher.specs.kern_mounts.Entry.{leads_to, entry_of}
 use Rattle.launcher.specs.kern_mounts.Finds.{finds, host_place, host_place_by}
 use Rattle.launcher.specs.kern_mounts.Launch.{BeginsAtRoot, HasShortPlace}
 use Rattle.launcher.specs.kern_mounts.Mounts.{steps_of}
-use Rattle.launcher.proofs.KernMounts.Plain.{steps_plain}
+use Rattle.launcher.proofs.OfKernMounts.Plain.{steps_plain}
 use Rattle.launcher.specs.kern_mounts.Split.{Table, Split, split_at}
 use Rattle.launcher.specs.kern_mounts.Unmounts.{IsOrdered, IsPart}
 use Rattle.launcher.specs.kern_mounts.declared.step.MountStep.{MountStep}
 use Rattle.launcher.specs.kern_mounts.declared.step.What.TheVariants.{Host}
-use Rattle.launcher.proofs.KernMounts.Entries.{entry_push}
-use Rattle.launcher.proofs.KernMounts.Leaving.{ascending_is_ordered}
-use Rattle.launcher.proofs.KernMounts.Splits.{IsSplit, split_some}
-use Rattle.launcher.proofs.KernMounts.Unmounting.{append_all, trimmed_part, unmounts_trim}
+use Rattle.launcher.proofs.OfKernMounts.Entries.{entry_push}
+use Rattle.launcher.proofs.OfKernMounts.Leaving.{ascending_is_ordered}
+use Rattle.launcher.proofs.OfKernMounts.Splits.{IsSplit, split_some}
+use Rattle.launcher.proofs.OfKernMounts.Unmounting.{append_all, trimmed_part, unmounts_trim}
 use Rattle.launcher.specs.kernel_model.kern_files.MountCall.{ms_bind, ms_remount_bind, kind_found, is_same_kind, target_kind, bind_found}
 use Rattle.launcher.specs.kernel_model.kern_files.MountCall.{mount_onto, after_mount}
 use Rattle.launcher.specs.kernel_model.kernel_calls.Calls.{IsPath}
@@ -43,8 +43,8 @@ use Rattle.launcher.specs.kernel_laws.declared.question_types.power.Power.{Power
 use Rattle.launcher.specs.kernel_laws.declared.question_types.power.Power.TheVariants.{None as Nowise, Unmount as Unmounting}
 use Rattle.launcher.specs.kernel_laws.declared.question_types.power.Power.TheVariants.{Mount as Mounting}
 use Rattle.launcher.specs.kernel_laws.Launched.{Launch, IsLaunched, launch_of, lets}
-use Rattle.launcher.proofs.KernelLaws.Blind.{blind_is_sound, seen_exposes}
-use Rattle.launcher.proofs.KernelLaws.Exposed.{below_by_part, exposed_at_once, exposes_by_unmounts, exposes_seen}
+use Rattle.launcher.proofs.OfKernelLaws.Blind.{blind_is_sound, seen_exposes}
+use Rattle.launcher.proofs.OfKernelLaws.Exposed.{below_by_part, exposed_at_once, exposes_by_unmounts, exposes_seen}
 use Rattle.reach_paths.proofs.Mounted.{mounted_twice}
 use Rattle.reach_paths.proofs.Parts.{part_all}
 use Rattle.kernel_ways.specs.Blindness.{IsExposed, IsBlindExactly, BlindIsExact}

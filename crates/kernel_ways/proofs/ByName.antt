@@ -4,7 +4,7 @@ use Rattle.std.specs.Prelude.{◌^◌, ◌%◌, ◌-◌, slice_get}
 use Rattle.std.specs.List.{AllByRecursion}
 use Rattle.launcher.specs.abs_path.Paths.{Path, proc}
 use Rattle.launcher.specs.abs_path.Prefix.{rest_of}
-use Rattle.launcher.proofs.AbsPath.Prefixes.{prefix-append, rest-append}
+use Rattle.launcher.proofs.OfAbsPath.Prefixes.{prefix-append, rest-append}
 use Rattle.launcher.specs.linux_numbers.Errnos.{eperm}
 use Rattle.launcher.specs.call_table.declared.call_names.rule.CallRule.TheVariants as known
 use Rattle.launcher.specs.site_table.declared.row.Row.{Row}
@@ -15,15 +15,15 @@ use Rattle.launcher.specs.kern_mounts.Finds.{found_at, found_by, row_or_nothing}
 use Rattle.launcher.specs.kern_mounts.Launch.{HasShortPlace}
 use Rattle.launcher.specs.kern_mounts.Answer.{plain_answer}
 use Rattle.launcher.specs.kern_mounts.Mounts.{plain, steps_of}
-use Rattle.launcher.proofs.KernMounts.Plain.{steps_plain}
+use Rattle.launcher.proofs.OfKernMounts.Plain.{steps_plain}
 use Rattle.launcher.specs.kern_mounts.Split.{Table, Split, split_at}
 use Rattle.launcher.specs.kern_mounts.Table.{StartsAtRoot}
 use Rattle.launcher.specs.kern_mounts.Umount.{after_umount}
 use Rattle.launcher.specs.kern_mounts.Unmounts.{IsOrdered}
 use Rattle.launcher.specs.kern_mounts.declared.step.MountStep.{MountStep}
-use Rattle.launcher.proofs.KernMounts.Leaving.{ascending_is_ordered}
-use Rattle.launcher.proofs.KernMounts.Splits.{split_some, split_is, of_split}
-use Rattle.launcher.proofs.KernMounts.Unmounting.{Apart, trims, trimmed_part, trimmed_top, append_all}
+use Rattle.launcher.proofs.OfKernMounts.Leaving.{ascending_is_ordered}
+use Rattle.launcher.proofs.OfKernMounts.Splits.{split_some, split_is, of_split}
+use Rattle.launcher.proofs.OfKernMounts.Unmounting.{Apart, trims, trimmed_part, trimmed_top, append_all}
 use Rattle.launcher.specs.kernel_model.kern_files.Looking.{flags_by}
 use Rattle.launcher.specs.kernel_model.kern_files.MountCall.{ms_bind, after_mount}
 use Rattle.launcher.specs.kernel_model.kern_files.UmountCall.{mnt_detach}

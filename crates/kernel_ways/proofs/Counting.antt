@@ -44,9 +44,9 @@ use Rattle.launcher.specs.kernel_model.StepCases.{EffectCase, StepCase}
 use Rattle.launcher.specs.kernel_model.World.{World, living_of, mounts_of, host_of, caller_of, start_world, owner_of}
 use Rattle.launcher.specs.kernel_model.declared.process.Process.{Process}
 use Rattle.launcher.specs.kernel_model.declared.reply.Reply.{Reply}
-use Rattle.launcher.proofs.KernelModel.Cases.{steps_by_cases}
-use Rattle.launcher.proofs.KernelModel.Kernels.{told_stays}
-use Rattle.launcher.proofs.KernelModel.Lists.{each-append, length-set, length-push}
+use Rattle.launcher.proofs.OfKernelModel.Cases.{steps_by_cases}
+use Rattle.launcher.proofs.OfKernelModel.Kernels.{told_stays}
+use Rattle.launcher.proofs.OfKernelModel.Lists.{each-append, length-set, length-push}
 use Rattle.launcher.specs.kernel_laws.Questions.{if_so, count_from}
 use Rattle.launcher.specs.Launch.{Wanted, LaunchStep, Makes, Mounts, number_of, first_call, makes, capset_step, prctl_step, launch_step}
 use Rattle.launcher.specs.Launch.{launch_steps, mount_steps, with_unshare, group_steps, drop_steps, inherit_steps, user_steps, raise_steps}

@@ -14,7 +14,7 @@ use Rattle.launcher.specs.kern_creds.declared.creds.Creds.{Creds}
 use Rattle.launcher.specs.kern_mounts.Finds.{row, finds}
 use Rattle.launcher.specs.kern_mounts.Split.{Table}
 use Rattle.launcher.specs.kern_mounts.Mounts.{Mounts, plain, steps_of}
-use Rattle.launcher.proofs.KernMounts.Plain.{steps_plain}
+use Rattle.launcher.proofs.OfKernMounts.Plain.{steps_plain}
 use Rattle.launcher.specs.kernel_model.declared.kernel_calls.call.Call.{Call}
 use Rattle.launcher.specs.kernel_model.kernel_calls.Doing.{Doing, Does, asked_of}
 use Rattle.launcher.specs.kernel_model.Effects as f
@@ -30,7 +30,7 @@ use Rattle.launcher.specs.kernel_laws.Launched.{Launch, data_at}
 use Rattle.launcher.specs.kernel_laws.declared.question_types.wish.Wish.{Wish}
 use Rattle.launcher.specs.kernel_laws.declared.question_types.question.Question.{Question}
 use Rattle.launcher.specs.kernel_laws.declared.question_types.question.Question.TheVariants as asking
-use Rattle.launcher.proofs.KernelLaws.Numbered.{lives}
+use Rattle.launcher.proofs.OfKernelLaws.Numbered.{lives}
 use Rattle.kernel_ways.specs.Entering.{IsEntered, MakesIn, newer_at, CallsShowInside}
 use Rattle.kernel_ways.specs.Showing.{IsDoable, Answers}
 use Rattle.kernel_ways.specs.Ways.{host_at}

@@ -15,8 +15,8 @@ use Rattle.launcher.specs.kernel_laws.Launched.{Launch, lets, launch_of}
 use Rattle.launcher.specs.kernel_laws.Questions.{IsAsked, questions}
 use Rattle.launcher.specs.kernel_model.Runs.{Moment, moments}
 use Rattle.launcher.specs.kernel_model.World.{World}
-use Rattle.launcher.proofs.KernelLaws.AskedQuestions.{all_asked}
-use Rattle.launcher.proofs.KernelLaws.Verdict.{denial_is_sound}
+use Rattle.launcher.proofs.OfKernelLaws.AskedQuestions.{all_asked}
+use Rattle.launcher.proofs.OfKernelLaws.Verdict.{denial_is_sound}
 use Rattle.kernel_ways.proofs.FitQuestions.{listed_are_fit}
 use Rattle.kernel_ways.specs.Laws.{IsFit, IsServedWorld, IsShown, IsExact, VerdictIsExact, QuestionsAreExact, BoundsAreExact}
 use Rattle.kernel_ways.specs.Laws.{CeilingIsExact}

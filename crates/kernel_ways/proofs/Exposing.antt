@@ -14,8 +14,8 @@ use Rattle.launcher.specs.kern_mounts.Split.{Table}
 use Rattle.launcher.specs.kern_mounts.Table.{StartsAtRoot}
 use Rattle.launcher.specs.kern_mounts.Unmounts.{Unmounts, still, then_one}
 use Rattle.launcher.specs.kern_mounts.declared.step.MountStep.{MountStep}
-use Rattle.launcher.proofs.KernMounts.Splits.{split_of, split_some}
-use Rattle.launcher.proofs.KernMounts.Unmounting.{removes, trims, trimmed_part, trimmed_top, unmounts_trim, append_all}
+use Rattle.launcher.proofs.OfKernMounts.Splits.{split_of, split_some}
+use Rattle.launcher.proofs.OfKernMounts.Unmounting.{removes, trims, trimmed_part, trimmed_top, unmounts_trim, append_all}
 use Rattle.launcher.specs.kernel_model.kern_files.Bits.{has_all}
 use Rattle.launcher.specs.kernel_model.kern_files.Looking.{flags_at, flags_by}
 use Rattle.launcher.specs.kernel_model.kern_files.MountCall.{ms_bind, ms_remount_bind, has_other_kind, flags_of}

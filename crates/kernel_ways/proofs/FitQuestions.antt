@@ -13,7 +13,7 @@ use Rattle.launcher.specs.site_table.declared.accounts.Group.{Group}
 use Rattle.launcher.specs.site_table.Table.{Site, IsSite, IsRowOf, IsUser, IsGroup}
 use Rattle.launcher.specs.kernel_model.kernel_calls.Rules.{rule_of}
 use Rattle.launcher.specs.site_table.Kinds.{is_dir, is_exe}
-use Rattle.launcher.proofs.KernelModel.Lists.{each-append}
+use Rattle.launcher.proofs.OfKernelModel.Lists.{each-append}
 use Rattle.launcher.specs.kernel_laws.declared.question_types.question.Question.{Question}
 use Rattle.launcher.specs.kernel_laws.declared.question_types.question.Question.TheVariants.{Path as ByPath, Call, Cap, Uid, Gid}
 use Rattle.launcher.specs.kernel_laws.declared.question_types.wish.Wish.TheVariants.{Write as ToWrite, Exec as ToExec}

@@ -5,7 +5,7 @@ use Rattle.std.proofs.lemmas.Bool.{and_from, or_left, or_right}
 use Rattle.std.proofs.lemmas.Nat.{and_le_r}
 use Rattle.launcher.specs.abs_path.Paths.{Path}
 use Rattle.launcher.specs.cap_sets.Sets.{has, union, cut, within, IsWithin}
-use Rattle.launcher.proofs.Caps.Members.{within_self, within-from_IsWithin, cut_within_right, within_union_left, within_union_right}
+use Rattle.launcher.proofs.OfCapSets.Members.{within_self, within-from_IsWithin, cut_within_right, within_union_left, within_union_right}
 use Rattle.launcher.specs.site_table.declared.row.Row.{Row}
 use Rattle.launcher.specs.site_table.Table.{row_at}
 use Rattle.launcher.specs.kern_creds.declared.creds.Creds.{Creds}
@@ -26,7 +26,7 @@ use Rattle.launcher.specs.kernel_laws.Launched.{Launch, IsLaunched}
 use Rattle.launcher.specs.site_table.Kinds.{is_exe}
 use Rattle.launcher.specs.kern_mounts.Split.{Table}
 use Rattle.reach_paths.specs.Finding.{FindsRow}
-use Rattle.launcher.proofs.KernelLaws.KeptExec.{above_if}
+use Rattle.launcher.proofs.OfKernelLaws.KeptExec.{above_if}
 use Rattle.kernel_ways.specs.Offers.{Offers}
 use Rattle.kernel_ways.specs.Ways.{place_of, Makes}
 use Rattle.kernel_ways.proofs.Doings.{exec_path}

@@ -20,7 +20,7 @@ use Rattle.launcher.specs.kernel_laws.declared.question_types.power.Power.TheVar
 use Rattle.launcher.specs.kernel_laws.declared.question_types.power.Power.TheVariants.{Mount as Mounting}
 use Rattle.launcher.specs.kernel_laws.Launched.{Launch, IsLaunched, lets}
 use Rattle.launcher.specs.kern_mounts.Split.{Table}
-use Rattle.launcher.proofs.KernelLaws.Bound.{any_listed}
+use Rattle.launcher.proofs.OfKernelLaws.Bound.{any_listed}
 use Rattle.kernel_ways.specs.Offers.{Offers}
 use Rattle.kernel_ways.specs.Taking.{id_call}
 use Rattle.kernel_ways.specs.Ways.{place_of, Way, here, by_creds}

@@ -5,7 +5,7 @@ use Rattle.std.specs.Prelude.{◌^◌, ◌&&◌, not, nat_lt, slice_get, length}
 use Rattle.launcher.specs.abs_path.Paths.{Path}
 use Rattle.launcher.specs.call_table.declared.call_names.rule.CallRule.TheVariants as known
 use Rattle.launcher.specs.cap_sets.Sets.{has, all, within, IsWithin}
-use Rattle.launcher.proofs.Caps.Members.{has_all, within-from_IsWithin}
+use Rattle.launcher.proofs.OfCapSets.Members.{has_all, within-from_IsWithin}
 use Rattle.launcher.specs.linux_numbers.Errnos.{eacces, eperm}
 use Rattle.launcher.specs.site_table.declared.row.Row.{Row}
 use Rattle.launcher.specs.site_table.Kinds.{is_exe}
@@ -16,7 +16,7 @@ use Rattle.launcher.specs.kern_creds.Exec.{exec_done_in, is_refused}
 use Rattle.launcher.specs.kern_mounts.Finds.{row, finds}
 use Rattle.launcher.specs.kern_mounts.Split.{Table}
 use Rattle.launcher.specs.kern_mounts.Mounts.{plain, steps_of}
-use Rattle.launcher.proofs.KernMounts.Plain.{steps_plain}
+use Rattle.launcher.proofs.OfKernMounts.Plain.{steps_plain}
 use Rattle.launcher.specs.kernel_model.kern_files.Executing.{marks_of, executed_in, exec_answer_in}
 use Rattle.launcher.specs.kernel_model.kern_files.Looking.{flags_at}
 use Rattle.launcher.specs.kernel_model.kernel_calls.Calls.{IsCall, IsPath, FitsPayload}

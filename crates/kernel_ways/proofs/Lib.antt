@@ -25,16 +25,16 @@ pub mod Serving
 pub mod SparedLaws
 pub mod SparedWays
 pub mod BlindShown
-pub use Rattle.launcher.proofs.AbsPath as AbsPath
-pub use Rattle.launcher.proofs.BpfCode as BpfCode
-pub use Rattle.launcher.proofs.CallTable as CallTable
-pub use Rattle.launcher.proofs.Caps as Caps
-pub use Rattle.launcher.proofs.DropinMerge as DropinMerge
-pub use Rattle.launcher.proofs.ExecSettings as ExecSettings
-pub use Rattle.launcher.proofs.KernMounts as KernMounts
-pub use Rattle.launcher.proofs.KernelLaws as KernelLaws
-pub use Rattle.launcher.proofs.KernelModel as KernelModel
-pub use Rattle.launcher.proofs as Launcher
-pub use Rattle.launcher.proofs.MountPlan as MountPlan
-pub use Rattle.launcher.proofs.PathSettings as PathSettings
-pub use Rattle.reach_paths.proofs as ReachPaths
+pub mod OfLauncher
+pub mod OfReachPaths
+pub use Rattle.launcher.proofs.OfAbsPath as OfAbsPath
+pub use Rattle.launcher.proofs.OfBpfCode as OfBpfCode
+pub use Rattle.launcher.proofs.OfCallTable as OfCallTable
+pub use Rattle.launcher.proofs.OfCapSets as OfCapSets
+pub use Rattle.launcher.proofs.OfDropinMerge as OfDropinMerge
+pub use Rattle.launcher.proofs.OfExecSettings as OfExecSettings
+pub use Rattle.launcher.proofs.OfKernMounts as OfKernMounts
+pub use Rattle.launcher.proofs.OfKernelLaws as OfKernelLaws
+pub use Rattle.launcher.proofs.OfKernelModel as OfKernelModel
+pub use Rattle.launcher.proofs.OfMountPlan as OfMountPlan
+pub use Rattle.launcher.proofs.OfPathSettings as OfPathSettings

@@ -29,7 +29,7 @@ use Rattle.launcher.specs.filter_settings.declared.filter_rules.namespace_types.
 use Rattle.launcher.specs.kernel_laws.Questions.{flag_of}
 use Rattle.launcher.specs.kernel_laws.Launched.{Launch, IsLaunched, data_at, passes, is_pass, lets_words, lets_rule, lets_line, lets}
 use Rattle.launcher.specs.kern_mounts.Split.{Table}
-use Rattle.launcher.proofs.KernelLaws.Filters.{at_position, slice_all}
+use Rattle.launcher.proofs.OfKernelLaws.Filters.{at_position, slice_all}
 use Rattle.kernel_ways.specs.Ways.{effect_on, Makes, host_at, caller_at, CallAt, IsCallAt, rule_there, passes_at, place_of}
 use Rattle.kernel_ways.proofs.Choices.{Choice, of_words}
 

@@ -5,14 +5,14 @@ use Rattle.std.specs.List.{AllByRecursion}
 use Rattle.launcher.specs.abs_path.Paths.{Path}
 use Rattle.launcher.specs.abs_path.Prefix.{is_same}
 use Rattle.launcher.specs.abs_path.ByteOrder.{is_before, AreAscending}
-use Rattle.launcher.proofs.AbsPath.ByteOrder.{not_before_itself}
-use Rattle.launcher.proofs.AbsPath.Prefixes.{same_path, same_itself}
+use Rattle.launcher.proofs.OfAbsPath.ByteOrder.{not_before_itself}
+use Rattle.launcher.proofs.OfAbsPath.Prefixes.{same_path, same_itself}
 use Rattle.launcher.specs.cap_sets.Sets.{none}
 use Rattle.launcher.specs.site_table.declared.row.Row.{Row}
 use Rattle.launcher.specs.site_table.Table.{Site, IsSite, row_at}
 use Rattle.launcher.specs.kern_mounts.Finds.{row, finds}
 use Rattle.launcher.specs.kern_mounts.Split.{Table}
-use Rattle.launcher.proofs.KernelLaws.Reach.{shows}
+use Rattle.launcher.proofs.OfKernelLaws.Reach.{shows}
 use Rattle.reach_paths.proofs.RowsOfSites.{found_path, found_row}
 
 later_at : (path : Path) (rows : List Row) → AllByRecursion (λ later. is_before path later ≡ true) (map (λ row. row.path) rows)

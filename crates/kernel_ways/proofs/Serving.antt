@@ -17,8 +17,8 @@ use Rattle.launcher.specs.call_table.Facts.{IsWhole}
 use Rattle.launcher.specs.call_table.Lookups.{IsInRange, numbered}
 use Rattle.launcher.specs.call_table.Table as calls
 use Rattle.launcher.specs.cap_sets.Sets.{all, within, IsWithin}
-use Rattle.launcher.proofs.Caps.Words.{and_below}
-use Rattle.launcher.proofs.Caps.Members.{within-from_IsWithin, within_through}
+use Rattle.launcher.proofs.OfCapSets.Words.{and_below}
+use Rattle.launcher.proofs.OfCapSets.Members.{within-from_IsWithin, within_through}
 use Rattle.launcher.specs.filter_settings.filter_rules.Refusing.{AreRefusing}
 use Rattle.launcher.specs.filter_settings.declared.filter_rules.settings.FilterSettings.{FilterSettings}
 use Rattle.launcher.specs.linux_numbers.Errnos.{eacces, eperm}
@@ -56,9 +56,9 @@ use Rattle.launcher.specs.kernel_laws.declared.question_types.kind.CallKind.TheV
 use Rattle.launcher.specs.kernel_laws.declared.question_types.wish.Wish.TheVariants.{Exec as ToExec}
 use Rattle.launcher.specs.kernel_laws.declared.question_types.power.Power.TheVariants.{None as Nowise}
 use Rattle.launcher.specs.kernel_laws.Reach.{fits}
-use Rattle.launcher.proofs.KernelLaws.Filters.{has_rule, found_number, lets_through}
-use Rattle.launcher.proofs.KernelLaws.Reach.{leads}
-use Rattle.launcher.proofs.KernelLaws.ReachLaws.{reach_of_the_table}
+use Rattle.launcher.proofs.OfKernelLaws.Filters.{has_rule, found_number, lets_through}
+use Rattle.launcher.proofs.OfKernelLaws.Reach.{leads}
+use Rattle.launcher.proofs.OfKernelLaws.ReachLaws.{reach_of_the_table}
 use Rattle.launcher.specs.Launch.{Wanted, Launched, launch, PrivilegedProgram, number_of, first_call, launch_from, launch_steps}
 use Rattle.launcher.specs.Launch.{program_steps, is_privileged_row}
 use Rattle.launcher.specs.LaunchedWorlds.{IsMeant}

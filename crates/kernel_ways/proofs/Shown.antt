@@ -45,7 +45,7 @@ use Rattle.reach_paths.specs.Finding.{FindsRow}
 use Rattle.launcher.specs.kernel_laws.Reach.{fits, reaches}
 use Rattle.launcher.specs.kernel_model.kernel_calls.Rules.{rule_of}
 use Rattle.launcher.specs.kernel_model.World.{World}
-use Rattle.launcher.proofs.KernelLaws.Filters.{at_position}
+use Rattle.launcher.proofs.OfKernelLaws.Filters.{at_position}
 use Rattle.kernel_ways.specs.Laws.{IsFit, IsServedWorld, IsShown, OpenIsShown}
 use Rattle.kernel_ways.specs.Offers.{Offers}
 use Rattle.kernel_ways.specs.Showing.{Answers}

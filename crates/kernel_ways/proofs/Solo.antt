@@ -20,8 +20,8 @@ use Rattle.launcher.specs.kernel_laws.Launched.{Launch, data_at}
 use Rattle.launcher.specs.bpf_code.declared.machine.Insn.{Insn}
 use Rattle.launcher.specs.kern_mounts.Mounts.{Mounts, plain, steps_of}
 use Rattle.launcher.specs.kern_mounts.Finds.{finds}
-use Rattle.launcher.proofs.KernMounts.Plain.{steps_plain}
-use Rattle.launcher.proofs.KernelModel.MountsCall.{mount_entries, umount_answer_entries}
+use Rattle.launcher.proofs.OfKernMounts.Plain.{steps_plain}
+use Rattle.launcher.proofs.OfKernelModel.MountsCall.{mount_entries, umount_answer_entries}
 use Rattle.launcher.specs.kernel_model.kern_files.Executing.{exec_answer}
 use Rattle.launcher.specs.kernel_model.kern_files.Looking.{flags_at, see_answer, write_answer, open_answer}
 use Rattle.launcher.specs.kern_mounts.Split.{Table}

@@ -13,10 +13,10 @@ use Rattle.launcher.specs.kernel_laws.Launched.{Launch, lets, launch_of, IsLaunc
 use Rattle.launcher.specs.kernel_laws.Spared.{AllSpare}
 use Rattle.launcher.specs.kernel_model.Runs.{run}
 use Rattle.launcher.specs.kernel_model.World.{World}
-use Rattle.launcher.proofs.KernelLaws.Bound.{is_closed}
-use Rattle.launcher.proofs.KernelLaws.Filters.{lets_through}
-use Rattle.launcher.proofs.KernelLaws.Held.{start_held, uid_within, gid_within}
-use Rattle.launcher.proofs.KernelLaws.Runs.{spared_run}
+use Rattle.launcher.proofs.OfKernelLaws.Bound.{is_closed}
+use Rattle.launcher.proofs.OfKernelLaws.Filters.{lets_through}
+use Rattle.launcher.proofs.OfKernelLaws.Held.{start_held, uid_within, gid_within}
+use Rattle.launcher.proofs.OfKernelLaws.Runs.{spared_run}
 use Rattle.kernel_ways.specs.Spared.{uids_of, gids_of, SparedIdsAreBounded}
 
 -- what tables newer user namespaces have does not matter

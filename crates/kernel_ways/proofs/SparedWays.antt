@@ -6,7 +6,7 @@ use Rattle.launcher.specs.bpf_code.declared.machine.Insn.{Insn}
 use Rattle.launcher.specs.bpf_code.declared.decision.Decision.TheVariants as decision
 use Rattle.launcher.specs.bpf_code.Stack.{decision_on}
 use Rattle.launcher.specs.cap_sets.Sets.{has, union}
-use Rattle.launcher.proofs.Caps.Members.{has_union, has_none, within_union_left, within_self}
+use Rattle.launcher.proofs.OfCapSets.Members.{has_union, has_none, within_union_left, within_self}
 use Rattle.launcher.specs.kern_creds.declared.creds.Creds.{Creds}
 use Rattle.launcher.specs.kernel_laws.Bound.{caps_at, caps_by, caps_before, with_root, when, power_by, power_using, power_of}
 use Rattle.launcher.specs.kernel_model.declared.kernel_calls.call.Call.{Call}
@@ -21,7 +21,7 @@ use Rattle.launcher.specs.kernel_laws.declared.question_types.power.Power.TheVar
 use Rattle.launcher.specs.kernel_laws.declared.question_types.power.Power.TheVariants.{Mount as Mounting}
 use Rattle.launcher.specs.kernel_laws.declared.question_types.question.Question.TheVariants as asking
 use Rattle.launcher.specs.kernel_model.World.{World}
-use Rattle.launcher.proofs.KernelLaws.Filters.{lets_through}
+use Rattle.launcher.proofs.OfKernelLaws.Filters.{lets_through}
 use Rattle.kernel_ways.specs.Offers.{Offers}
 use Rattle.launcher.specs.kernel_laws.Spared.{Spares, AllSpare}
 use Rattle.kernel_ways.specs.Spared.{SparedIdsAreReached}

@@ -17,7 +17,7 @@ use Rattle.launcher.specs.kernel_model.kernel_calls.Doing.{Doing}
 use Rattle.launcher.specs.kernel_model.Effects.{Effect}
 use Rattle.launcher.specs.kernel_laws.Launched.{Launch, IsLaunchedWorld, launch_of, first_of}
 use Rattle.launcher.specs.kern_mounts.Mounts.{Mounts, plain, steps_of}
-use Rattle.launcher.proofs.KernMounts.Plain.{steps_plain, plain_again}
+use Rattle.launcher.proofs.OfKernMounts.Plain.{steps_plain, plain_again}
 use Rattle.launcher.specs.kern_mounts.Split.{Table}
 use Rattle.launcher.specs.kernel_laws.declared.question_types.wish.Wish.{Wish}
 use Rattle.launcher.specs.kernel_model.Runs.{moment_at, IsDone}

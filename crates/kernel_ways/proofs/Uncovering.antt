@@ -4,16 +4,16 @@ use Rattle.std.proofs.Common.{subst, cond, arith, ◌≤◌, ◌<◌, length, le
 use Rattle.std.specs.Prelude.{not, filter}
 use Rattle.launcher.specs.abs_path.Paths.{Path, is_root}
 use Rattle.launcher.specs.abs_path.Prefix.{is_prefix, rest_of}
-use Rattle.launcher.proofs.AbsPath.Prefixes.{prefix_itself, same_itself}
+use Rattle.launcher.proofs.OfAbsPath.Prefixes.{prefix_itself, same_itself}
 use Rattle.launcher.specs.kern_mounts.Entry.{leads_to}
 use Rattle.launcher.specs.kern_mounts.Split.{Table, Split, split_last, split_at, is_at, is_below}
 use Rattle.launcher.specs.kern_mounts.Umount.{after_umount}
 use Rattle.launcher.specs.kern_mounts.Unmounts.{IsPart, nothing, keeps, leaves}
 use Rattle.launcher.specs.kern_mounts.declared.step.MountStep.{MountStep}
-use Rattle.launcher.proofs.KernMounts.Paths.{behind}
-use Rattle.launcher.proofs.KernMounts.Splits.{None_have, IsSplit, split_some, split_none, split_is}
-use Rattle.launcher.proofs.KernMounts.Unmounting.{Apart, append_all, part_append, part_filter}
-use Rattle.launcher.proofs.KernelLaws.Blind.{none_not}
+use Rattle.launcher.proofs.OfKernMounts.Paths.{behind}
+use Rattle.launcher.proofs.OfKernMounts.Splits.{None_have, IsSplit, split_some, split_none, split_is}
+use Rattle.launcher.proofs.OfKernMounts.Unmounting.{Apart, append_all, part_append, part_filter}
+use Rattle.launcher.proofs.OfKernelLaws.Blind.{none_not}
 use Rattle.launcher.specs.kernel_laws.Questions.{if_so}
 use Rattle.reach_paths.proofs.Parts.{part_all}
 use Rattle.kernel_ways.specs.Uncovering.{covering, Detaches, still, then_one}

@@ -35,13 +35,13 @@ use Rattle.launcher.specs.kernel_model.declared.kernel_calls.rule.Rule.{Rule}
 use Rattle.launcher.specs.kernel_model.declared.kernel_calls.rule.Rule.TheVariants.{Known}
 use Rattle.launcher.specs.kernel_laws.FirstChoice.{Means}
 use Rattle.launcher.specs.kernel_laws.Launched.{Launch, data_at}
-use Rattle.launcher.proofs.KernelLaws.FilterChoices.{with_name, rule_named}
-use Rattle.launcher.proofs.KernelLaws.Filters.{HasRule, has_rule}
-use Rattle.launcher.proofs.KernelLaws.Programs.{stack_passes}
+use Rattle.launcher.proofs.OfKernelLaws.FilterChoices.{with_name, rule_named}
+use Rattle.launcher.proofs.OfKernelLaws.Filters.{HasRule, has_rule}
+use Rattle.launcher.proofs.OfKernelLaws.Programs.{stack_passes}
 use Rattle.kernel_ways.specs.Launching.{SettingsPassAlike}
 use Rattle.kernel_ways.specs.Offers.{is_unlooked}
 use Rattle.kernel_ways.specs.Ways.{CallAt}
-use Rattle.launcher.proofs.KernelLaws.SettingsChoose.{at_line, at_other, is_there, same_abi}
+use Rattle.launcher.proofs.OfKernelLaws.SettingsChoose.{at_line, at_other, is_there, same_abi}
 
 module _ (line : CallLine) (rule : Rule) (is : rule_of line ≡ Some rule) (unlooked : is_unlooked rule ≡ true) where
   -- such a line has no name of another rule

@@ -9,6 +9,8 @@ pub mod Exposures
 pub mod Launching
 pub mod Spared
 pub mod Blindness
+pub mod launcher
+pub mod reach_paths
 pub use Rattle.launcher.specs.abs_path as abs_path
 pub use Rattle.launcher.specs.bpf_code as bpf_code
 pub use Rattle.launcher.specs.call_rules as call_rules
@@ -21,10 +23,8 @@ pub use Rattle.launcher.specs.kern_creds as kern_creds
 pub use Rattle.launcher.specs.kern_mounts as kern_mounts
 pub use Rattle.launcher.specs.kernel_laws as kernel_laws
 pub use Rattle.launcher.specs.kernel_model as kernel_model
-pub use Rattle.launcher.specs as launcher
 pub use Rattle.launcher.specs.linux_numbers as linux_numbers
 pub use Rattle.launcher.specs.mount_plan as mount_plan
 pub use Rattle.launcher.specs.mount_settings as mount_settings
 pub use Rattle.launcher.specs.path_settings as path_settings
-pub use Rattle.reach_paths.specs as reach_paths
 pub use Rattle.launcher.specs.site_table as site_table

@@ -60,9 +60,9 @@ pub fn blindness()
     ensures exact { BlindIsExact }
 {}
 
-pub use launcher;
 pub use launcher::{
-    abs_path, bpf_code, call_table, cap_sets, dropin_merge, exec_settings, kern_mounts,
-    kernel_laws, kernel_model, linux_numbers, mount_plan, path_settings, site_table, text_forms,
+    CallData, CallKind, Decision, FilterProgram, LaunchError, Launched, Mentions, MountSteps,
+    NamespaceType, PlanError, Power, Resolved, Settings, SettingsError, Wish, is_judged, launch,
+    linux_numbers, plan, settings,
 };
-pub use reach_paths;
+pub use reach_paths::{is_covered, reach};

@@ -1,6 +1,6 @@
 -- The settings of every unit can be launched.
 use Rattle.std.proofs.Common.{arith}
-use Rattle.exec_settings.proofs.CredSettings.InRange.{ids_in_range}
+use Rattle.exec_settings.proofs.OfCredSettings.InRange.{ids_in_range}
 use Rattle.exec_settings.specs.Dynamic.{is_dynamic}
 use Rattle.launcher.specs.Conditions.{SettingsCanBeLaunched}
 

@@ -5,7 +5,7 @@ use Rattle.std.proofs.lemmas.List.{take_more}
 use Rattle.exec_settings.specs.abs_path.Paths.{Path}
 use Rattle.kernel_laws.specs.kern_mounts.declared.step.MountStep.{MountStep}
 use Rattle.kernel_laws.specs.kern_mounts.Entry.{entry_of, leads_to}
-use Rattle.kernel_laws.proofs.KernMounts.Entries.{entry_push}
+use Rattle.kernel_laws.proofs.OfKernMounts.Entries.{entry_push}
 
 pub found_more : (plan : List MountStep) (path : Path) (i : ℕ) (entry : MountStep) (before after : Option MountStep) → i < length plan
     → entry ≡ get_or plan i entry

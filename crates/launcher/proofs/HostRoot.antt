@@ -8,7 +8,7 @@ use Rattle.kernel_laws.specs.kern_mounts.declared.step.MountStep.{MountStep}
 use Rattle.kernel_laws.specs.kern_mounts.Launch.{BeginsAtRoot, CanBeMounted}
 use Rattle.kernel_laws.specs.kern_mounts.Split.{Table}
 use Rattle.exec_settings.specs.abs_path.ByteOrder.{AreAscending, is_before}
-use Rattle.exec_settings.proofs.AbsPath.ByteOrder.{not_before_itself}
+use Rattle.exec_settings.proofs.OfAbsPath.ByteOrder.{not_before_itself}
 use Rattle.std.proofs.lemmas.Bool.{false≢true}
 
 abbrev pub AreBelowRoot : Table → Type 0

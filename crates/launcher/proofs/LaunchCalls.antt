@@ -16,7 +16,7 @@ use Rattle.kernel_laws.specs.kernel_model.declared.kernel_calls.rule.Rule.TheVar
 use Rattle.kernel_laws.specs.call_table.declared.call_names.rule.CallRule.TheVariants as known
 use Rattle.kernel_laws.specs.kernel_model.declared.kernel_calls.rule.Rule.{Rule}
 use Rattle.kernel_laws.specs.kernel_model.kernel_calls.Rules.{rule_of, rule_at}
-use Rattle.kernel_laws.proofs.CallTable.Places.{place_is}
+use Rattle.kernel_laws.proofs.OfCallTable.Places.{place_is}
 use Rattle.std.proofs.lemmas.List.Folds.{find_at}
 use Rattle.launcher.specs.Launches.{HasLaunchCalls}
 

@@ -5,9 +5,9 @@ use Rattle.std.specs.Prelude.{◌&&◌, ◌||◌, not, nat_lt}
 use Rattle.std.proofs.lemmas.Bool.{and_parts, not-false, eqb-true}
 use Rattle.std.proofs.lemmas.Bool.Decides.{nat_tests}
 use Rattle.exec_settings.specs.cap_sets.Sets.{has, none, all, single, union, cut, minus, within, IsWithin}
-use Rattle.exec_settings.proofs.Caps.Members.{has_single, within_self, within_both, none_within, within_through, cut_within_left}
-use Rattle.exec_settings.proofs.Caps.Members.{cut_within_right, within_cut, union_within, within_union_left, within_union_right}
-use Rattle.exec_settings.proofs.Caps.Members.{minus_within, single_within, IsWithin-from_within}
+use Rattle.exec_settings.proofs.OfCapSets.Members.{has_single, within_self, within_both, none_within, within_through, cut_within_left}
+use Rattle.exec_settings.proofs.OfCapSets.Members.{cut_within_right, within_cut, union_within, within_union_left, within_union_right}
+use Rattle.exec_settings.proofs.OfCapSets.Members.{minus_within, single_within, IsWithin-from_within}
 use Rattle.kernel_laws.specs.kern_creds.declared.creds.Creds.{Creds}
 use Rattle.kernel_laws.specs.kern_creds.declared.ids.Ids.{Ids}
 use Rattle.kernel_laws.specs.kern_creds.declared.file.FileCreds.{FileCreds}

@@ -8,8 +8,8 @@ use Rattle.std.proofs.lemmas.Bool.Decides.{nat_tests}
 use Rattle.exec_settings.specs.abs_path.Paths.{Path}
 use Rattle.kernel_laws.specs.bpf_code.declared.machine.Insn.{Insn}
 use Rattle.exec_settings.specs.cap_sets.Sets.{has, none, all, single, union, IsWithin}
-use Rattle.exec_settings.proofs.Caps.Members.{within_self, within_through, none_within, union_within, single_within, within_union_left}
-use Rattle.exec_settings.proofs.Caps.Members.{within_union_right, has_single}
+use Rattle.exec_settings.proofs.OfCapSets.Members.{within_self, within_through, none_within, union_within, single_within, within_union_left}
+use Rattle.exec_settings.proofs.OfCapSets.Members.{within_union_right, has_single}
 use Rattle.kernel_laws.specs.call_table.Table as calls
 use Rattle.exec_settings.specs.site_table.Table.{Site, row_at}
 use Rattle.exec_settings.specs.site_table.declared.row.Row.{Row}
@@ -49,7 +49,7 @@ use Rattle.launcher.specs.Launches.{HasLaunchCalls, AreRead, IsLaunchedCreds, Le
 use Rattle.mount_plan.specs.Host.{host_of as site_host}
 use Rattle.launcher.proofs.HostRoot.{BeginsAtHostRoot, begins_at_host}
 use Rattle.launcher.proofs.Leading.{Leads, launched_leads, leads_parts, leads_map, append_assoc, append_none, append_parts}
-use Rattle.launcher.proofs.MountSteps.{plan_mounted}
+use Rattle.launcher.proofs.MakingPlan.{plan_mounted}
 use Rattle.launcher.proofs.RaisedAll.{counted_small, filter_keeps, all_raised}
 use Rattle.launcher.proofs.Solo.{ones_number, ones_length, At, solo, only, weaker, makes_creds, makes_push, does, creds_done, own_table}
 use Rattle.launcher.proofs.LaunchCreds.{Has, starts, set_groups, set_gids, drops, set_all, keeps_caps, set_uid, Raised, raises, set_ambient}

@@ -40,8 +40,8 @@ use Rattle.launcher.proofs.TwoAbis.{once_in, of_abi_in, one_cap_in, range_in, ar
 use Rattle.launcher.specs.Launch.{Wanted}
 use Rattle.kernel_laws.specs.Launched.{Launch, IsLaunched, first_of, process_or}
 use Rattle.kernel_laws.specs.kern_mounts.Mounts.{Mounts as MountList, plain as plain_mount, ArePlain as ArePlainMounts}
-use Rattle.kernel_laws.proofs.KernMounts.Leaving.{ascending_is_ordered}
-use Rattle.kernel_laws.proofs.KernMounts.Plain.{are_plain}
+use Rattle.kernel_laws.proofs.OfKernMounts.Leaving.{ascending_is_ordered}
+use Rattle.kernel_laws.proofs.OfKernMounts.Plain.{are_plain}
 use Rattle.kernel_laws.specs.kern_mounts.Split.{Table}
 use Rattle.kernel_laws.specs.kernel_model.World.{World, of_number, mounts_of, table_or}
 use Rattle.kernel_laws.specs.kernel_model.declared.process.Process.{Process}

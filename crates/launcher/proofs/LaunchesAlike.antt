@@ -39,7 +39,7 @@ use Rattle.launcher.specs.Alike.{HasWordArchs, AnswerAlike, above}
 use Rattle.launcher.specs.Launches.{HasLaunchCalls, AreRead}
 use Rattle.launcher.specs.LaunchesAlike.{EndAlike, LaunchesAlike}
 use Rattle.launcher.proofs.Solo.{solo, only}
-use Rattle.launcher.proofs.CallData.{fits}
+use Rattle.launcher.proofs.LaunchData.{fits}
 use Rattle.launcher.proofs.LaunchCalls.{launch_calls}
 use Rattle.launcher.proofs.Leading.{Leads, append_assoc, append_none, append_split}
 use Rattle.launcher.proofs.LaunchWorld.{ready_at}

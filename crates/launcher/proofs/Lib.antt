@@ -1,8 +1,8 @@
-pub mod CallData
+pub mod LaunchData
 pub mod Leading
 pub mod HostRoot
 pub mod Solo
-pub mod MountSteps
+pub mod MakingPlan
 pub mod RaisedAll
 pub mod LaunchCreds
 pub mod LaunchCalls
@@ -21,16 +21,16 @@ pub mod Found
 pub mod Counted
 pub mod Answered
 pub mod UnitLaunched
-pub use Rattle.exec_settings.proofs.AbsPath as AbsPath
-pub use Rattle.kernel_laws.proofs.BpfCode as BpfCode
-pub use Rattle.kernel_laws.proofs.CallTable as CallTable
-pub use Rattle.exec_settings.proofs.Caps as Caps
-pub use Rattle.exec_settings.proofs.DropinMerge as DropinMerge
-pub use Rattle.exec_settings.proofs as ExecSettings
-pub use Rattle.exec_settings.proofs.FilterSettings as FilterSettings
-pub use Rattle.kernel_laws.proofs.KernMounts as KernMounts
-pub use Rattle.kernel_laws.proofs as KernelLaws
-pub use Rattle.kernel_laws.proofs.KernelModel as KernelModel
-pub use Rattle.mount_plan.proofs as MountPlan
-pub use Rattle.exec_settings.proofs.PathSettings as PathSettings
-pub use Rattle.exec_settings.proofs.SiteTable as SiteTable
+pub mod OfExecSettings
+pub mod OfKernelLaws
+pub mod OfMountPlan
+pub use Rattle.exec_settings.proofs.OfAbsPath as OfAbsPath
+pub use Rattle.kernel_laws.proofs.OfBpfCode as OfBpfCode
+pub use Rattle.kernel_laws.proofs.OfCallTable as OfCallTable
+pub use Rattle.exec_settings.proofs.OfCapSets as OfCapSets
+pub use Rattle.exec_settings.proofs.OfDropinMerge as OfDropinMerge
+pub use Rattle.exec_settings.proofs.OfFilterSettings as OfFilterSettings
+pub use Rattle.kernel_laws.proofs.OfKernMounts as OfKernMounts
+pub use Rattle.kernel_laws.proofs.OfKernelModel as OfKernelModel
+pub use Rattle.exec_settings.proofs.OfPathSettings as OfPathSettings
+pub use Rattle.exec_settings.proofs.OfSiteTable as OfSiteTable

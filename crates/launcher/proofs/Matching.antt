@@ -5,7 +5,7 @@ use Rattle.std.specs.List.{AllByRecursion}
 use Rattle.std.proofs.lemmas.List.Sums.{sum_by-cons}
 use Rattle.kernel_laws.specs.bpf_code.declared.machine.Insn.{Insn}
 use Rattle.kernel_laws.specs.bpf_code.Stack.{room_of}
-use Rattle.kernel_laws.proofs.BpfCode.Stacks.{answer_is}
+use Rattle.kernel_laws.proofs.OfBpfCode.Stacks.{answer_is}
 use Rattle.exec_settings.specs.call_rules.Action.{case_action, word_of}
 use Rattle.exec_settings.specs.call_rules.Sizes.{most_insns}
 use Rattle.kernel_laws.specs.call_table.Table as calls

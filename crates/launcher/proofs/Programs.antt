@@ -5,7 +5,7 @@ use Rattle.std.proofs.lemmas.List.{take_more}
 use Rattle.kernel_laws.specs.bpf_code.declared.machine.Insn.{Insn}
 use Rattle.kernel_laws.specs.bpf_code.ProgramOf.{program_of}
 use Rattle.kernel_laws.specs.bpf_code.Reading.{IsProgram, bytes_of}
-use Rattle.kernel_laws.proofs.BpfCode.Tied.{accepted_by_function}
+use Rattle.kernel_laws.proofs.OfBpfCode.Tied.{accepted_by_function}
 use Rattle.exec_settings.specs.filter_settings.declared.filter_rules.installed.Filter.{Filter}
 use Rattle.launcher.specs.declared.filters.FilterProgram.{FilterProgram}
 use Rattle.launcher.specs.Answers.{IsProgramOf, AreProgramsOf, codes_of, given_bytes}

@@ -5,7 +5,7 @@ use Rattle.std.specs.List.{AllByRecursion, list_any}
 use Rattle.std.proofs.lemmas.Bool.{eqb-true}
 use Rattle.std.proofs.lemmas.Bool.Decides.{nat_tests}
 use Rattle.exec_settings.specs.cap_sets.Sets.{has, all, IsWithin}
-use Rattle.exec_settings.proofs.Caps.Members.{has_all}
+use Rattle.exec_settings.proofs.OfCapSets.Members.{has_all}
 use Rattle.kernel_laws.specs.kern_creds.declared.creds.Creds.{Creds}
 use Rattle.kernel_laws.specs.Questions.{count_from}
 use Rattle.launcher.proofs.Leading.{clash}

@@ -8,7 +8,7 @@ use Rattle.std.proofs.lemmas.List.Elements.{All-append}
 use Rattle.std.proofs.lemmas.List.{get_or_default}
 use Rattle.std.proofs.lemmas.List.Folds.{find_at}
 use Rattle.std.proofs.lemmas.Option.{slice_get-get_or}
-use Rattle.kernel_laws.proofs.CallTable.Places.{place_is}
+use Rattle.kernel_laws.proofs.OfCallTable.Places.{place_is}
 use Rattle.exec_settings.specs.filter_settings.filter_rules.Names.{Place, all_programs}
 use Rattle.exec_settings.specs.filter_settings.filter_rules.Installed.{place_of, is_installed, installed}
 use Rattle.exec_settings.specs.filter_settings.declared.filter_rules.installed.Filter.{Filter}

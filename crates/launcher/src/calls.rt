@@ -4,9 +4,8 @@ ghost use Rattle.std.specs.Prelude.{◌≡◌, ◌∷◌, [], ◌++◌, map, OnO
 ghost use Rattle.kernel_laws.specs.Questions.{if_so};
 ghost use Rattle.launcher.specs.Launch.{Makes, number_of, first_call, makes, capset_step, prctl_step};
 
-use exec_settings::cap_sets::CapSet;
-use kernel_laws::call_table::CallTable;
-use kernel_laws::kernel_model::kernel_calls::{Call, Payload};
+use exec_settings::CapSet;
+use kernel_laws::{Call, CallTable, Payload};
 use std::alloc::{AllocError, Global};
 use std::marker::Model;
 

@@ -3,7 +3,7 @@
 ghost use Rattle.std.specs.Prelude.{◌≡◌};
 ghost use Rattle.launcher.specs.declared.error.LaunchError.TheVariants.{Memory};
 
-use exec_settings::abs_path::AbsPath;
+use abs_path::AbsPath;
 use std::alloc::AllocError;
 use std::fmt::{self, Debug, Formatter, Write};
 use thiserror::Error;

@@ -5,9 +5,8 @@ ghost use Rattle.std.specs.List.{All};
 ghost use Rattle.exec_settings.specs.call_rules.Sizes.{CanCompile};
 ghost use Rattle.launcher.specs.Answers.{AreProgramsOf, IsProgramOf};
 
-use exec_settings::filter_settings::filter_rules::{Filter, FilterName};
-use exec_settings::text_forms::item_list::ItemList;
-use kernel_laws::bpf_code::Program;
+use exec_settings::{Filter, FilterName, ItemList};
+use kernel_laws::Program;
 use seccomp_compile::compile;
 use std::alloc::{AllocError, Global};
 

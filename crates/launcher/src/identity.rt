@@ -5,11 +5,9 @@ ghost use Rattle.launcher.specs.Answers.{wanted_of};
 ghost use Rattle.launcher.specs.Launch.{group_steps, drop_steps, inherit_steps, user_steps, raise_steps, left_steps, privilege_steps, identity_steps};
 
 use crate::calls::{CallSteps, capset, first_call, prctl};
-use exec_settings::Settings;
-use exec_settings::cap_sets::CapSet;
-use kernel_laws::call_table::CallTable;
-use kernel_laws::kernel_model::kernel_calls::{IdList, Payload};
+use exec_settings::{CapSet, Settings};
 use kernel_laws::linux_numbers::capabilities::CAP_LAST_CAP;
+use kernel_laws::{CallTable, IdList, Payload};
 use std::alloc::{AllocError, Global};
 
 /// PR_SET_KEEPCAPS, prctl(2).

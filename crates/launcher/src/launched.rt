@@ -1,8 +1,8 @@
 //! A launched service.
 
 use crate::filters::FilterPrograms;
-use exec_settings::abs_path::AbsPath;
-use kernel_laws::kernel_model::World;
+use abs_path::AbsPath;
+use kernel_laws::World;
 
 /// A service whose launch has made every step.
 #[derive(Drop)]

@@ -20,11 +20,8 @@ use crate::mounting::mount_plan;
 use crate::privileged::is_privileged;
 use crate::running::make_calls;
 use crate::steps::call_steps;
-use exec_settings::Settings;
-use exec_settings::site_table::SiteTable;
-use kernel_laws::call_table::CallTable;
-use kernel_laws::kern_mounts::MountStep;
-use kernel_laws::kernel_model::World;
+use exec_settings::{Settings, SiteTable};
+use kernel_laws::{CallTable, MountStep, World};
 use std::alloc::Global;
 
 // Makes the steps of a launch in the world that a kernel starts with, and counts them.

@@ -19,14 +19,13 @@ mod running;
 mod steps;
 
 pub use error::LaunchError;
-pub use exec_settings;
 pub use exec_settings::{
-    abs_path, cap_sets, dropin_merge, filter_settings, path_settings, site_table, text_forms,
-    unit_grammar, unit_names,
+    Filter, Mentions, NameError, Resolved, Settings, SettingsError, SiteError, SiteTable, Text,
+    UnitError, UnitFile, UnitFiles, UnitName, UnitText, is_judged, read_site, read_unit, settings,
 };
 pub use filters::{FilterProgram, FilterPrograms, compile_all};
-pub use kernel_laws;
-pub use kernel_laws::{bpf_code, call_table, kern_mounts, kernel_model, linux_numbers};
+pub use kernel_laws::question_types::{CallKind, NamespaceType, Power, Wish};
+pub use kernel_laws::{CallData, CallTable, CallsError, Decision, Insn, linux_numbers, read_calls};
 pub use launched::Launched;
 pub use launching::launch;
-pub use mount_plan;
+pub use mount_plan::{MountSteps, PlanError, plan};

@@ -9,9 +9,7 @@ ghost use Rattle.launcher.specs.Launch.{Mounts, has_flags, makes, mount_steps, n
 use crate::calls::first_call;
 use crate::error::LaunchError;
 use crate::running::make_call;
-use kernel_laws::kern_mounts::{Flags, MountStep};
-use kernel_laws::kernel_model::World;
-use kernel_laws::kernel_model::kernel_calls::Payload;
+use kernel_laws::{Flags, MountStep, Payload, World};
 use std::alloc::{AllocError, Global};
 
 /// CLONE_NEWNS, unshare(2).

@@ -8,10 +8,9 @@ ghost use Rattle.kernel_laws.specs.kern_mounts.Entry.{entry_of, leads_to};
 ghost use Rattle.kernel_laws.specs.kern_mounts.Finds.{row, found_by, finds, row_or_nothing};
 ghost use Rattle.launcher.specs.Launch.{is_privileged_row};
 
-use exec_settings::abs_path::AbsPath;
-use exec_settings::cap_sets::CapSet;
-use exec_settings::site_table::{Row, RowKind, SiteTable};
-use kernel_laws::kern_mounts::{MountStep, What};
+use abs_path::AbsPath;
+use exec_settings::{CapSet, Row, RowKind, SiteTable};
+use kernel_laws::{MountStep, What};
 
 // Whether the row is an executable file with a set-id bit or capabilities.
 fn is_marked(file: &Row) -> bool

@@ -5,8 +5,7 @@ ghost use Rattle.launcher.specs.Ends.{Ends, StepsTo, RepliesTo};
 ghost use Rattle.launcher.specs.Launch.{Makes, launch_from};
 
 use crate::error::LaunchError;
-use kernel_laws::kernel_model::kernel_calls::Call;
-use kernel_laws::kernel_model::{Reply, World};
+use kernel_laws::{Call, Reply, World};
 use std::alloc::Global;
 
 // What a reply says of the step of this number.

@@ -8,8 +8,7 @@ use crate::calls::{CallSteps, first_call};
 use crate::filters::{FilterProgram, FilterPrograms};
 use crate::identity::identity_steps;
 use exec_settings::Settings;
-use kernel_laws::call_table::CallTable;
-use kernel_laws::kernel_model::kernel_calls::{Bytes, Payload};
+use kernel_laws::{Bytes, CallTable, Payload};
 use std::alloc::{AllocError, Global};
 
 /// SECCOMP_SET_MODE_FILTER, seccomp(2).

@@ -5,8 +5,8 @@ use Rattle.std.specs.List.{AllByRecursion}
 use Rattle.std.proofs.lemmas.Bool.{false≢true}
 use Rattle.path_settings.specs.abs_path.Paths.{Path, is_normal}
 use Rattle.path_settings.specs.abs_path.ByteOrder.{is_before, placed, with_placed, in_byte_order, AreAscending}
-use Rattle.path_settings.proofs.AbsPath.ByteOrder.{not_before_itself, before_trans}
-use Rattle.path_settings.proofs.AbsPath.Placed.{in_byte_order_is, in_byte_order_was, in_byte_order_ascending}
+use Rattle.path_settings.proofs.OfAbsPath.ByteOrder.{not_before_itself, before_trans}
+use Rattle.path_settings.proofs.OfAbsPath.Placed.{in_byte_order_is, in_byte_order_was, in_byte_order_ascending}
 use Rattle.path_settings.specs.declared.mentions.Mention.{Mention}
 use Rattle.path_settings.specs.view_map.Kept.{Host, kept_of}
 use Rattle.path_settings.proofs.ViewMapLists.{all_weaker, all_mapped, mapped_all}

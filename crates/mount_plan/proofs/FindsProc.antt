@@ -6,7 +6,7 @@ use Rattle.std.specs.List.{AllByRecursion, enumerate_from}
 use Rattle.std.proofs.lemmas.Bool.{false≢true, and_parts}
 use Rattle.path_settings.specs.abs_path.Paths.{Path, is_normal, proc}
 use Rattle.path_settings.specs.abs_path.Prefix.{is_prefix, is_same, rest_of, is_below}
-use Rattle.path_settings.proofs.AbsPath.Prefixes.{same_part, same_itself}
+use Rattle.path_settings.proofs.OfAbsPath.Prefixes.{same_part, same_itself}
 use Rattle.path_settings.specs.declared.mentions.Kind.{Kind}
 use Rattle.path_settings.specs.declared.mentions.Kind.TheVariants.{Hide, Tmp, Bind}
 use Rattle.path_settings.specs.declared.mentions.Mention.{Mention}

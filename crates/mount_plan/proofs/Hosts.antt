@@ -2,7 +2,7 @@
 use Rattle.std.proofs.Common.{◌≡◌, ◌≤◌, Bool, true, [], ◌∷◌, length, Option, Some, None, option_map, refl, ap, subst, arith}
 use Rattle.path_settings.specs.abs_path.Paths.{Path, tail_of, text_of, proc}
 use Rattle.path_settings.specs.abs_path.Prefix.{is_same}
-use Rattle.path_settings.proofs.AbsPath.Prefixes.{same_path}
+use Rattle.path_settings.proofs.OfAbsPath.Prefixes.{same_path}
 use Rattle.site_table.specs.declared.row.Row.{Row}
 use Rattle.site_table.specs.Kinds.{is_dir}
 use Rattle.site_table.specs.Table.{Site, IsSite, IsRowOf, row_at}

@@ -6,7 +6,7 @@ use Rattle.std.specs.List.{AllByRecursion, enumerate_from}
 use Rattle.path_settings.specs.abs_path.Paths.{Path, is_normal}
 use Rattle.path_settings.specs.abs_path.Prefix.{is_prefix, is_same, is_below, rest_of}
 use Rattle.path_settings.specs.abs_path.ByteOrder.{in_byte_order}
-use Rattle.path_settings.proofs.AbsPath.Prefixes.{prefix-append}
+use Rattle.path_settings.proofs.OfAbsPath.Prefixes.{prefix-append}
 use Rattle.path_settings.specs.declared.mentions.Mention.{Mention}
 use Rattle.path_settings.specs.Mentions.{is_origin}
 use Rattle.path_settings.specs.view_map.Asked.{place_of, beneath_place, beneath_places, asked_of}

@@ -7,7 +7,7 @@ use Rattle.std.proofs.lemmas.List.Elements.{recursion_from_All, All-contains_its
 use Rattle.path_settings.specs.abs_path.Paths.{is_root, Path, text_of, is_normal}
 use Rattle.path_settings.specs.abs_path.Prefix.{is_prefix}
 use Rattle.path_settings.specs.abs_path.ByteOrder.{AreAscending}
-use Rattle.path_settings.proofs.AbsPath.Placed.{in_byte_order_is, in_byte_order_was, in_byte_order_ascending, root_first}
+use Rattle.path_settings.proofs.OfAbsPath.Placed.{in_byte_order_is, in_byte_order_was, in_byte_order_ascending, root_first}
 use Rattle.path_settings.specs.declared.mentions.Mention.{Mention}
 use Rattle.path_settings.specs.Mentions.{leaves_the_root, is_origin}
 use Rattle.path_settings.specs.view_map.View.{leading_to}

@@ -9,9 +9,9 @@ use Rattle.std.proofs.lemmas.Bool.Decides.{nat_tests}
 use Rattle.std.proofs.lemmas.List.Elements.{recursion_from_All, All-from_recursion, All-contains, All-contains_itself}
 use Rattle.path_settings.specs.abs_path.Paths.{Path, tail_of, text_of, is_normal}
 use Rattle.path_settings.specs.abs_path.Prefix.{is_prefix, is_same, rest_of, is_below}
-use Rattle.path_settings.proofs.AbsPath.Prefixes.{same_path, same_itself, prefix_and_rest, prefix_itself}
-use Rattle.path_settings.proofs.AbsPath.ByteOrder.{text_then_rest}
-use Rattle.path_settings.proofs.AbsPath.Placed.{in_byte_order_is}
+use Rattle.path_settings.proofs.OfAbsPath.Prefixes.{same_path, same_itself, prefix_and_rest, prefix_itself}
+use Rattle.path_settings.proofs.OfAbsPath.ByteOrder.{text_then_rest}
+use Rattle.path_settings.proofs.OfAbsPath.Placed.{in_byte_order_is}
 use Rattle.path_settings.specs.declared.mentions.Kind.{Kind}
 use Rattle.path_settings.specs.declared.mentions.Kind.TheVariants.{Hide, Tmp, Bind}
 use Rattle.path_settings.specs.declared.mentions.Mention.{Mention}

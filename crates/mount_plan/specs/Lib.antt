@@ -6,5 +6,5 @@ pub mod Here
 pub mod Short
 pub mod Answers
 pub mod Resting
-pub use Rattle.kern_mounts.specs as kern_mounts
-pub use Rattle.path_settings.specs as path_settings
+pub mod kern_mounts
+pub mod path_settings

@@ -8,8 +8,8 @@ ghost use Rattle.mount_plan.specs.Plan.{what_of, flags_by, hides_dir, hides_dir_
 ghost use Rattle.mount_plan.specs.Short.{HasShortHost, HaveShortHosts};
 
 use crate::kept::beneath_at;
+use abs_path::AbsPath;
 use kern_mounts::{Flags, MountStep, What};
-use path_settings::abs_path::AbsPath;
 use path_settings::view_map::{Beneath, Seen, origin_at, view_of};
 use path_settings::{Kind, Mention};
 use site_table::SiteTable;

@@ -3,7 +3,7 @@
 ghost use Rattle.std.specs.Prelude.{◌≡◌};
 ghost use Rattle.mount_plan.specs.declared.error.PlanError.TheVariants.{Memory};
 
-use path_settings::abs_path::AbsPath;
+use abs_path::AbsPath;
 use std::alloc::AllocError;
 use std::fmt::{self, Debug, Formatter, Write};
 use thiserror::Error;

@@ -8,7 +8,7 @@ ghost use Rattle.mount_plan.specs.Host.{host_of};
 ghost use Rattle.mount_plan.specs.Here.{is_asked, fate_beside};
 
 use crate::host::row_at;
-use path_settings::abs_path::AbsPath;
+use abs_path::AbsPath;
 use path_settings::view_map::{Beneath, Fate, fate_of};
 use path_settings::{Kind, Mention};
 use site_table::SiteTable;

@@ -5,7 +5,7 @@ ghost use Rattle.path_settings.specs.abs_path.Prefix.{is_prefix, rest_of};
 ghost use Rattle.site_table.specs.Kinds.{is_dir};
 ghost use Rattle.mount_plan.specs.Host.{host_of};
 
-use path_settings::abs_path::AbsPath;
+use abs_path::AbsPath;
 use site_table::{Row, RowKind, SiteTable};
 
 // whether a row, if there is one, is a directory

@@ -12,7 +12,7 @@ ghost use Rattle.mount_plan.specs.Answers.{first_of, Refuses, AddsKept, Keeps};
 use crate::error::PlanError;
 use crate::here::{Part, at_path, fate_beside, is_asked, is_kept, is_put, unbeaten};
 use crate::host::{row_at, row_through};
-use path_settings::abs_path::AbsPath;
+use abs_path::AbsPath;
 use path_settings::view_map::{Beneath, Fate, origin_above};
 use path_settings::{Kind, Mention};
 use site_table::SiteTable;

@@ -15,12 +15,10 @@ mod places;
 mod planning;
 
 pub use error::PlanError;
-use kern_mounts::MountStep;
-use path_settings::text_forms::item_list::ItemList;
+pub use kern_mounts::{Flags, MountStep, What};
+use path_settings::ItemList;
+pub use path_settings::{Kind, Mention, MentionError, Mentions};
 pub use planning::plan;
 
 /// The mounts of a plan in their order, the first at `/`, which contracts see as a list.
 pub type MountSteps = ItemList<MountStep>;
-
-pub use kern_mounts;
-pub use path_settings;

@@ -3,8 +3,8 @@
 ghost use Rattle.std.specs.Prelude.{◌≡◌, OnOk, map};
 ghost use Rattle.path_settings.specs.abs_path.ByteOrder.{with_placed};
 
+use abs_path::{AbsPath, put};
 use path_settings::Mention;
-use path_settings::abs_path::{AbsPath, put};
 use std::alloc::{AllocError, Global};
 
 /// Puts the paths of the mentions in their places in a list in byte order.

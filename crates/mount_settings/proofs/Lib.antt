@@ -11,5 +11,5 @@ pub mod Protecting
 pub mod Worked
 pub mod Optional
 pub mod WorkedUnits
-pub use Rattle.path_settings.proofs.AbsPath as AbsPath
-pub use Rattle.path_settings.proofs as PathSettings
+pub mod OfPathSettings
+pub use Rattle.path_settings.proofs.OfAbsPath as OfAbsPath

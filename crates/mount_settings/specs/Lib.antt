@@ -13,6 +13,6 @@ pub mod Table
 pub mod Implied
 pub mod Settings
 pub mod OneKey
+pub mod path_settings
 pub use Rattle.path_settings.specs.abs_path as abs_path
-pub use Rattle.path_settings.specs as path_settings
 pub use Rattle.dropin_merge.specs.unit_names as unit_names

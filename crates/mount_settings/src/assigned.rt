@@ -7,10 +7,8 @@ ghost use Rattle.mount_settings.specs.Notes.{notes_by, written_notes};
 ghost use Rattle.mount_settings.specs.Steps.{after};
 
 use crate::written::{WrittenPath, WrittenPaths, add_value};
-use dropin_merge::Resolved;
-use dropin_merge::unit_grammar::Assignment;
-use dropin_merge::unit_names::UnitName;
 use dropin_merge::unit_values::{FileNote, Place, Said, service_assignments, value_at};
+use dropin_merge::{Assignment, Resolved, UnitName};
 use path_settings::PathKey;
 use std::alloc::{AllocError, Global};
 

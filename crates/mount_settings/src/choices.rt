@@ -5,8 +5,8 @@ ghost use Rattle.mount_settings.specs.Home.{home_value};
 ghost use Rattle.mount_settings.specs.System.{system_value};
 
 use crate::protections::{HomeProtection, SystemProtection};
-use dropin_merge::text_forms::read_bool;
 use dropin_merge::unit_values::KeyValue;
+use path_settings::read_bool;
 
 // What stands beside the first row of this word.
 fn beside<T: Copy>(rows: &[(&str, T)], text: &str) -> Option<T>

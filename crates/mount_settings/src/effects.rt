@@ -3,7 +3,7 @@ ghost use Rattle.std.specs.Prelude.{◌≡◌, ◌++◌, [], map, filter, IfOk, 
 ghost use Rattle.std.specs.List.{cons_option};
 ghost use Rattle.mount_settings.specs.Effects.{kind_at, mention_at, brings, has_row, stands};
 
-use path_settings::abs_path::AbsPath;
+use abs_path::AbsPath;
 use path_settings::{Kind, Mention, read_setting_path};
 use site_table::SiteTable;
 use std::alloc::{AllocError, Global};

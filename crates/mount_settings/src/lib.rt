@@ -21,10 +21,9 @@ mod tmp;
 mod written;
 
 pub use assigned::written_paths;
-pub use dropin_merge::unit_names;
+pub use dropin_merge::{NameError, UnitName, expand};
 pub use error::MountSettingsError;
-pub use path_settings;
-pub use path_settings::abs_path;
+pub use path_settings::{Mentions, PathKey};
 pub use protections::{HomeProtection, Protections, Switches, SystemProtection};
 pub use roots::mentions_root;
 pub use settings::{MountSettings, mount_settings};

@@ -6,10 +6,9 @@ ghost use Rattle.mount_settings.specs.Written.{path_in, paths_in};
 ghost use Rattle.mount_settings.specs.Notes.{word_notes, value_notes};
 ghost use Rattle.mount_settings.specs.Steps.{without_key, with_value};
 
-use dropin_merge::text_forms::item_list::{Held, HeldList};
-use dropin_merge::unit_grammar::{NoteCause, Text};
 use dropin_merge::unit_values::{FileNote, Value, note_value, read_words};
-use path_settings::{Mention, PathKey, read_mention};
+use dropin_merge::{NoteCause, Text};
+use path_settings::{Held, HeldList, Mention, PathKey, read_mention};
 use std::alloc::{AllocError, Global};
 
 /// A path that is written in a file of a unit.

@@ -4,7 +4,7 @@ use Rattle.std.specs.Prelude.{find, slice_get, not, ◌&&◌, ◌||◌, option_m
 use Rattle.std.specs.Option.{option_or}
 use Rattle.std.proofs.lemmas.Bool.{and_from, and_parts, or_cases, or_left, or_right}
 use Rattle.ceilings.specs.cap_sets.Sets.{has, none, cut}
-use Rattle.ceilings.proofs.OfCaps.Members.{has_cut, has_union, has_none}
+use Rattle.ceilings.proofs.OfCapSets.Members.{has_cut, has_union, has_none}
 use Rattle.ceilings.specs.site_table.declared.row.Row.{Row}
 use Rattle.ceilings.specs.kernel_laws.Bound.{is_owner, can_run, file_gain, gain_at, gathered, when, caps_before, caps_at, with_root}
 use Rattle.ceilings.specs.kernel_laws.Bound.{power_by, power_of}

@@ -6,7 +6,7 @@ use Rattle.std.specs.Option.{option_or}
 use Rattle.std.proofs.lemmas.Bool.{and_parts, or_cases, not-true}
 use Rattle.ceilings.specs.abs_path.Paths.{Path}
 use Rattle.ceilings.specs.cap_sets.Sets.{has, none, cut, within}
-use Rattle.ceilings.proofs.OfCaps.Members.{has_cut, has_none, IsWithin-from_within}
+use Rattle.ceilings.proofs.OfCapSets.Members.{has_cut, has_none, IsWithin-from_within}
 use Rattle.ceilings.specs.linux_numbers.Capabilities.{cap_setuid}
 use Rattle.ceilings.specs.site_table.declared.row.Row.{Row}
 use Rattle.ceilings.specs.site_table.Kinds.{is_exe}

@@ -19,10 +19,8 @@ ghost use Rattle.ceilings.specs.kernel_laws.declared.question_types.question.Que
 use crate::first::call_of;
 use crate::ids::IdKind;
 use crate::service::{Made, Service};
-use ceilings::{
-    CAP_SYS_ADMIN, Call, CallKind, CallLine, NamespaceType, Payload, Question, Rule, World,
-    plain_line_at, rule_of,
-};
+use ceilings::{CAP_SYS_ADMIN, CallLine, plain_line_at, rule_of};
+use questions::{Call, CallKind, NamespaceType, Payload, Question, Rule, World};
 use std::alloc::AllocError;
 
 // The call of this number.

@@ -5,7 +5,8 @@ ghost use Rattle.ceilings.specs.kernel_laws.Launched.{launch_of};
 ghost use Rattle.ceilings.specs.Own.{IsCeilingOf};
 ghost use Rattle.open_calls.specs.Bases.{IsBasis};
 
-use ceilings::{CallKind, Ceiling, Power, World};
+use ceilings::Ceiling;
+use questions::{CallKind, Power, World};
 
 /// What is known of a launched service before any way is found.
 #[derive(Clone, Copy)]

@@ -25,10 +25,9 @@ ghost use Rattle.open_calls.specs.Firsts.{place_in};
 
 use crate::first::FirstCall;
 use crate::service::{Made, Service};
-use ceilings::{
-    AbsPath, Call, CallKind, MountTable, Payload, Power, Row, What, Wish, World, launched_table,
-    reach,
-};
+use abs_path::AbsPath;
+use ceilings::{MountTable, Row, What, launched_table, reach};
+use questions::{Call, CallKind, Payload, Power, Wish, World};
 use std::alloc::Global;
 
 /// MNT_DETACH of umount2(2).

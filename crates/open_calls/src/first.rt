@@ -10,10 +10,8 @@ ghost use Rattle.open_calls.specs.Firsts.{call_as, first_of};
 
 use crate::names::names_of;
 use crate::service::Made;
-use ceilings::{
-    Call, CallKind, CallLine, CallRule, KernelModelIdList as IdList, Payload, Rule, World,
-    lets_line, passing_line, rule_of, words,
-};
+use ceilings::{CallLine, CallRule, lets_line, passing_line, rule_of, words};
+use questions::{Call, CallKind, IdList, Payload, Rule, World};
 use std::alloc::Global;
 
 // The line of this ABI with this name.

@@ -15,7 +15,8 @@ ghost use Rattle.open_calls.specs.Firsts.{AreFirsts, IsFirst, first_of};
 use crate::basis::Basis;
 use crate::first::{FirstCall, first_call, id_payload, id_words};
 use crate::service::{Made, Service};
-use ceilings::{Call, CallKind, CallRule, Ceiling, NamespaceType, Payload, Rule, Wish, World};
+use ceilings::{CallRule, Ceiling};
+use questions::{Call, CallKind, NamespaceType, Payload, Rule, Wish, World};
 
 /// The first calls of some kinds; None where none passes.
 #[derive(Clone, Copy)]

@@ -10,7 +10,8 @@ ghost use Rattle.open_calls.specs.Meanings.{meant_cap, meant_gain};
 use crate::basis::Basis;
 use crate::service::Service;
 use crate::ways::{CapWay, GainWay, gain};
-use ceilings::{CAP_LAST_CAP, CapSet, World};
+use ceilings::{CAP_LAST_CAP, CapSet};
+use questions::World;
 use std::alloc::{AllocError, Global};
 
 /// What is kept of a capability.

@@ -11,10 +11,8 @@ ghost use Rattle.open_calls.specs.Meanings.{asked, gives, is_had, meant_cap, mea
 
 use crate::service::{Made, Service};
 use crate::ways::CapWay;
-use ceilings::{
-    CAP_SETGID, CAP_SETUID, CAP_SYS_ADMIN, Call, CallKind, Power, Row, World, can_run,
-    launched_process,
-};
+use ceilings::{CAP_SETGID, CAP_SETUID, CAP_SYS_ADMIN, Row, can_run, launched_process};
+use questions::{Call, CallKind, Power, World};
 
 /// Whose ids, credentials(7).
 #[derive(Clone, Copy)]

@@ -11,7 +11,9 @@ ghost use Rattle.open_calls.specs.Meanings.{meant_cap, meant_file, meant_gain};
 use crate::exposing::{Aim, REMOUNT, lead};
 use crate::service::{Made, Service};
 use crate::ways::{CapWay, FileWay, GainWay};
-use ceilings::{AbsPath, Call, CallKind, Payload, Power, Row, Wish, launched_process};
+use abs_path::AbsPath;
+use ceilings::{Row, launched_process};
+use questions::{Call, CallKind, Payload, Power, Wish};
 
 impl Service<'_> {
     // capset(2) of what the row's set and the bounding set have in common.

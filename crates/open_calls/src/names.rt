@@ -3,7 +3,7 @@
 ghost use Rattle.std.specs.Prelude.{◌≡◌, map};
 ghost use Rattle.open_calls.specs.chosen_calls.First.{names_of};
 
-use ceilings::{CallKind, Wish};
+use questions::{CallKind, Wish};
 
 // Those that do what is wished of a path.
 fn path_names(wish: Wish) -> &'static [&'static str]

@@ -15,7 +15,8 @@ ghost use Rattle.ceilings.specs.Leads.{leads_of};
 
 use crate::exposing::{Aim, REMOUNT, REMOUNT_UNMARKED, lead, number_of};
 use crate::service::{Made, Service};
-use ceilings::{CAP_SYS_ADMIN, Call, Power, Row, RowLeads, Wish, World, is_barred, reach_by};
+use ceilings::{CAP_SYS_ADMIN, Row, RowLeads, is_barred, reach_by};
+use questions::{Call, Power, Wish, World};
 
 // The row of this number.
 fn listed_row<'a>(world: &'a World<'_>, at: usize) -> Option<&'a Row>

@@ -13,7 +13,9 @@ ghost use Rattle.open_calls.specs.Firsts.{AreFirsts, AreGained};
 use crate::basis::Basis;
 use crate::firsts::Firsts;
 use crate::gains::{Gained, gains};
-use ceilings::{AbsPath, CAP_SYS_ADMIN, Ceiling, Launched, Power, World};
+use abs_path::AbsPath;
+use ceilings::{CAP_SYS_ADMIN, Ceiling, Launched};
+use questions::{Power, World};
 use std::alloc::{AllocError, Global};
 
 /// A launched service, for which calls are made. The ways that gain capabilities and the first calls of the kinds that are asked for

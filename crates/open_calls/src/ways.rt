@@ -8,7 +8,8 @@ ghost use Rattle.open_calls.specs.Bases.{IsBasis};
 ghost use Rattle.open_calls.specs.Meanings.{meant_file, meant_cap, meant_gain};
 
 use crate::basis::Basis;
-use ceilings::{CAP_SETUID, CAP_SYS_ADMIN, Power, Row, World, can_run, launched_process};
+use ceilings::{CAP_SETUID, CAP_SYS_ADMIN, Row, can_run, launched_process};
+use questions::{Power, World};
 
 /// How a capability becomes effective by a file.
 #[derive(Clone, Copy)]

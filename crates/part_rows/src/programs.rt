@@ -1,9 +1,6 @@
 //! Programs of seccomp(2) as bytes in hex, stacks of them, and why they are refused.
 use exec_settings::linux_numbers::actions::ALLOW;
-use filter_check::bpf_code::{Program, ProgramError, Stack};
-use filter_check::call_rules::{Action, CallRules, RuleSet};
-use filter_check::check;
-use filter_check::seccomp_compile::can_compile;
+use filter_check::{Action, CallRules, Program, ProgramError, RuleSet, Stack, can_compile, check};
 use row_tools::{bytes_of, number, said};
 use std::alloc::{AllocError, Global};
 

@@ -1,12 +1,8 @@
 //! Readers, and why they refuse the text of a row.
 use crate::escapes::bytes_of;
-use exec_settings::abs_path::{AbsPath, PathError};
-use exec_settings::call_table::read_calls;
-use exec_settings::path_settings::{Kind, Mention, MentionError, Mentions};
-use exec_settings::site_table::read_site;
-use exec_settings::text_forms::words;
-use exec_settings::unit_grammar::read_unit;
-use exec_settings::unit_names::{UnitName, expand};
+use abs_path::{AbsPath, PathError};
+use exec_settings::{UnitName, expand, read_calls, read_site, read_unit, words};
+use mount_plan::{Kind, Mention, MentionError, Mentions};
 use row_tools::{long_path, number, said, text_of};
 use std::alloc::{AllocError, Global};
 

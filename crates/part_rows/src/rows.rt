@@ -1,7 +1,7 @@
 //! The calls that rows name.
 use crate::units::UnitFiles;
 use crate::{programs, readers, settings, shelves, units};
-use filter_check::bpf_code::Stack;
+use filter_check::Stack;
 use row_tools::{Follow, Shown, Texts, said, words};
 use std::alloc::{AllocError, Global};
 use std::io;

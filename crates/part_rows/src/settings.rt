@@ -1,10 +1,8 @@
 //! Settings of a unit, and why there are none.
-use exec_settings::cred_settings::identity_of_unit;
-use exec_settings::mount_settings::{Switches, mount_settings, written_paths};
-use exec_settings::path_settings::Mentions;
-use exec_settings::settings;
-use exec_settings::site_table::SiteTable;
-use mount_plan::plan;
+use exec_settings::{
+    SiteTable, Switches, identity_of_unit, mount_settings, settings, written_paths,
+};
+use mount_plan::{Mentions, plan};
 use row_tools::{Inputs, Texts, said};
 use std::alloc::{AllocError, Global};
 

@@ -6,7 +6,7 @@ mod answers;
 mod making;
 mod odd_names;
 
-use exec_settings::host_io::{DirShelf, MemSink, StdSink};
+use host_io::{DirShelf, MemSink, StdSink};
 use row_tools::{number, said};
 use std::alloc::{AllocError, Global};
 use std::io;

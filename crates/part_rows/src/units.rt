@@ -2,8 +2,8 @@
 ghost use Rattle.std.specs.Prelude.{◌≡◌, None};
 
 use crate::escapes::bytes_of;
-use exec_settings::dropin_merge::{ResolveError, Resolved, resolve};
-use exec_settings::host_io::{MemShelf, Shelf, ShelfError, are_files};
+use exec_settings::{ResolveError, Resolved, resolve};
+use host_io::{MemShelf, Shelf, ShelfError, are_files};
 use row_tools::{number, said};
 use std::alloc::{AllocError, Global};
 

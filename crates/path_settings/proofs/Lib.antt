@@ -8,4 +8,4 @@ pub mod KeptLaws
 pub mod BelowHidden
 pub mod ViewMapWorked
 pub mod Resting
-pub use Rattle.abs_path.proofs as AbsPath
+pub mod OfAbsPath

@@ -8,4 +8,4 @@ pub mod Temporary
 pub mod Folders
 pub mod Keys
 pub mod view_map
-pub use Rattle.abs_path.specs as abs_path
+pub mod abs_path

@@ -1,9 +1,10 @@
-//! What settings say of paths: mentions in written order, and how each word of a setting becomes one.
+//! Reads the paths that a unit's settings mention, and says what the service finds at a path.
 //!
-//! The keys are ReadWritePaths= and its kin, BindPaths=, TemporaryFileSystem= and StateDirectory= with its kin
-//! (systemd.exec(5), Sandboxing). It stands on `abs_path`; `view_map` says what a service finds by mentions.
+//! `read_mention(alloc, PathKey::ReadOnlyPaths, "-/srv")?` is an optional mention that `/srv` is read-only. Other keys are
+//! `BindPaths=`, `TemporaryFileSystem=` and `StateDirectory=` (systemd.exec(5)); [`ALL_PATH_KEYS`] lists them all.
 //!
-//! `read_mention(alloc, PathKey::ReadOnlyPaths, "-/srv")?` is an optional mention that `/srv` is read-only.
+//! - [`laws`]: laws of the keys and of the mentions that are read.
+//! - [`view_map`]: what a service finds at a path.
 #![tactic(auto)]
 
 mod binds;
@@ -18,7 +19,6 @@ mod paths;
 mod temporary;
 pub mod view_map;
 
-pub use abs_path;
 pub use binds::read_bind;
 pub use error::MentionError;
 pub use folders::read_folder;
@@ -27,4 +27,5 @@ pub use lists::read_path;
 pub use mentions::{Kind, Mention, Mentions};
 pub use paths::read_setting_path;
 pub use temporary::read_temporary;
-pub use text_forms;
+pub use text_forms::item_list::{Held, HeldList, ItemList};
+pub use text_forms::read_bool;

@@ -1,4 +1,4 @@
 pub mod Plans
 pub mod Prepared
-pub use Rattle.unit_inputs.proofs.TextForms as TextForms
-pub use Rattle.unit_inputs.proofs as UnitInputs
+pub mod OfUnitInputs
+pub use Rattle.unit_inputs.proofs.OfTextForms as OfTextForms

@@ -8,10 +8,10 @@ ghost use Rattle.plan_command.specs.Prints.{ending_of, mounts_text, plan_laws};
 use crate::lines::count_line;
 use crate::planning::plan_mounts;
 use crate::printing::print_mounts;
+use host_io::{Shelf, Sink, SinkError};
 use mount_plan::MountSteps;
 use std::alloc::Global;
 use unit_inputs::command_answers::{Ending, Ready, Stop, put_line};
-use unit_inputs::host_io::{Shelf, Sink, SinkError};
 use unit_inputs::settle_unit;
 
 /// The mounts of a unit, ready to be printed.

@@ -15,5 +15,11 @@ mod refusals;
 pub use command::{Mounts, prepare};
 pub use planning::plan_mounts;
 pub use refusals::plan_line;
-pub use unit_inputs;
-pub use unit_inputs::{host_io, text_forms};
+pub use unit_inputs::command_answers::{
+    Ending, Ready, ReadyText, Stop, ending_after, finish, finish_stop, put_line, put_lines,
+    put_piece, refuse, refused_line,
+};
+pub use unit_inputs::{
+    ItemList, Line, SettledUnit, push_u64, push_word, read_decimal, read_input, read_inputs,
+    read_lines, read_text, settings_line, settle, settle_unit, unit_line,
+};

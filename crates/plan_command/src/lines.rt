@@ -2,9 +2,9 @@
 ghost use Rattle.std.specs.Prelude.{◌≡◌, ◌++◌, IfOk, OnOk};
 ghost use Rattle.plan_command.specs.Lines.{count_line, executing, flags_words, mount_line, shown_words, writing};
 
-use mount_plan::kern_mounts::{Flags, MountStep, What};
+use mount_plan::{Flags, MountStep, What};
 use std::alloc::{AllocError, Global};
-use unit_inputs::text_forms::push_word;
+use unit_inputs::push_word;
 
 fn writing(flags: Flags) -> &'static str
     ensures { result.now ≡ writing flags.read_only }

@@ -7,11 +7,10 @@ ghost use Rattle.mount_plan.specs.path_settings.Short.{AreShort};
 ghost use Rattle.plan_command.specs.Planned.{IsPlan, path_refusals};
 
 use crate::refusals::plan_line;
-use mount_plan::path_settings::Mentions;
-use mount_plan::{MountSteps, PlanError, plan};
+use mount_plan::{Mentions, MountSteps, PlanError, plan};
 use std::alloc::Global;
+use unit_inputs::SiteTable;
 use unit_inputs::command_answers::{Stop, refuse};
-use unit_inputs::site_table::SiteTable;
 
 /// The plan of the mounts of a unit with these mentions on this site, or the line of the first refusal, at the first path in
 /// byte order that has one. The table shows every path as the view has it, and a launch can take it.

@@ -4,10 +4,10 @@ ghost use Rattle.unit_inputs.specs.command_answers.Printing.{HasWriteCause, Take
 ghost use Rattle.plan_command.specs.Lines.{mount_line};
 
 use crate::lines::mount_line;
-use mount_plan::kern_mounts::MountStep;
+use host_io::{Sink, SinkError};
+use mount_plan::MountStep;
 use std::alloc::Global;
 use unit_inputs::command_answers::put_line;
-use unit_inputs::host_io::{Sink, SinkError};
 
 /// Prints mounts, one behind the other: of each its place, what it shows there and how that may be used.
 pub fn print_mounts<K: Sink>(

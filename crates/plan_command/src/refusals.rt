@@ -2,11 +2,11 @@
 ghost use Rattle.std.specs.Prelude.{◌≡◌, IfOk};
 ghost use Rattle.plan_command.specs.Refusals.{cause_at, error_line};
 
+use abs_path::AbsPath;
 use mount_plan::PlanError;
 use std::alloc::{AllocError, Global};
-use unit_inputs::abs_path::AbsPath;
 use unit_inputs::command_answers::refused_line;
-use unit_inputs::text_forms::push_word;
+use unit_inputs::push_word;
 
 // A cause, and the path that it is about.
 fn cause_at(alloc: Global, cause: &[u8], path: &AbsPath) -> Result<Vec<u8>, AllocError>

@@ -4,7 +4,7 @@ use Rattle.std.specs.Prelude.{Contains, IfSome}
 use Rattle.std.specs.List.{AllByRecursion}
 use Rattle.report_text.specs.questions.Listed.{IsUidOf, of_root, of_dynamic_user, of_user, of_owner, IsGidOf, of_root_group}
 use Rattle.report_text.specs.questions.Listed.{of_dynamic_group, of_group, of_group_of_user, of_further_group, of_group_of_row}
-use Rattle.report_text.proofs.Questions.Among.{Some_one, some_any, has_contained, all_had}
+use Rattle.report_text.proofs.OfQuestions.Among.{Some_one, some_any, has_contained, all_had}
 use Rattle.report_text.specs.site_table.Ids.{greatest_id}
 use Rattle.report_text.specs.site_table.Table.{Site, IsSite, IsRowOf, IsUser, IsGroup}
 use Rattle.report_text.specs.site_table.declared.row.Row.{Row}

@@ -6,7 +6,7 @@ use Rattle.std.specs.Option.{option_and_then, option_map, option_map_or}
 use Rattle.std.specs.Str.{bytes_eq}
 use Rattle.std.proofs.lemmas.Option.{get_or_from_slice_get, slice_get_cases, slice_get_within}
 use Rattle.report_text.specs.abs_path.Paths.{parts_of, tail_of, text_of, is_normal}
-use Rattle.report_text.proofs.AbsPath.Reading.{text_parts}
+use Rattle.report_text.proofs.OfAbsPath.Reading.{text_parts}
 use Rattle.report_text.specs.call_table.declared.listed.CallLine.{CallLine}
 use Rattle.report_text.specs.call_table.Lookups.{AreOnce, place_named}
 use Rattle.report_text.specs.call_table.Table as calls
@@ -21,15 +21,15 @@ use Rattle.report_text.specs.kernel_laws.declared.question_types.question.Questi
 use Rattle.report_text.specs.kernel_laws.declared.question_types.question.Question.TheVariants.{Realtime, Personality, SuidBit, Cap, Uid}
 use Rattle.report_text.specs.kernel_laws.declared.question_types.question.Question.TheVariants.{Gid}
 use Rattle.report_text.specs.questions.Listed.{IsAskedOf}
-use Rattle.report_text.proofs.Questions.Among.{all_had, has_contained}
-use Rattle.report_text.proofs.Questions.Members.{what_is_asked}
+use Rattle.report_text.proofs.OfQuestions.Among.{all_had, has_contained}
+use Rattle.report_text.proofs.OfQuestions.Members.{what_is_asked}
 use Rattle.report_text.specs.Wording.{name_at, path_at, question_words}
 use Rattle.report_text.specs.site_table.declared.row.Row.{Row}
 use Rattle.report_text.specs.site_table.Table.{IsRowOf, IsSite, Site, place_of_text}
-use Rattle.report_text.proofs.SiteTable.Finding.{found_place}
+use Rattle.report_text.proofs.OfSiteTable.Finding.{found_place}
 use Rattle.report_text.specs.text_forms.Escaped.{escaped_word, word_read}
 use Rattle.report_text.specs.text_forms.Numbers.{number_value}
-use Rattle.report_text.proofs.TextForms.Numerals.{decimal_read}
+use Rattle.report_text.proofs.OfTextForms.Numerals.{decimal_read}
 use Rattle.question_text.specs.Printed.{HaveOneReading}
 use Rattle.question_text.proofs.CapNames.{cap_back, cap_number}
 use Rattle.question_text.proofs.Escaped.{word_back}

@@ -2,8 +2,7 @@
 
 ghost use Rattle.question_text.specs.Printed.{HaveOneReading};
 
-use report_text::call_table::CallTable;
-use report_text::site_table::SiteTable;
+use report_text::{CallTable, SiteTable};
 
 /// A printed question has one reading: two questions of the list of a table of calls and a site that are printed alike are one.
 pub fn one_reading(calls: &CallTable, site: &SiteTable)

@@ -6,11 +6,7 @@ ghost use Rattle.report_text.specs.Wording.{question_words};
 ghost use Rattle.question_text.specs.Printed.{ArePrinted, IsPrinted};
 
 use crate::laws::one_reading;
-use report_text::call_table::CallTable;
-use report_text::kernel_laws::question_types::{Question, Verdict};
-use report_text::questions::questions;
-use report_text::site_table::SiteTable;
-use report_text::verdict_line;
+use report_text::{CallTable, Question, SiteTable, Verdict, questions, verdict_line};
 use std::alloc::{AllocError, Global};
 
 /// A question, with what a report prints behind its verdict.

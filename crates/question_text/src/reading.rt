@@ -5,9 +5,7 @@ ghost use Rattle.report_text.specs.site_table.Table.{Site};
 ghost use Rattle.question_text.specs.Printed.{ArePrinted, Reads};
 
 use crate::printed::{PrintedQuestion, print_questions};
-use report_text::call_table::CallTable;
-use report_text::kernel_laws::question_types::Question;
-use report_text::site_table::SiteTable;
+use report_text::{CallTable, Question, SiteTable};
 use std::alloc::{AllocError, Global};
 
 /// The question among all printed ones of which this is printed, without a line feed, if there is one.

@@ -3,7 +3,7 @@ use Rattle.std.proofs.Common.{◌≡◌, ◌<◌, ℕ, zero, suc, Bool, List, []
 use Rattle.std.proofs.Common.{arith, length-append}
 use Rattle.std.specs.Prelude.{slice_get, ◌&&◌}
 use Rattle.std.specs.Option.{option_map_or}
-use Rattle.kernel_laws.proofs.CallTable.AllCalls.{second_are}
+use Rattle.kernel_laws.proofs.OfCallTable.AllCalls.{second_are}
 use Rattle.kernel_laws.specs.call_table.Members.{is_first}
 use Rattle.kernel_laws.specs.call_table.Table.{Table, calls_in, every_call, second_calls}
 use Rattle.kernel_laws.specs.call_table.declared.listed.CallLine.{CallLine}

@@ -7,10 +7,9 @@ ghost use Rattle.kernel_laws.specs.declared.question_types.question.Question.The
 use crate::ids::{gids, uids};
 use crate::question::other_questions;
 use crate::tables::{push_calls, push_families, push_rows};
-use kernel_laws::call_table::CallTable;
 use kernel_laws::linux_numbers::capabilities::CAP_LAST_CAP;
 use kernel_laws::question_types::Question;
-use kernel_laws::site_table::SiteTable;
+use kernel_laws::{CallTable, SiteTable};
 use std::alloc::{AllocError, Global};
 
 // Adds a question of each capability.

@@ -3,7 +3,7 @@
 ghost use Rattle.std.specs.Prelude.{◌≡◌, ◌++◌, map, IfOk, OnOk};
 ghost use Rattle.kernel_laws.specs.Questions.{some_ids, joined, ascending, uids_of, gids_of};
 
-use kernel_laws::site_table::{Group, Row, SiteTable, User};
+use kernel_laws::{Group, Row, SiteTable, User};
 use std::alloc::{AllocError, Global};
 
 // The ids in order, each once.

@@ -12,5 +12,5 @@ mod question;
 mod tables;
 
 pub use all::questions;
-pub use kernel_laws;
-pub use kernel_laws::kernel_model;
+pub use kernel_laws::question_types::{CallKind, NamespaceType, Power, Question, Verdict, Wish};
+pub use kernel_laws::{Call, IdList, Payload, Reply, Rule, World, fits};

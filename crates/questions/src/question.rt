@@ -3,7 +3,7 @@
 ghost use Rattle.std.specs.Prelude.{◌≡◌, map};
 ghost use Rattle.kernel_laws.specs.Questions.{other_questions};
 
-use kernel_laws::filter_settings::filter_rules::NamespaceType;
+use kernel_laws::NamespaceType;
 use kernel_laws::question_types::Question;
 
 // The questions of no table, in their order.

@@ -8,10 +8,8 @@ ghost use Rattle.kernel_laws.specs.kernel_model.kernel_calls.Rules.{rule_of};
 ghost use Rattle.kernel_laws.specs.Questions.{if_so, is_plain, of_row, of_rows, of_calls, of_families};
 ghost use Rattle.kernel_laws.specs.declared.question_types.question.Question.TheVariants.{Call};
 
-use kernel_laws::call_table::call_names::is_known;
-use kernel_laws::call_table::{CallLine, CallTable};
 use kernel_laws::question_types::{Question, Wish};
-use kernel_laws::site_table::{Row, RowKind};
+use kernel_laws::{CallLine, CallTable, Row, RowKind, is_known};
 use std::alloc::AllocError;
 
 // Adds what is asked of a row: to see and read it, to write what is no directory, to execute what can be executed.

@@ -3,9 +3,9 @@ use Rattle.std.proofs.Common.{◌≡◌, inl, inr, Bool, true, false, List, ℕ,
 use Rattle.std.specs.Prelude.{is_some}
 use Rattle.kernel_laws.specs.abs_path.Paths.{Path, tail_of, parts_of, is_normal}
 use Rattle.kernel_laws.specs.abs_path.Prefix.{is_prefix, rest_of, rest_text, IsRest, behind_text}
-use Rattle.kernel_laws.proofs.AbsPath.Prefixes.{prefix-append, prefix_chain}
-use Rattle.kernel_laws.proofs.AbsPath.Reading.{rest_text_is, rest_then_join}
-use Rattle.kernel_laws.proofs.KernMounts.Paths.{front_leads, leads_on}
+use Rattle.kernel_laws.proofs.OfAbsPath.Prefixes.{prefix-append, prefix_chain}
+use Rattle.kernel_laws.proofs.OfAbsPath.Reading.{rest_text_is, rest_then_join}
+use Rattle.kernel_laws.proofs.OfKernMounts.Paths.{front_leads, leads_on}
 
 -- two tests are one where each makes the other true
 same_test : (one other : Bool) → (one ≡ true → other ≡ true) → (other ≡ true → one ≡ true) → one ≡ other

@@ -13,10 +13,10 @@ use Rattle.kernel_laws.specs.kern_mounts.declared.step.MountStep.{MountStep}
 use Rattle.kernel_laws.specs.kern_mounts.Split.{Table}
 use Rattle.kernel_laws.specs.kern_mounts.Table.{StartsAtRoot}
 use Rattle.kernel_laws.specs.kern_mounts.Unmounts.{IsOrdered}
-use Rattle.kernel_laws.proofs.KernMounts.Leaving.{ascending_is_ordered}
-use Rattle.kernel_laws.proofs.AbsPath.Prefixes.{rest-append}
-use Rattle.kernel_laws.proofs.KernMounts.Splits.{split_some, of_split}
-use Rattle.kernel_laws.proofs.KernMounts.Unmounting.{append_all, trimmed_part, unmounts_trim}
+use Rattle.kernel_laws.proofs.OfKernMounts.Leaving.{ascending_is_ordered}
+use Rattle.kernel_laws.proofs.OfAbsPath.Prefixes.{rest-append}
+use Rattle.kernel_laws.proofs.OfKernMounts.Splits.{split_some, of_split}
+use Rattle.kernel_laws.proofs.OfKernMounts.Unmounting.{append_all, trimmed_part, unmounts_trim}
 use Rattle.kernel_laws.specs.kernel_model.kern_files.Looking.{flags_by}
 use Rattle.kernel_laws.specs.kernel_model.kern_files.MountCall.{ms_bind, ms_remount_bind, flags_of}
 use Rattle.kernel_laws.specs.kernel_model.kernel_calls.Calls.{IsPath}

@@ -8,7 +8,7 @@ use Rattle.kernel_laws.specs.abs_path.Paths.{Path, tail_of, parts_of, is_normal}
 use Rattle.kernel_laws.specs.abs_path.Prefix.{is_prefix, rest_of, rest_text}
 use Rattle.kernel_laws.specs.kern_mounts.Entry.{leads_to}
 use Rattle.kernel_laws.specs.kern_mounts.declared.step.What.TheVariants.{Host}
-use Rattle.kernel_laws.proofs.AbsPath.Reading.{parts_behind}
+use Rattle.kernel_laws.proofs.OfAbsPath.Reading.{parts_behind}
 use Rattle.kernel_laws.specs.kern_mounts.declared.step.MountStep.{MountStep}
 use Rattle.kernel_laws.specs.kern_mounts.Split.{Table}
 use Rattle.kernel_laws.specs.declared.question_types.wish.Wish.{Wish}

@@ -8,8 +8,8 @@ use Rattle.std.proofs.lemmas.Bool.Decides.{nat_tests}
 use Rattle.kernel_laws.specs.abs_path.Paths.{Path, is_root, proc}
 use Rattle.kernel_laws.specs.abs_path.Prefix.{is_prefix, is_same, rest_of}
 use Rattle.kernel_laws.specs.abs_path.ByteOrder.{AreAscending, is_before}
-use Rattle.kernel_laws.proofs.AbsPath.ByteOrder.{not_before_itself}
-use Rattle.kernel_laws.proofs.AbsPath.Prefixes.{prefix-append, prefix_itself, same_itself}
+use Rattle.kernel_laws.proofs.OfAbsPath.ByteOrder.{not_before_itself}
+use Rattle.kernel_laws.proofs.OfAbsPath.Prefixes.{prefix-append, prefix_itself, same_itself}
 use Rattle.kernel_laws.specs.site_table.declared.row.Row.{Row}
 use Rattle.kernel_laws.specs.site_table.Kinds.{is_dir}
 use Rattle.kernel_laws.specs.site_table.Table.{Site, IsSite, row_at}
@@ -23,8 +23,8 @@ use Rattle.kernel_laws.specs.kern_mounts.declared.step.MountStep.{MountStep}
 use Rattle.kernel_laws.specs.kern_mounts.Split.{Table, split_at}
 use Rattle.kernel_laws.specs.kern_mounts.Bind.{bound, bound_entry, after_bind}
 use Rattle.kernel_laws.specs.kern_mounts.Remount.{remounted, after_remount}
-use Rattle.kernel_laws.proofs.KernMounts.Entries.{entry_push}
-use Rattle.kernel_laws.proofs.KernMounts.Splits.{split_is, of_split}
+use Rattle.kernel_laws.proofs.OfKernMounts.Entries.{entry_push}
+use Rattle.kernel_laws.proofs.OfKernMounts.Splits.{split_is, of_split}
 use Rattle.kernel_laws.specs.kernel_model.kern_files.Bits.{has_all}
 use Rattle.kernel_laws.specs.kernel_model.kern_files.Looking.{flags_by}
 use Rattle.kernel_laws.specs.kernel_model.kern_files.MountCall.{ms_bind, ms_remount_bind, has_other_kind, flags_of, kind_found, hidden_kind}

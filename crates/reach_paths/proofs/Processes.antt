@@ -12,11 +12,11 @@ use Rattle.kernel_laws.specs.kern_mounts.Split.{Table}
 use Rattle.kernel_laws.specs.kern_mounts.Table.{StartsAtRoot}
 use Rattle.kernel_laws.specs.kern_mounts.Umount.{after_umount}
 use Rattle.kernel_laws.specs.kern_mounts.Unmounts.{Unmounts, still, then_one}
-use Rattle.kernel_laws.proofs.KernMounts.Unmounting.{removes, trims, trimmed_part, trimmed_top, append_all}
+use Rattle.kernel_laws.proofs.OfKernMounts.Unmounting.{removes, trims, trimmed_part, trimmed_top, append_all}
 use Rattle.kernel_laws.specs.kernel_model.kern_files.MountCall.{ms_bind, after_mount}
 use Rattle.kernel_laws.specs.kernel_model.kern_files.UmountCall.{umount_answer}
 use Rattle.kernel_laws.specs.kernel_model.kern_files.MountsCall.{mounts_after_mount, mounts_umount_answer}
-use Rattle.kernel_laws.proofs.KernelModel.MountsCall.{mount_entries, umount_answer_entries}
+use Rattle.kernel_laws.proofs.OfKernelModel.MountsCall.{mount_entries, umount_answer_entries}
 use Rattle.kernel_laws.specs.kernel_model.kernel_calls.Calls.{IsPath}
 use Rattle.kernel_laws.specs.kernel_model.kernel_calls.Doing.{Doing, Mount, Umount}
 use Rattle.kernel_laws.specs.kernel_model.declared.kernel_calls.call.Call.{Call}

@@ -4,7 +4,7 @@ use Rattle.std.specs.Prelude.{option_map}
 use Rattle.std.specs.List.{AllByRecursion}
 use Rattle.kernel_laws.specs.abs_path.Paths.{Path}
 use Rattle.kernel_laws.specs.abs_path.Prefix.{is_same}
-use Rattle.kernel_laws.proofs.AbsPath.Prefixes.{same_path}
+use Rattle.kernel_laws.proofs.OfAbsPath.Prefixes.{same_path}
 use Rattle.kernel_laws.specs.site_table.declared.kinds.RowKind.TheVariants.{Dir}
 use Rattle.kernel_laws.specs.site_table.declared.row.Row.{Row}
 use Rattle.kernel_laws.specs.site_table.Kinds.{is_dir}

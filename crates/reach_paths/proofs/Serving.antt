@@ -6,11 +6,11 @@ use Rattle.std.specs.List.{list_any}
 use Rattle.std.proofs.lemmas.Bool.{and_from}
 use Rattle.kernel_laws.specs.abs_path.Paths.{Path}
 use Rattle.kernel_laws.specs.abs_path.Prefix.{is_prefix, rest_of}
-use Rattle.kernel_laws.proofs.AbsPath.Prefixes.{prefix-append, rest-append}
+use Rattle.kernel_laws.proofs.OfAbsPath.Prefixes.{prefix-append, rest-append}
 use Rattle.kernel_laws.specs.kern_mounts.Entry.{leads_to}
 use Rattle.kernel_laws.specs.kern_mounts.declared.step.MountStep.{MountStep}
 use Rattle.kernel_laws.specs.kern_mounts.Split.{Table}
-use Rattle.kernel_laws.proofs.KernMounts.Splits.{split_some}
+use Rattle.kernel_laws.proofs.OfKernMounts.Splits.{split_some}
 use Rattle.kernel_laws.specs.declared.question_types.wish.Wish.{Wish}
 use Rattle.kernel_laws.specs.declared.question_types.power.Power.{Power}
 use Rattle.kernel_laws.specs.declared.question_types.power.Power.TheVariants.{None as Nowise, Unmount as Unmounting, Mount as Mounting}

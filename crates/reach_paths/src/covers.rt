@@ -7,8 +7,8 @@ ghost use Rattle.kernel_laws.specs.abs_path.Prefix.{IsRest, is_prefix, is_behind
 ghost use Rattle.kernel_laws.specs.kern_mounts.Mounts.{steps_of};
 ghost use Rattle.kernel_laws.specs.kern_mounts.Entry.{leads_to};
 
-use kernel_laws::abs_path::AbsPath;
-use kernel_laws::kern_mounts::MountTable;
+use abs_path::AbsPath;
+use kernel_laws::MountTable;
 
 // Nothing, or a text that goes on at a slash.
 fn is_behind(rest: &str) -> bool

@@ -13,9 +13,9 @@ ghost use Rattle.reach_paths.specs.First.{IsFirstByPower};
 
 use crate::covers::is_covered;
 use crate::wish::allows;
-use kernel_laws::abs_path::AbsPath;
-use kernel_laws::kern_mounts::{MountTable, What};
+use abs_path::AbsPath;
 use kernel_laws::question_types::{Power, Wish};
+use kernel_laws::{MountTable, What};
 
 // Whether the entry of this number shows the row, at a path that no later entry covers or that can be uncovered.
 fn shows(table: &MountTable, at: usize, row: &AbsPath, uncover: bool) -> bool

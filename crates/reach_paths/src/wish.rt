@@ -3,7 +3,7 @@
 ghost use Rattle.std.specs.Prelude.{◌≡◌};
 ghost use Rattle.kernel_laws.specs.Reach.{fits};
 
-use kernel_laws::kern_mounts::Flags;
+use kernel_laws::Flags;
 use kernel_laws::question_types::Wish;
 
 // Whether what is wished may be done on a mount with these flags, mount(2).

@@ -5,7 +5,7 @@ pub mod Texts
 pub mod Prepared
 pub mod Started
 pub mod Prints
-pub use Rattle.asked_service.specs as asked_service
+pub mod asked_service
 pub use Rattle.asked_service.specs.call_table as call_table
 pub use Rattle.asked_service.specs.exec_settings as exec_settings
 pub use Rattle.asked_service.specs.host_io as host_io

@@ -11,7 +11,8 @@ ghost use Rattle.replay_command.specs.Started.{FinishesStarted};
 
 use crate::launching::start;
 use crate::preparing::{Prepared, prepare};
-use asked_service::{Ending, Shelf, Sink, finish, finish_stop};
+use asked_service::{Ending, finish, finish_stop};
+use host_io::{Shelf, Sink};
 use std::alloc::Global;
 
 // Launches what is prepared and prints its replay.

@@ -19,10 +19,8 @@ mod script;
 
 pub use asked_service::unit_launch::{LaunchRefusal, refusal_line};
 pub use asked_service::{
-    CallTable, DirShelf, Ending, MemShelf, MemSink, Ready as UnitInputsReady, ReadyText,
-    Script as ScriptTextScript, Shelf, Sink, SinkError, SiteTable, StdSink, Stop, VerdictRow,
-    are_files, finish, plan_line, put_piece, read_decimal, read_inputs, refuse, refused_line,
-    settings_line,
+    CallTable, Ending, ReadyText, Script as ScriptTextScript, SiteTable, Stop, VerdictRow,
+    plan_line, read_inputs, refuse, refused_line, settings_line,
 };
 pub use command::answer;
 pub use script::read_script;

@@ -9,8 +9,9 @@ ghost use Rattle.replay_command.specs.Prepared.{CanBeStarted, IsPrepared, replay
 
 use crate::script::read_script;
 use asked_service::{
-    Call, MountSteps, Script, SettledUnit, Shelf, Stop, fits, plan_mounts, read_inputs, settle,
+    Call, MountSteps, Script, SettledUnit, Stop, fits, plan_mounts, read_inputs, settle,
 };
+use host_io::Shelf;
 use std::alloc::Global;
 
 /// All that a replay starts with.

@@ -5,7 +5,8 @@ ghost use Rattle.replay_command.specs.Texts.{replay_text, service_text};
 use crate::lines::count_line;
 use crate::replaying::replay;
 use asked_service::unit_launch::{UnitLaunch, refusal_line, told};
-use asked_service::{CallTable, Launched, Script, Sink, SinkError, launched_line, put_line};
+use asked_service::{CallTable, Launched, Script, launched_line, put_line};
+use host_io::{Sink, SinkError};
 use std::alloc::Global;
 
 // Prints the launch, each call of the script as it is made, and how many there are.

@@ -4,7 +4,8 @@ ghost use Rattle.replay_command.specs.Texts.{ending_behind};
 
 use crate::printing::print_replay;
 use asked_service::unit_launch::UnitLaunch;
-use asked_service::{CallTable, Ending, Ready, Script, Sink, SinkError};
+use asked_service::{CallTable, Ending, Ready, Script};
+use host_io::{Sink, SinkError};
 use std::alloc::Global;
 
 /// A unit that is launched, and the script whose calls are made in its world while their lines are printed.

@@ -6,7 +6,8 @@ ghost use Rattle.replay_command.specs.Lines.{moment_line, run_text};
 ghost use Rattle.replay_command.specs.Performed.{Makes, Performs};
 
 use crate::lines::call_line;
-use asked_service::{Call, CallTable, Launched, Script, Sink, SinkError, World, put_line};
+use asked_service::{Call, CallTable, Launched, Script, World, put_line};
+use host_io::{Sink, SinkError};
 use std::alloc::Global;
 
 // Makes a call, and prints its line.

@@ -6,9 +6,10 @@ ghost use Rattle.asked_service.specs.unit_inputs.command_answers.Stops.{HasReadC
 ghost use Rattle.replay_command.specs.Scripts.{line_cause, script_cause, script_in, script_line, script_said};
 
 use asked_service::{
-    CallTable, Script, ScriptCause, ScriptError, Shelf, Stop, read_input,
-    read_script as read_bytes, refuse, refused_line,
+    CallTable, Script, ScriptCause, ScriptError, Stop, read_input, read_script as read_bytes,
+    refuse, refused_line,
 };
+use host_io::Shelf;
 use std::alloc::{AllocError, Global};
 
 // Which line is faulty, and why.

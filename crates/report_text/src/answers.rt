@@ -4,13 +4,10 @@ ghost use Rattle.questions.specs.kernel_laws.Questions.{questions};
 ghost use Rattle.report_text.specs.Answers.{blind_line, call_line, open_lines, question_line, summary_line, verdict_line, verdict_word};
 
 use crate::wording::push_question;
-use exposure_score::abs_path::AbsPath;
-use exposure_score::call_table::CallTable;
-use exposure_score::site_table::SiteTable;
-use exposure_score::text_forms::push_word;
-use questions::kernel_laws::question_types::{Question, Verdict};
-use questions::kernel_model::kernel_calls::Call;
+use abs_path::AbsPath;
+use exposure_score::{CallTable, SiteTable, push_word};
 use questions::laws::members;
+use questions::{Call, Question, Verdict};
 use script_text::push_call;
 use std::alloc::{AllocError, Global};
 

@@ -2,8 +2,8 @@
 ghost use Rattle.std.specs.Prelude.{◌≡◌, IfOk};
 ghost use Rattle.report_text.specs.Launches.{killed_line, launched_line, privileged_line, refused_line, yes_or_no};
 
-use exposure_score::abs_path::AbsPath;
-use exposure_score::text_forms::push_word;
+use abs_path::AbsPath;
+use exposure_score::push_word;
 use std::alloc::{AllocError, Global};
 
 /// What a launch that ended well is told by.

@@ -15,11 +15,18 @@ mod wording;
 pub use answers::{
     open_lines, push_blind_line, push_call_lines, question_line, summary_line, verdict_line,
 };
-pub use exposure_score;
-pub use exposure_score::{call_table, dropin_merge, site_table, text_forms, unit_grammar};
+pub use exposure_score::policy_file::{Policy, PolicyError, TestId, read_policy};
+pub use exposure_score::policy_weights::weighs;
+pub use exposure_score::service_facts::facts;
+pub use exposure_score::service_facts::laws::accepted_units_write_few_paths;
+pub use exposure_score::{
+    Assignment, Assignments, CallTable, CustomTest, Facts, FileNote, Notes, Place, ResolveError,
+    Resolved, Row, RowKind, Score, ScoreError, ScoreRow, SiteTable, Stored, Text, UnitError,
+    UnitFile, UnitFiles, UnitText, ambient_count, read_unit, resolve, score, service_assignments,
+    writable_paths,
+};
 pub use launches::{Launched, killed_line, launched_line, privileged_line, refused_line};
 pub use notes::{note_line, unit_line};
-pub use questions;
-pub use questions::kernel_laws;
+pub use questions::{Question, Verdict, questions};
 pub use scores::{exposure_line, score_line};
-pub use script_text;
+pub use script_text::{Script, ScriptCause, ScriptError, print_call, read_script};

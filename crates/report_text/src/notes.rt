@@ -2,9 +2,7 @@
 ghost use Rattle.std.specs.Prelude.{◌≡◌, IfOk};
 ghost use Rattle.report_text.specs.Notes.{note_line, path_at, unit_line};
 
-use exposure_score::dropin_merge::unit_values::FileNote;
-use exposure_score::dropin_merge::{Resolved, UnitFile};
-use exposure_score::text_forms::push_word;
+use exposure_score::{FileNote, Resolved, UnitFile, push_word};
 use std::alloc::{AllocError, Global};
 
 /// The first line of a report: the name of the unit, as an escaped word.

@@ -2,8 +2,7 @@
 ghost use Rattle.std.specs.Prelude.{◌≡◌, IfOk};
 ghost use Rattle.report_text.specs.Scores.{exposure_line, numbers_of, score_line, skip_line, test_line};
 
-use exposure_score::ScoreRow;
-use exposure_score::text_forms::push_word;
+use exposure_score::{ScoreRow, push_word};
 use std::alloc::{AllocError, Global};
 
 // The line of a test that is skipped.

@@ -6,11 +6,8 @@ ghost use Rattle.exposure_score.specs.text_forms.Escaped.{escaped_word};
 ghost use Rattle.questions.specs.Listed.{IsAskedOf};
 ghost use Rattle.report_text.specs.Wording.{name_at, path_at, question_words, wish_word};
 
-use exposure_score::call_table::{CallLine, CallTable};
-use exposure_score::cap_sets::CapSet;
-use exposure_score::site_table::{Row, SiteTable};
-use exposure_score::text_forms::{push_u64, push_word};
-use questions::kernel_laws::question_types::{Question, Wish};
+use exposure_score::{CallLine, CallTable, CapSet, Row, SiteTable, push_u64, push_word};
+use questions::{Question, Wish};
 use std::alloc::AllocError;
 
 fn wish_word(wish: Wish) -> &'static str
@@ -38,7 +35,7 @@ fn path_at(rows: &[Row], at: usize) -> &str
 fn call_at(calls: &CallTable, at: usize) -> &str
     ensures { result.now ≡ name_at (every_call calls.now) at }
 {
-    match exposure_score::call_table::call_words::name_at(calls, at) {
+    match exposure_score::name_at(calls, at) {
         Some(name) => name,
         None => "",
     }

@@ -4,9 +4,7 @@
 use crate::held::HeldText;
 use crate::wording::{said, text_of};
 use call_table::{CallTable, read_calls};
-use dropin_merge::unit_grammar::{Text, read_unit};
-use dropin_merge::unit_names::UnitName;
-use dropin_merge::{Resolved, UnitFile, UnitFiles};
+use dropin_merge::{Resolved, Text, UnitFile, UnitFiles, UnitName, read_unit};
 use site_table::{SiteTable, read_site};
 use std::alloc::{AllocError, Global};
 

@@ -3,7 +3,7 @@ use Rattle.std.proofs.Common.{◌≡◌, ◌≢◌, ◌∙◌, ℕ, List, [], So
 use Rattle.judge_command.specs.call_table.Facts.{IsWhole}
 use Rattle.judge_command.specs.call_table.Table as calls
 use Rattle.sample_inputs.specs.cap_sets.Sets.{all, none, IsWithin}
-use Rattle.sample_inputs.proofs.OfCaps.Members.{none_within, within_self}
+use Rattle.sample_inputs.proofs.OfCapSets.Members.{none_within, within_self}
 use Rattle.judge_command.specs.dropin_merge.declared.resolved.Resolved.{Resolved}
 use Rattle.judge_command.specs.exec_settings.Mounts.{unit_mentions}
 use Rattle.judge_command.specs.exec_settings.declared.service.Settings.{Settings}

@@ -21,7 +21,7 @@ use Rattle.launcher.proofs.LaunchCreds.{starts}
 use Rattle.launcher.proofs.LaunchWorld.{ready_at}
 use Rattle.launcher.proofs.Leading.{Leads, append_none, append_parts}
 use Rattle.launcher.specs.declared.error.LaunchError.TheVariants as error
-use Rattle.launcher.proofs.Caps.Members.{within_through}
+use Rattle.launcher.proofs.OfCapSets.Members.{within_through}
 use Rattle.launcher.specs.mount_plan.Host.{host_of}
 use Rattle.launcher.specs.site_table.Kinds.{is_exe}
 use Rattle.launcher.specs.site_table.Table.{Site, row_at}

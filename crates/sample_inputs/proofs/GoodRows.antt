@@ -9,7 +9,7 @@ use Rattle.std.proofs.Math.Seq.{take-append_seam}
 use Rattle.std.proofs.lemmas.Bool.{cases_Bool}
 use Rattle.launcher.specs.abs_path.Paths.{Path}
 use Rattle.launcher.specs.abs_path.Prefix.{is_same}
-use Rattle.launcher.proofs.AbsPath.Prefixes.{same_path}
+use Rattle.launcher.proofs.OfAbsPath.Prefixes.{same_path}
 use Rattle.toml.specs.Data.{Data}
 use Rattle.launcher.specs.site_table.declared.error.RowCause.{RowCause}
 use Rattle.launcher.specs.site_table.declared.error.SiteError.{SiteError}

@@ -4,7 +4,7 @@ use Rattle.std.specs.Prelude.{◌&&◌, ◌||◌, not, nat_lt, nat_le, ◌<◌, 
 use Rattle.std.proofs.lemmas.Bool.{eqb-true}
 use Rattle.std.proofs.lemmas.Bool.Decides.{nat_tests}
 use Rattle.launcher.specs.cap_sets.Sets.{has, all, single, union, minus, within, IsWithin}
-use Rattle.launcher.proofs.Caps.Members.{has_all, has_minus, has_single, none_within, within_self, within-from_IsWithin}
+use Rattle.launcher.proofs.OfCapSets.Members.{has_all, has_minus, has_single, none_within, within_self, within-from_IsWithin}
 use Rattle.launcher.specs.kern_creds.declared.creds.Creds.{Creds}
 use Rattle.launcher.specs.kern_creds.Ids.{kept_ids, may_take_all}
 use Rattle.launcher.specs.kern_creds.RootChange.{with_uids}

@@ -8,7 +8,7 @@ use Rattle.std.proofs.lemmas.Bool.Decides.{nat_tests}
 use Rattle.launcher.specs.call_table.declared.call_names.rule.CallRule.TheVariants as known
 use Rattle.launcher.specs.call_table.Table as calls
 use Rattle.launcher.specs.cap_sets.Sets.{has, none, all, single, union, minus, within, IsWithin}
-use Rattle.launcher.proofs.Caps.Members.{within_self, within_through, within_union_left, within_union_right, within-from_IsWithin}
+use Rattle.launcher.proofs.OfCapSets.Members.{within_self, within_through, within_union_left, within_union_right, within-from_IsWithin}
 use Rattle.launcher.specs.kern_creds.declared.creds.Creds.{Creds}
 use Rattle.launcher.specs.kern_creds.Ids.{kept_ids}
 use Rattle.launcher.specs.kern_creds.RootChange.{with_uids}

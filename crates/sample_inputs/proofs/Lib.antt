@@ -25,4 +25,4 @@ pub mod SampleLaunchTurns
 pub mod Alike
 pub mod Settling
 pub mod Plans
-pub use Rattle.launcher.proofs.Caps as OfCaps
+pub use Rattle.launcher.proofs.OfCapSets as OfCapSets

@@ -38,7 +38,7 @@ use Rattle.launcher.specs.Launch.{new_mounts, program_steps}
 use Rattle.launcher.specs.Launches.{HasLaunchCalls}
 use Rattle.launcher.proofs.HostRoot.{BeginsAtHostRoot}
 use Rattle.launcher.proofs.Leading.{Leads}
-use Rattle.launcher.proofs.MountSteps.{plan_mounted}
+use Rattle.launcher.proofs.MakingPlan.{plan_mounted}
 use Rattle.launcher.proofs.Solo.{At, solo, only, own_table}
 use Rattle.launcher.specs.linux_numbers.Errnos.{eacces}
 use Rattle.launcher.specs.site_table.Table.{Site, row_at}

@@ -4,7 +4,7 @@ use Rattle.std.proofs.Common.{sym, ap, ◌∙◌, arith, le-leb, append-nil, app
 use Rattle.std.specs.Fmt.{decimal}
 use Rattle.launcher.specs.abs_path.Paths.{Path, text_of, parts_of, is_normal, is_part}
 use Rattle.launcher.specs.abs_path.declared.error.PathError.{PathError}
-use Rattle.launcher.proofs.AbsPath.Reading.{text_parts, text_no_fault}
+use Rattle.launcher.proofs.OfAbsPath.Reading.{text_parts, text_no_fault}
 use Rattle.launcher.specs.site_table.Paths.{short_path}
 use Rattle.sample_inputs.specs.Site.{folder_name, object_name, folder_path, object_path}
 use Rattle.sample_inputs.proofs.Names.{folder_named, object_named}

@@ -22,8 +22,8 @@ use Rattle.launcher.specs.mount_plan.Plan.{places_of, table_of}
 use Rattle.launcher.specs.path_settings.view_map.Asked.{asked_of, beneath_places}
 use Rattle.launcher.specs.path_settings.view_map.Kept.{Host, Refusal, kept_of}
 use Rattle.launcher.specs.path_settings.view_map.Resting.{AreSame, AreSameSources}
-use Rattle.launcher.proofs.PathSettings.Resting.{kept_rests}
-use Rattle.launcher.proofs.MountPlan.Resting.{plan_rests}
+use Rattle.launcher.proofs.OfPathSettings.Resting.{kept_rests}
+use Rattle.launcher.proofs.OfMountPlan.Resting.{plan_rests}
 use Rattle.sample_inputs.specs.Facts.{HasSampleRows, SaysSample, folder, program}
 use Rattle.sample_inputs.specs.sample_launch.Mentions.{folder_mentions_by, sample_mentions}
 use Rattle.sample_inputs.specs.sample_launch.Planned.{FindsItsProgram, PathsAreNotRefused, ProgramsAreFound, whole_host}

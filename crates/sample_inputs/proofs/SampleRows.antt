@@ -16,7 +16,7 @@ use Rattle.launcher.specs.site_table.Paths.{root}
 use Rattle.launcher.specs.site_table.Reading.{rows_in, site_in, site_of, site_of_tree, tree_of}
 use Rattle.launcher.specs.site_table.Rows.{path_of, row_of}
 use Rattle.launcher.specs.site_table.Table.{Site}
-use Rattle.launcher.proofs.SiteTable.Exact.{exact_rows}
+use Rattle.launcher.proofs.OfSiteTable.Exact.{exact_rows}
 use Rattle.sample_inputs.specs.Facts.{HasSampleRows, program, folder}
 use Rattle.sample_inputs.specs.Site.{numbers_from, folder_path, dir_row, exe_row, folder_rows, site_rows, site_tree}
 use Rattle.sample_inputs.proofs.PathTexts.{folder_reads}

@@ -50,7 +50,7 @@ use Rattle.launcher.specs.dropin_merge.unit_values.Assignments.{service_assignme
 use Rattle.launcher.specs.dropin_merge.unit_values.Lasting.{unit_last, unit_last_text}
 use Rattle.launcher.specs.dropin_merge.unit_values.Listed.{unit_listed}
 use Rattle.launcher.specs.dropin_merge.unit_values.Words.{unit_words}
-use Rattle.launcher.proofs.FilterSettings.Joined.{made}
+use Rattle.launcher.proofs.OfFilterSettings.Joined.{made}
 use Rattle.sample_inputs.specs.Facts.{program}
 use Rattle.sample_inputs.specs.sample_launch.Mentions.{sample_mentions}
 use Rattle.sample_inputs.specs.sample_launch.Settled.{AreSampleSettings, SettingsAreNotRefused, SettingsAreTheSamples}

@@ -17,7 +17,7 @@ use Rattle.launcher.specs.path_settings.Mentions.{is_origin}
 use Rattle.launcher.specs.path_settings.declared.mentions.Mention.{Mention}
 use Rattle.launcher.specs.site_table.declared.row.Row.{Row}
 use Rattle.launcher.specs.site_table.Table.{row_at}
-use Rattle.launcher.proofs.PathSettings.ViewMapLists.{all_enumerated}
+use Rattle.launcher.proofs.OfPathSettings.ViewMapLists.{all_enumerated}
 use Rattle.launcher.specs.path_settings.view_map.Object.{Object, on_host, object_at, object_from}
 use Rattle.launcher.specs.path_settings.view_map.View.{is_read_only, is_no_exec, leading_to, longest, prevails, says_exec, says_no_exec}
 use Rattle.sample_inputs.specs.sample_launch.Shown.{ShownByTheView, AreElsewhere, ShownBesideMentions}

@@ -9,7 +9,7 @@ use Rattle.std.proofs.lemmas.List.{length-map}
 use Rattle.std.proofs.lemmas.List.Folds.{list_any-append}
 use Rattle.launcher.specs.abs_path.Paths.{Path}
 use Rattle.launcher.specs.abs_path.Prefix.{is_same}
-use Rattle.launcher.proofs.AbsPath.Prefixes.{same_itself}
+use Rattle.launcher.proofs.OfAbsPath.Prefixes.{same_itself}
 use Rattle.toml.specs.Data.{Data}
 use Rattle.launcher.specs.site_table.Paths.{short_path, parent_of}
 use Rattle.launcher.specs.site_table.Rows.{path_of, is_folder, is_dir_at, is_always_dir, own_causes}

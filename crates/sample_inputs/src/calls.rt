@@ -5,7 +5,7 @@ ghost use Rattle.launcher.specs.call_table.declared.causes.CallsError.TheVariant
 ghost use Rattle.sample_inputs.specs.Calls.{calls_text};
 ghost use Rattle.sample_inputs.specs.CallTable.{sample_table};
 
-use launcher::call_table::{CallTable, CallsError, read_calls};
+use launcher::{CallTable, CallsError, read_calls};
 use std::alloc::{AllocError, Global};
 
 /// The calls.txt of each sample: a small table of x86-64, with each call that a launch makes.

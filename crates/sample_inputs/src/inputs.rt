@@ -8,9 +8,7 @@ ghost use Rattle.sample_inputs.specs.Made.{IsSample};
 use crate::calls::sample_calls;
 use crate::site::sample_site;
 use crate::unit::sample_unit;
-use launcher::call_table::CallTable;
-use launcher::dropin_merge::Resolved;
-use launcher::site_table::SiteTable;
+use launcher::{CallTable, Resolved, SiteTable};
 use std::alloc::{AllocError, Global};
 
 /// The inputs of a sample, as a command on a unit reads them.

@@ -11,7 +11,7 @@ ghost use Rattle.sample_inputs.specs.Made.{IsSampleSite};
 ghost use Rattle.sample_inputs.specs.Site.{group_row, site_groups, site_rows, site_tree, site_users, user_row};
 
 use crate::rows::{plain_row, push_folder, put};
-use launcher::site_table::{SiteError, SiteTable, read_site};
+use launcher::{SiteError, SiteTable, read_site};
 use std::alloc::{AllocError, Global};
 use toml::{Table, Value};
 

@@ -9,9 +9,9 @@ ghost use Rattle.sample_inputs.specs.Made.{IsSampleUnit};
 ghost use Rattle.sample_inputs.specs.Unit.{folder_key, folder_settings, line_of, privilege_settings, sample_name, setting, unit_path, unit_said, unit_text};
 
 use crate::site::FOLDERS;
-use launcher::dropin_merge::{Resolved, UnitFile, UnitFiles};
-use launcher::unit_grammar::{Text, UnitError, UnitText, read_unit};
-use launcher::unit_names::{NameError, UnitName};
+use launcher::{
+    NameError, Resolved, Text, UnitError, UnitFile, UnitFiles, UnitName, UnitText, read_unit,
+};
 use std::alloc::{AllocError, Global};
 
 /// The name of the unit.

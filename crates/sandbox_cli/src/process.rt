@@ -1,11 +1,12 @@
 //! The process around a run: its arguments, the current folder and the standard output. Of what these hold nothing is known.
 use crate::running::exit_code;
 use crate::stored::run_with_tests;
+use host_io::{DirShelf, StdSink};
 use std::alloc::AllocError;
 use std::process::ExitCode;
 use std::rt::{Env, Files};
 use std::{env, io};
-use top_call::{DirShelf, Ending, Status, StdSink};
+use top_call::{Ending, Status};
 
 // The arguments, the program's name the first of them.
 fn arguments<R: Env + AllocGlobal>(rt: &R) -> io::Result<Vec<String>> {

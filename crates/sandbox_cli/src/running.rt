@@ -7,12 +7,11 @@ ghost use Rattle.sandbox_cli.specs.Running.{EndsWords, ExitsBy, asked_by, words_
 ghost use Rattle.sandbox_cli.specs.Tests.{AreProgramTests};
 ghost use Rattle.sandbox_cli.specs.Wishes.{AreProgramWishes};
 
+use host_io::{Shelf, Sink};
 use std::alloc::{AllocError, Global};
 use std::io;
 use std::process::ExitCode;
-use top_call::{
-    CustomTest, Ending, Facts, Shelf, Sink, Status, Stored, StoredWish, VerdictRow, Wished, run,
-};
+use top_call::{CustomTest, Ending, Facts, Status, Stored, StoredWish, VerdictRow, Wished, run};
 
 // The words behind the program's name, which is the first argument.
 fn behind_name(all: &[String]) -> &[String]

@@ -6,12 +6,11 @@ ghost use Rattle.sandbox_cli.specs.Wishes.{can_execute};
 
 use crate::executing::can_execute;
 use crate::running::run_here;
+use host_io::{Shelf, Sink};
 use std::alloc::{AllocError, Global};
 use std::io;
 use std::process::ExitCode;
-use top_call::{
-    CustomTest, Facts, Shelf, Sink, StoredWish, VerdictRow, ambient_count, writable_paths,
-};
+use top_call::{CustomTest, Facts, StoredWish, VerdictRow, ambient_count, writable_paths};
 
 /// Runs the arguments over a shelf and a sink, with the tests that a score may ask beside the settings: `AmbientCount`, how many
 /// ambient capabilities the service has, of 41 at most; and `WritablePaths`, how many words of ReadWritePaths= and BindPaths= are

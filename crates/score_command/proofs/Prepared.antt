@@ -8,7 +8,7 @@ use Rattle.report_text.specs.exposure_score.StoredTests.{StoredTests}
 use Rattle.report_text.specs.exposure_score.declared.facts.Facts.{Facts}
 use Rattle.report_text.specs.exposure_score.declared.rows.Score.{Score}
 use Rattle.report_text.specs.exposure_score.declared.policy_file.policy.PolicyTest.{PolicyTest}
-use Rattle.report_text.proofs.ExposureScore.Weights.{weighs_alike}
+use Rattle.report_text.proofs.OfExposureScore.Weights.{weighs_alike}
 use Rattle.report_text.specs.exposure_score.service_facts.Facts.{AreFacts}
 use Rattle.unit_inputs.specs.command_answers.Endings.{is_answer}
 use Rattle.unit_inputs.specs.command_answers.Laws.{AcceptsFiles, GoTogether, IsAdmitted, laws_over}

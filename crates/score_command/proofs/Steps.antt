@@ -11,7 +11,7 @@ use Rattle.unit_inputs.specs.exec_settings.Refusals.{refusal_of}
 use Rattle.unit_inputs.specs.exec_settings.declared.errors.SettingsError.{SettingsError}
 use Rattle.report_text.specs.mount_settings.Written.{unit_written}
 use Rattle.report_text.specs.exposure_score.declared.policy_file.policy.PolicyTest.{PolicyTest}
-use Rattle.report_text.proofs.ExposureScore.ServiceFactsAccepted.{few_paths}
+use Rattle.report_text.proofs.OfExposureScore.ServiceFactsAccepted.{few_paths}
 use Rattle.unit_inputs.specs.Inputs.{input_refusals, inputs_of, inputs_view}
 use Rattle.unit_inputs.specs.declared.inputs.UnitInputs.{UnitInputs}
 use Rattle.unit_inputs.specs.SettingsRefusals.{settings_line}

@@ -11,11 +11,10 @@ ghost use Rattle.score_command.specs.Prints.{ending_of, score_laws, scored_text}
 use crate::preparing::{Prepared, read_all};
 use crate::ready::Scored;
 use crate::weighing::weigh;
-use report_text::exposure_score::service_facts::facts;
-use report_text::exposure_score::{CustomTest, Facts, Stored};
+use host_io::Shelf;
+use report_text::{CustomTest, Facts, Stored, facts};
 use std::alloc::{AllocError, Global};
 use unit_inputs::command_answers::Stop;
-use unit_inputs::host_io::Shelf;
 
 // What is known of the settings that are prepared.
 fn facts_of(alloc: Global, prepared: &Prepared) -> Result<Facts, AllocError>

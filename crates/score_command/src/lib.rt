@@ -17,20 +17,14 @@ mod weighing;
 pub use command::prepare;
 pub use policies::read_policy;
 pub use ready::Scored;
-pub use report_text::call_table::CallTable;
-pub use report_text::dropin_merge::{ResolveError, Resolved, resolve};
-pub use report_text::exposure_score::policy_file::Policy;
-pub use report_text::exposure_score::policy_weights::weighs;
-pub use report_text::exposure_score::service_facts::facts;
-pub use report_text::exposure_score::{
-    CustomTest, Facts, ScoreError, Stored, ambient_count, score, writable_paths,
+pub use report_text::{
+    CustomTest, Facts, Policy, ResolveError, Resolved, ScoreError, Stored, ambient_count, facts,
+    resolve, score, weighs, writable_paths,
 };
-pub use report_text::site_table::SiteTable;
-pub use report_text::text_forms::push_word;
 pub use unit_inputs::command_answers::{
     Ending, Ready as UnitInputsReady, Stop, put_line, refuse, refused_line,
 };
-pub use unit_inputs::exec_settings::{Settings, SettingsError, settings};
-pub use unit_inputs::host_io::{Shelf, ShelfError, Sink, SinkError};
-pub use unit_inputs::unit_names::{NameError, UnitName};
-pub use unit_inputs::{read_site, read_table, settings_line, unit_line};
+pub use unit_inputs::{
+    CallTable, NameError, Settings, SettingsError, SiteTable, UnitName, push_word, read_site,
+    read_table, settings, settings_line, unit_line,
+};

@@ -5,14 +5,11 @@ ghost use Rattle.unit_inputs.specs.command_answers.Asking.{course, input_file};
 ghost use Rattle.unit_inputs.specs.command_answers.Stops.{HasReadCause, IsAnswer};
 ghost use Rattle.score_command.specs.Policies.{policy_cause, policy_in, policy_line, policy_said};
 
-use report_text::exposure_score::policy_file::{
-    Policy, PolicyError, TestId, read_policy as read_bytes,
-};
-use report_text::text_forms::push_word;
+use host_io::Shelf;
+use report_text::{Policy, PolicyError, TestId, read_policy as read_bytes};
 use std::alloc::{AllocError, Global};
 use unit_inputs::command_answers::{Stop, refuse, refused_line};
-use unit_inputs::host_io::Shelf;
-use unit_inputs::read_input;
+use unit_inputs::{push_word, read_input};
 
 // Which test is none.
 fn test_cause(alloc: Global, id: &TestId) -> Result<Vec<u8>, AllocError>

@@ -8,11 +8,10 @@ ghost use Rattle.score_command.specs.Prepared.{CanBeWeighed, IsPrepared};
 ghost use Rattle.score_command.specs.Refusals.{read_refusals};
 
 use crate::policies::read_policy;
-use report_text::exposure_score::policy_file::Policy;
-use report_text::exposure_score::service_facts::laws::accepted_units_write_few_paths;
+use host_io::Shelf;
+use report_text::{Policy, accepted_units_write_few_paths};
 use std::alloc::Global;
 use unit_inputs::command_answers::Stop;
-use unit_inputs::host_io::Shelf;
 use unit_inputs::{SettledUnit, read_inputs, settle};
 
 /// All that a score is made from.

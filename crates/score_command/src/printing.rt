@@ -4,11 +4,10 @@ ghost use Rattle.unit_inputs.specs.command_answers.Printing.{HasWriteCause, Take
 ghost use Rattle.report_text.specs.Scores.{score_line};
 ghost use Rattle.score_command.specs.Texts.{score_text};
 
-use report_text::exposure_score::{Score, ScoreRow};
-use report_text::{exposure_line, score_line};
+use host_io::{Sink, SinkError};
+use report_text::{Score, ScoreRow, exposure_line, score_line};
 use std::alloc::Global;
 use unit_inputs::command_answers::put_line;
-use unit_inputs::host_io::{Sink, SinkError};
 
 // Prints what each test of the policy came to.
 fn print_rows<K: Sink>(alloc: Global, rows: &[ScoreRow], out: &mut K) -> Result<(), SinkError>

@@ -3,10 +3,10 @@ ghost use Rattle.std.specs.Prelude.{◌≡◌};
 ghost use Rattle.score_command.specs.Texts.{ending_by};
 
 use crate::printing::print_score;
-use report_text::exposure_score::Score;
+use host_io::{Sink, SinkError};
+use report_text::Score;
 use std::alloc::Global;
 use unit_inputs::command_answers::{Ending, Ready};
-use unit_inputs::host_io::{Sink, SinkError};
 
 /// The score of a unit, and the threshold that its exposure is held against.
 #[derive(Drop)]

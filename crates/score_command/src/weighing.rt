@@ -5,8 +5,7 @@ ghost use Rattle.unit_inputs.specs.command_answers.Stops.{Prepares};
 ghost use Rattle.score_command.specs.Weighed.{IsScoreOf};
 ghost use Rattle.score_command.specs.Weights.{weight_refusal};
 
-use report_text::exposure_score::policy_file::Policy;
-use report_text::exposure_score::{CustomTest, Facts, Score, ScoreError, Stored, score};
+use report_text::{CustomTest, Facts, Policy, Score, ScoreError, Stored, score};
 use std::alloc::Global;
 use unit_inputs::command_answers::{Stop, refuse, refused_line};
 

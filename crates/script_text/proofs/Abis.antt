@@ -11,7 +11,7 @@ use Rattle.kernel_model.specs.call_table.Facts.{IsSecond, IsTable}
 use Rattle.kernel_model.specs.call_table.Lookups.{AreOnce}
 use Rattle.kernel_model.specs.call_table.Table.{Abi, Table, abi_at, calls_in}
 use Rattle.kernel_model.specs.call_table.call_words.Words.{Lacks, HasOtherName, named_abi, spelling}
-use Rattle.kernel_model.proofs.CallTable.Back.{read_back}
+use Rattle.kernel_model.proofs.OfCallTable.Back.{read_back}
 use Rattle.script_text.specs.PrintedAgain.{IsWord}
 use Rattle.script_text.specs.Reading.{Named, named_in, named_call}
 use Rattle.script_text.proofs.Spaced.{HasNo, all_append}

@@ -3,7 +3,7 @@ use Rattle.std.proofs.Common.{◌≡◌, ℕ, suc, ◌+◌, ◌<◌, Option, Som
 use Rattle.std.proofs.Common.{ap, ◌∙◌}
 use Rattle.std.specs.Option.{option_map}
 use Rattle.std.specs.Prelude.{option_and_then}
-use Rattle.kernel_model.proofs.CallTable.Steps.{split_made, take_made}
+use Rattle.kernel_model.proofs.OfCallTable.Steps.{split_made, take_made}
 use Rattle.script_text.specs.Numbers.{all_read, with_front}
 
 -- one word that cannot be read

@@ -9,7 +9,7 @@ use Rattle.std.proofs.lemmas.Bool.{eqb-true, and_from}
 use Rattle.std.proofs.lemmas.Bool.Decides.{nat_tests}
 use Rattle.std.proofs.lemmas.Fmt.{decimal_is_IsNumeral}
 use Rattle.kernel_model.specs.text_forms.Numbers.{decimal_value}
-use Rattle.kernel_model.proofs.TextForms.Numerals.{numeral_is, decimal_read}
+use Rattle.kernel_model.proofs.OfTextForms.Numerals.{numeral_is, decimal_read}
 use Rattle.kernel_model.specs.call_table.Numbers.{word_only, number_of}
 use Rattle.script_text.specs.Numbers.{some_pid, pid_of, with_front, numbers_of, six_words, without_last_zeros}
 use Rattle.script_text.specs.Payloads.{below_capabilities, set_of}

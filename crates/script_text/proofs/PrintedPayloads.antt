@@ -11,7 +11,7 @@ use Rattle.std.proofs.lemmas.Bool.Decides.{nat_tests}
 use Rattle.std.proofs.lemmas.List.Elements.{All-from_recursion, recursion_from_All}
 use Rattle.std.proofs.lemmas.List.Splits.{slice_split_none, slice_split_at}
 use Rattle.kernel_model.specs.abs_path.Paths.{Path, text_of, parts_of}
-use Rattle.kernel_model.proofs.AbsPath.Reading.{text_no_fault, text_parts}
+use Rattle.kernel_model.proofs.OfAbsPath.Reading.{text_no_fault, text_parts}
 use Rattle.kernel_model.specs.call_table.declared.call_names.payload.PayloadForm.{PayloadForm}
 use Rattle.kernel_model.specs.call_table.declared.call_names.payload.PayloadForm.TheVariants as form
 use Rattle.kernel_model.specs.call_table.Numbers.{is_lower_hex, number_of}
@@ -21,7 +21,7 @@ use Rattle.kernel_model.specs.kernel_calls.Calls.{IsPath, FitsPayload}
 use Rattle.kernel_model.specs.declared.kernel_calls.payload.Payload.{Payload}
 use Rattle.kernel_model.specs.declared.kernel_calls.payload.Payload.TheVariants.{Nothing, OnePath, TwoPaths, Sets, Ids, Family, Code}
 use Rattle.kernel_model.specs.text_forms.Escaped.{escaped_byte, escaped_word, is_coded, upper_digit}
-use Rattle.kernel_model.proofs.TextForms.Escapes.{escaped_read, no_white}
+use Rattle.kernel_model.proofs.OfTextForms.Escapes.{escaped_read, no_white}
 use Rattle.script_text.specs.Escapes.{text_only, escaped_text}
 use Rattle.script_text.specs.Marks.{before, between_commas}
 use Rattle.script_text.specs.Numbers.{all_read, with_front}

@@ -12,7 +12,7 @@ use Rattle.std.proofs.lemmas.List.Folds.{find_at}
 use Rattle.kernel_model.specs.text_forms.line_text.Lines.{words_of}
 use Rattle.kernel_model.specs.call_table.declared.call_names.payload.PayloadForm.{PayloadForm}
 use Rattle.kernel_model.specs.call_table.declared.call_names.payload.PayloadForm.TheVariants as form
-use Rattle.kernel_model.proofs.CallTable.Places.{place_is}
+use Rattle.kernel_model.proofs.OfCallTable.Places.{place_is}
 use Rattle.kernel_model.specs.call_table.Lookups.{has_name, has_number, named, numbered, AreOnce}
 use Rattle.kernel_model.specs.call_table.Names.{is_name, is_name_byte}
 use Rattle.kernel_model.specs.call_table.Table.{Table, calls_in}

@@ -7,7 +7,7 @@ use Rattle.std.specs.List.{AllByRecursion, cons_option, filter, filter_map, onto
 use Rattle.std.proofs.lemmas.List.Splits.{slice_split-cons_yes, slice_split-cons_no}
 use Rattle.std.specs.Str.{bytes_eq}
 use Rattle.kernel_model.specs.text_forms.line_text.Lines.{Line, words_of}
-use Rattle.kernel_model.proofs.CallTable.Meant.{meaning}
+use Rattle.kernel_model.proofs.OfCallTable.Meant.{meaning}
 use Rattle.kernel_model.specs.call_table.Kinds.{Entry, Kind, abi, call, family, group, malformed, abi_line, entry_of, call_line}
 use Rattle.kernel_model.specs.call_table.Kinds.{family_line, named_group, group_line, kind_of}
 use Rattle.kernel_model.specs.call_table.Names.{is_name, behind_at}

@@ -19,13 +19,13 @@ use Rattle.hex.proofs.HexLemmas.{decode_of-ok}
 use Rattle.kernel_model.specs.text_forms.line_text.Lines.{Line, is_text, lines_of, words_of}
 use Rattle.kernel_model.specs.call_table.declared.call_names.payload.PayloadForm.{PayloadForm}
 use Rattle.kernel_model.specs.call_table.declared.call_names.payload.PayloadForm.TheVariants as form
-use Rattle.kernel_model.proofs.CallTable.Places.{place_is}
+use Rattle.kernel_model.proofs.OfCallTable.Places.{place_is}
 use Rattle.kernel_model.specs.call_table.Lookups.{has_name, has_number, named, numbered, AreOnce}
 use Rattle.kernel_model.specs.call_table.Numbers.{is_lower_hex, number_of}
 use Rattle.kernel_model.specs.call_table.Table.{Table, abi_at, calls_in}
 use Rattle.kernel_model.specs.call_table.declared.listed.CallLine.{CallLine}
 use Rattle.kernel_model.specs.call_table.call_words.Words.{spelled}
-use Rattle.kernel_model.proofs.CallTable.Back.{spelled_there}
+use Rattle.kernel_model.proofs.OfCallTable.Back.{spelled_there}
 use Rattle.kernel_model.specs.declared.kernel_calls.call.Call.{Call}
 use Rattle.kernel_model.specs.declared.kernel_calls.payload.Payload.{Payload}
 use Rattle.kernel_model.specs.declared.kernel_calls.payload.Payload.TheVariants.{Nothing, OnePath, TwoPaths, Sets, Ids, Family, Code}

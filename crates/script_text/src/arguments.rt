@@ -7,7 +7,7 @@ ghost use Rattle.script_text.specs.declared.error.ScriptCause.TheVariants.{Numbe
 
 use crate::error::ScriptCause;
 use crate::line_fault::LineFault;
-use kernel_model::text_forms::{read_decimal, read_u64};
+use kernel_model::{read_decimal, read_u64};
 use std::alloc::Global;
 
 /// The number of a process: decimal, from 1, below 2^32.

@@ -5,7 +5,7 @@ ghost use Rattle.std.specs.List.{All};
 ghost use Rattle.kernel_model.specs.abs_path.Paths.{text_of};
 ghost use Rattle.script_text.specs.PrintedAgain.{HasTexts, IsHeld, IsText};
 
-use kernel_model::abs_path::AbsPath;
+use abs_path::AbsPath;
 use kernel_model::kernel_calls::{Call, Payload, fits};
 
 fn bytes_fit(bytes: &[u8])

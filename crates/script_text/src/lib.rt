@@ -20,8 +20,8 @@ mod printing;
 mod reader;
 
 pub use error::{ScriptCause, ScriptError};
+use kernel_model::ItemList;
 use kernel_model::kernel_calls::Call;
-use kernel_model::text_forms::item_list::ItemList;
 pub use printing::{print_call, push_call};
 pub use reader::read_script;
 

@@ -12,9 +12,8 @@ use crate::error::ScriptCause;
 use crate::line_fault::LineFault;
 use crate::names::{NamedCall, find_call};
 use crate::payloads::take_payload;
-use kernel_model::call_table::CallTable;
 use kernel_model::kernel_calls::Call;
-use kernel_model::text_forms::line_text::{Line, words};
+use kernel_model::{CallTable, Line, words};
 use std::alloc::Global;
 
 // the call of a process, by the words behind the name of the call

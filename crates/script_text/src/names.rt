@@ -6,10 +6,7 @@ ghost use Rattle.script_text.specs.Reading.{form_of_name, named_in, named_call};
 ghost use Rattle.script_text.specs.Marks.{behind_hash};
 ghost use Rattle.script_text.specs.Views.{view_named};
 
-use kernel_model::call_table::CallTable;
-use kernel_model::call_table::call_names::{KnownCall, PayloadForm, form_of, known_call};
-use kernel_model::call_table::call_words::spelled;
-use kernel_model::text_forms::read_decimal;
+use kernel_model::{CallTable, KnownCall, PayloadForm, form_of, known_call, read_decimal, spelled};
 
 /// A call, and what it carries beside its words.
 #[derive(Clone, Copy)]

@@ -13,12 +13,10 @@ use crate::error::ScriptCause;
 use crate::escapes::read_text;
 use crate::line_fault::LineFault;
 use crate::names::read_number;
+use abs_path::{AbsPath, PathError};
 use hex::{FromHexError, decode};
-use kernel_model::abs_path::{AbsPath, PathError};
-use kernel_model::call_table::call_names::PayloadForm;
-use kernel_model::cap_sets::CapSet;
 use kernel_model::kernel_calls::{Bytes, IdList, Payload};
-use kernel_model::text_forms::read_u64;
+use kernel_model::{CapSet, PayloadForm, read_u64};
 use std::alloc::{AllocError, Global};
 
 /// The cause of a payload that is missing, or not of its form.

@@ -9,13 +9,10 @@ ghost use Rattle.script_text.specs.PrintedAgain.{IsReadAs};
 
 use crate::held::is_held;
 use crate::names::form_of_name;
+use abs_path::AbsPath;
 use hex::encode;
-use kernel_model::abs_path::AbsPath;
-use kernel_model::call_table::CallTable;
-use kernel_model::call_table::call_names::PayloadForm;
-use kernel_model::call_table::call_words::push_abi;
 use kernel_model::kernel_calls::{Call, Payload};
-use kernel_model::text_forms::{push_u64, push_word};
+use kernel_model::{CallTable, PayloadForm, push_abi, push_u64, push_word};
 use std::alloc::{AllocError, Global};
 
 // whether the payload is of the form; a program is whole instructions, of eight bytes each

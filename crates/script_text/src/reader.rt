@@ -12,9 +12,8 @@ use crate::Script;
 use crate::error::ScriptError;
 use crate::line::read_line;
 use crate::line_fault::LineFault;
-use kernel_model::call_table::CallTable;
 use kernel_model::kernel_calls::Call;
-use kernel_model::text_forms::line_text::{Line, read_lines, read_text};
+use kernel_model::{CallTable, Line, read_lines, read_text};
 use std::alloc::Global;
 
 /// How many calls a script has at most.

@@ -8,4 +8,4 @@ pub mod Doubles
 pub mod CaseTrees
 pub mod Calls
 pub mod Whole
-pub use Rattle.call_rules.proofs.BpfCode as BpfCode
+pub use Rattle.call_rules.proofs.OfBpfCode as OfBpfCode

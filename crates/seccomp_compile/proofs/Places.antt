@@ -6,7 +6,7 @@ use Rattle.std.proofs.lemmas.Bool.{leb-true}
 use Rattle.call_rules.specs.bpf_code.declared.machine.Insn.{Insn}
 use Rattle.call_rules.specs.bpf_code.declared.machine.CallData.{CallData}
 use Rattle.call_rules.specs.bpf_code.declared.machine.Regs.{Regs}
-use Rattle.call_rules.proofs.BpfCode.Endings.{drop_at_found}
+use Rattle.call_rules.proofs.OfBpfCode.Endings.{drop_at_found}
 use Rattle.call_rules.specs.Tested.{Tested}
 use Rattle.call_rules.specs.declared.actions.Action.{Action}
 use Rattle.call_rules.specs.Action.{test_holds}

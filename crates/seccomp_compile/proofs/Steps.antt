@@ -14,7 +14,7 @@ use Rattle.call_rules.specs.bpf_code.Ops.{op_of}
 use Rattle.call_rules.specs.bpf_code.Effects.{halves, words_of, effect_by}
 use Rattle.call_rules.specs.bpf_code.Meaning.{counted, goes_on, run_from}
 use Rattle.call_rules.specs.bpf_code.Accepted.{fault_of, is_scratch_load, unless}
-use Rattle.call_rules.proofs.BpfCode.Endings.{run_from-skip}
+use Rattle.call_rules.proofs.OfBpfCode.Endings.{run_from-skip}
 use Rattle.call_rules.specs.Tested.{Tested}
 use Rattle.call_rules.specs.Action.{test_holds}
 use Rattle.call_rules.specs.declared.actions.Action.{Action}

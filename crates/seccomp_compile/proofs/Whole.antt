@@ -8,8 +8,8 @@ use Rattle.call_rules.specs.bpf_code.Ops.{op_of}
 use Rattle.call_rules.specs.bpf_code.Meaning.{start_regs, IsCallData}
 use Rattle.call_rules.specs.bpf_code.Accepted.{IsAccepted, AreFine, is_scratch_load, ends_in_return}
 use Rattle.call_rules.specs.bpf_code.Reading.{Fits, IsProgram}
-use Rattle.call_rules.proofs.BpfCode.Chunks.{fitting_program}
-use Rattle.call_rules.proofs.BpfCode.Endings.{answers_by_run, answers_within_by_run}
+use Rattle.call_rules.proofs.OfBpfCode.Chunks.{fitting_program}
+use Rattle.call_rules.proofs.OfBpfCode.Endings.{answers_by_run, answers_within_by_run}
 use Rattle.call_rules.specs.declared.rules.RuleSet.{RuleSet}
 use Rattle.call_rules.specs.Action.{word_of, case_action}
 use Rattle.seccomp_compile.specs.Compiled.{Decides, DecidesWithin, longest_path}

@@ -9,8 +9,7 @@ ghost use Rattle.seccomp_compile.specs.Form.{AreOfForm};
 
 use crate::decisions::rules_tree;
 use crate::emit::place;
-use call_rules::RuleSet;
-use call_rules::bpf_code::Program;
+use call_rules::{Program, RuleSet};
 use std::alloc::{AllocError, Global};
 use std::collections::VecDeque;
 

@@ -15,8 +15,7 @@ use crate::instructions::{and_mask, answer, is_answer, jump, jump_if, load_word}
 use crate::looks::{comparison_for, mask_for};
 use crate::offsets::{WHOLE_WORD, arg_offset};
 use crate::tree::{Comparison, Tree};
-use call_rules::bpf_code::Insn;
-use call_rules::{Action, Test};
+use call_rules::{Action, Insn, Test};
 use std::alloc::AllocError;
 use std::collections::VecDeque;
 

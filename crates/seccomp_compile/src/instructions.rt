@@ -5,10 +5,8 @@ ghost use Rattle.seccomp_compile.specs.Form.{is_of_form};
 ghost use Rattle.seccomp_compile.specs.Code.{load, mask_by, skip, compare, code_of, end, IsEnd};
 
 use crate::tree::Comparison;
-use call_rules::Action;
-use call_rules::bpf_code::Insn;
-use call_rules::bpf_code::codes::{
-    ALU_AND_K, JMP_JA, JMP_JEQ_K, JMP_JGE_K, JMP_JSET_K, LD_W_ABS, RET_K,
+use call_rules::{
+    ALU_AND_K, Action, Insn, JMP_JA, JMP_JEQ_K, JMP_JGE_K, JMP_JSET_K, LD_W_ABS, RET_K,
 };
 
 // An instruction that is no comparison.

@@ -21,7 +21,9 @@ mod runs;
 mod tree;
 mod values;
 
-pub use call_rules;
-pub use call_rules::{bpf_code, text_forms};
+pub use call_rules::{
+    ALU_AND_K, Action, CallData, CallRules, Insn, JMP_JA, JMP_JEQ_K, JMP_JGE_K, JMP_JGT_K,
+    JMP_JSET_K, LD_W_ABS, Program, ProgramError, RET_K, RuleSet, Stack, read_text, run,
+};
 pub use compiler::compile;
 pub use condition::can_compile;

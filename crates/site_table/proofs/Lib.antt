@@ -20,5 +20,5 @@ pub mod Worked
 pub mod CapSets
 pub mod Exact
 pub mod Behind
-pub use Rattle.abs_path.proofs as AbsPath
-pub use Rattle.cap_sets.proofs as Caps
+pub mod OfAbsPath
+pub mod OfCapSets

@@ -11,6 +11,6 @@ pub mod Reading
 pub mod Texts
 pub mod RowSteps
 pub mod Exact
-pub use Rattle.abs_path.specs as abs_path
-pub use Rattle.cap_sets.specs as cap_sets
-pub use Rattle.toml_shapes.specs as toml_shapes
+pub mod abs_path
+pub mod cap_sets
+pub mod toml_shapes

@@ -29,9 +29,8 @@ mod seen;
 mod table;
 mod texts;
 
-pub use abs_path;
 pub use accounts::{Group, User};
-pub use cap_sets;
+pub use cap_sets::CapSet;
 pub use error::{RowCause, SiteError};
 pub use kinds::RowKind;
 pub use reader::read_site;

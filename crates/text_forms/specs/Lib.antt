@@ -7,4 +7,4 @@ pub mod Escaped
 pub mod Answers
 pub mod SoFar
 pub mod line_text
-pub use Rattle.linux_numbers.specs as linux_numbers
+pub mod linux_numbers

@@ -1,7 +1,10 @@
-//! Small forms of text: numbers, booleans, errno names, words of a list, escaped words.
+//! Reads and prints small forms of text: numbers, booleans, errno names, words, lists and lines.
 //!
-//! The rules are those of systemd.syntax(7) in the profile that the judge takes.
-//! The crate rests on `linux_numbers`, and on `itoa` for the digits of numbers; `read_u64("0x10")` is `Some(16)`.
+//! `read_u64("0x10")` is `Some(16)`. Words and booleans follow systemd.syntax(7), in the profile that Lentsheep supports.
+//!
+//! - [`item_list`]: lists of items, which contracts see as plain lists.
+//! - [`laws`]: printed numbers and escaped words are read back, and words are split as the grammar says.
+//! - [`line_text`]: texts that are read line by line.
 #![tactic(auto)]
 
 mod booleans;

@@ -9,7 +9,8 @@ ghost use Rattle.tighten_command.specs.Prints.{tighten_laws};
 use crate::answering::answer;
 use crate::keep_file::read_keep;
 use crate::tightening::{StoredWish, Wished};
-use asked_service::{ReadyText, Shelf, Stop, read_inputs};
+use asked_service::{ReadyText, Stop, read_inputs};
+use host_io::Shelf;
 use std::alloc::Global;
 
 /// Prepares `tighten`, the name of a unit and the path of a file of questions: reads the unit, calls.txt, site.toml and the file,

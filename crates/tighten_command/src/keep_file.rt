@@ -10,7 +10,8 @@ ghost use Rattle.tighten_command.specs.KeepFiles.{IsKeepIn, IsKeepOf, keep_cause
 
 use crate::keeping::{KeepError, read_questions};
 use crate::tightening::Questions;
-use asked_service::{CallTable, Shelf, SiteTable, Stop, read_input, refuse, refused_line};
+use asked_service::{CallTable, SiteTable, Stop, read_input, refuse, refused_line};
+use host_io::Shelf;
 use std::alloc::{AllocError, Global};
 
 // Why a file does not say what is to be kept.

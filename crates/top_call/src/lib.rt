@@ -13,12 +13,11 @@ mod running;
 mod status;
 mod texts;
 
-pub use check_command::bpf_code::{CallData, Program, run as bpf_code_run};
-pub use derive_command::{
-    DirShelf, Ending, MemShelf, MemSink, Shelf, Sink, StdSink, VerdictRow, are_files,
-};
-pub use effect_command::{Question, Wish};
-pub use fleet_command::{CustomTest, Facts, Stored, ambient_count, writable_paths};
+pub use check_command::{CallData, Program, run as bpf_code_run};
+pub use judge_command::{Question, Wish};
+pub use plan_command::Ending;
+pub use replay_command::VerdictRow;
 pub use running::run;
+pub use score_command::{CustomTest, Facts, Stored, ambient_count, writable_paths};
 pub use status::Status;
 pub use tighten_command::tightening::{StoredWish, Wished};

@@ -3,7 +3,7 @@ ghost use Rattle.std.specs.Prelude.{◌≡◌, ◌≤◌, map, IfSome};
 ghost use Rattle.std.specs.Option.{option_map};
 ghost use Rattle.top_call.specs.Requests.{IsNumbered, number_to, request_above, request_alone, request_in, request_by, request_of, request_on, request_why, request_with};
 
-use derive_command::read_decimal;
+use plan_command::read_decimal;
 
 /// What is asked for.
 #[derive(Clone, Copy)]

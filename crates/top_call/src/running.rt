@@ -12,8 +12,9 @@ ghost use Rattle.top_call.specs.Requests.{IsNumbered, request_of};
 use crate::request::{Request, parse};
 use crate::status::Status;
 use crate::texts;
-use derive_command::{Ending, Shelf, Sink, finish};
-use fleet_command::{CustomTest, Stored};
+use host_io::{Shelf, Sink};
+use plan_command::{Ending, finish};
+use score_command::{CustomTest, Stored};
 use std::alloc::Global;
 use tighten_command::tightening::{StoredWish, Wished};
 

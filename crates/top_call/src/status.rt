@@ -2,7 +2,7 @@
 ghost use Rattle.std.specs.Prelude.{◌≡◌};
 ghost use Rattle.derive_command.specs.unit_inputs.command_answers.Endings.{code_of};
 
-use derive_command::Ending;
+use plan_command::Ending;
 use std::marker::Model;
 
 /// The status of a run: 0 done, 1 an exposure above the threshold, 2 no command, 3 a refused input, 4 a failed read, 5 a

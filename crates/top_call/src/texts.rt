@@ -3,7 +3,8 @@ ghost use Rattle.std.specs.Prelude.{◌≡◌, flat_map};
 ghost use Rattle.derive_command.specs.unit_inputs.command_answers.Printing.{HasWriteCause, TakesText};
 ghost use Rattle.top_call.specs.Texts.{help_text, text_of, version_text, words_line};
 
-use derive_command::{Ending, Ready, Sink, SinkError, put_piece};
+use host_io::{Sink, SinkError};
+use plan_command::{Ending, Ready, put_piece};
 use std::alloc::Global;
 
 /// What the program is for, its words, the files that it reads, and its statuses.

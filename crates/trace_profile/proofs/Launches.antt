@@ -44,7 +44,7 @@ use Rattle.asked_service.specs.launcher.Launches.{HasLaunchCalls, AreRead}
 use Rattle.asked_service.proofs.OfLauncher.Alike.{own_step, lifted, step_above}
 use Rattle.asked_service.proofs.OfLauncher.CallsMade.{done_on}
 use Rattle.asked_service.proofs.OfLauncher.HostRoot.{begins_at_host}
-use Rattle.asked_service.proofs.OfLauncher.CallData.{fits}
+use Rattle.asked_service.proofs.OfLauncher.LaunchData.{fits}
 use Rattle.asked_service.proofs.OfLauncher.LaunchCalls.{launch_calls}
 use Rattle.asked_service.proofs.OfLauncher.LaunchWorld.{ready_at}
 use Rattle.asked_service.proofs.OfLauncher.Leading.{Leads, append_assoc, append_none, append_split, launched_leads, leads_parts}

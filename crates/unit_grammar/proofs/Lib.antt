@@ -9,4 +9,4 @@ pub mod Groups
 pub mod Meant
 pub mod Passing
 pub mod Steps
-pub use Rattle.text_forms.proofs as TextForms
+pub mod OfTextForms

@@ -8,5 +8,5 @@ pub mod Progress
 pub mod Reading
 pub mod Spaces
 pub mod Stretches
+pub mod text_forms
 pub use Rattle.text_forms.specs.linux_numbers as linux_numbers
-pub use Rattle.text_forms.specs as text_forms

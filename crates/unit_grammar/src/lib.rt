@@ -16,7 +16,10 @@ mod unit;
 
 pub use notes::{Note, NoteCause, Notes};
 pub use reader::read_unit;
-pub use text_forms;
-pub use text_forms::linux_numbers;
+pub use text_forms::item_list::{Held, HeldList, ItemList};
+pub use text_forms::line_text::{Line, read_lines, read_text};
+pub use text_forms::{
+    WordsError, linux_numbers, push_u64, push_word, read_bool, read_decimal, words,
+};
 pub use texts::Text;
 pub use unit::{Assignment, Assignments, UnitError, UnitText};

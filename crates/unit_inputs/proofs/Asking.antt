@@ -6,7 +6,7 @@ use Rattle.std.specs.declared.alloc.AllocError.{AllocError}
 use Rattle.exec_settings.specs.host_io.Calls.{Ask, ShelfCall, call_of, course_of, Course, Whole, Faulted, Cut, Went, unless_refused}
 use Rattle.exec_settings.specs.host_io.Files.{Files}
 use Rattle.exec_settings.specs.host_io.declared.reading.ShelfError.{ShelfError}
-use Rattle.exec_settings.proofs.HostIo.Calling.{one_call, told_behind, told_short, went_cut}
+use Rattle.exec_settings.proofs.OfHostIo.Calling.{one_call, told_behind, told_short, went_cut}
 use Rattle.unit_inputs.specs.command_answers.Asking.{course, unless_told}
 use Rattle.unit_inputs.specs.command_answers.Stops.{IsAnswer, Prepares, first_refusal, stop_of}
 use Rattle.unit_inputs.specs.declared.command_answers.stop.Stop.{Stop}

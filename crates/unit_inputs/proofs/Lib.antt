@@ -11,6 +11,6 @@ pub mod Texts
 pub mod Runs
 pub mod Stopped
 pub mod Said
-pub use Rattle.exec_settings.proofs.AbsPath as AbsPath
-pub use Rattle.exec_settings.proofs.HostIo as HostIo
-pub use Rattle.exec_settings.proofs.TextForms as TextForms
+pub use Rattle.exec_settings.proofs.OfAbsPath as OfAbsPath
+pub use Rattle.exec_settings.proofs.OfHostIo as OfHostIo
+pub use Rattle.exec_settings.proofs.OfTextForms as OfTextForms

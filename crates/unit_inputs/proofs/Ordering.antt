@@ -4,7 +4,7 @@ use Rattle.std.specs.Prelude.{IfSome, IsErrOf}
 use Rattle.std.specs.Result.{IsErrAnd}
 use Rattle.exec_settings.specs.host_io.Calls.{Ask, ShelfCall, Course, Whole, Cut, Went, unless_refused}
 use Rattle.exec_settings.specs.host_io.Files.{Files}
-use Rattle.exec_settings.proofs.HostIo.Calling.{all_told, told_cut}
+use Rattle.exec_settings.proofs.OfHostIo.Calling.{all_told, told_cut}
 use Rattle.exec_settings.specs.call_table.Table.{Table}
 use Rattle.exec_settings.specs.dropin_merge.Asking.{resolve_asks}
 use Rattle.exec_settings.specs.dropin_merge.declared.resolved.Resolved.{Resolved}

@@ -5,7 +5,7 @@ use Rattle.exec_settings.specs.host_io.Causes.{Rose}
 use Rattle.exec_settings.specs.host_io.Writing.{Grew}
 use Rattle.exec_settings.specs.host_io.declared.writing.SinkError.{SinkError}
 use Rattle.exec_settings.specs.host_io.declared.writing.SinkError.TheVariants as sink
-use Rattle.exec_settings.proofs.HostIo.Growth.{append_known-nil}
+use Rattle.exec_settings.proofs.OfHostIo.Growth.{append_known-nil}
 use Rattle.unit_inputs.specs.command_answers.Endings.{is_whole}
 use Rattle.unit_inputs.specs.command_answers.Laws.{GoTogether, IsAdmitted, Laws}
 use Rattle.unit_inputs.specs.command_answers.Printing.{Finishes, HasWriteCause, IsUntouched, PrintsText, TakesText, ending_of_put}

@@ -8,7 +8,7 @@ use Rattle.std.proofs.lemmas.List.{take_more, take-append-drop}
 use Rattle.std.proofs.lemmas.List.Concat.{flat_map-append}
 use Rattle.exec_settings.specs.host_io.Writing.{Grew, TakesWhole}
 use Rattle.exec_settings.specs.host_io.declared.writing.SinkError.{SinkError}
-use Rattle.exec_settings.proofs.HostIo.Growth.{append_known-append, append_known-nil}
+use Rattle.exec_settings.proofs.OfHostIo.Growth.{append_known-append, append_known-nil}
 use Rattle.unit_inputs.specs.command_answers.Printing.{TakesText}
 
 grew_then : (a b c : Option (List ℕ)) (x y : List ℕ) → Grew a b x → Grew b c y → Grew a c (x ++ y)

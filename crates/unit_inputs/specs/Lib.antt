@@ -8,10 +8,10 @@ pub mod Asking
 pub mod SettingsRefusals
 pub mod Settled
 pub mod command_answers
+pub mod exec_settings
 pub use Rattle.exec_settings.specs.abs_path as abs_path
 pub use Rattle.exec_settings.specs.call_table as call_table
 pub use Rattle.exec_settings.specs.dropin_merge as dropin_merge
-pub use Rattle.exec_settings.specs as exec_settings
 pub use Rattle.exec_settings.specs.filter_settings as filter_settings
 pub use Rattle.exec_settings.specs.host_io as host_io
 pub use Rattle.exec_settings.specs.site_table as site_table

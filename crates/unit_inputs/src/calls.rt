@@ -8,9 +8,8 @@ ghost use Rattle.unit_inputs.specs.CallsRefusals.{calls_cause, calls_in, calls_l
 
 use crate::command_answers::{Stop, TABLE_PATH, boxed, refuse, refused_line};
 use crate::files::read_input;
-use exec_settings::call_table::{CallTable, CallsCause, CallsError, read_calls};
-use exec_settings::host_io::Shelf;
-use exec_settings::text_forms::push_word;
+use exec_settings::{CallTable, CallsCause, CallsError, push_word, read_calls};
+use host_io::Shelf;
 use std::alloc::{AllocError, Global};
 
 // Which line is faulty, and why.

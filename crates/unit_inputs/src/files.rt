@@ -6,7 +6,7 @@ ghost use Rattle.unit_inputs.specs.command_answers.Stops.{HasReadCause, IsAnswer
 ghost use Rattle.unit_inputs.specs.FileRefusals.{bytes_in};
 
 use crate::command_answers::{FileRead, Stop, read_file, refuse, refused_line};
-use exec_settings::host_io::Shelf;
+use host_io::Shelf;
 use std::alloc::Global;
 
 /// The bytes of a file, which is refused where it is missing or has more than 1 MiB.

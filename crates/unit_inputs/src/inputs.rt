@@ -11,10 +11,8 @@ use crate::calls::read_table;
 use crate::command_answers::Stop;
 use crate::site::read_site;
 use crate::units::read_unit;
-use exec_settings::call_table::CallTable;
-use exec_settings::dropin_merge::Resolved;
-use exec_settings::host_io::Shelf;
-use exec_settings::site_table::SiteTable;
+use exec_settings::{CallTable, Resolved, SiteTable};
+use host_io::Shelf;
 use std::alloc::Global;
 
 /// What a command on a unit reads.

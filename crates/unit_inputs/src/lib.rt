@@ -1,11 +1,10 @@
-//! What every command on a unit begins with: the unit with its drop-ins, calls.txt and site.toml, and the settings that they give.
+//! Reads the inputs of a command on a unit: the unit with its drop-ins, calls.txt, site.toml, and the settings from them.
 //!
-//! They are read in this order, and the first that is refused gives the line that is printed, the settings last. It stands on
-//! `dropin_merge`, `call_table` and `site_table` for what each of them says, on `exec_settings` for the settings, and on
-//! `command_answers`.
+//! `read_inputs(alloc, &mut shelf, "web.service")?` has the unit and the tables of both files; `settle_unit` adds the settings.
+//! The inputs are read in this order, and the first refusal ends the command with a line that says why. A command on all units
+//! reads only the tables.
 //!
-//! `read_inputs(alloc, &mut shelf, "web.service")?` has the three, and `settle_unit` the settings with them, or they stop with the
-//! line of the first refusal. A command on all units reads the two tables alone.
+//! - [`command_answers`]: how a command reads, prints and ends.
 #![tactic(auto)]
 
 mod calls;
@@ -18,9 +17,9 @@ mod site;
 mod units;
 
 pub use calls::read_table;
-pub use exec_settings;
 pub use exec_settings::{
-    abs_path, call_table, filter_settings, host_io, site_table, text_forms, unit_names,
+    CallTable, Filter, ItemList, Line, NameError, Settings, SettingsError, SiteTable, UnitName,
+    push_u64, push_word, read_decimal, read_lines, read_text, settings,
 };
 pub use files::read_input;
 pub use inputs::{UnitInputs, read_inputs};

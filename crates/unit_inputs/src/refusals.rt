@@ -3,8 +3,7 @@ ghost use Rattle.std.specs.Prelude.{◌≡◌, IfOk};
 ghost use Rattle.unit_inputs.specs.SettingsRefusals.{cause_with, settings_cause, settings_line};
 
 use crate::command_answers::refused_line;
-use exec_settings::SettingsError;
-use exec_settings::text_forms::push_word;
+use exec_settings::{SettingsError, push_word};
 use std::alloc::{AllocError, Global};
 
 // A cause, and what it is about.

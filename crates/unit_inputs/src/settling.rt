@@ -10,8 +10,8 @@ ghost use Rattle.unit_inputs.specs.Settled.{AreSettled, refusals_of, unit_refusa
 use crate::command_answers::{Stop, boxed, refuse};
 use crate::inputs::{UnitInputs, read_inputs};
 use crate::refusals::settings_line;
-use exec_settings::host_io::Shelf;
 use exec_settings::{Settings, SettingsError, settings};
+use host_io::Shelf;
 use std::alloc::Global;
 
 /// A unit with its settings.

@@ -8,8 +8,8 @@ ghost use Rattle.unit_inputs.specs.SiteRefusals.{cause_word, row_cause, site_cau
 
 use crate::command_answers::{Stop, boxed, refuse, refused_line};
 use crate::files::read_input;
-use exec_settings::host_io::Shelf;
-use exec_settings::site_table::{RowCause, SiteError, SiteTable, read_site as read_bytes};
+use exec_settings::{RowCause, SiteError, SiteTable, read_site as read_bytes};
+use host_io::Shelf;
 use std::alloc::{AllocError, Global};
 
 /// Where the description of the site is.

@@ -10,10 +10,8 @@ ghost use Rattle.unit_inputs.specs.ReadsFor.{ReadsFor};
 ghost use Rattle.unit_inputs.specs.UnitRefusals.{HasNameOrTells, text_cause, unit_in, unit_line};
 
 use crate::command_answers::{Stop, boxed, refuse, refused_line};
-use exec_settings::dropin_merge::{ResolveError, Resolved, resolve};
-use exec_settings::host_io::Shelf;
-use exec_settings::unit_grammar::UnitError;
-use exec_settings::unit_names::{NameError, UnitName};
+use exec_settings::{NameError, ResolveError, Resolved, UnitError, UnitName, resolve};
+use host_io::Shelf;
 use std::alloc::{AllocError, Global};
 
 // Why the text of a file is refused.

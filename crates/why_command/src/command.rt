@@ -10,7 +10,8 @@ ghost use Rattle.why_command.specs.Prints.{why_laws};
 use crate::answering::answer;
 use crate::asking::asked_question;
 use deciding_lines::Trial;
-use judge_command::{ReadyText, Shelf, Stop, read_inputs};
+use host_io::Shelf;
+use judge_command::{ReadyText, Stop, read_inputs};
 use std::alloc::Global;
 
 /// Prepares `why`, the name of a unit and the words of a question: reads the unit, calls.txt and site.toml, finds the first refusal

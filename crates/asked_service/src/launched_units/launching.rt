@@ -8,10 +8,8 @@ ghost use Rattle.asked_service.specs.launched_units.Launching.{Launches, LaysOut
 
 use crate::launched_units::refusal::UnitRefusal;
 use crate::unit_launch::{UnitLaunch, launch_unit};
-use judge::{
-    CallTable, Launched, Mentions, MountSteps, PlanError, Resolved, Settings, SettingsError,
-    SiteTable, plan, settings,
-};
+use judge::{Launched, Mentions, MountSteps, PlanError, Settings, SettingsError, plan, settings};
+use report_text::{CallTable, Resolved, SiteTable};
 use std::alloc::Global;
 
 // The settings of a unit.

@@ -3,8 +3,7 @@
 ghost use Rattle.std.specs.Prelude.{◌≡◌, IfOk};
 ghost use Rattle.asked_service.specs.launched_units.Longer.{says, with_file};
 
-use judge::Resolved;
-use report_text::unit_grammar::{Assignments, Notes, UnitError, UnitText, read_unit};
+use report_text::{Assignments, Notes, Resolved, UnitError, UnitText, read_unit};
 use std::alloc::{AllocError, Global};
 
 // What a file of these bytes says; one that is refused says nothing.

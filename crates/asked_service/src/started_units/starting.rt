@@ -5,10 +5,8 @@ ghost use Rattle.asked_service.specs.started_units.Starting.{StartsAs, TellsRefu
 
 use crate::launched_units::{UnitRefusal, launch_whole};
 use crate::unit_launch::{LaunchRefusal, UnitLaunch};
-use judge::{CallTable, Resolved, SiteTable};
-use plan_command::plan_line;
-use plan_command::unit_inputs::command_answers::{Stop, refuse};
-use plan_command::unit_inputs::settings_line;
+use plan_command::{Stop, plan_line, refuse, settings_line};
+use report_text::{CallTable, Resolved, SiteTable};
 use std::alloc::Global;
 
 // The launch that is refused, or the line of the setting or the path that is.

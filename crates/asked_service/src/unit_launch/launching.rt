@@ -7,7 +7,8 @@ ghost use Rattle.judge.specs.mount_plan.Host.{host_of};
 ghost use Rattle.asked_service.specs.unit_launch.Launching.{ComesTo};
 
 use crate::unit_launch::refusal::LaunchRefusal;
-use judge::{CallTable, LaunchError, Launched, MountStep, Settings, SiteTable, launch};
+use judge::{LaunchError, Launched, MountStep, Settings, launch};
+use report_text::{CallTable, SiteTable};
 use std::alloc::{AllocError, Global};
 
 /// What the launch of a unit comes to.

@@ -2,7 +2,7 @@
 ghost use Rattle.std.specs.Prelude.{◌≡◌, IfOk};
 ghost use Rattle.asked_service.specs.unit_launch.Refusals.{refusal_line};
 
-use judge::AbsPath;
+use abs_path::AbsPath;
 use report_text::{killed_line, privileged_line, refused_line};
 use std::alloc::{AllocError, Global};
 

@@ -6,7 +6,7 @@ use crate::Resolved;
 use crate::unit_values::lasting::{KeyValue, last_of_key};
 use crate::unit_values::value::Said;
 use std::alloc::{AllocError, Global};
-use unit_grammar::text_forms::read_bool;
+use unit_grammar::read_bool;
 
 /// A boolean; an empty text is false.
 impl KeyValue for bool {

@@ -7,9 +7,7 @@ ghost use Rattle.unit_grammar.specs.Kinds.{behind};
 ghost use Rattle.dropin_merge.specs.unit_values.Lines.{tilde, words_if, line_of};
 
 use std::alloc::{AllocError, Global};
-use unit_grammar::Text;
-use unit_grammar::text_forms::item_list::ItemList;
-use unit_grammar::text_forms::{WordsError, words};
+use unit_grammar::{ItemList, Text, WordsError, words};
 
 /// Words, which contracts see as a list of texts.
 pub type Words = ItemList<Text>;

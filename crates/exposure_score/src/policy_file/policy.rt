@@ -1,7 +1,7 @@
 //! The type of a policy, which contracts see as the list of its tests.
 
 use crate::policy_file::identifier::TestId;
-use exec_settings::text_forms::item_list::{Held, HeldList};
+use exec_settings::{Held, HeldList};
 
 /// A test of a policy: what its badness may be at most, and what that weighs.
 #[derive(Drop)]

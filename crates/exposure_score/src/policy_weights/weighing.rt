@@ -7,7 +7,7 @@ ghost use Rattle.exposure_score.specs.policy_weights.Weights.{is_counted, weight
 use crate::CustomTest;
 use crate::policy_file::{Policy, PolicyTest};
 use crate::service_facts::known_test;
-use exec_settings::call_table::CallTable;
+use exec_settings::CallTable;
 
 // Whether a stored test has the identifier.
 fn is_stored(tests: &[CustomTest], id: &str) -> bool

@@ -9,9 +9,7 @@ ghost use Rattle.exposure_score.specs.service_facts.Each.{names, has_family, has
 ghost use Rattle.exposure_score.specs.service_facts.Facts.{is_of_line, is_known};
 
 use crate::service_facts::lines::{Line, Matter, table};
-use exec_settings::call_table::{CallLine, CallTable, GroupLine};
-use exec_settings::cap_sets::CapSet;
-use exec_settings::filter_settings::filter_rules::{NamespaceType, all_types};
+use exec_settings::{CallLine, CallTable, CapSet, GroupLine, NamespaceType, all_types};
 
 fn has_family(calls: &CallTable, name: &str) -> bool
     ensures { result ≡ has_family calls.now name.now }

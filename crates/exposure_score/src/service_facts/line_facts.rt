@@ -10,9 +10,7 @@ use crate::service_facts::matters::{has_ambient, home_badness, is_on, one_if, sy
 use crate::service_facts::permitted::{lets_through, permits_internet};
 use crate::service_facts::sandbox::Sandbox;
 use crate::{Fact, FactId};
-use exec_settings::call_table::CallTable;
-use exec_settings::cap_sets::CapSet;
-use exec_settings::filter_settings::filter_rules::{all_types, permits_family};
+use exec_settings::{CallTable, CapSet, all_types, permits_family};
 use std::alloc::{AllocError, Global};
 
 // What the facts of a line are told of.

@@ -12,12 +12,7 @@ use crate::service_facts::lines::table;
 use crate::service_facts::reading::{count_writable, read_sandbox};
 use crate::service_facts::sandbox::Sandbox;
 use crate::{Fact, FactList, Facts};
-use exec_settings::Settings;
-use exec_settings::call_table::CallTable;
-use exec_settings::cap_sets::CapSet;
-use exec_settings::dropin_merge::Resolved;
-use exec_settings::mount_settings::written_paths;
-use exec_settings::site_table::SiteTable;
+use exec_settings::{CallTable, CapSet, Resolved, Settings, SiteTable, written_paths};
 use std::alloc::{AllocError, Global};
 
 // Those of all lines, as they stand.

@@ -5,8 +5,7 @@ ghost use Rattle.exposure_score.specs.service_facts.Badness.{one_if, is_on, syst
 
 use crate::service_facts::lines::Protection;
 use crate::service_facts::sandbox::Sandbox;
-use exec_settings::cap_sets::CapSet;
-use exec_settings::mount_settings::{HomeProtection, SystemProtection};
+use exec_settings::{CapSet, HomeProtection, SystemProtection};
 
 /// 1 where this is so.
 pub fn one_if(bad: bool) -> u32

@@ -3,9 +3,7 @@
 ghost use Rattle.std.specs.Prelude.{◌≡◌};
 ghost use Rattle.exposure_score.specs.service_facts.Each.{allows_place, lets_through, permits_named, permits_internet};
 
-use exec_settings::call_table::call_words::name_at;
-use exec_settings::call_table::{CallTable, GroupLine};
-use exec_settings::filter_settings::filter_rules::{FilterSettings, allows_call, permits_family};
+use exec_settings::{CallTable, FilterSettings, GroupLine, allows_call, name_at, permits_family};
 
 fn allows_place(calls: &CallTable, filters: &FilterSettings, place: usize) -> bool
     ensures { result ≡ allows_place calls.now filters.now place }

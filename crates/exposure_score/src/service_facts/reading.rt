@@ -6,17 +6,11 @@ ghost use Rattle.exec_settings.specs.mount_settings.Protections.{unit_protection
 ghost use Rattle.exposure_score.specs.service_facts.Sandbox.{names_groups, sandbox_of, is_writable_key};
 
 use crate::service_facts::sandbox::Sandbox;
-use exec_settings::Settings;
-use exec_settings::call_table::CallTable;
-use exec_settings::dropin_merge::Resolved;
-use exec_settings::dropin_merge::unit_values::{flag_of_key, words_of_key};
-use exec_settings::filter_settings::filter_rules::FilterSettings;
-use exec_settings::filter_settings::filter_settings;
-use exec_settings::mount_settings::{
-    MountSettingsError, Protections, Switches, WrittenPath, WrittenPaths, mount_settings,
+use exec_settings::{
+    CallTable, FilterSettings, MountSettingsError, PathKey, Protections, Resolved, Settings,
+    SiteTable, Switches, WrittenPath, WrittenPaths, filter_settings, flag_of_key, mount_settings,
+    words_of_key,
 };
-use exec_settings::path_settings::PathKey;
-use exec_settings::site_table::SiteTable;
 use std::alloc::{AllocError, Global};
 
 // Whether SupplementaryGroups= names a group.

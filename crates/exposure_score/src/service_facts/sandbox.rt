@@ -1,8 +1,6 @@
 //! What the tests look at.
 
-use exec_settings::cap_sets::CapSet;
-use exec_settings::filter_settings::filter_rules::FilterSettings;
-use exec_settings::mount_settings::Protections;
+use exec_settings::{CapSet, FilterSettings, Protections};
 
 /// The settings of a service that tests look at, as they are in effect.
 #[derive(Drop)]

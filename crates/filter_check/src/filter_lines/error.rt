@@ -2,7 +2,7 @@
 ghost use Rattle.std.specs.Prelude.{◌≡◌};
 ghost use Rattle.filter_check.specs.declared.filter_lines.error.FileError.TheVariants.{Memory};
 
-use seccomp_compile::bpf_code::ProgramError;
+use seccomp_compile::ProgramError;
 use std::alloc::AllocError;
 use thiserror::Error;
 

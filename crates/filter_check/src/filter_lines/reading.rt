@@ -5,8 +5,7 @@ ghost use Rattle.filter_check.specs.filter_lines.Reading.{Reads, ReadsCode, Read
 
 use crate::filter_lines::error::FileError;
 use crate::filter_lines::lines::{code_of_lines, lines_in};
-use seccomp_compile::bpf_code::{Program, ProgramError};
-use seccomp_compile::text_forms::line_text::read_text;
+use seccomp_compile::{Program, ProgramError, read_text};
 use std::alloc::Global;
 
 // The program that the bytes of instructions are.

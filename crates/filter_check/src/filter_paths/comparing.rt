@@ -4,8 +4,7 @@ ghost use Rattle.filter_check.specs.word_sets.Words.{meets};
 ghost use Rattle.filter_check.specs.filter_paths.Comparing.{compares};
 
 use crate::word_sets::{Condition, Orders};
-use seccomp_compile::bpf_code::Insn;
-use seccomp_compile::bpf_code::codes::{JMP_JEQ_K, JMP_JGE_K, JMP_JGT_K};
+use seccomp_compile::{Insn, JMP_JEQ_K, JMP_JGE_K, JMP_JGT_K};
 
 /// The condition on a word under which a comparison holds where A is the word under a mask.
 pub fn condition_of(insn: Insn, mask: u32) -> Condition

@@ -6,7 +6,7 @@ ghost use Rattle.filter_check.specs.filter_paths.Covered.{AddsEnds};
 
 use crate::filter_paths::states::{End, Next, State};
 use crate::filter_paths::stepping::next;
-use seccomp_compile::bpf_code::Insn;
+use seccomp_compile::Insn;
 use std::alloc::{AllocError, Global};
 
 /// Adds the ends of the paths that the data of a state take from it on; false where more than so many ends are found.

@@ -3,9 +3,8 @@ ghost use Rattle.std.specs.Prelude.{◌≡◌, MatchOption};
 ghost use Rattle.seccomp_compile.specs.Form.{is_of_form, AreOfForm};
 ghost use Rattle.filter_check.specs.filter_paths.Form.{IsFirstForeign};
 
-use seccomp_compile::bpf_code::Insn;
-use seccomp_compile::bpf_code::codes::{
-    ALU_AND_K, JMP_JA, JMP_JEQ_K, JMP_JGE_K, JMP_JGT_K, JMP_JSET_K, LD_W_ABS, RET_K,
+use seccomp_compile::{
+    ALU_AND_K, Insn, JMP_JA, JMP_JEQ_K, JMP_JGE_K, JMP_JGT_K, JMP_JSET_K, LD_W_ABS, RET_K,
 };
 
 fn is_of_form(insn: Insn) -> bool

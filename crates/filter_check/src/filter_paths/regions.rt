@@ -9,7 +9,7 @@ ghost use Rattle.filter_check.specs.filter_paths.Regions.{IsWithin, sets_of};
 
 use crate::filter_paths::region::{Region, WORD_COUNT};
 use crate::word_sets::{Cube, least_word};
-use seccomp_compile::bpf_code::CallData;
+use seccomp_compile::CallData;
 use std::alloc::{AllocError, Global};
 
 // A word's set once more.

@@ -3,7 +3,7 @@ ghost use Rattle.std.specs.Prelude.{◌≡◌};
 
 use crate::filter_paths::held::Held;
 use crate::filter_paths::region::Region;
-use seccomp_compile::bpf_code::CallData;
+use seccomp_compile::CallData;
 
 /// A position of a program, what the accumulator holds there, and the call data that come there so.
 #[derive(Drop)]

@@ -8,8 +8,7 @@ use crate::filter_paths::comparing::condition_of;
 use crate::filter_paths::held::Held;
 use crate::filter_paths::states::{End, Next, State};
 use crate::word_sets::narrow;
-use seccomp_compile::bpf_code::Insn;
-use seccomp_compile::bpf_code::codes::{ALU_AND_K, JMP_JA, LD_W_ABS, RET_K};
+use seccomp_compile::{ALU_AND_K, Insn, JMP_JA, LD_W_ABS, RET_K};
 use std::alloc::{AllocError, Global};
 
 // Behind a load of a word.

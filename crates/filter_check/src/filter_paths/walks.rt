@@ -9,7 +9,7 @@ use crate::filter_paths::ends::add_ends;
 use crate::filter_paths::held::Held;
 use crate::filter_paths::region::Region;
 use crate::filter_paths::states::{End, State};
-use seccomp_compile::bpf_code::Insn;
+use seccomp_compile::Insn;
 use std::alloc::{AllocError, Global};
 
 // The first instruction, to which these data come.

@@ -2,9 +2,8 @@
 //!
 //! Nothing is taken out of such a list: of several mentions of one thing the last decides.
 
-use call_rules::Action;
-use dropin_merge::text_forms::item_list::ItemList;
-use dropin_merge::unit_grammar::Text;
+use call_rules::{Action, ItemList};
+use dropin_merge::Text;
 
 /// What a list is for (systemd.exec(5), SystemCallFilter= and RestrictAddressFamilies=).
 #[derive(Clone, Copy, PartialEq, Eq)]

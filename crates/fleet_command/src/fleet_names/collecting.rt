@@ -14,7 +14,8 @@ ghost use Rattle.fleet_command.specs.declared.fleet_names.errors.NamesError.TheV
 
 use crate::fleet_names::errors::NamesError;
 use crate::fleet_names::listing::list_folder;
-use score_command::{NameError, Shelf, UnitName};
+use host_io::Shelf;
+use score_command::{NameError, UnitName};
 use std::alloc::{AllocError, Global};
 use std::collections::BTreeMap;
 

@@ -7,7 +7,7 @@ ghost use Rattle.fleet_command.specs.fleet_names.Asking.{course};
 ghost use Rattle.fleet_command.specs.fleet_names.Steps.{ListsFolder};
 
 use crate::fleet_names::errors::NamesError;
-use score_command::{Shelf, ShelfError};
+use host_io::{Shelf, ShelfError};
 use std::alloc::Global;
 
 /// The names of the files directly in a folder, of which there are none where it is missing.

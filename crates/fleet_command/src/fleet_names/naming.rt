@@ -6,7 +6,8 @@ ghost use Rattle.fleet_command.specs.fleet_names.Asking.{course, names_asks};
 
 use crate::fleet_names::collecting::{collect_all, in_byte_order};
 use crate::fleet_names::errors::NamesError;
-use score_command::{Shelf, UnitName};
+use host_io::Shelf;
+use score_command::UnitName;
 use std::alloc::Global;
 
 /// The most units of a host.

@@ -12,7 +12,8 @@ use crate::fleet_report::errors::FleetError;
 use crate::fleet_report::ordering::put_in_order;
 use crate::fleet_report::rows::FleetRow;
 use crate::fleet_report::scoring::row_of;
-use score_command::{CallTable, CustomTest, Policy, Shelf, SiteTable, Stored, UnitName, weighs};
+use host_io::Shelf;
+use score_command::{CallTable, CustomTest, Policy, SiteTable, Stored, UnitName, weighs};
 use std::alloc::Global;
 
 // The rows of the names, one by one. The policy weighs something.

@@ -13,9 +13,10 @@ ghost use Rattle.fleet_command.specs.declared.fleet_report.errors.FleetError.The
 
 use crate::fleet_report::errors::FleetError;
 use crate::fleet_report::rows::{FleetOutcome, FleetRow};
+use host_io::Shelf;
 use score_command::{
     CallTable, CustomTest, Policy, ResolveError, Resolved, ScoreError, Settings, SettingsError,
-    Shelf, SiteTable, Stored, UnitName, facts, resolve, score, settings,
+    SiteTable, Stored, UnitName, facts, resolve, score, settings,
 };
 use std::alloc::Global;
 

@@ -7,8 +7,8 @@ ghost use Rattle.judge_command.specs.verdict_changes.ByRule.{question_change};
 ghost use Rattle.judge_command.specs.verdict_changes.Found.{change_of};
 
 use crate::Asked;
-use asked_service::{Call, Question};
 use open_calls::{Service, calls};
+use questions::{Call, Question};
 use std::alloc::AllocError;
 
 /// What changes of a question from one launched service to another.

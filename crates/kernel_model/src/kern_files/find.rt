@@ -8,9 +8,9 @@ ghost use Rattle.kern_mounts.specs.Entry.{entry_of};
 ghost use Rattle.kern_mounts.specs.Finds.{row_or_nothing, found_by, finds};
 ghost use Rattle.kernel_model.specs.kern_files.Found.{shown};
 
+use abs_path::AbsPath;
 use kern_mounts::linux_numbers::errnos::{EACCES, ENOENT};
 use kern_mounts::{MountStep, MountTable, What};
-use site_table::abs_path::AbsPath;
 use site_table::{Row, SiteTable};
 
 /// What is found at a path.

@@ -6,8 +6,8 @@ ghost use Rattle.kernel_model.specs.kern_files.Bits.{has_some, has_all};
 ghost use Rattle.kernel_model.specs.kern_files.Looking.{flags_at};
 
 use crate::kern_files::find::entry_of;
+use abs_path::AbsPath;
 use kern_mounts::{Flags, MountTable};
-use site_table::abs_path::AbsPath;
 
 /// Whether some bit of the mask is on.
 pub fn has_some(mask: u32, flags: u32) -> bool

@@ -9,9 +9,9 @@ ghost use Rattle.kernel_model.specs.kern_files.Looking.{flags_at, valued, see_an
 
 use crate::kern_files::find::{Found, find};
 use crate::kern_files::flags::flags_at;
+use abs_path::AbsPath;
 use kern_mounts::MountTable;
 use kern_mounts::linux_numbers::errnos::{EINVAL, EISDIR, EROFS};
-use site_table::abs_path::AbsPath;
 use site_table::{RowKind, SiteTable};
 
 // O_ACCMODE, open(2): the bits of the flags that are the mode.

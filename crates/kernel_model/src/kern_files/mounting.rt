@@ -12,11 +12,11 @@ ghost use Rattle.kernel_model.specs.kern_files.MountsCall.{mounts_after_mount, m
 
 use crate::kern_files::flags::has_some;
 use crate::kern_files::planning::{Change, planned};
+use abs_path::AbsPath;
 use kern_mounts::linux_numbers::errnos::{EINVAL, ENOSPC};
 use kern_mounts::linux_numbers::limits::MOUNT_MAX;
 use kern_mounts::{Flags, MountError, MountStep, MountTable, What};
 use site_table::SiteTable;
-use site_table::abs_path::AbsPath;
 use std::alloc::Global;
 
 // MS_RDONLY, mount(2): the mount is read-only.

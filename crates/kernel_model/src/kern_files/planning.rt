@@ -14,10 +14,10 @@ ghost use Rattle.kernel_model.specs.kern_files.Planning.{Plans, CanPerform};
 use crate::kern_files::find::{Found, entry_of, find};
 use crate::kern_files::flags::{has_all, has_some};
 use crate::kern_files::looks::is_dir;
+use abs_path::AbsPath;
 use kern_mounts::linux_numbers::errnos::{EBUSY, EINVAL, ENOTDIR};
 use kern_mounts::{MountStep, MountTable, What};
 use site_table::SiteTable;
-use site_table::abs_path::AbsPath;
 
 // MS_REMOUNT, mount(2): a mount is given other flags.
 const MS_REMOUNT: u32 = 32;

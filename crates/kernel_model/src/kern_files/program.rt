@@ -10,10 +10,10 @@ ghost use Rattle.kernel_model.specs.kern_files.Executing.{marks_of, program_answ
 
 use crate::kern_files::find::{Found, find};
 use crate::kern_files::flags::flags_at;
+use abs_path::AbsPath;
 use kern_creds::FileCreds;
 use kern_mounts::MountTable;
 use kern_mounts::linux_numbers::errnos::EACCES;
-use site_table::abs_path::AbsPath;
 use site_table::{Row, RowKind, SiteTable};
 
 /// A program that may be executed: what execve(2) reads of it.

@@ -10,9 +10,9 @@ use crate::kernel_calls::call::Call;
 use crate::kernel_calls::payload::Payload;
 use crate::kernel_calls::rule::Rule;
 use crate::kernel_calls::words::low_word;
+use abs_path::AbsPath;
 use call_table::call_names::CallRule;
-use site_table::abs_path::AbsPath;
-use site_table::cap_sets::CapSet;
+use site_table::CapSet;
 
 /// What a call asks for, with the words and the payload that its rule looks at.
 #[derive(Clone, Copy)]

@@ -5,8 +5,8 @@ ghost use Rattle.kernel_model.specs.kernel_calls.Calls.{IsPath, FitsPayload, IsC
 
 use crate::kernel_calls::call::Call;
 use crate::kernel_calls::payload::Payload;
-use site_table::abs_path::AbsPath;
-use site_table::cap_sets::CapSet;
+use abs_path::AbsPath;
+use site_table::CapSet;
 
 fn words_fit(args: &[u64; 6])
     ensures { All (λ arg. arg < 2 ^ 64) args.now }

@@ -3,10 +3,10 @@
 ghost use Rattle.std.specs.Prelude.{◌≡◌};
 ghost use Rattle.kernel_model.specs.kernel_calls.Calls.{form_of_payload};
 
+use abs_path::AbsPath;
+use call_table::ItemList;
 use call_table::call_names::PayloadForm;
-use call_table::text_forms::item_list::ItemList;
-use site_table::abs_path::AbsPath;
-use site_table::cap_sets::CapSet;
+use site_table::CapSet;
 
 /// Ids of groups, credentials(7), which contracts see as a list.
 pub type IdList = ItemList<u32>;

@@ -14,8 +14,9 @@ ghost use Rattle.asked_service.specs.site_table.declared.kinds.RowKind.TheVarian
 ghost use Rattle.asked_service.specs.unit_launch.Launching.{IsLaunched};
 
 use crate::alike::asked::Asked;
+use abs_path::AbsPath;
 use asked_service::{
-    AbsPath, Ceiling, FilterProgram, Launched, MountStep, RowKind, Settings, alike, blind, ceiling,
+    Ceiling, FilterProgram, Launched, MountStep, RowKind, Settings, alike, blind, ceiling,
 };
 use std::alloc::{AllocError, Global};
 

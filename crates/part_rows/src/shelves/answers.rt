@@ -1,5 +1,5 @@
 //! What shelves and sinks answer, in words.
-use exec_settings::host_io::{MemSink, Shelf, Sink, write_whole};
+use host_io::{MemSink, Shelf, Sink, write_whole};
 use row_tools::{number, said};
 use std::alloc::{AllocError, Global};
 

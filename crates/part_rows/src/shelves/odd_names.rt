@@ -1,6 +1,6 @@
 //! A folder with a name that is no text. std makes no such name, so what the system lists is made up here.
 use crate::shelves::answers;
-use exec_settings::host_io::DirShelf;
+use host_io::DirShelf;
 use std::alloc::{AllocError, Allocator, Global};
 use std::fs::{Metadata, OpenOptions};
 use std::io;

@@ -16,7 +16,7 @@ use asked_service::launched_units::launch_whole;
 use asked_service::{
     Bounded, CallTable, Question, Resolved, SiteTable, bound, count_open, openness,
 };
-use question_text::questions::questions;
+use question_text::questions;
 use std::alloc::{AllocError, Global};
 
 // The items that can be added to a unit whose own service lacks nothing.

@@ -6,7 +6,7 @@ ghost use Rattle.unit_inputs.specs.command_answers.Stops.{HasReadCause, RefusesN
 ghost use Rattle.unit_inputs.specs.command_answers.ReadFiles.{ReadsContent};
 
 use crate::command_answers::stop::Stop;
-use exec_settings::host_io::{Shelf, ShelfError};
+use host_io::{Shelf, ShelfError};
 use std::alloc::Global;
 
 /// The most bytes of a file: 1 MiB.

@@ -6,7 +6,7 @@ use crate::command_answers::ending::Ending;
 use crate::command_answers::printing::put_line;
 use crate::command_answers::ready::Ready;
 use crate::command_answers::stop::Stop;
-use exec_settings::host_io::{Sink, SinkError};
+use host_io::{Sink, SinkError};
 use std::alloc::Global;
 
 /// How a run ends whose text was printed so, behind a whole text with this ending.

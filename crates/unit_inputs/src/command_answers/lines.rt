@@ -3,7 +3,7 @@ ghost use Rattle.std.specs.Prelude.{◌≡◌, ◌<◌, ◌++◌, IfSome, length
 ghost use Rattle.unit_inputs.specs.command_answers.Printing.{HasWriteCause, TakesText};
 
 use crate::command_answers::printing::put_piece;
-use exec_settings::host_io::{Sink, SinkError};
+use host_io::{Sink, SinkError};
 
 // The first line of a text, with its line feed, and what stands behind it.
 fn first_line(text: &[u8]) -> Option<(&[u8], &[u8])>

@@ -2,7 +2,7 @@
 ghost use Rattle.std.specs.Prelude.{ℕ, List, IfOk, ◌≡◌};
 ghost use Rattle.unit_inputs.specs.command_answers.Printing.{HasWriteCause, TakesText};
 
-use exec_settings::host_io::{Sink, SinkError, write_whole};
+use host_io::{Sink, SinkError, write_whole};
 use std::alloc::AllocError;
 
 /// Prints a piece: a whole line, with its line feed.

@@ -4,7 +4,7 @@ ghost use Rattle.unit_inputs.specs.command_answers.Printing.{HasWriteCause, Take
 ghost use Rattle.unit_inputs.specs.declared.command_answers.ending.Ending.{Ending};
 
 use crate::command_answers::ending::Ending;
-use exec_settings::host_io::{Sink, SinkError};
+use host_io::{Sink, SinkError};
 use std::alloc::Global;
 
 /// What a command has ready once it is prepared: all is read, nothing was refused, and nothing is printed yet.

@@ -2,7 +2,7 @@
 use crate::command_answers::ending::Ending;
 use crate::command_answers::lines::put_lines;
 use crate::command_answers::ready::Ready;
-use exec_settings::host_io::{Sink, SinkError};
+use host_io::{Sink, SinkError};
 use std::alloc::Global;
 
 /// A text of lines that is ready as a whole, and how a run ends behind it. It is printed line by line.

@@ -2,7 +2,7 @@
 ghost use Rattle.std.specs.Prelude.{◌≡◌, IfOk};
 ghost use Rattle.unit_inputs.specs.command_answers.Refusals.{refused_line};
 
-use exec_settings::text_forms::push_word;
+use exec_settings::push_word;
 use std::alloc::{AllocError, Global};
 
 /// The line of an input that is refused: what it is, as an escaped word, and why.

@@ -7,7 +7,8 @@ ghost use Rattle.judge_command.specs.unit_inputs.command_answers.ReadyTexts.{end
 ghost use Rattle.why_command.specs.lines_command.Prints.{lines_laws};
 
 use crate::lines_command::answering::answer;
-use judge_command::{ReadyText, Shelf, Stop, read_inputs};
+use host_io::Shelf;
+use judge_command::{ReadyText, Stop, read_inputs};
 use std::alloc::Global;
 
 /// Prepares `why` and the name of a unit: reads the unit, calls.txt and site.toml, finds the first refusal of them and of the settings

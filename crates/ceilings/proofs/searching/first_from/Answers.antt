@@ -1,6 +1,6 @@
 use Rattle.std.proofs.Common.{sym, ◌∙◌, false}
 use Rattle.kernel_ways.specs.kern_mounts.Mounts.{steps_of}
-use Rattle.kernel_ways.proofs.ReachPaths.Looping.{serves_here, forbids_here, hides_here}
+use Rattle.kernel_ways.proofs.OfReachPaths.Looping.{serves_here, forbids_here, hides_here}
 use Rattle.ceilings.proofs.searching.first_from.Goals as goal
 use Rattle.ceilings.proofs.searching.first_from.Goals.{else-allows-via-then-allows+else-shows, else-allows-via-else-allows}
 

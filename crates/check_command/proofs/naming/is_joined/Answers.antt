@@ -1,6 +1,6 @@
 use Rattle.std.proofs.Common.{◌∷◌, sym, ap, ◌∙◌}
 use Rattle.std.specs.Option.{option_map}
-use Rattle.unit_inputs.proofs.AbsPath.Stripped.{strip_text}
+use Rattle.unit_inputs.proofs.OfAbsPath.Stripped.{strip_text}
 use Rattle.check_command.proofs.Joined.{joined, not_joined}
 use Rattle.check_command.proofs.naming.is_joined.Goals as goal
 

@@ -1,6 +1,6 @@
 use Rattle.std.proofs.Common.{arith}
 use Rattle.exec_settings.specs.Commands.{unread_note}
-use Rattle.cred_settings.proofs.DropinMerge.OneMore.{added_by_some}
+use Rattle.cred_settings.proofs.OfDropinMerge.OneMore.{added_by_some}
 use Rattle.exec_settings.proofs.commands.note_unread.Goals as goal
 
 pub loop-value-preserved : goal.loop-value-preserved

@@ -1,5 +1,5 @@
 use Rattle.std.proofs.Common.{sym}
-use Rattle.kernel_laws.proofs.KernMounts.Entries.{entry_leads}
+use Rattle.kernel_laws.proofs.OfKernMounts.Entries.{entry_leads}
 use Rattle.launcher.proofs.privileged.is_privileged.Goals as goal
 
 pub shows_marked-requires : goal.shows_marked-requires

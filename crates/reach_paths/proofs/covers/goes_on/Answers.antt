@@ -1,7 +1,7 @@
 use Rattle.std.proofs.Common.{ap, ◌∙◌, Some, None}
 use Rattle.std.specs.Prelude.{is_some, option_and_then}
 use Rattle.kernel_laws.specs.abs_path.Prefix.{behind_only}
-use Rattle.kernel_laws.proofs.AbsPath.Stripped.{strip_text}
+use Rattle.kernel_laws.proofs.OfAbsPath.Stripped.{strip_text}
 use Rattle.reach_paths.proofs.Stripping.{some_behind}
 use Rattle.reach_paths.proofs.covers.goes_on.Goals as goal
 

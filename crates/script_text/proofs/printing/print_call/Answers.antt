@@ -1,5 +1,5 @@
 use Rattle.std.proofs.Common.{ap, ◌++◌, ◌∙◌}
-use Rattle.kernel_model.proofs.CallTable.Back.{has_other_name}
+use Rattle.kernel_model.proofs.OfCallTable.Back.{has_other_name}
 use Rattle.script_text.specs.Printed.{call_text}
 use Rattle.script_text.proofs.PrintedRead.{read_as}
 use Rattle.script_text.proofs.printing.print_call.Goals as goal

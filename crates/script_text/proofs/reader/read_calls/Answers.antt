@@ -3,7 +3,7 @@ use Rattle.std.proofs.lemmas.Result.{err_from_is_err_and}
 use Rattle.kernel_model.specs.text_forms.line_text.Lines.{Line}
 use Rattle.kernel_model.specs.text_forms.line_text.Views.{line_view}
 use Rattle.kernel_model.specs.text_forms.declared.line_text.lines.Line.{Line as ReadLine}
-use Rattle.kernel_model.proofs.CallTable.Steps.{split_made, take_made}
+use Rattle.kernel_model.proofs.OfCallTable.Steps.{split_made, take_made}
 use Rattle.script_text.specs.Progress.{HasRead}
 use Rattle.script_text.proofs.FirstFault.{stops, stops_full, reads_more}
 use Rattle.script_text.proofs.reader.read_calls.Goals as goal

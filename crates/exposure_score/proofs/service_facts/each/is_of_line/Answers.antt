@@ -1,6 +1,6 @@
 use Rattle.std.proofs.Common.{sym, ap, ◌∙◌}
 use Rattle.std.specs.Option.{option_map}
-use Rattle.exec_settings.proofs.AbsPath.Stripped.{strip_text}
+use Rattle.exec_settings.proofs.OfAbsPath.Stripped.{strip_text}
 use Rattle.exposure_score.specs.service_facts.Each.{names}
 use Rattle.exposure_score.proofs.Behind.{found, not_found}
 use Rattle.exposure_score.proofs.service_facts.each.is_of_line.Goals as goal

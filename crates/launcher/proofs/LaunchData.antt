@@ -8,7 +8,7 @@ use Rattle.kernel_laws.specs.call_table.declared.listed.CallLine.{CallLine}
 use Rattle.kernel_laws.specs.call_table.Facts.{IsWhole}
 use Rattle.kernel_laws.specs.call_table.Lookups.{IsInRange, has_name, named}
 use Rattle.kernel_laws.specs.call_table.Table as calls
-use Rattle.kernel_laws.proofs.CallTable.Places.{found_holds}
+use Rattle.kernel_laws.proofs.OfCallTable.Places.{found_holds}
 use Rattle.launcher.specs.Alike.{HasWordArchs}
 use Rattle.launcher.specs.Launch.{number_of}
 

@@ -4,7 +4,7 @@ use Rattle.std.specs.Prelude.{◌&&◌, ◌==◌, not}
 use Rattle.std.specs.Int.RustNames.{bit_and}
 use Rattle.std.proofs.lemmas.Bool.{eqb-true, eq-eqb}
 use Rattle.kernel_model.specs.cap_sets.Sets.{has, cut, none, single}
-use Rattle.kernel_model.proofs.Caps.Members.{has_cut, has_none, has_single, same_sets}
+use Rattle.kernel_model.proofs.OfCapSets.Members.{has_cut, has_none, has_single, same_sets}
 use Rattle.kernel_model.specs.kern_files.Bits.{has_some, has_all}
 use Rattle.kernel_model.specs.Effects.{newuser}
 

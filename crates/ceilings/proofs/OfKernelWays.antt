@@ -1,0 +1,21 @@
+-- The lemmas of `kernel_ways` that crates above take from here.
+pub use Rattle.kernel_ways.proofs.Attained as Attained
+pub use Rattle.kernel_ways.proofs.BlindShown as BlindShown
+pub use Rattle.kernel_ways.proofs.ByName as ByName
+pub use Rattle.kernel_ways.proofs.Choices as Choices
+pub use Rattle.kernel_ways.proofs.Doings as Doings
+pub use Rattle.kernel_ways.proofs.Entering as Entering
+pub use Rattle.kernel_ways.proofs.Exact as Exact
+pub use Rattle.kernel_ways.proofs.Exposing as Exposing
+pub use Rattle.kernel_ways.proofs.FitQuestions as FitQuestions
+pub use Rattle.kernel_ways.proofs.Gains as Gains
+pub use Rattle.kernel_ways.proofs.Ids as Ids
+pub use Rattle.kernel_ways.proofs.InUser as InUser
+pub use Rattle.kernel_ways.proofs.Lines as Lines
+pub use Rattle.kernel_ways.proofs.Performing as Performing
+pub use Rattle.kernel_ways.proofs.Privileged as Privileged
+pub use Rattle.kernel_ways.proofs.Rows as Rows
+pub use Rattle.kernel_ways.proofs.Serving as Serving
+pub use Rattle.kernel_ways.proofs.Showing as Showing
+pub use Rattle.kernel_ways.proofs.Solo as Solo
+pub use Rattle.kernel_ways.proofs.Starts as Starts

@@ -1,0 +1,5 @@
+-- The definitions of `linux_numbers` that crates above take from here.
+pub use Rattle.linux_numbers.specs.Actions as Actions
+pub use Rattle.linux_numbers.specs.Capabilities as Capabilities
+pub use Rattle.linux_numbers.specs.Errnos as Errnos
+pub use Rattle.linux_numbers.specs.Limits as Limits

@@ -1,0 +1,20 @@
+-- The definitions of `kern_mounts` that crates above take from here.
+pub use Rattle.kern_mounts.specs.Answer as Answer
+pub use Rattle.kern_mounts.specs.Backing as Backing
+pub use Rattle.kern_mounts.specs.Bind as Bind
+pub use Rattle.kern_mounts.specs.Changes as Changes
+pub use Rattle.kern_mounts.specs.Copying as Copying
+pub use Rattle.kern_mounts.specs.Entry as Entry
+pub use Rattle.kern_mounts.specs.Finds as Finds
+pub use Rattle.kern_mounts.specs.Keeping as Keeping
+pub use Rattle.kern_mounts.specs.Launch as Launch
+pub use Rattle.kern_mounts.specs.MountAt as MountAt
+pub use Rattle.kern_mounts.specs.Mounts as Mounts
+pub use Rattle.kern_mounts.specs.MountsPush as MountsPush
+pub use Rattle.kern_mounts.specs.MountsRemount as MountsRemount
+pub use Rattle.kern_mounts.specs.Remount as Remount
+pub use Rattle.kern_mounts.specs.Split as Split
+pub use Rattle.kern_mounts.specs.Table as Table
+pub use Rattle.kern_mounts.specs.Umount as Umount
+pub use Rattle.kern_mounts.specs.Unmounts as Unmounts
+pub use Rattle.kern_mounts.specs.declared as declared

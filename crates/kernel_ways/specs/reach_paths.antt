@@ -1,0 +1,2 @@
+-- The definitions of `reach_paths` that crates above take from here.
+pub use Rattle.reach_paths.specs.First as First
