@@ -6,6 +6,7 @@ pub mod Served
 pub mod LaunchedWhole
 pub mod Started
 pub mod Given
+pub mod OneLaunch
 pub mod OfJudge
 pub mod OfPlanCommand
 pub mod OfReportText

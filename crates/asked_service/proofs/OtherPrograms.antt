@@ -32,7 +32,7 @@ use Rattle.asked_service.specs.unit_launch.OtherPrograms.{AreOthers, GoesOnAlike
 
 -- programs that match have room in one stack
 module _ (filters : List Filter) (fit : most_room filters ≤ max_insns_per_path) where
-  installed : (programs : List (List ℕ)) (codes : List (List Insn)) → AreMatching filters codes → AreRead programs codes
+  pub installed : (programs : List (List ℕ)) (codes : List (List Insn)) → AreMatching filters codes → AreRead programs codes
       → AreInstalled programs codes
   installed programs codes matching read =
       let few : room_of codes ≤ most_room filters = room filters codes matching in

@@ -3,6 +3,7 @@ pub mod Rows
 pub mod unit_launch
 pub mod launched_units
 pub mod started_units
+pub mod OneLaunch
 pub mod judge
 pub mod plan_command
 pub mod report_text

@@ -6,12 +6,15 @@
 //! - [`launched_units`] takes a unit through its settings, its plan and its launch.
 //! - [`started_units`] does so for a named unit, and has the line of the first refusal.
 //!
+//! That there is one answer is a law, in [`laws`].
+//!
 //! `bound(alloc, service)?.is_open(&question)` is one verdict alone, and `verdict_rows(alloc, &bounded, &list)?` are those on all
 //! questions, in their order. The crate uses `launcher`, `ceilings`, `questions` and `judge`.
 #![tactic(auto)]
 
 mod bounding;
 pub mod launched_units;
+pub mod laws;
 mod rows;
 pub mod started_units;
 pub mod unit_launch;
