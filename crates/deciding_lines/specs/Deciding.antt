@@ -24,11 +24,11 @@ pub data IsNotLaunched (name : List ℕ) (inputs : Inputs) : List ℕ → Type 0
   launch_refused : (refusal : LaunchRefusal) → StartsAs inputs (Refused refusal) → IsNotLaunched name inputs (launch.refusal_line refusal)
   unit_refused : (line : List ℕ) → first_start name inputs ≡ Some line → IsNotLaunched name inputs line
 
--- by what the unit comes to without the assignments in force at these places: without them it is denied too; or some lines deny
--- it; or the unit is not launched without them
+-- by what the unit comes to without the assignments in force at these places: without them it is denied too; or without them it
+-- is open, and some lines deny it; or the unit is not launched without them
 abbrev pub IsReasonAt : Tried → List Place → Reason → Type 0
 IsReasonAt tried places reason.Nothing = IsDeniedWithout tried places
-IsReasonAt tried places (reason.Lines found) = AreDeciding tried found.items
+IsReasonAt tried places (reason.Lines found) = IsOpenWithout tried places × AreDeciding tried found.items
 IsReasonAt tried places (reason.NotLaunched line) = IsNotLaunched tried.name (inputs_without tried.inputs places) line.items
 
 -- without all of them, but those that say what is launched

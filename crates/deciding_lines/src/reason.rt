@@ -3,7 +3,7 @@ ghost use Rattle.std.specs.Prelude.{IfOk};
 ghost use Rattle.asked_service.specs.started_units.Starting.{StartsAs};
 ghost use Rattle.asked_service.specs.declared.unit_launch.launching.UnitLaunch.TheVariants.{Launched as Started};
 ghost use Rattle.deciding_lines.specs.Deciding.{IsLineOf, IsReason, IsReasonAt};
-ghost use Rattle.deciding_lines.specs.Tried.{CanBeTried, inputs_without, tried_of};
+ghost use Rattle.deciding_lines.specs.Tried.{CanBeTried, IsOpenWithout, inputs_without, tried_of};
 
 use crate::bare::bare_places;
 use crate::trial::{Trial, is_open_of};
@@ -35,6 +35,16 @@ fn stopped(stop: Stop) -> Result<Reason, AllocError>
 }
 
 impl Trial<'_> {
+    // The lines that deny it, where it is open without all of these.
+    fn lines_of(&self, alloc: Global, places: Vec<Place>) -> Result<Reason, AllocError>
+        requires can_be_tried { CanBeTried self.now }
+        requires is_open { IsOpenWithout (tried_of self.now) places.items }
+        ensures { IfOk result (IsReasonAt (tried_of self.now) places.items) }
+    {
+        let found = self.fewest(alloc, places)?;
+        Ok(Reason::Lines(found))
+    }
+
     // What denies it, by the service of the unit without all of these lines.
     fn reason_of(
         &self,
@@ -48,7 +58,7 @@ impl Trial<'_> {
     {
         let is_open = is_open_of(alloc, service, &self.question)?;
         if is_open {
-            Ok(Reason::Lines(self.fewest(alloc, places)?))
+            self.lines_of(alloc, places)
         } else {
             Ok(Reason::Nothing)
         }

@@ -11,8 +11,8 @@ is_open_of-requires c =
           c.requires.can_be_tried;
     }
 
-pub fewest-requires-clause-is_open : goal.fewest-requires-clause-is_open
-fewest-requires-clause-is_open c =
+pub lines_of-requires-clause-is_open : goal.lines_of-requires-clause-is_open
+lines_of-requires-clause-is_open c =
     open_as (tried_of c.args.self.now) c.args.places.items c.args.service c.requires.starts c.in_ok-is_open.is_open c.if-is_open.true
     c.in_ok-is_open.ensures.tells
 
