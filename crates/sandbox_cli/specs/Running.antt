@@ -32,3 +32,8 @@ EndsWords asks asked outside shelf_before shelf_after sink_before sink_after end
 -- the exit status is that of an ending
 abbrev pub ExitsBy : (Ending → Type 0) → ExitCode → Type 0
 ExitsBy Ends code = (ending : Ending) × Ends ending × (exit_status code ≡ code_of ending)
+
+-- the exit status that there is, or that of want of memory
+abbrev pub ExitsUnlessMemory : {E : Type 0} → Result ExitCode E → ExitCode → Type 0
+ExitsUnlessMemory (Ok made) code = code ≡ made
+ExitsUnlessMemory (Err error) code = exit_status code ≡ code_of OutOfMemory

@@ -1,4 +1,8 @@
 //! The process around a run: its arguments, the current folder and the standard output. Of what these hold nothing is known.
+
+ghost use Rattle.std.specs.Prelude.{◌≡◌};
+ghost use Rattle.sandbox_cli.specs.Running.{ExitsUnlessMemory};
+
 use crate::running::exit_code;
 use crate::stored::run_with_tests;
 use host_io::{DirShelf, StdSink};
@@ -22,10 +26,17 @@ fn run_arguments<R: Env + Files + Print + AllocGlobal + Clone + Drop>(
     run_with_tests(rt.alloc(), &arguments(rt), &mut shelf, &mut sink)
 }
 
-/// Runs the words of the process over the current folder and the standard output, and answers the status that it ends with.
-pub fn run_process<R: Env + Files + Print + AllocGlobal + Clone + Drop>(rt: &R) -> ExitCode {
-    match run_arguments(rt) {
+// The exit status that there is, or that of want of memory.
+fn or_out_of_memory(made: Result<ExitCode, AllocError>) -> ExitCode
+    ensures exits_unless_memory { ExitsUnlessMemory made result }
+{
+    match made {
         Ok(code) => code,
         Err(_) => exit_code(Status::of(Ending::OutOfMemory)),
     }
+}
+
+/// Runs the words of the process over the current folder and the standard output, and answers the status that it ends with.
+pub fn run_process<R: Env + Files + Print + AllocGlobal + Clone + Drop>(rt: &R) -> ExitCode {
+    or_out_of_memory(run_arguments(rt))
 }

@@ -1,6 +1,6 @@
 //! The stored tests of the program, and its wish.
 
-ghost use Rattle.std.specs.Prelude.{◌≡◌, ◌≤◌};
+ghost use Rattle.std.specs.Prelude.{◌≡◌, ◌≤◌, IfErr};
 ghost use Rattle.top_call.specs.exposure_score.Stored.{ambient_count, writable_paths};
 ghost use Rattle.sandbox_cli.specs.Wishes.{can_execute};
 
@@ -20,7 +20,13 @@ pub fn run_with_tests<S: Shelf, K: Sink>(
     arguments: &io::Result<Vec<String>>,
     shelf: &mut S,
     out: &mut K,
-) -> Result<ExitCode, AllocError> {
+) -> Result<ExitCode, AllocError>
+    ensures map_stays { S.told shelf.new ≡ S.told shelf.old }
+
+    // Without memory for the tests and the wish nothing is read or written.
+    ensures shelf_stays_without_memory { IfErr result (λ error. shelf.new ≡ shelf.old) }
+    ensures sink_stays_without_memory { IfErr result (λ error. out.new ≡ out.old) }
+{
     let capabilities = Box::new(
         alloc,
         |facts: &Facts|
