@@ -60,6 +60,11 @@ def main(words: Sequence[str]) -> int:
 
 
 def _run(words: list[str]) -> int:
+    if "lint" in words:
+        from .lint_cli import main as lint
+
+        words.remove("lint")
+        return lint(words)
     if "--root" in words[:4]:
         with_root = f"{TOP}/tools/with-root"
         os.execv(with_root, [with_root, *words])

@@ -51,11 +51,12 @@ class Assignment(NamedTuple):
 
 
 class Passed(NamedTuple):
-    """A line that systemd passes over: its file, its number, and what is wrong and meant."""
+    """A line that systemd passes over: its file, its number, what is wrong and meant, and the tag of `lint` for it."""
 
     file: str
     line: int
     text: str
+    tag: str = "unknown-key"
 
     @property
     def place(self) -> str:
@@ -142,7 +143,7 @@ def _passed_over(file: UnitFile) -> list[Passed]:
     found, section, is_known = [], "", False
     if has_mark(file.text):
         text = "a byte order mark stands before the first line, so that it is not read as a section: save the file without it"
-        found.append(Passed(file.path, 1, text))
+        found.append(Passed(file.path, 1, text, "byte-order-mark"))
     keys = {it.line: it for it in assignments_of(file)}
     for number, line in numbered_lines(file.text):
         line = line.strip(units.SPACES)
@@ -151,9 +152,12 @@ def _passed_over(file: UnitFile) -> list[Passed]:
             is_known = section in SECTIONS
             if not is_known and not _is_of_others(section):
                 meant = nearest(section, SECTIONS)
-                found.append(Passed(file.path, number, f"no section of a service{f' ([{meant}] is meant?)' if meant else ''}: {line}"))
+                text = f"no section of a service{f' ([{meant}] is meant?)' if meant else ''}: {line}"
+                found.append(Passed(file.path, number, text, "unknown-section"))
         elif number in keys and not section:
-            found.append(Passed(file.path, number, f"in front of all sections ([Service] is missing?): {keys[number].text}"))
+            text = f"in front of all sections ([Service] is missing?): {keys[number].text}"
+            found.append(Passed(file.path, number, text, "outside-section"))
         elif number in keys and is_known and (wrong := _wrong_key(keys[number])):
-            found.append(Passed(file.path, number, wrong))
+            tag = "unknown-key" if wrong.startswith("no key of systemd") else "misplaced-key"
+            found.append(Passed(file.path, number, wrong, tag))
     return found

@@ -1,0 +1,196 @@
+"""Tests `lint`: what the text of a unit shows, what runs of the program show, overrides, and the command line.
+
+The expected findings were worked out by hand from the units and the manual pages; those of systemd-analyze verify were compared with
+systemd 252.
+"""
+import os
+import subprocess
+import sys
+import tempfile
+import unittest
+from pathlib import Path
+
+TOP = Path(__file__).resolve().parents[3]
+sys.path.insert(0, str(TOP / "tools"))
+
+from lentsheep.lint import Finding, by_text, findings_of
+from lentsheep.lint_judged import is_denying
+from lentsheep.lint_overrides import Fault, overridden, read_overrides
+from lentsheep.lint_tags import TAGS, explanation
+from lentsheep.lint_units import LintedFile, LintedUnit, NoUnit, is_given, units_of
+from lentsheep.unit_lines import Assignment
+from lentsheep.unit_text import UnitFile
+from lentsheep.value_kinds import unread_value
+
+BUILT = os.environ.get("LENTSHEEP_PROGRAM") or str(TOP / "crates/sandbox_cli/out/sandbox_cli")
+HAS_PROGRAM = os.access(BUILT, os.X_OK)
+HOW = {**os.environ, "LENTSHEEP_PROGRAM": BUILT}
+PLACE = "etc/systemd/system"
+
+
+def unit(text, name="web.service", **dropins):
+    """A unit of a text, with drop-ins by their names."""
+    files = [LintedFile(name, f"{PLACE}/{name}", text.encode())]
+    files += [LintedFile(f"{name}.d/{it}.conf", f"{PLACE}/{name}.d/{it}.conf", body.encode()) for it, body in dropins.items()]
+    return LintedUnit(name, tuple(files))
+
+
+def lines_of(findings):
+    """What findings say, but for their sentences."""
+    return [(it.line, it.tag, it.context) for it in findings]
+
+
+class Text(unittest.TestCase):
+    """What the text alone shows."""
+
+    def test_lines_that_systemd_ignores(self):
+        for what, text, wanted in [
+            ("nothing", "[Unit]\nAfter=a\n[Service]\nPrivateTmp=yes\nX-Own=1\n", []),
+            ("a misspelt key", "[Service]\nProtectSystm=yes\n", [(2, "unknown-key", "ProtectSystm=yes")]),
+            ("a key elsewhere", "[Unit]\nProtectSystem = strict\n", [(2, "misplaced-key", "ProtectSystem=strict")]),
+            ("a section", "[Servce]\nPrivateTmp=yes\n", [(1, "unknown-section", "[Servce]")]),
+            ("no section", "PrivateTmp=yes\n", [(1, "outside-section", "PrivateTmp=yes")]),
+            ("a mark", "\ufeff[Service]\n", [(1, "byte-order-mark", ""), (1, "unknown-section", "\ufeff[Service]")][:1]),
+            ("a value", "[Service]\n# a\nPrivateNetwork=perhaps\n", [(3, "unread-value", "PrivateNetwork=perhaps")]),
+            ("a value elsewhere", "[Unit]\nPrivateNetwork=perhaps\n", [(2, "misplaced-key", "PrivateNetwork=perhaps")]),
+        ]:  # fmt: skip
+            self.assertEqual(wanted, lines_of(by_text(unit(text))), what)
+
+    def test_values(self):
+        # systemd-analyze verify of 252 ignores the values of the second column, and takes those of the first
+        for key, read, unread in [
+            ("PrivateNetwork", "yes 0 On t", "perhaps 2"), ("PrivateTmp", "yes disconnected", "maybe"), ("ProtectSystem", "strict full true", "Strict"),
+            ("ProtectHome", "read-only tmpfs no", "hidden"), ("Type", "notify simple", "notfy"), ("Restart", "on-failure no", "onfailure yes"),
+            ("KillMode", "mixed control-group", "controlgroup"), ("ProtectProc", "invisible", "hidden"), ("ProcSubset", "pid", "none"),
+            ("Nice", "-20 19 +5", "20 x"), ("OOMScoreAdjust", "-1000 1000", "1001"), ("UMask", "0077 7 022", "999 rwx"),
+            ("StandardOutput", "journal file:/a append:/a", "syslogg"), ("DevicePolicy", "closed", "open"), ("KeyringMode", "private", "none"),
+            ("TimeoutStopSec", "5 5s infinity 1min30s 3min 0 1.5h", "5parsecs x -1"), ("MemoryMax", "512M 50% infinity 1.5G", "lots"),
+            ("LimitNOFILE", "1024 1024:4096 infinity", "many"), ("TasksMax", "16 50% infinity", "few"), ("CPUQuota", "20% 150%", "much 20"),
+            ("SystemCallFilter", "raed", ""),
+        ]:  # fmt: skip
+            for value in read.split():
+                self.assertEqual("", unread_value("Service", key, value), f"{key}={value}")
+            for value in unread.split():
+                self.assertNotEqual("", unread_value("Service", key, value), f"{key}={value}")
+        self.assertEqual("", unread_value("Service", "RestartSec", "1min 30s"))
+        self.assertEqual("did you mean on-failure?", unread_value("Service", "Restart", "onfailure"))
+        self.assertEqual("", unread_value("Unit", "PrivateNetwork", "perhaps"), "the key is of another section")
+
+    def test_what_is_no_unit(self):
+        for what, found, wanted in [
+            ("a name", findings_of(unit("[Service]\n", "web.socket")), [(1, "not-a-unit", "web.socket")]),
+            ("bytes", findings_of(LintedUnit("a.service", (LintedFile("a.service", "a.service", b"[Service]\nA=\xff\n"),))), [(2, "not-a-unit", "")]),
+        ]:
+            self.assertEqual(wanted, lines_of(found.findings), what)
+
+    def test_lines_that_deny(self):
+        files = [UnitFile("a", "[Service]\nCapabilityBoundingSet=CAP_KILL\nCapabilityBoundingSet=CAP_CHOWN\nSystemCallFilter=@a\nSystemCallFilter=~@b\n")]
+        for key, value, wanted in [
+            ("PrivateTmp", "yes", True), ("PrivateTmp", "no", False), ("ReadWritePaths", "/a", False), ("SystemCallFilter", "", False),
+            ("CapabilityBoundingSet", "", True), ("CapabilityBoundingSet", "CAP_KILL", False), ("CapabilityBoundingSet", "~CAP_KILL", True),
+            ("SystemCallFilter", "@a", True), ("SystemCallFilter", "~@b", True),
+        ]:  # fmt: skip
+            self.assertEqual(wanted, is_denying(Assignment("a", 1, "Service", key, value), files), f"{key}={value}")
+
+    def test_paths_that_are_given(self):
+        for path, wanted in [
+            ("/usr/share/x", True), ("/etc/x.conf", True), ("/proc/irq", True), ("/var/log/wtmp", True), ("/var/run/web", True), ("/run/web/", True),
+            ("/var/lib", True), ("/run/web/sub", False), ("/srv/web", False), ("/var/lib/other", False), ("/", True),
+        ]:  # fmt: skip
+            self.assertEqual(wanted, is_given(path, ["/run/web"]), path)
+
+
+class Units(unittest.TestCase):
+    """Which units words name."""
+
+    def test_files_and_folders(self):
+        with tempfile.TemporaryDirectory() as place:
+            for path in ("b/web.service", "b/web.service.d/10-a.conf", "b/web.service.d/README", "a@.service", "x.socket"):
+                os.makedirs(os.path.dirname(f"{place}/{path}"), exist_ok=True)
+                Path(f"{place}/{path}").write_text("[Service]\n", encoding="utf-8")
+            found = units_of([place], None)
+            self.assertEqual(["a@lint.service", "web.service"], [it.name for it in found])
+            self.assertEqual([f"{PLACE}/web.service", f"{PLACE}/web.service.d/10-a.conf"], [it.path for it in found[1].files])
+            self.assertEqual(f"{place}/b/web.service.d/10-a.conf", found[1].files[1].shown)
+            with self.assertRaises(NoUnit):
+                units_of([f"{place}/gone.service"], None)
+            with self.assertRaises(NoUnit):
+                units_of([f"{place}/b/web.service.d"], None)
+
+    def test_of_a_root(self):
+        with tempfile.TemporaryDirectory() as place:
+            os.makedirs(f"{place}/usr/lib/systemd/system/web.service.d")
+            Path(f"{place}/usr/lib/systemd/system/web.service").write_text("[Service]\n", encoding="utf-8")
+            Path(f"{place}/usr/lib/systemd/system/web.service.d/a.conf").write_text("[Service]\n", encoding="utf-8")
+            (found,) = units_of(["web"], place)
+            self.assertEqual(["web.service", "a.conf"], [it.shown.rpartition("/")[2] for it in found.files])
+
+
+class Overrides(unittest.TestCase):
+    """Findings that stay."""
+
+    FINDINGS = [
+        Finding("a/web.service", 4, "idle-line", "PrivateTmp=yes", "it denies nothing by itself"),
+        Finding("a/web.service", 9, "idle-line", "PrivateTmp=yes", "it denies nothing by itself"),
+        Finding("a/web.service", 5, "unmade-path", "/srv/a", "it is made by nothing"),
+        Finding("b/web.service", 5, "unmade-path", "/srv/a", "it is made by nothing"),
+        Finding("a/web.service", 5, "unmade-path", "/srv/b", "it is made by nothing"),
+    ]
+
+    def test_silences_one_finding_and_no_other(self):
+        for line, silenced in [
+            ("web.service: idle-line PrivateTmp=yes", [0]), ("a/web.service: unmade-path /srv/a", [2]), ("b/web.service: unmade-path /srv/a", [3]),
+            ("web.service: unmade-path /srv/a", [2]), ("web.service: unmade-path /srv", []), ("eb.service: unmade-path /srv/b", []),
+            ("web.service: undone /srv/a", []),
+        ]:  # fmt: skip
+            left, unused = overridden(self.FINDINGS, read_overrides(f"# a reason\n{line}\n", "o"))
+            self.assertEqual([it for at, it in enumerate(self.FINDINGS) if at not in silenced], left, line)
+            self.assertEqual([] if silenced else [line], [it.text for it in unused])
+
+    def test_faults(self):
+        for text, wanted in [
+            ("web.service: idle-line A=b\n", "o:1: an override needs a reason, in a comment above it"),
+            ("# why\n\nweb.service: idle-line A=b\n", "o:3: an override needs a reason, in a comment above it"),
+            ("#\nweb.service: idle-line A=b\n", "o:2: an override needs a reason, in a comment above it"),
+            ("# why\nweb.service: idle A=b\n", "o:2: there is no tag idle (--list-tags prints all tags)"),
+            ("# why\nweb.service\n", "o:2: write an override as FILE: TAG CONTEXT"),
+        ]:
+            with self.assertRaises(Fault) as raised:
+                read_overrides(text, "o")
+            self.assertEqual(wanted, str(raised.exception))
+
+    def test_reasons(self):
+        (found,) = read_overrides("# two\n# lines\nweb.service: idle-line A=b c\n", "o")
+        self.assertEqual(("two lines", "A=b c", 3), (found.reason, found.context, found.line))
+
+    def test_tags(self):
+        self.assertIn("parting-strict-homes", TAGS)
+        self.assertNotIn("parting-file-modes", TAGS, "systemd denies more by it")
+        self.assertTrue(explanation("undone").startswith("undone (warning)\n\n"))
+        self.assertIsNone(explanation("undne"))
+
+
+class Words(unittest.TestCase):
+    """The command line, which needs no program for help and usage errors."""
+
+    def run_lint(self, *words, cwd=None):
+        """Its status, output and standard error."""
+        how = {**HOW, "LENTSHEEP_PROGRAM": "/bin/false"} if not HAS_PROGRAM else HOW
+        found = subprocess.run([str(TOP / "sandbox"), *words], capture_output=True, text=True, env=how, cwd=cwd, check=False)
+        return found.returncode, found.stdout, found.stderr
+
+    def test_without_a_program(self):
+        for words, wanted in [
+            (["lint"], (2, "", "sandbox: name a unit file (./sandbox lint --help)\n")),
+            (["lint", "/nowhere/a.service"], (2, "", "sandbox: there is no file /nowhere/a.service (./sandbox lint --help)\n")),
+            (["lint", "--explain", "undne"], (2, "", "sandbox: there is no tag undne; did you mean undone? (./sandbox lint --help)\n")),
+            (["--root", "/nowhere", "lint", "a"], (2, "", "sandbox: there is no folder /nowhere (./sandbox lint --help)\n")),
+        ]:
+            self.assertEqual(wanted, self.run_lint(*words), words)
+        self.assertEqual((0, "usage: ./sandbox lint "), (self.run_lint("lint", "--help")[0], self.run_lint("lint", "--help")[1][:22]))
+        self.assertIn("unknown-key warning\n", self.run_lint("lint", "--list-tags")[1])
+        self.assertTrue(self.run_lint("lint", "--explain", "idle-line")[1].startswith("idle-line (info)"))
+
+
+if __name__ == "__main__":
+    unittest.main()
