@@ -1,4 +1,4 @@
-# make install PREFIX=/usr/local  installs the command lentsheep with its program, tables and manual pages.
+# make install PREFIX=/usr/local  installs the command lentsheep with its program, tables, tools and manual pages.
 #
 # It proves and builds the program first if ./sandbox has not done so. PROGRAM names another build. DESTDIR is a prefix of every
 # installed path, for packages.
@@ -10,8 +10,10 @@ LIB = $(DESTDIR)$(PREFIX)/lib/lentsheep
 MAN = $(DESTDIR)$(PREFIX)/share/man
 DOC = $(DESTDIR)$(PREFIX)/share/doc/lentsheep
 COMPLETION = $(DESTDIR)$(PREFIX)/share/bash-completion/completions
-PAGES = lentsheep.1 lentsheep-calls.5 lentsheep-script.5 lentsheep-site.5
-TOOLS = words with-root link-unit make-site make-calls $(notdir $(wildcard tools/view))
+# Tools that people run by themselves, as lentsheep-NAME.
+COMMANDS = make-site running-filters script-of-strace
+PAGES = lentsheep.1 lentsheep-harden.1 lentsheep-lint.1 $(COMMANDS:%=lentsheep-%.1) lentsheep-calls.5 lentsheep-script.5 lentsheep-site.5
+TOOLS = words with-root link-unit make-calls $(COMMANDS) $(notdir $(wildcard tools/view))
 TREES = tables $(wildcard tools/sites tools/lentsheep)
 
 .PHONY: all install uninstall test FORCE
@@ -31,6 +33,7 @@ install: $(PROGRAM)
 	find $(TREES) \( -name __pycache__ -o -name tests \) -prune -o -type f -exec install -D -m 644 {} $(LIB)/{} \;
 	chmod 644 $(LIB)/tools/words
 	ln -sfn ../lib/lentsheep/sandbox $(BIN)/lentsheep
+	for tool in $(COMMANDS); do ln -sfn ../lib/lentsheep/tools/$$tool $(BIN)/lentsheep-$$tool || exit; done
 	for page in $(PAGES); do install -m 644 man/$$page $(MAN)/man$${page##*.}/ || exit; done
 	install -m 644 tools/completion.bash $(COMPLETION)/lentsheep
 	install -m 644 README.md CHANGELOG.md LICENSE-APACHE LICENSE-MIT $(DOC)
@@ -38,7 +41,7 @@ install: $(PROGRAM)
 
 uninstall:
 	rm -rf $(LIB) $(DOC)
-	rm -f $(BIN)/lentsheep $(COMPLETION)/lentsheep
+	rm -f $(BIN)/lentsheep $(COMMANDS:%=$(BIN)/lentsheep-%) $(COMPLETION)/lentsheep
 	for page in $(PAGES); do rm -f $(MAN)/man$${page##*.}/$$page; done
 
 # The quick tests, which need neither the kit nor a proved program. The gate is rt ci.

@@ -60,11 +60,8 @@ def main(words: Sequence[str]) -> int:
 
 
 def _run(words: list[str]) -> int:
-    if "lint" in words:
-        from .lint_cli import main as lint
-
-        words.remove("lint")
-        return lint(words)
+    if words[:1] == ["--tool"]:
+        return _run_tool(words[1], words[2:])
     if "--root" in words[:4]:
         with_root = f"{TOP}/tools/with-root"
         os.execv(with_root, [with_root, *words])
@@ -88,6 +85,18 @@ def _run(words: list[str]) -> int:
             raise Wrong(f"{option} needs a file and a command after it")
         return _VIEWS_WITH_FILE[option](program, rest[0], _command(option, rest[1:]))
     raise Wrong(f"unknown option {option} ({COMMAND} --brief --help lists the options)")
+
+
+def _run_tool(tool: str, words: list[str]) -> int:
+    """Runs `lint` or `harden`, which have options of their own; the words still have the name of the tool."""
+    words.remove(tool)
+    if tool == "lint":
+        from .lint_cli import main as lint
+
+        return lint(words)
+    from .harden_cli import main as harden
+
+    return harden(words)
 
 
 def _command(option: str, words: list[str]) -> list[str]:

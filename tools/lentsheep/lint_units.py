@@ -184,7 +184,7 @@ def site_of(unit: LintedUnit, place: str) -> bytes:
     named += [path for path in (it.decode("utf-8", "replace") for it in says.paths) if is_given(path, folders)]
     for path in dict.fromkeys([*named, *folders]):
         rows += _rows_of(path, known)
-    text = with_rows(text, asking.rows_with_parents(_fitting(rows, known), known))
+    text = with_rows(text, asking.rows_with_parents(fitting(rows, known), known))
     text = text.replace(b"\ndynamic_uid", b"\nuser_namespaces = 8\ndynamic_uid", 1)
     return text + _people(says.users, says.groups, known)
 
@@ -205,7 +205,7 @@ def _rows_of(path: str, known: asking.Site) -> list[tuple[str, str]]:
     return [(path, kind), *([(f"{path}/{WITNESS}", "file")] if kind == "dir" else [])]
 
 
-def _fitting(rows: Sequence[tuple[str, str]], known: asking.Site) -> list[tuple[str, str]]:
+def fitting(rows: Sequence[tuple[str, str]], known: asking.Site) -> list[tuple[str, str]]:
     """The rows that a site lacks, each path once, but for those below a file."""
     taken = {path: kind for path, kind in reversed(rows)}
     folders = {path for path in taken if any(other.startswith(f"{path}/") for other in taken)}
