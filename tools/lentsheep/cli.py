@@ -22,7 +22,7 @@ usage: {COMMAND} [--root DIR ..] --brief judge UNIT          prints the verdict 
        {COMMAND} [--root DIR ..] --html FILE fleet           writes a page of all units, and one of each into FILE-units
        {COMMAND} [--root DIR ..] --expect FILE judge UNIT    prints the lines of FILE that do not hold of the report
        {COMMAND} [--root DIR ..] --write FILE judge UNIT     writes what the unit is denied into FILE, for --expect
-       {COMMAND} --compare OLD NEW                           prints what opened and closed between two outputs of judge
+       {COMMAND} --compare OLD NEW [FILE]                    prints what opened and closed between two outputs of judge
 
 Lines of FILE (`#` begins a comment):
 
@@ -33,6 +33,9 @@ Lines of FILE (`#` begins a comment):
   blind /srv
   notes none                            no line of the unit is ignored by mistake
   exposure <= 40                        by tables/policy/systemd.json, or `exposure POLICY <= 40`
+  accept open write /run # REASON       an open answer that denied lines and --compare let pass
+  accept parting run-writable # REASON  a difference from systemd that as-run lets pass
+  accept note KEY=VALUE # REASON        an ignored line that `notes none` lets pass
 
 Standard error lists the lines without as-run that systemd may open. The exit status is the program's. If that is 0, it is 1 if a
 line of FILE does not hold, or if something opened between the reports. It is 2 for a usage error.
@@ -233,19 +236,37 @@ def _expect(program: Program, file: str, words: list[str]) -> int:
     if any(expectation.with_modes for expectation in expectations):
         report = _with_modes(program, words[1], report)
     found = partings_of(program, run, expect.with_modes_denied(report))
+    used = {("open", text) for text in expect.accepts_used(expectations, report)}
     failed = 0
-    for expectation in expectations:
+    for expectation in (it for it in expectations if not it.accepted):
         reasons = _reasons(program, words, report, expectation, file)
-        doubting = ", ".join(expect.doubts(expectation, report, found)) if not reasons else ""
+        if expectation.question:
+            reasons = expect.failures(expectation, report, expect.accepted_by(expectations, "open"))
+        if expectation.no_notes:
+            notes = expect.accepted_by(expectations, "note")
+            used |= {("note", text) for text in notes for reason in reasons if reason.endswith(f": {text}")}
+            reasons = [reason for reason in reasons if not any(reason.endswith(f": {text}") for text in notes)]
+        doubts = expect.doubts(expectation, report, found) if not reasons else []
+        names = expect.accepted_by(expectations, "parting")
+        used |= {("parting", name) for name in doubts if name in names}
+        doubting = ", ".join(name for name in doubts if name not in names)
         if doubting and expectation.as_run:
             reasons = [f"it holds only without {doubting}"]
         elif doubting:
             print(f"{file}:{expectation.line}: {expectation.text} holds only without {doubting}", file=sys.stderr)
-        failed += bool(reasons)
-        if reasons:
-            write(f"{file}:{expectation.line}: {expectation.text}\n" + "".join(f"  {reason}\n" for reason in reasons))
+        failed += _told(file, expectation, reasons)
+    for expectation in (it for it in expectations if it.accepted):
+        is_used = (expectation.accepted.kind, expectation.accepted.what) in used
+        failed += _told(file, expectation, [] if is_used else ["there is nothing to accept"])
     write(f"expectations {len(expectations)} failed {failed}\n")
     return 1 if failed else 0
+
+
+def _told(file: str, expectation: Expectation, reasons: Sequence[str]) -> bool:
+    """Prints a line that does not hold, with the reasons; whether there are any."""
+    if reasons:
+        write(f"{file}:{expectation.line}: {expectation.text}\n" + "".join(f"  {reason}\n" for reason in reasons))
+    return bool(reasons)
 
 
 def _with_rows(program: Program, words: list[str], report: Report, expectations: list[Expectation]) -> Report:
@@ -299,18 +320,22 @@ def _reasons(
 
 
 def _compare(files: list[str]) -> int:
-    from . import compare
+    from . import compare, expect
     from .report import parse
 
-    if len(files) != 2:
+    if len(files) not in (2, 3):
         raise Wrong("--compare needs two reports after it")
+    try:
+        accepted = expect.accepted_by(expect.read_expectations(_text_of(files[2])), "open") if len(files) == 3 else frozenset()
+    except expect.Fault as fault:
+        raise Wrong(f"{files[2]}: {fault}") from None
     reports = []
-    for file in files:
+    for file in files[:2]:
         report = parse(_text_of(file), "judge")
         if not isinstance(report, Report) or not report.whole or report.refusal or report.unread:
             raise Wrong(f"{file} is not a complete output of judge")
         reports.append(report)
-    found = compare.changes(*reports)
+    found = compare.changes(*reports, accepted)
     show("\n".join(compare.lines_of(found)) + "\n")
     return 1 if found.has_opened else 0
 

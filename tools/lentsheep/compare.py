@@ -25,16 +25,16 @@ class Changes:
         return bool(self.opened or self.seen or any(answer.is_open for answer in self.added))
 
 
-def changes(old: Report, new: Report) -> Changes:
-    """What changed from the old report to the new one."""
+def changes(old: Report, new: Report, accepted: frozenset[str] = frozenset()) -> Changes:
+    """What changed from the old report to the new one; an open answer that is accepted counts as unchanged."""
     before = {answer.question: answer for answer in old.answers}
     after = {answer.question: answer for answer in new.answers}
     both = [(before[question], answer) for question, answer in after.items() if question in before]
     launches = (_launch(old), _launch(new))
     return Changes(
-        tuple(now for then, now in both if now.is_open and not then.is_open),
+        tuple(now for then, now in both if now.is_open and not then.is_open and now.question.text not in accepted),
         tuple(now for then, now in both if then.is_open and not now.is_open),
-        tuple(answer for question, answer in after.items() if question not in before),
+        tuple(it for question, it in after.items() if question not in before and not (it.is_open and question.text in accepted)),
         tuple(answer for question, answer in before.items() if question not in after),
         tuple(folder for folder in old.blind if folder not in new.blind),
         tuple(folder for folder in new.blind if folder not in old.blind),

@@ -2,6 +2,7 @@
 
 Lines are those of a report; `#` begins a comment. A path with files below it stands for all of them. `as-run` behind a line that
 denies or is blind asks that no parting of systemd touches it, and `with-modes` that it is denied or that file modes close it.
+`accept parting NAME`, `accept note KEY=VALUE` and `accept open QUESTION` let one of these stay; each needs a reason as its comment.
 """
 from __future__ import annotations
 
@@ -21,8 +22,20 @@ _OTHER_WAYS = frozenset("outside-roots io-uring other-calls strict-homes run-wri
 _EXPOSURE = re.compile(r"exposure(?: ([^ ]+))? <= ([0-9]{1,3})")
 
 
+_ACCEPT = re.compile(r"accept (parting|note|open) (\S.*)")
+
+
 class Fault(Exception):
     """A line that is no expectation."""
+
+
+@dataclass(frozen=True)
+class Accepted:
+    """What a line `accept ..` lets stay: a parting by its name, a note by its assignment, or an open answer by its question."""
+
+    kind: str
+    what: str
+    reason: str
 
 
 @dataclass(frozen=True)
@@ -40,16 +53,35 @@ class Expectation:
     as_run: bool = False
     no_notes: bool = False
     with_modes: bool = False
+    accepted: Accepted | None = None
 
 
 def read_expectations(text: str) -> list[Expectation]:
     """The expectations of a file. Raises a fault with the number of the first line that is none."""
     found = []
-    for number, line in enumerate(text.split("\n"), 1):
-        line = " ".join(re.sub(r"(^|\s)#.*", "", line).split())
-        if line:
+    for number, whole in enumerate(text.split("\n"), 1):
+        line = " ".join(re.sub(r"(^|\s)#.*", "", whole).split())
+        if line.startswith("accept "):
+            found.append(_accept(number, line, whole))
+        elif line:
             found.append(_expectation(number, line))
     return found
+
+
+def _accept(number: int, line: str, whole: str) -> Expectation:
+    """The line `accept ..`, whose comment is its reason."""
+    found = _ACCEPT.fullmatch(line)
+    if not found or found[1] == "open" and read_question(found[2]) is None:
+        raise Fault(f"line {number} is no expectation: {line}")
+    reason = whole.partition("#")[2].strip()
+    if not reason:
+        raise Fault(f"line {number} needs a reason: {line} # REASON")
+    return Expectation(number, line, accepted=Accepted(found[1], found[2], reason))
+
+
+def accepted_by(expectations: Sequence[Expectation], kind: str) -> frozenset[str]:
+    """What the lines `accept ..` of a kind let stay."""
+    return frozenset(it.accepted.what for it in expectations if it.accepted and it.accepted.kind == kind)
 
 
 def _expectation(number: int, line: str) -> Expectation:
@@ -115,8 +147,8 @@ def _members(question: Question, asked: set[tuple[str, str]]) -> list[str]:
     return [name for kind, name in asked if kind == question.kind and is_below(name, question.name)]
 
 
-def failures(expectation: Expectation, report: Report) -> list[str]:
-    """Lines that say why an expectation of a report does not hold; none where it holds."""
+def failures(expectation: Expectation, report: Report, accepted: frozenset[str] = frozenset()) -> list[str]:
+    """Lines that say why an expectation of a report does not hold; none where it holds. Open answers that are accepted count as denied."""
     if expectation.blind is not None:
         if any(is_below(expectation.blind, folder) for folder in report.blind):
             return []
@@ -127,9 +159,16 @@ def failures(expectation: Expectation, report: Report) -> list[str]:
         return ["the report does not ask this"]
 
     def is_open(answer: Answer) -> bool:
-        return answer.is_open and not (expectation.with_modes and answer.by_modes)
+        is_accepted = answer.question.text in accepted and not expectation.is_open
+        return answer.is_open and not is_accepted and not (expectation.with_modes and answer.by_modes)
 
     return [_shown(answer) for answer in answers if is_open(answer) != expectation.is_open][:3]
+
+
+def accepts_used(expectations: Sequence[Expectation], report: Report) -> frozenset[str]:
+    """The open answers that some `denied` line stands for, by their questions."""
+    denied = [it.question for it in expectations if it.question and not it.is_open]
+    return frozenset(answer.question.text for question in denied for answer in _answers(question, report) if answer.is_open)
 
 
 def _answers(question: Question, report: Report) -> list[Answer]:
