@@ -7,7 +7,7 @@ _lentsheep() {
             mapfile -t COMPREPLY < <(compgen -d -- "$current")
             return
             ;;
-        --calls | --site | --html | --expect | --write | --drop-in)
+        --calls | --site | --html | --expect | --write | --drop-in | --overrides | --keep | --strace)
             mapfile -t COMPREPLY < <(compgen -f -- "$current")
             return
             ;;
@@ -17,16 +17,20 @@ _lentsheep() {
         word=${COMP_WORDS[at]}
         case $word in
             --root | --units) at=$((at + 1)) root=${COMP_WORDS[at]-} ;;
-            --calls | --site | --top | --html | --expect | --write | --drop-in) at=$((at + 1)) ;;
+            --calls | --site | --top | --html | --expect | --write | --drop-in | --overrides | --severity | --keep | --strace) at=$((at + 1)) ;;
             -*) ;;
             *) [ -n "$command" ] && behind=$((behind + 1)) || command=$word ;;
         esac
     done
     local commands
     commands=$("${COMP_WORDS[0]}" --help 2>/dev/null | awk '/^  [a-z-]+ \[?[A-Z]/ { print $1 }')
+    commands="$commands harden lint"
     case $current:$command:$behind in
+        -*:lint:*) mapfile -t COMPREPLY < <(compgen -W '--root --overrides --severity --explain --list-tags --help' -- "$current") ;;
+        -*:harden:*) mapfile -t COMPREPLY < <(compgen -W '--root --drop-in --keep --strace --help' -- "$current") ;;
         -*) mapfile -t COMPREPLY < <(compgen -W '--root --units --calls --site --fresh --full --verbose --all --top --drop-in --brief --json --html --expect --write --compare --help --version' -- "$current") ;;
         *::*) mapfile -t COMPREPLY < <(compgen -W "$commands" -- "$current") ;;
+        *:lint:*) mapfile -t COMPREPLY < <(compgen -f -- "$current") ;;
         *:sample:* | *:fleet:0) ;;
         *:check:1)
             mapfile -t COMPREPLY < <(compgen -W 'families mdwe realtime suid namespaces hostname modules logs clock devices personality calls archs' -- "$current")
