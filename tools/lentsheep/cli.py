@@ -79,6 +79,8 @@ def _run(words: list[str]) -> int:
     program = Program(".", unproved)
     if option == "--ask":
         return ask(program, rest)
+    if option == "--derive":
+        return _derive(program, rest)
     if option == "--explain" and rest:
         return explain(program, int(rest[0]), rest[1:])
     if option in _VIEWS:
@@ -100,6 +102,25 @@ def _run_tool(tool: str, words: list[str]) -> int:
     from .harden_cli import main as harden
 
     return harden(words)
+
+
+def _derive(program: Program, words: list[str]) -> int:
+    """Prints one list of calls for several scripts, each of which the program derives by itself."""
+    from .hardened import united
+    from .ask import tell
+
+    scripts = [(program.read(name) or b"").decode("utf-8", "surrogateescape") for name in words[2:]]
+    missing = next((name for name in words[2:] if program.read(name) is None), None)
+    if missing:
+        write(f"refused {missing} missing\n")
+        return 3
+    messages: list[str] = []
+    calls = united(program, words[1], scripts, messages)
+    if calls is not None:
+        write(f"[Service]\nSystemCallFilter=\nSystemCallFilter={' '.join(calls)}\n")
+        messages.append(f"the list has the calls of these {len(scripts)} scripts; all other calls are refused")
+    tell(messages)
+    return 0 if calls is not None else 3
 
 
 def _command(option: str, words: list[str]) -> list[str]:

@@ -192,5 +192,95 @@ class Words(unittest.TestCase):
         self.assertTrue(self.run_lint("lint", "--explain", "idle-line")[1].startswith("idle-line (info)"))
 
 
+@unittest.skipUnless(HAS_PROGRAM, "the program is not built")
+class Judged(unittest.TestCase):
+    """What runs of the program show. The expected findings follow from systemd.exec(5) and docs/PROFILE.md."""
+
+    def setUp(self):
+        before = os.environ.get("LENTSHEEP_RUNS")
+        os.environ["LENTSHEEP_RUNS"] = BUILT
+        self.addCleanup(lambda: os.environ.pop("LENTSHEEP_RUNS") if before is None else os.environ.update(LENTSHEEP_RUNS=before))
+
+    def found(self, *lines, name="web.service"):
+        """What is found in a unit with these lines below ExecStart=, which is line 2."""
+        return findings_of(unit("[Service]\nExecStart=/usr/bin/web\n" + "".join(f"{it}\n" for it in lines), name))
+
+    def tagged(self, tag, *lines):
+        """The places and contexts of findings with a tag."""
+        return [(it.line, it.context) for it in self.found(*lines).findings if it.tag == tag]
+
+    def test_paths_that_nothing_makes(self):
+        for lines, wanted in [
+            (["ReadWritePaths=/srv/data"], [(3, "/srv/data")]), (["ReadWritePaths=-/srv/data"], []), (["ReadWritePaths=/etc/web /run/web"], [(3, "/run/web")]),
+            (["RuntimeDirectory=web", "ReadWritePaths=/run/web"], []), (["RuntimeDirectory=web", "ReadWritePaths=/var/run/web"], []),
+            (["ReadOnlyPaths=/a /b", "InaccessiblePaths=/b"], [(3, "/a"), (3, "/b"), (4, "/b")]), (["BindPaths=/srv/a:/srv/b"], [(3, "/srv/a")]),
+        ]:  # fmt: skip
+            self.assertEqual(wanted, sorted(self.tagged("unmade-path", *lines)), lines)
+
+    def test_a_start_that_fails(self):
+        for lines, wanted in [
+            (["NoExecPaths=/"], [(2, "/usr/bin/web")]), (["NoExecPaths=/", "ExecPaths=/usr/bin/web"], []), (["TemporaryFileSystem=/usr"], [(2, "/usr/bin/web")]),
+            (["ExecStart="], [(1, "")]),
+        ]:  # fmt: skip
+            self.assertEqual(wanted, self.tagged("start-fails", *lines), lines)
+
+    def test_what_undoes_a_line(self):
+        # root may mount: two calls of mount(2) make all files writable again
+        (it,) = [it for it in self.found("ProtectSystem=strict").findings if it.tag == "undone"]
+        self.assertEqual((3, "ProtectSystem=strict"), (it.line, it.context))
+        self.assertIn("since it can change mounts (CAP_SYS_ADMIN is held); with CapabilityBoundingSet=~CAP_SYS_ADMIN it denies", it.sentence)
+        for lines in (["ProtectSystem=strict", "CapabilityBoundingSet=~CAP_SYS_ADMIN"], ["ProtectSystem=strict", "SystemCallFilter=~@mount"]):
+            self.assertEqual([], self.tagged("undone", *lines), lines)
+
+    def test_idle_lines(self):
+        # another user has no capabilities, so an empty bounding set takes none from it; without it a set-user-ID program is stopped
+        # by NoNewPrivileges= too
+        lines = ["User=web", "NoNewPrivileges=yes", "CapabilityBoundingSet="]
+        self.assertEqual([(5, "CapabilityBoundingSet=")], self.tagged("idle-line", *lines))
+        self.assertEqual([], self.tagged("idle-line", "PrivateTmp=no", "CapabilityBoundingSet=~CAP_SYS_ADMIN", "ReadWritePaths=/var/lib"))
+
+    def test_partings(self):
+        lines = ["User=web", "NoNewPrivileges=yes", "ProtectSystem=strict", "SystemCallArchitectures=native"]
+        (it,) = [it for it in self.found(*lines).findings if it.tag == "parting-strict-homes"]
+        self.assertEqual(5, it.line)
+        self.assertIn("closed by ProtectHome=read-only", it.sentence)
+        self.assertEqual([], self.tagged("parting-strict-homes", *lines, "ProtectHome=yes"))
+
+    def test_values_and_names(self):
+        for line, wanted in [
+            ("SystemCallFilter=raed", [(3, "unread-name", "SystemCallFilter=raed")]), ("RestrictAddressFamilies=AF_UNIX AF_LOCAL", []),
+            ("SystemCallErrorNumber=EFOO", [(3, "unread-value", "SystemCallErrorNumber=EFOO")]), ("ProtectControlGroups=strict", []),
+        ]:
+            found = [it for it in lines_of(self.found("User=web", line).findings) if it[1].startswith("unread")]
+            self.assertEqual([(place + 1, tag, context) for place, tag, context in wanted], found, line)
+
+    def test_what_is_not_modelled(self):
+        found = self.found("ProtectSystem=strict", "PrivateUsers=yes")
+        self.assertEqual([], [it for it in found.findings if it.tag in ("undone", "idle-line") or it.tag.startswith("parting")])
+        self.assertEqual(("web.service:4: PrivateUsers=yes: the model does not have PrivateUsers=, so idle lines and partings were not checked",), found.remarks)
+
+    def test_a_program_without_its_folder(self):
+        found = findings_of(unit("[Service]\nExecStart=web start\nProtectSystem=strict\n"))
+        self.assertEqual([(3, "undone", "ProtectSystem=strict")], [it for it in lines_of(found.findings) if it[1] in ("undone", "start-fails")])
+
+    def test_drop_ins_and_templates(self):
+        found = findings_of(unit("[Service]\nExecStart=/usr/bin/web %i\n", "web@lint.service", a="[Service]\nProtectSystem=strict\nReadWritePaths=/srv/%i\n"))
+        self.assertIn(("web@lint.service.d/a.conf", 3, "unmade-path"), [(it.file, it.line, it.tag) for it in found.findings])
+
+    def test_status_and_severity(self):
+        with tempfile.TemporaryDirectory() as place:
+            path = f"{place}/web.service"
+            Path(path).write_text("[Service]\nExecStart=/usr/bin/web\nReadWritePaths=/srv/data\n", encoding="utf-8")
+            Path(f"{place}/o").write_text("# the postinst makes it\nweb.service: unmade-path /srv/data\n# old\nweb.service: undone A=b\n", encoding="utf-8")
+            for words, status, wanted in [
+                (["--severity", "error"], 1, f"{path}:3: unmade-path: /srv/data: it is made by nothing in this unit, and the start fails without it; write -/srv/data\n"),
+                (["--severity", "error", "--overrides", f"{place}/o"], 0, ""),
+            ]:
+                found = subprocess.run([str(TOP / "sandbox"), "lint", *words, path], capture_output=True, text=True, env=HOW, check=False)
+                self.assertEqual((status, wanted), (found.returncode, found.stdout), found.stderr)
+            found = subprocess.run([str(TOP / "sandbox"), "lint", "--overrides", f"{place}/o", path], capture_output=True, text=True, env=HOW, check=False)
+            self.assertIn(f"{place}/o:4: unused-override: web.service: undone A=b: no finding matches this override\n", found.stdout)
+
+
 if __name__ == "__main__":
     unittest.main()
