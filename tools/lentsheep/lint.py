@@ -56,13 +56,13 @@ def findings_of(unit: LintedUnit, root: Optional[str] = None, unproved: bool = F
     if broken:
         return Found(tuple(broken))
     found = by_text(unit)
+    known = {(it.file, it.line) for it in found}
     with tempfile.TemporaryDirectory(prefix="lentsheep.") as place:
         made_folder(unit, place, root)
         judged = lint_judged.Judging(unit, Program(place, unproved), root)
         judged.run()
     for it in judged.findings:
         found.append(Finding(unit.shown(it.file), it.line, it.tag, it.context, it.sentence))
-    known = {(it.file, it.line) for it in found}
     report = judged.report
     found += [it for it in of_notes(unit, report.notes if report else ()) if (it.file, it.line) not in known]
     order = {file.shown: at for at, file in enumerate(unit.files)}

@@ -9,6 +9,8 @@ import errno
 import os
 from typing import NamedTuple, Optional, Sequence
 
+from sites import units
+
 from . import asking
 from .causes import causes
 from .gather import site_of
@@ -189,12 +191,22 @@ class Judging:
     def _no_path(self, path: str) -> bool:
         """Finds the words that name a missing path, and tries a copy in which they may be missing."""
         what = f"is not in {self.root}" if self.root else "is made by nothing in this unit"
-        found = [(it, word) for it in lines_with(self.files, *_PATH_KEYS) for word in it.value.split() if _needed_path(word, it.key) == path]
+        lines = lines_with(self.files, *_PATH_KEYS)
+        found = [(it, word) for it in lines for word in it.value.split() if self._needed_path(word, it.key) == path]
         for it, word in found:
             self.findings.append(Shown(it.file, it.line, "unmade-path", path, f"it {what}, and the start fails without it; write -{path}"))
             self._rewrite(it, f"{it.key}=" + " ".join(f"-{other}" if other == word else other for other in it.value.split()))
         self.unmade.append(path)
         return bool(found)
+
+    def _needed_path(self, word: str, key: str) -> str:
+        """The path of a word that must be there, with specifiers expanded; empty if it may be missing."""
+        if word.startswith("-"):
+            return ""
+        word = word.lstrip("+").partition(":")[0] if key.startswith("Bind") else word.lstrip("+")
+        name = units.read_name(self.unit.name)
+        path = (units.expanded(name, word) if name else word) or ""
+        return path.rstrip("/") or "/" if path.startswith("/") else ""
 
     def _launch_fails(self, report: Report) -> None:
         launch, lines = report.launch, lines_with(self.files, "ExecStart")
@@ -303,11 +315,3 @@ def _goes_on(line: str) -> bool:
 
 def _paths_of(value: str) -> list[str]:
     return [part.lstrip("-+").rstrip("/") or "/" for word in value.replace('"', " ").split() for part in word.split(":")]
-
-
-def _needed_path(word: str, key: str) -> str:
-    """The path of a word that must be there; empty if it may be missing."""
-    if word.startswith("-"):
-        return ""
-    source = word.lstrip("+").partition(":")[0] if key.startswith("Bind") else word.lstrip("+")
-    return source.rstrip("/") or "/" if source.startswith("/") else ""

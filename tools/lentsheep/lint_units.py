@@ -178,12 +178,13 @@ def site_of(unit: LintedUnit, place: str) -> bytes:
         return text
     says = units.said(LinkedFolder(place), name, Told())
     rows = [(path, "file") for path in _WITNESSES]
-    rows += [(path.decode("utf-8", "replace"), "exe") for path in says.programs if path.startswith(b"/")]
+    programs = [path.decode("utf-8", "replace") for path in says.programs if path.startswith(b"/")]
+    rows += [(path, "exe") for path in programs]
     folders = [path.decode("utf-8", "replace").rstrip("/") for path in says.folders]
     named = [path.decode("utf-8", "replace") for path in (*says.optional, *says.emptied)]
     named += [path for path in (it.decode("utf-8", "replace") for it in says.paths) if is_given(path, folders)]
     for path in dict.fromkeys([*named, *folders]):
-        rows += _rows_of(path, known)
+        rows += _rows_of(path, known) if path not in programs else []
     text = with_rows(text, asking.rows_with_parents(fitting(rows, known), known))
     text = text.replace(b"\ndynamic_uid", b"\nuser_namespaces = 8\ndynamic_uid", 1)
     return text + _people(says.users, says.groups, known)
