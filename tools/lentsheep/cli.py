@@ -257,7 +257,7 @@ def _expect(program: Program, file: str, words: list[str]) -> int:
     if any(expectation.with_modes for expectation in expectations):
         report = _with_modes(program, words[1], report)
     found = partings_of(program, run, expect.with_modes_denied(report))
-    used = {("open", text) for text in expect.accepts_used(expectations, report)}
+    used = {("open", answer.question.text) for answer in report.answers if answer.is_open}
     failed = 0
     for expectation in (it for it in expectations if not it.accepted):
         reasons = _reasons(program, words, report, expectation, file)

@@ -165,12 +165,6 @@ def failures(expectation: Expectation, report: Report, accepted: frozenset[str] 
     return [_shown(answer) for answer in answers if is_open(answer) != expectation.is_open][:3]
 
 
-def accepts_used(expectations: Sequence[Expectation], report: Report) -> frozenset[str]:
-    """The open answers that some `denied` line stands for, by their questions."""
-    denied = [it.question for it in expectations if it.question and not it.is_open]
-    return frozenset(answer.question.text for question in denied for answer in _answers(question, report) if answer.is_open)
-
-
 def _answers(question: Question, report: Report) -> list[Answer]:
     """The answers that a question stands for: its own, else those of the paths below its path."""
     answers = [answer for answer in report.of_kind(question.kind) if answer.question.name == question.name]

@@ -84,7 +84,8 @@ def _with_root(found: argparse.Namespace) -> int:
     files = [f"--strace={os.path.abspath(file)}" for file in found.strace]
     files += [f"--keep={os.path.abspath(found.keep)}"] if found.keep else []
     tool = f"{TOP}/tools/with-root"
-    os.execv(tool, [tool, *options, "harden", found.unit, f"--drop-in={os.path.abspath(found.drop_in)}", *files])
+    unit = found.unit if "/" in found.unit or found.unit.endswith(".service") else f"{found.unit}.service"
+    os.execv(tool, [tool, *options, "harden", unit, f"--drop-in={os.path.abspath(found.drop_in)}", *files])
 
 
 def _run(found: argparse.Namespace, program: Program) -> int:
@@ -155,8 +156,7 @@ def drop_in_of(hardening: Hardening, missing: Sequence[str], has_traces: bool) -
     text += [f"# not seen in this trace: {', '.join(missing)}"] if missing else []
     text.append("[Service]")
     for it in hardening.lines:
-        text += [f"# {it.reason}"] if it.reason else []
-        text.append(it.text)
+        text += [f"# {comment_of(it)}", it.text]
         if it.key == "SystemCallFilter" and it.text != "SystemCallFilter=" and has_traces:
             text += suggestions(hardening.files)
     return "".join(f"{line}\n" for line in text)
@@ -190,12 +190,16 @@ def page_of(hardening: Hardening, file: str, of_keep: int, of_traces: int, missi
 
 def told(it: Line) -> list[tuple[str, str]]:
     """What the page says of a line."""
-    closes = _kinds(it.closes)
-    if it.closes and it.alone != it.closes:
-        closes += f"; {len(it.alone)} by this line alone" if it.alone else "; with other lines"
-    if not it.closes:
-        closes = "" if it.key == "ReadWritePaths" or it.text.endswith("=") else f"{_kinds(it.alone)} with the other lines" if it.alone else ""
-    return [("why", it.reason), ("closes", closes), ("costs", COSTS.get(it.key, "")), ("undo", it.undo)]
+    closes = f"{_kinds(it.alone)}, which no other line of the drop-in closes" if it.alone else ""
+    effect = f"{_kinds(it.closes)} if it is the only line that is added" if it.closes and it.closes != it.alone else ""
+    return [("why", it.reason), ("closes", closes), ("effect", effect), ("costs", COSTS.get(it.key, "")), ("undo", it.undo)]
+
+
+def comment_of(it: Line) -> str:
+    """The comment above a line of the drop-in."""
+    closes = f"closes {_kinds(it.alone)}" if it.alone else ""
+    undo = f"{it.undo} takes it back" if it.undo else ""
+    return "; ".join(filter(None, [it.reason, closes, undo]))
 
 
 def _kinds(questions: Sequence[Question]) -> str:

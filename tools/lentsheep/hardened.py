@@ -207,7 +207,7 @@ class Hardening:
         if run.status or not isinstance(run.printed, Tighten):
             raise Refused(run.text, run.status or 3)
         for item in run.printed.items:
-            self.lines.append(Line(item, "tighten: nothing that is kept needs what it denies"))
+            self.lines.append(Line(item, "nothing that is kept needs what it denies"))
 
     def _of_traces(self, said: Said) -> None:
         """Adds what only a trace says: the families of sockets and the list of calls."""

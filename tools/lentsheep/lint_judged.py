@@ -63,6 +63,7 @@ class Judging:
         self.findings: list[Shown] = []
         self.remarks: list[str] = []
         self.report: Optional[Report] = None
+        self.plan: Optional[Plan] = None
         self.is_whole = True
         self.unmade: list[str] = []
 
@@ -76,8 +77,8 @@ class Judging:
         if not isinstance(self.report.launch, Launched):
             self._launch_fails(self.report)
         elif self.is_whole:
+            self._partings(self.report)
             self._idle_lines(self.report)
-            self._partings(run, self.report)
 
     @property
     def files(self) -> list[UnitFile]:
@@ -94,13 +95,9 @@ class Judging:
         """Writes another line in the place of an assignment of the copy; the other lines keep their numbers."""
         path = f"{self.program.folder}/{it.file}"
         with open(path, encoding="utf-8", newline="") as file:
-            lines = file.read().split("\n")
-        at = it.line - 1
-        while at < len(lines) - 1 and (lines[at].lstrip().startswith(("#", ";")) and at >= it.line or _goes_on(lines[at])):
-            at += 1
-        lines[it.line - 1 : at + 1] = [line] + ["#"] * (at - it.line + 1)
+            text = replaced(file.read(), it.line, line)
         with open(path, "w", encoding="utf-8", newline="") as file:
-            file.write("\n".join(lines))
+            file.write(text)
 
     def _whole_programs(self) -> None:
         """Gives commands whole paths: systemd searches a program without a slash, and the program does not."""
@@ -234,7 +231,7 @@ class Judging:
         at = {(it.file, it.line): it for file in self.files for it in assignments_of(file)}
         in_force = {(it.file, it.line) for it in lines_with(self.files, *DENYING)} | _empty_sets(self.files)
         idle = [at[it.file, it.line] for it in why.each if it.count == 0 and not it.needed and (it.file, it.line) in in_force]
-        idle = [it for it in idle if is_denying(it, self.files)]
+        idle = [it for it in idle if is_denying(it, self.files) and not self._ends_a_parting(it, report)]
         undoing = self._undoing(report, idle)
         for it in idle:
             if it in undoing:
@@ -247,6 +244,8 @@ class Judging:
     def _undoing(self, report: Report, idle: Sequence[Assignment]) -> dict[Assignment, tuple[str, int, str]]:
         """For idle lines, a line with which they deny something, how many questions, and what the service can do without it."""
         lines: dict[str, str] = {}
+        if not Said(self.files).lines("SystemCallArchitectures"):
+            lines["SystemCallArchitectures=native"] = "32-bit programs make other calls"
         for group in groups(causes(report, read_table(self.program.folder))) if idle else []:
             for line in candidates(group, report):
                 lines.setdefault(line, group.told)
@@ -261,14 +260,23 @@ class Judging:
                     found[it] = (line, counts[it.file, it.line], lines[line])
         return found
 
-    def _partings(self, run: Run, report: Report) -> None:
+    def _partings(self, report: Report) -> None:
         """Finds differences by which systemd opens what is denied here, each with a line that closes it and that was tried."""
         plan = self.program.run("plan", self.unit.name).printed
+        self.plan = plan if isinstance(plan, Plan) else None
+        self.findings += [self._of_parting(it) for it in self._opening(self.files, report)]
+
+    def _opening(self, files: Sequence[UnitFile], report: Report) -> list[Parting]:
+        """The differences by which systemd opens what is denied here, for these files and answers."""
         table, host = read_table(self.program.folder), read_host(site_of(self.program))
-        judged = Judged(Said(self.files), report, plan if isinstance(plan, Plan) else None, table, host)
-        for it in partings(judged):
-            if it.opens and bears_on(it, report):
-                self.findings.append(self._of_parting(it))
+        found = partings(Judged(Said(files), report, self.plan, table, host))
+        return [it for it in found if it.opens and bears_on(it, report)]
+
+    def _ends_a_parting(self, it: Assignment, report: Report) -> bool:
+        """Whether systemd would open more without this line, although the program denies the same."""
+        before = {parting.name for parting in self._opening(self.files, report)}
+        files = [UnitFile(file.path, replaced(file.text, it.line, "#") if file.path == it.file else file.text) for file in self.files]
+        return bool({parting.name for parting in self._opening(files, report)} - before)
 
     def _of_parting(self, it: Parting) -> Shown:
         lines = [line for key in it.keys for line in lines_with(self.files, key)]
@@ -289,6 +297,16 @@ class Judging:
         with self.program.changed({name: f"[Service]\n{line}\n".encode()}) as changed:
             found = changed.run("effect", self.unit.name, name).printed
         return isinstance(found, Effect) and found.whole and found.counts is not None and not found.opened and not found.shown
+
+
+def replaced(text: str, number: int, line: str) -> str:
+    """A text with another line in the place of the assignment that begins at a number; all other lines keep their numbers."""
+    lines = text.split("\n")
+    at = number - 1
+    while at < len(lines) - 1 and (lines[at].lstrip().startswith(("#", ";")) and at >= number or _goes_on(lines[at])):
+        at += 1
+    lines[number - 1 : at + 1] = [line] + ["#"] * (at - number + 1)
+    return "\n".join(lines)
 
 
 def is_denying(it: Assignment, files: Sequence[UnitFile]) -> bool:

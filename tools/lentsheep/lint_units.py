@@ -23,7 +23,7 @@ from .unit_text import LinkedFolder, UnitFile
 INSTANCE = "lint"
 _PLACE = "etc/systemd/system"
 _SITE = f"{TOP}/tables/debian/site.toml"
-_TABLE = f"{TOP}/tables/x86-64/calls2.txt"
+_TABLES = f"{TOP}/tables/x86-64"
 # Files that show what protections close: each is below a folder that a setting of systemd.exec(5) speaks of.
 _WITNESSES = """
     /boot/vmlinuz /dev/kvm /dev/mem /dev/sda /etc/hosts /home/user/file /opt/file /proc/sys/kernel/core_pattern /root/file
@@ -149,12 +149,21 @@ def made_folder(unit: LintedUnit, place: str, root: Optional[str]) -> None:
         os.makedirs(os.path.dirname(path), exist_ok=True)
         with open(path, "wb") as out:
             out.write(file.data)
-    os.symlink(_TABLE, f"{place}/calls.txt")
     if root:
         _site_of_root(unit, place, root)
     else:
         with open(f"{place}/site.toml", "wb") as out:
             out.write(site_of(unit, place))
+    os.symlink(_table_of(place) if root else f"{_TABLES}/calls2.txt", f"{place}/calls.txt")
+
+
+def _table_of(place: str) -> str:
+    """The table for the site of a root, as --root takes it: by the root's systemd, and whether its kernel runs 32-bit programs."""
+    with open(f"{place}/site.toml", encoding="utf-8", errors="replace") as file:
+        heads = [line for line in file if line.startswith("# ")]
+    folder = f"{_TABLES}/252" if "# systemd 252\n" in heads else _TABLES
+    has_second = any(line.startswith("# kernel ") and line.endswith(", which runs programs of i386\n") for line in heads)
+    return f"{folder}/{'calls2' if has_second else 'calls'}.txt"
 
 
 def _site_of_root(unit: LintedUnit, place: str, root: str) -> None:

@@ -7,7 +7,7 @@ TOP = Path(__file__).resolve().parents[3]
 sys.path.insert(0, str(TOP / "tools"))
 
 from lentsheep.compare import changes
-from lentsheep.expect import Accepted, Fault, accepted_by, accepts_used, failures, read_expectations
+from lentsheep.expect import Accepted, Fault, accepted_by, failures, read_expectations
 from lentsheep.report import parse
 
 OLD = """\
@@ -60,8 +60,6 @@ class Accepts(unittest.TestCase):
         ]:
             expectations = read_expectations(f"{accept}denied write /etc\n")
             self.assertEqual(wanted, failures(expectations[-1], report, accepted_by(expectations, "open")))
-        self.assertEqual({"write /etc/a", "write /etc/b", "write /etc/c"}, accepts_used(read_expectations("denied write /etc"), report))
-        self.assertEqual(frozenset(), accepts_used(read_expectations("open write /etc"), report), "an open line needs no accept")
 
     def test_an_accepted_answer_is_no_change(self):
         old, new = parse(OLD, "judge"), parse(NEW, "judge")

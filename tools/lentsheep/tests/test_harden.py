@@ -121,7 +121,9 @@ class DropIns(WithFolder):
     def test_of_a_trace(self):
         lines, text, page, said = self.hardened("--strace", "log")
         self.assertEqual("# opened for writing 2 times in the trace", lines["ReadWritePaths=/var/lib/web"])
-        self.assertEqual("# CAP_NET_BIND_SERVICE: port 80 was bound in the trace", lines["CapabilityBoundingSet=CAP_NET_BIND_SERVICE"])
+        bounding = lines["CapabilityBoundingSet=CAP_NET_BIND_SERVICE"]
+        self.assertTrue(bounding.startswith("# CAP_NET_BIND_SERVICE: port 80 was bound in the trace; closes "), bounding)
+        self.assertTrue(bounding.endswith("; CapabilityBoundingSet=~ takes it back"), bounding)
         self.assertIn("# not seen in this trace: ExecReload=, log rotation\n", text)
         self.assertIn("RestrictAddressFamilies=AF_INET AF_UNIX", lines)
         filters = [line for line in lines if line.startswith("SystemCallFilter=")]

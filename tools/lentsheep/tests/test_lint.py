@@ -14,7 +14,7 @@ TOP = Path(__file__).resolve().parents[3]
 sys.path.insert(0, str(TOP / "tools"))
 
 from lentsheep.lint import Finding, by_text, findings_of
-from lentsheep.lint_judged import is_denying
+from lentsheep.lint_judged import is_denying, replaced
 from lentsheep.lint_overrides import Fault, overridden, read_overrides
 from lentsheep.lint_tags import TAGS, explanation
 from lentsheep.lint_units import LintedFile, LintedUnit, NoUnit, is_given, units_of
@@ -124,6 +124,17 @@ class Units(unittest.TestCase):
             Path(f"{place}/usr/lib/systemd/system/web.service.d/a.conf").write_text("[Service]\n", encoding="utf-8")
             (found,) = units_of(["web"], place)
             self.assertEqual(["web.service", "a.conf"], [it.shown.rpartition("/")[2] for it in found.files])
+
+
+class Copies(unittest.TestCase):
+    """Copies of a text with another line."""
+
+    def test_replaced(self):
+        for what, text, number, wanted in [
+            ("a line", "a\nb\nc", 2, "a\nX\nc"), ("continued lines", "a\nb\\\nc\nd", 2, "a\nX\n#\nd"), ("a comment within", "b\\\n# x\nc\nd", 1, "X\n#\n#\nd"),
+            ("a comment after it", "b\n# x\nc", 1, "X\n# x\nc"), ("the last line", "a\nb\\", 2, "a\nX"),
+        ]:  # fmt: skip
+            self.assertEqual(wanted, replaced(text, number, "X"), what)
 
 
 class Overrides(unittest.TestCase):
@@ -238,6 +249,12 @@ class Judged(unittest.TestCase):
         lines = ["User=web", "NoNewPrivileges=yes", "CapabilityBoundingSet="]
         self.assertEqual([(5, "CapabilityBoundingSet=")], self.tagged("idle-line", *lines))
         self.assertEqual([], self.tagged("idle-line", "PrivateTmp=no", "CapabilityBoundingSet=~CAP_SYS_ADMIN", "ReadWritePaths=/var/lib"))
+
+    def test_a_line_that_systemd_needs_is_not_idle(self):
+        # the filter of ProtectClock= implies no_new_privs in the profile, and not in systemd 255 (nnp-from-filters)
+        self.assertEqual([], self.tagged("idle-line", "User=web", "ProtectClock=yes", "NoNewPrivileges=yes"))
+        # /sys/fs/cgroup is read-only by ProtectKernelTunables= in the profile, and not in systemd (tunables-cgroup)
+        self.assertEqual([], self.tagged("idle-line", "User=web", "NoNewPrivileges=yes", "ProtectKernelTunables=yes", "ProtectControlGroups=yes"))
 
     def test_partings(self):
         lines = ["User=web", "NoNewPrivileges=yes", "ProtectSystem=strict", "SystemCallArchitectures=native"]
