@@ -10,7 +10,7 @@ from typing import Optional, Sequence
 from . import asking
 from .ask import root_of, tell
 from .explain import Folder, questions_of
-from .hardened import COSTS, Hardening, Line, Refused, shortened
+from .hardened import COSTS, MOST_CALLS, Hardening, Line, Refused, shortened
 from .program import Program
 from .report import read_question
 from .strace import Traced, calls_of, names, script_of, signals_of
@@ -102,7 +102,7 @@ def _run(found: argparse.Namespace, program: Program) -> int:
     before = len(wanted.reasons)
     of_unit(files, wanted)
     table = names((program.read("calls.txt") or b"").decode("utf-8", "replace"))
-    scripts = ["".join(f"{line}\n" for line in shortened(script_of(trace, table).lines)) for trace in traces]
+    scripts = ["".join(f"{line}\n" for line in shortened(script_of(trace, table).lines)[:MOST_CALLS]) for trace in traces]
     hardening = Hardening(program, unit, wanted, scripts, root_of())
     hardening.run(must)
     signals = {signal for trace in traces for signal in signals_of(trace)}

@@ -19,6 +19,8 @@ from .wanted import TMP, Wanted, folder_of
 
 #: As many questions as `tighten` takes, and as many calls as `derive` takes.
 MOST_KEPT, MOST_CALLS = 512, 16384
+#: As many rows as a site has.
+MOST_ROWS = 2048
 _KEEP = "lentsheep-keep"
 # What a setting costs, by systemd.exec(5).
 COSTS = {
@@ -120,6 +122,11 @@ class Hardening:
         site = self.program.read("site.toml") or b""
         known = asking.read_site(site.decode("utf-8", "replace"))
         rows = fitting([(path, kind) for path, kind in self.wanted.kinds.items() if path.startswith("/") and path != "/"], known)
+        # what is to be written or run first, since a site has only so many rows
+        urgent = {question.name for question in self.wanted.reasons if question.kind in ("write", "exec")}
+        rows.sort(key=lambda row: row[0] not in urgent)
+        while rows and len(known.rows) + len(asking.rows_with_parents(rows, known)) > MOST_ROWS:
+            rows = rows[:-1]
         return with_rows(site, asking.rows_with_parents(rows, known)) if rows else site
 
     def _take_questions(self, must: set[Question]) -> None:
@@ -135,6 +142,8 @@ class Hardening:
                 raise Refused("", 3, [f"{self.wanted.why(question)}: {question.text} {said}; why {self.unit} {question.text} says more"])
             if question in verdicts:
                 self.denied.append(question)
+            elif question.kind in ("write", "exec"):
+                self.messages.append(f"the site has no room for {question.name}, so {question.text} is not kept")
             self.wanted.drop(question)
         left = sorted(self.wanted.reasons, key=lambda it: it not in must and it.kind in ("read", "see"))
         for question in left[MOST_KEPT:]:

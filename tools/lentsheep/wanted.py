@@ -145,7 +145,9 @@ def of_trace(calls: Iterable[Traced], wanted: Wanted, is_root: bool, what: str =
             wanted.add("socket", {"AF_LOCAL": "AF_UNIX", "AF_FILE": "AF_UNIX"}.get(parts[0], parts[0]), f"opened % {what}")
         if call.name == "bind" and (port := re.search(r"sin6?_port=htons\((\d+)\)", call.inner)) and 0 < int(port[1]) < 1024:
             wanted.add("cap", "CAP_NET_BIND_SERVICE", f"port {port[1]} was bound {what}")
-        if call.name in _CAPABILITIES and is_root:
+        # prlimit64(2) without a new limit only reads one
+        reads_limit = call.name == "prlimit64" and parts[2:3] == ["NULL"]
+        if call.name in _CAPABILITIES and is_root and not reads_limit:
             wanted.add("cap", _CAPABILITIES[call.name], f"{call.name}(2) was called {what}")
         _of_switches(call, parts, wanted, what)
 

@@ -30,6 +30,7 @@ LOG = """\
 11 setuid(33 <unfinished ...>
 10 <... vfork resumed>) = 11
 11 <... setuid resumed>) = 0
+10 prlimit64(0, RLIMIT_STACK, NULL, {rlim_cur=8192*1024, rlim_max=RLIM64_INFINITY}) = 0
 10 mmap(NULL, 4096, PROT_READ|PROT_WRITE|PROT_EXEC, MAP_PRIVATE|MAP_ANONYMOUS, -1, 0) = 0x7f00
 10 --- SIGHUP {si_signo=SIGHUP, si_code=SI_USER, si_pid=1} ---
 """
@@ -87,6 +88,7 @@ class FromTraces(unittest.TestCase):
             (Question("cap", "CAP_SETUID"), "setuid(2) was called in the trace"), (Question("map-wx"), "mmap(2) in the trace"),
         ]:  # fmt: skip
             self.assertEqual(reason, found.why(question), question)
+        self.assertNotIn(Question("cap", "CAP_SYS_RESOURCE"), found.reasons, "no limit was set")
         self.assertNotIn(Question("read", "/nope"), found.reasons, "the call failed")
         self.assertNotIn(Question("write", "/tmp/web.1"), found.reasons, "the service made it, and may have its own /tmp")
         self.assertEqual(({"/tmp"}, 1), (found.private, found.unknown))
