@@ -39,6 +39,8 @@ DENYING = frozenset(
 )
 # Lists in which a further line of the same kind adds to what is allowed, and so denies nothing.
 _LISTS = ("CapabilityBoundingSet", "RestrictAddressFamilies", "RestrictNamespaces", "SystemCallFilter")
+_NATIVE = "SystemCallArchitectures=native"
+_FILTERS = ("MemoryDenyWriteExecute", "RestrictAddressFamilies", "RestrictNamespaces", "SystemCallFilter")
 # Settings around the service that the model does not have: without them a copy is open where the unit may not be.
 _AROUND = frozenset("PrivateUsers SecureBits RootDirectory RootImage MountImages ExtensionImages ExtensionDirectories".split())
 _PATH_KEYS = ("ReadWritePaths", "ReadOnlyPaths", "InaccessiblePaths", "ExecPaths", "NoExecPaths", "BindPaths", "BindReadOnlyPaths")
@@ -244,11 +246,11 @@ class Judging:
     def _undoing(self, report: Report, idle: Sequence[Assignment]) -> dict[Assignment, tuple[str, int, str]]:
         """For idle lines, a line with which they deny something, how many questions, and what the service can do without it."""
         lines: dict[str, str] = {}
-        if not Said(self.files).lines("SystemCallArchitectures"):
-            lines["SystemCallArchitectures=native"] = "32-bit programs make other calls"
         for group in groups(causes(report, read_table(self.program.folder))) if idle else []:
             for line in candidates(group, report):
                 lines.setdefault(line, group.told)
+        if idle and not Said(self.files).lines("SystemCallArchitectures"):
+            lines[_NATIVE] = "32-bit programs make other calls"
         names = {f"etc/systemd/system/{self.unit.name}.d/zzzz-lentsheep-{at}.conf": line for at, line in enumerate(lines)}
         found: dict[Assignment, tuple[str, int, str]] = {}
         for name, line in names.items():
@@ -256,7 +258,9 @@ class Judging:
                 why = changed.run("why", self.unit.name).printed
             counts = {(it.file, it.line): it.count or 0 for it in why.each} if isinstance(why, Why) and why.whole else {}
             for it in idle:
-                if counts.get((it.file, it.line)) and it not in found and not line.startswith(f"{it.key}="):
+                # a filter of calls turns no_new_privs on as well, which is no reason for another key
+                is_meant = it.key in _FILTERS if line == _NATIVE else not line.startswith(f"{it.key}=")
+                if counts.get((it.file, it.line)) and it not in found and is_meant:
                     found[it] = (line, counts[it.file, it.line], lines[line])
         return found
 

@@ -243,6 +243,14 @@ class Judged(unittest.TestCase):
         for lines in (["ProtectSystem=strict", "CapabilityBoundingSet=~CAP_SYS_ADMIN"], ["ProtectSystem=strict", "SystemCallFilter=~@mount"]):
             self.assertEqual([], self.tagged("undone", *lines), lines)
 
+    def test_calls_of_32_bit_programs(self):
+        # socketcall(2) of i386 makes sockets, and its family is in memory, where no filter sees it
+        for lines, wanted in [(["RestrictAddressFamilies=AF_UNIX"], [(3, "RestrictAddressFamilies=AF_UNIX")]), (["RestrictAddressFamilies=AF_UNIX", "SystemCallArchitectures=native"], [])]:
+            self.assertEqual(wanted, self.tagged("undone", *lines))
+        # the user has no filter, so a set-user-ID program undoes this line
+        (it,) = [it for it in self.found("User=web", "ProtectSystem=full").findings if it.tag == "undone"]
+        self.assertIn("with NoNewPrivileges=yes it denies", it.sentence)
+
     def test_idle_lines(self):
         # another user has no capabilities, so an empty bounding set takes none from it; without it a set-user-ID program is stopped
         # by NoNewPrivileges= too
