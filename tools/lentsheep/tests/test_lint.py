@@ -28,6 +28,50 @@ HOW = {**os.environ, "LENTSHEEP_PROGRAM": BUILT}
 PLACE = "etc/systemd/system"
 
 
+# The settings of units of Debian's packages that bear on their sandbox, and what is found in them, partings apart.
+PACKAGES = {
+    # no key of a sandbox
+    "cups": ("ExecStart=/usr/sbin/cupsd -l\n", []),
+    # no_new_privs is off, so a set-user-ID program gives root's capabilities, and mount(2) undoes both lines
+    "caddy": (
+        "User=caddy\nGroup=caddy\nExecStart=/usr/bin/caddy run\nPrivateTmp=true\nProtectSystem=full\nAmbientCapabilities=CAP_NET_BIND_SERVICE\n",
+        [("undone", "PrivateTmp=true"), ("undone", "ProtectSystem=full")],
+    ),
+    # root with all capabilities: mount(2) undoes what mounts hide. PrivateDevices=, ProtectKernelModules= and RestrictRealtime= are filters
+    # too, MemoryDenyWriteExecute= is one, and socketcall(2) of i386 undoes the families. NoNewPrivileges= denies what set-id programs
+    # give, which root with CAP_SETGID takes by itself
+    "low-memory-monitor": (
+        "ExecStart=/usr/libexec/low-memory-monitor\nProtectSystem=strict\nPrivateDevices=true\nProtectControlGroups=true\nProtectHome=true\n"
+        "PrivateTmp=true\nRestrictAddressFamilies=AF_UNIX AF_LOCAL AF_NETLINK\nMemoryDenyWriteExecute=true\nProtectKernelModules=true\n"
+        "RestrictRealtime=true\nNoNewPrivileges=true\n",
+        [
+            ("undone", "ProtectSystem=strict"), ("undone", "ProtectControlGroups=true"), ("undone", "ProtectHome=true"), ("undone", "PrivateTmp=true"),
+            ("undone", "RestrictAddressFamilies=AF_UNIX AF_LOCAL AF_NETLINK"), ("undone", "NoNewPrivileges=true"),
+        ],
+    ),
+    # the list has no mount(2), so that nothing undoes the mounts; ProtectControlGroups= ends tunables-cgroup
+    "fstrim": (
+        "ExecStart=/sbin/fstrim --listed-in /etc/fstab\nPrivateDevices=no\nPrivateUsers=no\nProtectKernelTunables=yes\nProtectKernelModules=yes\n"
+        "ProtectControlGroups=yes\nMemoryDenyWriteExecute=yes\nSystemCallFilter=@default @file-system @basic-io @system-service\n",
+        [],
+    ),
+    # another user without capabilities: the empty bounding set takes none. NoNewPrivileges= ends nnp-from-filters
+    "vnstat": (
+        "ExecStart=/usr/sbin/vnstatd --nodaemon\nUser=vnstat\nCapabilityBoundingSet=\nLockPersonality=yes\nMemoryDenyWriteExecute=yes\n"
+        "NoNewPrivileges=yes\nPrivateDevices=yes\nPrivateTmp=yes\nProtectHome=yes\nProtectSystem=strict\nRestrictNamespaces=yes\n"
+        "RestrictRealtime=yes\nRestrictSUIDSGID=yes\nStateDirectory=vnstat\n",
+        [("idle-line", "CapabilityBoundingSet=")],
+    ),
+    # the bounding set has what the ambient set has; RuntimeDirectory= makes both paths, since /var/run leads to /run
+    "yggdrasil": (
+        "User=yggdrasil\nGroup=yggdrasil\nProtectHome=true\nProtectSystem=strict\nNoNewPrivileges=true\nRuntimeDirectory=yggdrasil\n"
+        "ReadWritePaths=/var/run/yggdrasil /run/yggdrasil\nCapabilityBoundingSet=CAP_NET_ADMIN CAP_NET_BIND_SERVICE\n"
+        "AmbientCapabilities=CAP_NET_ADMIN CAP_NET_BIND_SERVICE\nExecStart=/usr/sbin/yggdrasil\n",
+        [("idle-line", "CapabilityBoundingSet=CAP_NET_ADMIN CAP_NET_BIND_SERVICE")],
+    ),
+}  # fmt: skip
+
+
 def unit(text, name="web.service", **dropins):
     """A unit of a text, with drop-ins by their names."""
     files = [LintedFile(name, f"{PLACE}/{name}", text.encode())]
@@ -291,6 +335,12 @@ class Judged(unittest.TestCase):
     def test_drop_ins_and_templates(self):
         found = findings_of(unit("[Service]\nExecStart=/usr/bin/web %i\n", "web@lint.service", a="[Service]\nProtectSystem=strict\nReadWritePaths=/srv/%i\n"))
         self.assertIn(("web@lint.service.d/a.conf", 3, "unmade-path"), [(it.file, it.line, it.tag) for it in found.findings])
+
+    def test_units_of_packages(self):
+        for name, (text, wanted) in PACKAGES.items():
+            found = findings_of(unit(f"[Service]\n{text}", f"{name}.service"))
+            told = [(it.tag, it.context) for it in found.findings if not it.tag.startswith("parting-")]
+            self.assertEqual(wanted, told, name)
 
     def test_status_and_severity(self):
         with tempfile.TemporaryDirectory() as place:
