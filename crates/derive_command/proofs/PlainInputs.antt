@@ -17,7 +17,7 @@ use Rattle.replay_command.specs.unit_inputs.FileRefusals.{bytes_held}
 use Rattle.replay_command.specs.unit_inputs.Inputs.{Inputs, all_three, inputs_of}
 use Rattle.replay_command.specs.unit_inputs.SiteRefusals.{site_in}
 use Rattle.replay_command.specs.unit_inputs.UnitRefusals.{unit_in}
-use Rattle.derive_command.proofs.PlainTables.{table_is_plain}
+use Rattle.trace_profile.proofs.PlainTables.{table_is_plain}
 
 -- a table of bytes that are few
 plain_held : (content : Content) (table : Table) → ((bytes : List ℕ) → content ≡ Holds bytes → length bytes ≤ 1048576)

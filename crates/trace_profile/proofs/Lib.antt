@@ -1,4 +1,5 @@
 pub mod Lists
+pub mod UsedMarks
 pub mod Kept
 pub mod Tried
 pub mod TameBytes
@@ -11,6 +12,8 @@ pub mod AsEither
 pub mod PushesNone
 pub mod SameLists
 pub mod OneList
+pub mod CallsOfLines
+pub mod PlainTables
 pub mod Whole
 pub mod Same
 pub mod Either

@@ -1,5 +1,5 @@
 -- What is derived for a script, with what holds of every table, site and script.
-use Rattle.std.proofs.Common.{◌≡◌, ◌<◌, ◌^◌, None, Result, Ok, Err, List, All, sym, subst}
+use Rattle.std.proofs.Common.{◌≡◌, ℕ, ◌<◌, ◌^◌, None, Result, Ok, Err, List, All, sym, subst}
 use Rattle.std.specs.Prelude.{IsErrAnd}
 use Rattle.std.proofs.lemmas.List.Elements.{recursion_from_All}
 use Rattle.asked_service.specs.call_table.Facts.{IsWhole}
@@ -12,18 +12,26 @@ use Rattle.asked_service.specs.declared.launched_units.refusal.UnitRefusal.{Unit
 use Rattle.asked_service.specs.declared.launched_units.refusal.UnitRefusal.TheVariants as refusal
 use Rattle.asked_service.proofs.OfLauncher.TwoAbis.{word_archs}
 use Rattle.asked_service.specs.site_table.Table.{IsSite, Site}
-use Rattle.trace_profile.specs.Derived.{Derives}
+use Rattle.trace_profile.specs.Derived.{Derives, IsOnlyOne}
 use Rattle.trace_profile.specs.Errors.{error_of}
 use Rattle.trace_profile.specs.Extended.{open_unit}
 use Rattle.trace_profile.specs.Finding.{DerivesOpen}
+use Rattle.trace_profile.specs.PlainNames.{IsReadFrom}
 use Rattle.trace_profile.specs.Scripts.{first_seccomp}
 use Rattle.trace_profile.specs.declared.derived.DeriveError.{DeriveError}
 use Rattle.trace_profile.specs.declared.derived.Derived.{Derived}
 use Rattle.trace_profile.proofs.OneList.{least_is_only_one}
+use Rattle.trace_profile.proofs.PlainTables.{table_is_plain}
 
 module _ (unit : Resolved) (table : calls.Table) (site : Site) (script : List Call) (sound : IsSite site) (whole : IsWhole table) (native : table.arch < 2 ^ 32) (second : calls.arch_of table 1 < 2 ^ 32) (fit : All IsCall script) (none : first_seccomp table script ≡ None) where
   pub derives_all : (derived : Derived) → DerivesOpen unit table site script (Ok derived) → Derives unit table site script (Ok derived)
   derives_all derived is = (none, is, λ plain. least_is_only_one unit table site script derived.names sound whole (word_archs table native second) (recursion_from_All IsCall script fit) none plain is)
+
+  -- over a table that was read
+  pub only_over_read : (derived : Derived) → DerivesOpen unit table site script (Ok derived) → (bytes : List ℕ)
+      → IsReadFrom bytes table → IsOnlyOne unit table site script derived.names
+  only_over_read derived is bytes read =
+      (derives_all derived is).2 (table_is_plain bytes table read.fits_a_file read.is_its_table)
 
 -- why there is nothing
 module _ (unit : Resolved) (table : calls.Table) (site : Site) (script : List Call) (none : first_seccomp table script ≡ None) where

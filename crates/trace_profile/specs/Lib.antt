@@ -3,6 +3,7 @@ pub mod Extended
 pub mod Replies
 pub mod Scripts
 pub mod Names
+pub mod Used
 pub mod PlainNames
 pub mod Derived
 pub mod Only

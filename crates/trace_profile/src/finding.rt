@@ -4,8 +4,9 @@ ghost use Rattle.asked_service.specs.launched_units.Launching.{IsNotLaunched};
 ghost use Rattle.trace_profile.specs.Derived.{Derives, Serves, tried_with};
 ghost use Rattle.trace_profile.specs.Extended.{extended};
 ghost use Rattle.trace_profile.specs.Finding.{DerivesOpen};
-ghost use Rattle.std.specs.Prelude.{◌≡◌, All, IfOk, IfErr, None, length};
-ghost use Rattle.trace_profile.specs.Derived.{IsLeast};
+ghost use Rattle.std.specs.Prelude.{◌≡◌, ℕ, All, IfOk, IfErr, List, None, length};
+ghost use Rattle.trace_profile.specs.Derived.{IsLeast, IsOnlyOne};
+ghost use Rattle.trace_profile.specs.PlainNames.{IsReadFrom};
 ghost use Rattle.trace_profile.specs.Searching.{AreServing, tried_of};
 ghost use Rattle.asked_service.specs.kernel_model.kernel_calls.Calls.{IsCall};
 
@@ -88,8 +89,9 @@ fn calls_fit(script: &[Call])
 /// The least list of names with which the unit answers the calls of a script as with all names.
 ///
 /// With these names and `@default` allowed, and no other call, the unit is launched and each call of the script has the reply
-/// that it has where every call of the table is allowed. Without any of them it is not launched, or some reply is another. Where
-/// the names of the table are plain, the list with these facts is the only one, and none of its names is in `@default`.
+/// that it has where every call of the table is allowed. Without any of them it is not launched, or some reply is another. The
+/// list with these facts is the only one, and none of its names is in `@default`: so it is over each table that was read from a
+/// file, which has at most 1 MiB, and over any other whose names are plain.
 /// Seccomp tells the first call of the script that asks to push a program, before all else; Settings, Plan and Launch come, in
 /// this order, exactly where the unit that allows every call is refused so. Memory may come at any unit.
 pub fn derive(
@@ -100,6 +102,8 @@ pub fn derive(
     script: &Script,
 ) -> Result<Derived, DeriveError>
     ensures derives { Derives unit.now calls.now site.now script.now result }
+    ensures only_list_over_a_read_table { IfOk result (λ derived. (bytes : List ℕ) → IsReadFrom bytes calls.now
+        → IsOnlyOne unit.now calls.now site.now script.now derived.names) }
 {
     if let Some(number) = first_seccomp(calls, script.list()) {
         return Err(DeriveError::Seccomp(number));

@@ -9,22 +9,22 @@ use Rattle.std.specs.Str.Parse.{digits_value}
 use Rattle.std.proofs.lemmas.Bool.Decides.{nat_tests}
 use Rattle.std.proofs.lemmas.List.Elements.{recursion_from_All}
 use Rattle.std.proofs.lemmas.List.Quantifiers.{position-Some}
-use Rattle.replay_command.specs.text_forms.line_text.Lines.{Line, is_text, lines_of}
-use Rattle.replay_command.specs.call_table.Kinds.{Kind, abi, call, family, group, malformed}
-use Rattle.replay_command.specs.call_table.Lookups.{has_name, place_named}
-use Rattle.replay_command.specs.call_table.Names.{is_name}
-use Rattle.replay_command.specs.call_table.Numbers.{arch_of, is_lower_hex}
-use Rattle.replay_command.specs.call_table.Reading.{Head, line_kind, table_behind, fault_of, missing_call, unless_missing, unless_fault}
-use Rattle.replay_command.specs.call_table.Reading.{table_of_rest, with_arch, with_abi, table_from, is_version, table_of_lines, table_of}
-use Rattle.replay_command.specs.call_table.Table.{Table, every_call}
-use Rattle.replay_command.specs.call_table.declared.listed.CallLine.{CallLine}
-use Rattle.replay_command.specs.call_table.declared.causes.CallsError.{CallsError}
-use Rattle.replay_command.specs.call_table.declared.causes.CallsError.TheVariants.{NotText}
-use Rattle.replay_command.proofs.OfCallTable.Places.{some_line}
+use Rattle.asked_service.specs.text_forms.line_text.Lines.{Line, is_text, lines_of}
+use Rattle.asked_service.specs.call_table.Kinds.{Kind, abi, call, family, group, malformed}
+use Rattle.asked_service.specs.call_table.Lookups.{has_name, place_named}
+use Rattle.asked_service.specs.call_table.Names.{is_name}
+use Rattle.asked_service.specs.call_table.Numbers.{arch_of, is_lower_hex}
+use Rattle.asked_service.specs.call_table.Reading.{Head, line_kind, table_behind, fault_of, missing_call, unless_missing, unless_fault}
+use Rattle.asked_service.specs.call_table.Reading.{table_of_rest, with_arch, with_abi, table_from, is_version, table_of_lines, table_of}
+use Rattle.asked_service.specs.call_table.Table.{Table, every_call}
+use Rattle.asked_service.specs.call_table.declared.listed.CallLine.{CallLine}
+use Rattle.asked_service.specs.call_table.declared.causes.CallsError.{CallsError}
+use Rattle.asked_service.specs.call_table.declared.causes.CallsError.TheVariants.{NotText}
+use Rattle.asked_service.proofs.OfCallTable.Places.{some_line}
 use Rattle.trace_profile.specs.Extended.{name_at, is_first_line}
 use Rattle.trace_profile.specs.Names.{AreNames}
 use Rattle.trace_profile.specs.PlainNames.{HasPlainNames}
-use Rattle.derive_command.proofs.CallsOfLines.{FitsKind, every_call_fits, line_fits, room_of_lines, room_of_names, room_of_text}
+use Rattle.trace_profile.proofs.CallsOfLines.{FitsKind, every_call_fits, line_fits, room_of_lines, room_of_names, room_of_text}
 
 -- ---- a table that was read
 -- an architecture is eight digits

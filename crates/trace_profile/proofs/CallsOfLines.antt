@@ -5,14 +5,14 @@ use Rattle.std.specs.Prelude.{◌&&◌, ◌==◌, not, codes, option_and_then}
 use Rattle.std.specs.List.{list_all, slice_split, onto_first, cons_option}
 use Rattle.std.specs.Option.{option_map, option_or}
 use Rattle.std.specs.Str.{bytes_eq}
-use Rattle.replay_command.specs.text_forms.line_text.Lines.{Line, line_of, lines_of, counted_from, words_of, is_skipped}
-use Rattle.replay_command.specs.call_table.Kinds.{Entry, Kind, abi, call, family, group, malformed, abi_line, named_entry, entry_of}
-use Rattle.replay_command.specs.call_table.Kinds.{call_line, family_line, named_group, group_line, kind_of}
-use Rattle.replay_command.specs.call_table.Names.{is_name, behind_at}
-use Rattle.replay_command.specs.call_table.Numbers.{number_of, cap_of}
-use Rattle.replay_command.specs.call_table.Reading.{line_kind, call_of, calls_of, native_lines, is_abi, opened_by, second_of, every_call_of}
-use Rattle.replay_command.specs.call_table.Table.{second_calls}
-use Rattle.replay_command.specs.call_table.declared.listed.CallLine.{CallLine}
+use Rattle.asked_service.specs.text_forms.line_text.Lines.{Line, line_of, lines_of, counted_from, words_of, is_skipped}
+use Rattle.asked_service.specs.call_table.Kinds.{Entry, Kind, abi, call, family, group, malformed, abi_line, named_entry, entry_of}
+use Rattle.asked_service.specs.call_table.Kinds.{call_line, family_line, named_group, group_line, kind_of}
+use Rattle.asked_service.specs.call_table.Names.{is_name, behind_at}
+use Rattle.asked_service.specs.call_table.Numbers.{number_of, cap_of}
+use Rattle.asked_service.specs.call_table.Reading.{line_kind, call_of, calls_of, native_lines, is_abi, opened_by, second_of, every_call_of}
+use Rattle.asked_service.specs.call_table.Table.{second_calls}
+use Rattle.asked_service.specs.call_table.declared.listed.CallLine.{CallLine}
 
 -- ---- what stands in a text
 -- the bytes of parts, with one behind each
