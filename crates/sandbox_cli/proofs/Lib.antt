@@ -1,1 +1,2 @@
 mod SameWords
+mod Causes

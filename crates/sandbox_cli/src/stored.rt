@@ -1,7 +1,10 @@
 //! The stored tests of the program, and its wish.
 
-ghost use Rattle.std.specs.Prelude.{◌≡◌, ◌≤◌, IfErr};
+ghost use Rattle.std.specs.Prelude.{◌≡◌, ◌≤◌, IfErr, IfOk};
+ghost use Rattle.top_call.specs.Around.{around};
 ghost use Rattle.top_call.specs.exposure_score.Stored.{ambient_count, writable_paths};
+ghost use Rattle.top_call.specs.unit_inputs.command_answers.Runs.{HasFaultCause};
+ghost use Rattle.sandbox_cli.specs.Running.{ExitsBy};
 ghost use Rattle.sandbox_cli.specs.Wishes.{can_execute};
 
 use crate::executing::can_execute;
@@ -21,6 +24,8 @@ pub fn run_with_tests<S: Shelf, K: Sink>(
     shelf: &mut S,
     out: &mut K,
 ) -> Result<ExitCode, AllocError>
+    ensures faults_have_causes { IfOk result (ExitsBy (λ ending. HasFaultCause ending
+        (around S.faults K.faults K.taken shelf.old shelf.new out.old out.new))) }
     ensures map_stays { S.told shelf.new ≡ S.told shelf.old }
 
     // Without memory for the tests and the wish nothing is read or written.
