@@ -10,10 +10,10 @@ import sys
 import tempfile
 import tomllib
 from pathlib import Path
-from typing import Any, Iterable, Sequence
+from typing import Any, Sequence
 
 from lentsheep.causes import State, held_capabilities, state_of
-from lentsheep.gather import view_of
+from lentsheep.gather import partings_of, plan_of
 from lentsheep.partings import files_in_force, partings_by_text
 from lentsheep.program import Program, Run
 from lentsheep.report import parse
@@ -23,9 +23,11 @@ from . import compare, files, found, kernel, printed, questions, service, surrou
 from .cover import Told
 from .filters import I386, X86_64
 from .furnish import FURNISHED, Fault, furnish
-from .machine import Machine, Unstarted
+from .machine import Machine
+from .root import Root, Unstarted
 from .table import TABLES, calls_of, table_of
 from .tries import CAPABLE, PROBE, Place, Try
+from .virtual import VirtualMachine
 
 TOP = kernel.TOP
 PLAIN, PEER = "reality-plain.service", "reality-peer@{}.service"
@@ -50,8 +52,9 @@ class Runner(Program):
 class Harness:
     """One root with its machine, its site and what PID 1 sees."""
 
-    def __init__(self, root: str, units: Sequence[str], twists: Sequence[str] = ()):
+    def __init__(self, root: str, units: Sequence[str], twists: Sequence[str] = (), is_virtual: bool = False):
         self.root = os.path.realpath(root)
+        self._way: type[Root] = VirtualMachine if is_virtual else Machine
         self._twists = twists
         self._stack = contextlib.ExitStack()
         self._given = list(units)
@@ -62,7 +65,7 @@ class Harness:
             raise Unstarted("it takes root of this machine, and gcc")
         try:
             furnish(self.root)
-            self.machine = self._stack.enter_context(Machine(self.root, self._place_units))
+            self.machine = self._stack.enter_context(self._way(self.root, self._place_units))
             self.folder = self._stack.enter_context(tempfile.TemporaryDirectory(prefix="lentsheep-here."))
             self.version = self.machine.version()
             self._make_site()
@@ -74,6 +77,11 @@ class Harness:
 
     def __exit__(self, *_: object) -> None:
         self._stack.close()
+
+    @property
+    def head(self) -> str:
+        """What runs, and how."""
+        return f"systemd {self.version}, {self.machine.way}, Linux {self.machine.release}"
 
     def told(self, *words: str) -> Any:
         """Returns what ./sandbox prints of a command, as its views read it."""
@@ -143,10 +151,8 @@ class Harness:
 
     def _make_folders(self) -> None:
         """Makes the rows of folders that systemd would make when their unit starts, so that PID 1 sees them from the beginning."""
-        for row, kind in self.rows.items():
-            if kind == "dir" and row.startswith(("/var/", "/run/", "/etc/")) and not os.path.lexists(self.root + row):
-                with contextlib.suppress(OSError):
-                    os.makedirs(self.root + row)
+        folders = [row for row, kind in self.rows.items() if kind == "dir" and row.startswith(("/var/", "/run/", "/etc/"))]
+        self.machine.make_folders(folders)
 
     def _has_capabilities(self, row: str) -> bool:
         try:
@@ -194,16 +200,6 @@ class Harness:
                 return [int(told)] if told.isdigit() and told != "0" else []
         return []
 
-    def handles(self, paths: Iterable[str]) -> dict[str, bytes]:
-        """File handles of rows of the root's own file system."""
-        found: dict[str, bytes] = {}
-        device = os.stat(self.root).st_dev
-        for path in paths:
-            with contextlib.suppress(OSError):
-                if os.lstat(self.root + path).st_dev == device:
-                    found[path] = kernel.handle_of(self.root + path)
-        return found
-
     def place(self, report: Report, plan: Plan) -> Place:
         """What the tries of a unit rest on."""
         launch = report.launch
@@ -213,7 +209,7 @@ class Harness:
         folders = [path for path in ("/tmp", "/var/tmp", "/dev/shm", "/run", "/var/lib/lentsheep", "/root") if path not in writable]
         return Place(
             launch.uid, launch.gid, self.calls, self.calls32, self.call_capabilities, self.families, self.peers(launch.uid),
-            self.handles(denied | {"/"}), sorted((mount.place for mount in plan.mounts), key=len, reverse=True),
+            self.machine.handles(sorted(denied | {"/"})), sorted((mount.place for mount in plan.mounts), key=len, reverse=True),
             self.capable_rows, [*writable[:12], *folders],
         )  # fmt: skip
 
@@ -241,10 +237,10 @@ class Harness:
             raise Fault(f"./sandbox judge {unit}: status {run.status}")
         if report.refusal or not isinstance(report.launch, Launched):
             return self._refused(unit, report)
-        view = view_of(self.program, run)
-        plan = view.plan
+        plan = plan_of(self.program, run, report)
         # files that are handed in are the harness's own doing
-        told = Told((parting for parting in view.partings if parting.name != "handed-in"), self.judges_i386)
+        met = (parting for parting in partings_of(self.program, run, report) if parting.name != "handed-in")
+        told = Told(met, self.judges_i386)
         place = self.place(report, plan)
         made, asked = self._tries(report, place)
         started = service.start(self.machine, unit, asked)

@@ -1,11 +1,11 @@
-"""A root folder, started: systemd is PID 1 in user, PID, mount, network, IPC, UTS and cgroup namespaces of this machine.
+"""A root directory, started in namespaces: systemd is PID 1 in user, PID, mount, network, IPC, UTS and cgroup namespaces.
 
-`Machine(root, fill)` is used with `with`. The root is written to: its `run` is emptied, `fill()` is called, and services make folders
-in it. Its ids are shown shifted (an id-mapped mount), so that its uid 0 is nobody on this machine. Nothing of this machine is mounted
-in it but devices such as /dev/null.
+Its ids are shown shifted (an id-mapped mount), so that its uid 0 is nobody on this machine. Nothing of this machine is mounted in it
+but devices such as /dev/null.
 """
 from __future__ import annotations
 
+import contextlib
 import glob
 import os
 import shutil
@@ -14,56 +14,34 @@ import subprocess
 import tempfile
 import time
 from pathlib import Path
-from typing import Callable
+from typing import Callable, Iterable, Mapping
 
 from . import kernel
+from .root import GO, TARGET, Root, Unstarted
+from .tries import PROBE
 
 # ids of the root begin here on this machine
 FIRST_ID, IDS = 0x7A000000, 65536
 DEVICES = {"null": (1, 3), "zero": (1, 5), "full": (1, 7), "random": (1, 8), "urandom": (1, 9), "tty": (5, 0), "kmsg": (1, 11)}
 DEVICE_MOUNTS = (("pts", "devpts", "newinstance,ptmxmode=666,mode=620"), ("shm", "tmpfs", "mode=1777"), ("mqueue", "mqueue", None))
 ENVIRONMENT = {"container": "lentsheep", "PATH": "/usr/local/sbin:/usr/local/bin:/usr/sbin:/usr/bin", "SYSTEMD_LOG_TARGET": "null"}
-TARGET = "reality.target"
-TARGET_TEXT = """\
-[Unit]
-Description=What the harness starts first
-DefaultDependencies=no
-Wants=systemd-journald.socket systemd-journald-dev-log.socket
-AllowIsolate=yes
-"""
-RUN_FOLDERS = ("user", "lock", "systemd/system", "reality")
 PATIENCE = 60.0
+QUIET_SECONDS, WHOLE_SECONDS = 4.0, 180.0
 
 
-class Unstarted(Exception):
-    """The machine could not be started; the text says why."""
+class Machine(Root):
+    """One root that runs in namespaces."""
 
-
-class Machine:
-    """One root that runs."""
+    way = "namespaces"
+    first_id = FIRST_ID
+    release = os.uname().release
 
     def __init__(self, root: str, fill: Callable[[], None] = lambda: None):
-        self.root = os.path.realpath(root)
-        self._fill = fill
+        super().__init__(root, fill)
         self.pid = 0
         self._outer = 0
         self._folder = ""
         self._cgroup = ""
-
-    def __enter__(self) -> "Machine":
-        if os.geteuid() != 0:
-            raise Unstarted("it takes root of this machine")
-        if not os.path.exists(f"{self.root}/usr/lib/systemd/systemd"):
-            raise Unstarted(f"{self.root} has no usr/lib/systemd/systemd")
-        try:
-            self._start()
-        except OSError as error:
-            self.__exit__()
-            raise Unstarted(f"namespaces: {error}") from None
-        except Unstarted:
-            self.__exit__()
-            raise
-        return self
 
     def __exit__(self, *_: object) -> None:
         for pid in (self.pid, self._outer):
@@ -91,19 +69,9 @@ class Machine:
                     pass
             shutil.rmtree(self._folder, ignore_errors=True)
 
-    def inside(self, *words: str, check: bool = False) -> subprocess.CompletedProcess[str]:
-        """Runs a program of the root in it, as its uid 0."""
+    def inside(self, *words: str) -> subprocess.CompletedProcess[str]:
         enter = ["nsenter", f"--target={self.pid}", "-U", "-m", "-p", "-i", "-u", "-n", "-C", "-r", "-w", "--"]
-        return subprocess.run([*enter, *words], capture_output=True, text=True, check=check, errors="replace", timeout=PATIENCE * 2)
-
-    def systemctl(self, *words: str) -> subprocess.CompletedProcess[str]:
-        """systemctl(1) of the root."""
-        return self.inside("systemctl", "--no-ask-password", "--no-pager", *words)
-
-    def version(self) -> str:
-        """The version of its systemd, as 252.39."""
-        words = self.inside("systemctl", "--version").stdout.split()
-        return words[2].strip("()") if len(words) > 2 else "?"
+        return subprocess.run([*enter, *words], capture_output=True, text=True, check=False, errors="replace", timeout=PATIENCE * 2)
 
     def processes(self, unit: str) -> list[int]:
         """The processes of a unit, by their numbers on this machine."""
@@ -115,18 +83,83 @@ class Machine:
                 pass
         return found
 
-    def path(self, name: str) -> str:
+    def path(self, name: str) -> Path:
         """The file of this name below run/, as this machine sees it."""
-        return f"{self.root}/run/{name}"
+        return Path(self.root, "run", name)
 
-    def _start(self) -> None:
+    def write(self, texts: Mapping[str, str], without: Iterable[str] = ()) -> None:
+        for name in without:
+            self.path(name).unlink(missing_ok=True)
+        for name, text in texts.items():
+            self.path(name).write_text(text)
+
+    def make_folders(self, paths: Iterable[str]) -> None:
+        for path in paths:
+            with contextlib.suppress(OSError):
+                os.makedirs(self.root + path, exist_ok=True)
+
+    def main_process(self, unit: str) -> int:
+        for _ in range(50):
+            for pid in self.processes(unit):
+                with contextlib.suppress(OSError):
+                    if os.readlink(f"/proc/{pid}/exe").endswith(PROBE.rpartition("/")[2]):
+                        return pid
+            if not self.processes(unit):
+                return 0
+            time.sleep(0.02)
+        return 0
+
+    def look(self, pid: int, go: bool) -> tuple[str, str, list[bytes]]:
+        with kernel.stopped(pid):
+            programs = kernel.filters_of(pid)
+            status, mountinfo = (Path(f"/proc/{pid}/{name}").read_text() for name in ("status", "mountinfo"))
+            if go:
+                with open(f"/proc/{pid}/mem", "r+b", buffering=0) as memory:
+                    memory.seek(GO)
+                    memory.write(b"\1\0\0\0")
+        return status, mountinfo, programs
+
+    def wait(self, pid: int, output: str) -> str:
+        path = self.path(output)
+        begun = last = time.monotonic()
+        size = -1
+        while _is_alive(pid):
+            now = time.monotonic()
+            found = path.stat().st_size if path.exists() else 0
+            if found != size:
+                size, last = found, now
+            if now - last > QUIET_SECONDS:
+                for child in _children(pid):
+                    with contextlib.suppress(ProcessLookupError):
+                        os.kill(child, signal.SIGKILL)
+                last = now
+            if now - begun > WHOLE_SECONDS:
+                break
+            time.sleep(0.02)
+        return path.read_text(errors="replace") if path.exists() else ""
+
+    def end(self, unit: str, pid: int) -> None:
+        for each in (pid, *self.processes(unit)):
+            with contextlib.suppress(ProcessLookupError):
+                os.kill(each, signal.SIGKILL)
+
+    def handles(self, paths: Iterable[str]) -> dict[str, bytes]:
+        found: dict[str, bytes] = {}
+        device = os.stat(self.root).st_dev
+        for path in paths:
+            with contextlib.suppress(OSError):
+                if os.lstat(self.root + path).st_dev == device:
+                    found[path] = kernel.handle_of(self.root + path)
+        return found
+
+    def begin(self) -> None:
         kernel.unshare(kernel.NEW_MOUNTS)
         kernel.mount(None, "/", None, kernel.RECURSIVE | kernel.PRIVATE)
         self._folder = tempfile.mkdtemp(prefix="lentsheep-reality.")
         os.chmod(self._folder, 0o711)
         view = f"{self._folder}/root"
         os.mkdir(view)
-        self._clean_run()
+        self.clean_run()
         ready, go = os.pipe(), os.pipe()
         self._outer = os.fork()
         if self._outer == 0:
@@ -152,16 +185,6 @@ class Machine:
         self.pid = int(Path(f"/proc/{self._outer}/task/{self._outer}/children").read_text().split()[0])
         self._show_devices()
         self._wait()
-
-    def _clean_run(self) -> None:
-        run = f"{self.root}/run"
-        for name in os.listdir(run):
-            path = f"{run}/{name}"
-            shutil.rmtree(path) if os.path.isdir(path) and not os.path.islink(path) else os.unlink(path)
-        for name in RUN_FOLDERS:
-            os.makedirs(f"{run}/{name}", exist_ok=True)
-        Path(f"{run}/systemd/system/{TARGET}").write_text(TARGET_TEXT)
-        self._fill()
 
     def _make_cgroup(self) -> str:
         for line in Path("/proc/self/mounts").read_text().splitlines():
@@ -190,7 +213,7 @@ class Machine:
     def _wait(self) -> None:
         until = time.monotonic() + PATIENCE
         while time.monotonic() < until:
-            if os.path.exists(self.path("systemd/private")):
+            if self.path("systemd/private").exists():
                 told = self.systemctl("is-active", TARGET)
                 if told.stdout.strip() == "active":
                     return
@@ -259,3 +282,17 @@ class Machine:
         for number in (signal.SIGPIPE, signal.SIGINT):
             signal.signal(number, signal.SIG_DFL)
         os.execve("/usr/lib/systemd/systemd", ["/usr/lib/systemd/systemd", f"--unit={TARGET}", "--show-status=no"], ENVIRONMENT)
+
+
+def _children(pid: int) -> list[int]:
+    try:
+        return [int(text) for text in Path(f"/proc/{pid}/task/{pid}/children").read_text().split()]
+    except OSError:
+        return []
+
+
+def _is_alive(pid: int) -> bool:
+    try:
+        return Path(f"/proc/{pid}/stat").read_text().rpartition(")")[2].split()[0] not in "ZX"
+    except (OSError, IndexError):
+        return False

@@ -3,19 +3,14 @@ from __future__ import annotations
 
 import os
 import re
-import signal
-import time
 from dataclasses import dataclass, field
 from pathlib import Path
 
-from . import kernel
 from .filters import Filters
-from .machine import FIRST_ID, Machine
+from .root import Root
 from .tries import PROBE, Result, Try, results_of
 
 DROPIN = "zz-lentsheep-reality.conf"
-GO = 0x10000000
-QUIET_SECONDS, WHOLE_SECONDS = 4.0, 180.0
 
 
 def dropin(unit: str, text: str) -> str:
@@ -29,7 +24,7 @@ def dropin(unit: str, text: str) -> str:
     commands = ("ExecCondition", "ExecStartPre", "ExecStart", "ExecStartPost", "ExecReload", "ExecStop", "ExecStopPost")
     lines += [f"{key}=" for key in commands]
     lines += [
-        f"ExecStart={PROBE} hold", "TimeoutStartSec=30", "TTYPath=", f"StandardInput=file:/run/reality/{unit}.in",
+        f"ExecStart={PROBE} hold", "TimeoutStartSec=120", "TTYPath=", f"StandardInput=file:/run/reality/{unit}.in",
         f"StandardOutput=append:/run/reality/{unit}.out", "StandardError=null",
     ]  # fmt: skip
     if re.search(r"^\s*NoExecPaths\s*=", text, re.MULTILINE):
@@ -95,95 +90,28 @@ def prepare(root: str, unit: str, text: str) -> None:
     Path(f"{root}/run/reality/{unit}.in").write_text("")
 
 
-def start(machine: Machine, unit: str, tries: dict[str, Try] | None) -> Started:
+def start(machine: Root, unit: str, tries: dict[str, Try] | None) -> Started:
     """Starts the unit, looks at it before its first call, and lets it make the tries; without any it is ended."""
     started = Started()
-    output = Path(machine.path(f"reality/{unit}.out"))
-    output.unlink(missing_ok=True)
-    if tries:
-        Path(machine.path(f"reality/{unit}.in")).write_text("".join(f"{key} {tried.line}\n" for key, tried in tries.items()))
+    lines = "".join(f"{key} {tried.line}\n" for key, tried in tries.items()) if tries else ""
+    machine.write({f"reality/{unit}.in": lines}, (f"reality/{unit}.out",))
     told = machine.systemctl("start", "--job-mode=ignore-dependencies", unit)
-    pid = _main_process(machine, unit)
+    pid = machine.main_process(unit)
     if not pid:
         shown = machine.systemctl("show", "-p", "Result,ExecMainStatus,LoadError,LoadState", unit).stdout.split("\n")
         started.failure = " ".join([*told.stderr.split("\n")[:1], *filter(None, shown)])
         return started
     try:
-        with kernel.stopped(pid):
-            started.filters = Filters(kernel.filters_of(pid))
-            lines = Path(f"/proc/{pid}/status").read_text().splitlines()
-            started.status = {key: value.strip() for key, _, value in (line.partition(":") for line in lines)}
-            for key in ("Uid", "Gid", "Groups"):
-                started.status[key] = " ".join(str(int(text) - FIRST_ID) for text in started.status[key].split())
-            started.mounts = mounts_of(Path(f"/proc/{pid}/mountinfo").read_text())
-            if tries:
-                with open(f"/proc/{pid}/mem", "r+b", buffering=0) as memory:
-                    memory.seek(GO)
-                    memory.write(b"\1\0\0\0")
+        status, mountinfo, programs = machine.look(pid, go=bool(tries))
+        started.filters = Filters(programs)
+        started.status = {key: value.strip() for key, _, value in (line.partition(":") for line in status.splitlines())}
+        for key in ("Uid", "Gid", "Groups"):
+            started.status[key] = " ".join(str(int(text) - machine.first_id) for text in started.status[key].split())
+        started.mounts = mounts_of(mountinfo)
         if tries:
-            _wait(pid, output)
-            started.results, started.whole = results_of(output.read_text(errors="replace") if output.exists() else "")
-    except (OSError, ProcessLookupError) as error:
+            started.results, started.whole = results_of(machine.wait(pid, f"reality/{unit}.out"))
+    except OSError as error:
         started.failure = f"it could not be looked at: {error}"
     finally:
-        _end(machine, unit, pid)
+        machine.end(unit, pid)
     return started
-
-
-def _main_process(machine: Machine, unit: str) -> int:
-    for _ in range(50):
-        for pid in machine.processes(unit):
-            try:
-                if os.readlink(f"/proc/{pid}/exe").endswith(PROBE.rpartition("/")[2]):
-                    return pid
-            except OSError:
-                continue
-        if not machine.processes(unit):
-            return 0
-        time.sleep(0.02)
-    return 0
-
-
-def _children(pid: int) -> list[int]:
-    try:
-        return [int(text) for text in Path(f"/proc/{pid}/task/{pid}/children").read_text().split()]
-    except OSError:
-        return []
-
-
-def _wait(pid: int, output: Path) -> None:
-    """Until the probe has ended; a try that hangs is ended."""
-    begun = last = time.monotonic()
-    size = -1
-    while os.path.exists(f"/proc/{pid}/mem") and _is_alive(pid):
-        now = time.monotonic()
-        found = output.stat().st_size if output.exists() else 0
-        if found != size:
-            size, last = found, now
-        if now - last > QUIET_SECONDS:
-            for child in _children(pid):
-                os.kill(child, signal.SIGKILL)
-            last = now
-        if now - begun > WHOLE_SECONDS:
-            return
-        time.sleep(0.02)
-
-
-def _is_alive(pid: int) -> bool:
-    try:
-        return Path(f"/proc/{pid}/stat").read_text().rpartition(")")[2].split()[0] not in "ZX"
-    except (OSError, IndexError):
-        return False
-
-
-def _end(machine: Machine, unit: str, pid: int) -> None:
-    """Ends the processes; systemd sees it and puts the unit away."""
-    try:
-        os.kill(pid, signal.SIGKILL)
-    except ProcessLookupError:
-        pass
-    for left in machine.processes(unit):
-        try:
-            os.kill(left, signal.SIGKILL)
-        except ProcessLookupError:
-            pass
