@@ -76,7 +76,7 @@ class Machine(Root):
     def processes(self, unit: str) -> list[int]:
         """The processes of a unit, by their numbers on this machine."""
         found: list[int] = []
-        for path in glob.glob(f"{self._cgroup}/*.slice/{glob.escape(unit)}/**/cgroup.procs", recursive=True):
+        for path in glob.glob(f"{self._cgroup}/**/*.slice/{glob.escape(unit)}/**/cgroup.procs", recursive=True):
             try:
                 found += [int(line) for line in Path(path).read_text().split()]
             except OSError:

@@ -111,7 +111,7 @@ class VirtualMachine(Root):
                 "-chardev", f"socket,id=port,path={port},server=on,wait=on", "-device", "virtserialport,chardev=port",
                 "-serial", f"file:{self._folder}/console",
             ],
-            stdin=subprocess.DEVNULL, stdout=subprocess.DEVNULL,
+            stdin=subprocess.DEVNULL, stdout=subprocess.DEVNULL, stderr=subprocess.DEVNULL,
         )  # fmt: skip
         self._connect(port)
         if self._line() != "ready":
