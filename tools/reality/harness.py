@@ -218,11 +218,19 @@ class Harness:
         replay = self.told("replay", unit, NO_CALLS)
         if replay.refusal or not isinstance(replay.launch, Launched):
             return self._refused(unit, replay)
-        told = Told(partings_by_text(files_in_force(self.folder, unit)), self.judges_i386)
-        started = service.start(self.machine, unit, None)
+        plan, started = self.told("plan", unit), service.start(self.machine, unit, None)
+        by_text = partings_by_text(files_in_force(self.folder, unit))
         comparison = found.Comparison(unit, failure=started.failure)
-        if not started.failure:
-            self._compare_surroundings(comparison, replay.launch, None, self.told("plan", unit), started, told)
+        if started.failure:
+            return comparison
+        self._compare_surroundings(comparison, replay.launch, None, plan, started, Told(by_text, self.judges_i386))
+        if comparison.new:
+            # some partings are met by answers, so it takes a report to name them
+            run = self.program.run("judge", unit)
+            if isinstance(run.printed, Report) and run.text:
+                comparison = found.Comparison(unit)
+                told = Told(partings_of(self.program, run, run.printed), self.judges_i386)
+                self._compare_surroundings(comparison, replay.launch, None, plan, started, told)
         return comparison
 
     def _refused(self, unit: str, printed_: Report | Replay) -> found.Comparison:

@@ -42,7 +42,7 @@ UNIT_TEXT = f"[Unit]\nDefaultDependencies=no\n[Service]\nExecStart=/bin/sh /{AGE
 TARGET_TEXT = (
     "[Unit]\nDefaultDependencies=no\nAllowIsolate=yes\nWants=reality-agent.service systemd-journald.socket systemd-journald-dev-log.socket\n"
 )
-APPEND = f"console=ttyS0 quiet panic=-1 rdinit=/probe systemd.unit={TARGET} systemd.show_status=no systemd.log_target=null -- boot"
+APPEND = f"console=ttyS0 quiet panic=-1 mitigations=off rdinit=/probe systemd.unit={TARGET} systemd.show_status=no systemd.log_target=null -- boot"
 # ends a try that hangs, and comes to an end when the probe has: PID, the file
 WAIT = """\
 quiet=0 size=
