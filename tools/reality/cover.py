@@ -47,6 +47,7 @@ _OF_WAYS = {name for names in _BY_WAY.values() for name in names} - _ALSO_DIRECT
 #: Of what the plan says otherwise: the partings that may be why, with the paths that they speak of.
 _OF_PLAN = (
     ("run-writable", r"/run(/|$)"), ("strict-homes", r"/(home|root|run/user)(/|$)"),
+    ("home-tmpfs", r"/(home|root|run/user)(/|$)"),
     ("tunables-cgroup", r"/sys/fs/(cgroup|selinux)(/|$)"), ("sys-writable", r"/sys(/|$)"),
     ("memory-pressure", r"/sys/fs/cgroup(/|$)"), ("device-folders", r"/dev(/|$)"),
     ("shared-tmp", r"/(var/)?tmp(/|$)"), ("disconnected-tmp", r"/(var/)?tmp(/|$)"),
