@@ -9,7 +9,7 @@ from functools import cached_property
 from typing import Iterable, Mapping, Optional
 
 from .host import Host
-from .parting_lists import ALL, capabilities_here, words_of
+from .parting_lists import ALL, capabilities_here, more_capabilities, words_of
 from .places import is_below
 from .table import Table, read_groups
 from .unit_text import Said, forbids_namespace
@@ -99,9 +99,9 @@ class Judged:
         return not any(self.passes(call) for call in DOING.get(kind, ())) and kind in DOING
 
     def lacks_capability(self, answer: Answer) -> bool:
-        """Whether a call or a family asks for a capability that the service cannot have."""
+        """Whether a call or a family asks for a capability that the service cannot have, there either."""
         asked = self.table.capabilities.get(answer.question.name)
-        return asked is not None and not self.holds(asked)
+        return asked is not None and not self.holds(asked) and not more_capabilities(self.said)
 
     def forbids_namespace(self, kind: str) -> bool:
         """Whether RestrictNamespaces= refuses a type."""

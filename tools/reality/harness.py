@@ -14,9 +14,12 @@ from typing import Any, Sequence
 
 from lentsheep.causes import State, held_capabilities, state_of
 from lentsheep.gather import partings_of, plan_of
-from lentsheep.partings import files_in_force, partings_by_text
+from lentsheep.host import read_host
+from lentsheep.partings import Judged, files_in_force, partings
 from lentsheep.program import Program, Run
 from lentsheep.report import parse
+from lentsheep.table import read_table
+from lentsheep.unit_text import Said
 from lentsheep.values import PATH_KINDS, Launched, Plan, Replay, Report
 
 from . import compare, files, found, kernel, printed, questions, service, surroundings, tries
@@ -136,6 +139,7 @@ class Harness:
         Path(self.folder, "site.toml").write_bytes(site.stdout)
         self._link_files()
         Path(self.folder, NO_CALLS).write_text("")
+        self.host = read_host(site.stdout.decode("utf-8", "replace"))
         self.table = table_of(site.stdout.decode("utf-8", "replace"))
         os.symlink(self.table, f"{self.folder}/calls.txt")
         self.program = Runner(self.folder)
@@ -219,7 +223,7 @@ class Harness:
         if replay.refusal or not isinstance(replay.launch, Launched):
             return self._refused(unit, replay)
         plan, started = self.told("plan", unit), service.start(self.machine, unit, None)
-        by_text = partings_by_text(files_in_force(self.folder, unit))
+        by_text = partings(Judged(Said(files_in_force(self.folder, unit)), table=read_table(self.folder), host=self.host))
         comparison = found.Comparison(unit, failure=started.failure)
         if started.failure:
             return comparison
@@ -252,6 +256,8 @@ class Harness:
         place = self.place(report, plan)
         made, asked = self._tries(report, place)
         started = service.start(self.machine, unit, asked)
+        if not started.failure and not started.whole:
+            started.failure = "the probe did not come to its end"
         comparison = found.Comparison(unit, failure=started.failure)
         if not started.failure:
             self._compare_surroundings(comparison, report.launch, held_capabilities(report), plan, started, told)

@@ -26,7 +26,7 @@ DEVICES = {"null": (1, 3), "zero": (1, 5), "full": (1, 7), "random": (1, 8), "ur
 DEVICE_MOUNTS = (("pts", "devpts", "newinstance,ptmxmode=666,mode=620"), ("shm", "tmpfs", "mode=1777"), ("mqueue", "mqueue", None))
 ENVIRONMENT = {"container": "lentsheep", "PATH": "/usr/local/sbin:/usr/local/bin:/usr/sbin:/usr/bin", "SYSTEMD_LOG_TARGET": "null"}
 PATIENCE = 60.0
-QUIET_SECONDS, WHOLE_SECONDS = 4.0, 180.0
+QUIET_SECONDS, WHOLE_SECONDS = 8.0, 900.0
 
 
 class Machine(Root):

@@ -79,7 +79,8 @@ def held_of(comparison: Comparison, launch: Launched, held: Sequence[str] | None
     for what, said, seen in pairs:
         if said != seen:
             is_open = what != "no_new_privs" or seen == "0"
-            parting = told.first("nnp-from-filters" if seen == "0" else "nnp-from-more") if what == "no_new_privs" else None
+            name = {"no_new_privs": "nnp-from-filters" if seen == "0" else "nnp-from-more", "gid": "dynamic-group"}.get(what, "")
+            parting = told.first(name)
             comparison.held.append((f"{what} {said} here, {seen} there", parting or ("NEW" if is_open else "open here")))
     if held is None:
         return
