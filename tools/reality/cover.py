@@ -49,7 +49,7 @@ _OF_PLAN = (
     ("run-writable", r"/run(/|$)"), ("strict-homes", r"/(home|root|run/user)(/|$)"),
     ("home-tmpfs", r"/(home|root|run/user)(/|$)"),
     ("tunables-cgroup", r"/sys/fs/(cgroup|selinux)(/|$)"), ("sys-writable", r"/sys(/|$)"),
-    ("memory-pressure", r"/sys/fs/cgroup(/|$)"), ("device-folders", r"/dev(/|$)"),
+    ("private-folders", r"/var/(lib|cache|log)/private(/|$)"), ("memory-pressure", r"/sys/fs/cgroup(/|$)"), ("device-folders", r"/dev(/|$)"),
     ("shared-tmp", r"/(var/)?tmp(/|$)"), ("disconnected-tmp", r"/(var/)?tmp(/|$)"),
     *((name, r"") for name in ("old-names-open", "flags-apart", "linked-folders", "beaten", "folders-open", "links")),
 )  # fmt: skip
@@ -78,7 +78,8 @@ class Told:
         touching = self.near(question)
         speaking = [name for name in touching if name in _BY_WAY.get(way, ())]
         if way not in _BY_WAY or (way == "i386" and self._judges_i386):
-            speaking += [name for name in touching if name not in _OF_WAYS]
+            direct = [name for name in touching if name not in _OF_WAYS]
+            speaking += sorted(direct, key=lambda name: name in _ALSO_DIRECT)
         if speaking:
             return speaking[0]
         # one opens the question, and another one the way
