@@ -34,12 +34,12 @@ shows_below uncover folder entry later (Host source) =
 shows_below uncover folder entry later Empty = false
 shows_below uncover folder entry later (Hidden directory) = false
 
--- some entry does
+-- some entry of the table does
 abbrev pub exposes : Bool → Path → Table → Bool
 exposes uncover folder [] = false
 exposes uncover folder (entry ∷ later) = shows_below uncover folder entry later entry.what || exposes uncover folder later
 
--- with mount every folder is shown
+-- the folder is not shown at this power; with mount(2) every folder is
 abbrev pub blind_at : Power → Table → Path → Bool
 blind_at Nowise table folder = not (exposes false folder table)
 blind_at Unmounting table folder = not (exposes true folder table)
@@ -60,7 +60,7 @@ pub record SeesBelow (folder : Path) (table : Table) : Type 0 where
 abbrev pub BlindIsSound : Type 0
 BlindIsSound = (world : World) (folder : Path) → IsLaunchedWorld world → is_blind (launch_of world) folder ≡ true → IsBlind world folder
 
--- with umount2 a folder is exposed where a path of some table that its calls make shows a place below
+-- a table that exposes the folder at the power of umount2(2) becomes, by calls of umount2(2), a table that shows a place below the folder
 abbrev pub ExposesByUnmounts : Type 0
 ExposesByUnmounts = (folder : Path) (table : Table) → IsOrdered table → exposes true folder table ≡ true
     → (now : Table) × Unmounts table now × SeesBelow folder now
@@ -75,12 +75,12 @@ pub record IsFolder (folder : Path) : Type 0 where
   pub normal : is_normal folder ≡ true
   pub short : length (text_of folder) ≤ 250
 
--- with no power what is not blind by the table is exposed in the launched world itself
+-- a folder that is not blind by the table alone is exposed in the launched world itself
 abbrev pub ExposedAtOnce : Type 0
 ExposedAtOnce = (world : World) (folder : Path) → IsLaunchedWorld world → IsSmall (launch_of world).table → IsFolder folder
     → blind_at Nowise (launch_of world).table folder ≡ false → Exposes folder world
 
--- one entry more by a mount call shows everything: the host is bound at the folder of the processes
+-- one mount(2) call, which binds the host at the folder of the processes, shows a place below every folder
 abbrev pub ExposedByMount : Type 0
 ExposedByMount = (rows : Path → Option Row) (table : Table) (first : MountStep) (rest : Table) (folder : Path) (root : Row)
     → table ≡ first ∷ rest → first.place ≡ [] → first.what ≡ Host []

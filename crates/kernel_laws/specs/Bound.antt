@@ -52,8 +52,8 @@ is_barred launch row = row.effective && not (within row.caps launch.creds.boundi
 abbrev pub can_run : Launch → Power → Row → Bool
 can_run launch power row = (is_exe row.kind && reaches power launch.table row.path ToExec) && not (is_barred launch row)
 
--- what execve of a row, and capset after it, make effective: all of the bounding set for a program that is run as root; else the
--- file's capabilities of the bounding set, by its effective bit or by capset
+-- the capabilities that execve of a row, and capset after it, make effective. A program that runs as root has all of the bounding set.
+-- Any other has the file's capabilities that are in the bounding set, by its effective bit or by capset
 abbrev pub file_gain : Launch → Row → ℕ
 file_gain launch row =
     if is_owner 0 row.setuid then launch.creds.bounding
@@ -168,14 +168,14 @@ abbrev pub is_user : NamespaceType → Bool
 is_user User = true
 is_user _ = false
 
--- a row can be seen, read, written or run: a call for it passes, some table shows it, and execve does not refuse it; it refuses none
--- in a newer user namespace, where the bounding set is full
+-- a row can be seen, read, written or run: a call for it passes, some table shows it, and execve does not refuse it. In a newer user
+-- namespace execve refuses none, because the bounding set is full there
 abbrev pub can_reach : Launch → Power → Wish → Row → Bool
 can_reach launch power wish row =
     (lets launch (ForPath wish) && reaches power launch.table row.path wish)
     && not (((is_to_exec wish && not (is_mounting power)) && is_barred launch row) && not (can_make_user launch))
 
--- what is listed is so
+-- the test holds of the listed thing, if there is one
 abbrev pub if_listed : {X : Type 0} → (X → Bool) → Option X → Bool
 if_listed p None = false
 if_listed p (Some x) = p x
@@ -185,7 +185,7 @@ abbrev pub is_call_open : Launch → Bounds → CallLine → Bool
 is_call_open launch top line = list_any (λ other. bytes_eq line.name other.name && lets_line launch PlainCall other)
     (every_call launch.calls) && can_have_for top (rule_of line)
 
--- the verdict: open where this is so, else denied
+-- the verdict: open or denied
 abbrev pub open_at : Launch → Power → Bounds → Question → Bool
 open_at launch power top (ByPath wish place) = if_listed (can_reach launch power wish) (slice_get launch.site.rows place)
 open_at launch power top (Call place) = if_listed (is_call_open launch top) (slice_get (every_call launch.calls) place)

@@ -60,8 +60,8 @@ pub record IsClosed (launch : Launch) (uids gids : Bool) (power : Power) (top : 
   pub mount : lets launch ChangesMounts ≡ true → has top.effective cap_sys_admin ≡ true → power ≡ Mounting
   pub umount : lets launch RemovesMounts ≡ true → has top.effective cap_sys_admin ≡ true → (power ≡ Nowise) → ⊥
 
--- what is told of the mount tables that belong to newer user namespaces, and that no call leaves: copies of tables that processes of
--- the first one can have, and all that mount(2) and umount2(2) make of them
+-- a fact about the mount tables of newer user namespaces that no call changes. It holds of copies of tables that processes of the first
+-- one can have, and of all that mount(2) and umount2(2) make of them
 pub record IsStable (launch : Launch) (power : Power) (below : Mounts → Type 0) : Type 0 where
   pub begins : (mounts : Mounts) → CanHold power launch.table mounts → below (locked_copy mounts)
   pub copies : (mounts : Mounts) → below mounts → below (locked_copy mounts)
@@ -91,7 +91,7 @@ pub record IsHeld (launch : Launch) (power : Power) (top : Bounds) (below : Moun
   pub home : is_newer process ≡ false → owner ≡ 1
   pub made : is_newer process ≡ true → can_make_user launch ≡ true
 
--- the tables that the kernel was told stay, and each process that was made is held
+-- the table of calls and the site stay, and each process that was made is held
 pub record AreHeld (launch : Launch) (power : Power) (top : Bounds) (below : Mounts → Type 0) (world : World) : Type 0 where
   pub calls : world.calls ≡ launch.calls
   pub site : world.site ≡ launch.site
@@ -99,7 +99,7 @@ pub record AreHeld (launch : Launch) (power : Power) (top : Bounds) (below : Mou
   pub each : (at : ℕ) (process : Process) → slice_get world.processes at ≡ Some process
       → IsHeld launch power top below world.tables world.owners process
 
--- an effect that leaves no bound, by whether the process is in a newer user namespace and whether its mount namespace belongs to
+-- an effect that keeps within the bounds, by whether the process is in a newer user namespace and whether its mount namespace belongs to
 -- the first one
 abbrev pub IsSafe : Launch → Power → Bounds → (Mounts → Type 0) → Bool → Bool → Effect → Type 0
 IsSafe launch power top below newer ours (SetCreds creds) = KeepsIn newer top creds

@@ -21,7 +21,7 @@ use Rattle.kernel_laws.specs.Launched.{Launch, passes, Chosen}
 use Rattle.kernel_model.specs.declared.kernel_calls.rule.Rule.{Rule}
 use Rattle.kernel_model.specs.kernel_calls.Rules.{rule_of, rule_at}
 
--- a filter that lets a call through that asks for a kind of thing lets the words through that ask for it first
+-- if a filter lets a call through that asks for a kind of thing, it also lets the first words through that ask for it
 abbrev pub FirstPasses : Type 0
 FirstPasses = (filter : FilterName) (settings : FilterSettings) (table : calls.Table) (line : CallLine) (rule : Rule) (kind : CallKind)
     (payload : Payload) (doing : Doing) (input first : CallData)

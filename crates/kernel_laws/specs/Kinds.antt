@@ -76,9 +76,9 @@ no_words = 0 ∷ 0 ∷ 0 ∷ 0 ∷ 0 ∷ 0 ∷ []
 abbrev pub one_word : ℕ → ℕ → List ℕ
 one_word at value = set no_words at value
 
--- the words with which a call of the rule asks for the kind first; none where the rule does not: O_WRONLY of open(2), PROT_WRITE
--- and PROT_EXEC of mmap(2), PROT_EXEC of mprotect(2), SHM_EXEC of shmat(2), SCHED_FIFO of sched(7), PER_LINUX32 of
--- personality(2), S_ISUID of inode(7), SYS_SOCKET of socketcall(2)
+-- the words with which a call of the rule asks for the kind first, or none if it cannot ask for it. The flags and values are O_WRONLY of
+-- open(2), PROT_WRITE and PROT_EXEC of mmap(2), PROT_EXEC of mprotect(2), SHM_EXEC of shmat(2), SCHED_FIFO of sched(7), PER_LINUX32 of
+-- personality(2), S_ISUID of inode(7) and SYS_SOCKET of socketcall(2)
 abbrev pub words : CallKind → Rule → Option (List ℕ)
 words (ForPath ToSee) (rule.Known known.See) = Some no_words
 words (ForPath ToRead) (rule.Known (known.Open flags)) = Some no_words

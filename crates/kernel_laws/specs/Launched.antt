@@ -32,8 +32,8 @@ use Rattle.kernel_laws.specs.declared.question_types.kind.CallKind.{CallKind}
 use Rattle.kernel_laws.specs.declared.question_types.kind.CallKind.TheVariants.{ForNamespace}
 use Rattle.filter_settings.specs.declared.filter_rules.namespace_types.NamespaceType.TheVariants.{User}
 
--- the tables that the kernel is told, and what process 1 has: credentials(7), its filters (seccomp(2)), the oldest first, and its
--- mount table (mount_namespaces(7))
+-- the table of calls and the site that the kernel is given, and process 1: its credentials(7), its filters (seccomp(2)), the oldest
+-- first, and its mount table (mount_namespaces(7))
 pub record Launch : Type 0 where
   pub calls : calls.Table
   pub site : Site

@@ -1,4 +1,4 @@
--- What a namespace that belongs to a newer user namespace shows is shown without it.
+-- A mount namespace of a newer user namespace shows nothing that the first one could not show.
 use Rattle.std.specs.Prelude.{◌≡◌, true, false, map}
 use Rattle.kernel_model.specs.abs_path.Paths.{Path}
 use Rattle.kernel_model.specs.kern_mounts.Split.{Table}

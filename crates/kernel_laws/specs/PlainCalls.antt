@@ -11,6 +11,6 @@ use Rattle.kernel_laws.specs.Denied.{IsDenied, Shows}
 abbrev pub bare_call : ℕ → ℕ → call.Call
 bare_call abi nr = record { pid = 1; abi = abi; nr = nr; args = no_words; payload = Nothing }
 
--- what a list shows is not denied, whatever is asked of whatever world
+-- a question that some list shows is not denied, whatever the question and the world
 abbrev pub ShownIsNotDenied : Type 0
 ShownIsNotDenied = (world : World) (question : Question) (list : List call.Call) → Shows world question list → ¬ IsDenied world question

@@ -33,7 +33,7 @@ abbrev pub is_plain : Option Rule → Bool
 is_plain (Some (Plain cap)) = true
 is_plain _ = false
 
--- what is asked of a call is asked of a plain one
+-- a question about a call may be asked of plain calls only
 abbrev pub IsAsked : calls.Table → Question → Type 0
 IsAsked table (Call place) = (line : CallLine) → slice_get (calls.every_call table) place ≡ Some line → is_plain (rule_of line) ≡ true
 IsAsked table _ = Unit {0}
@@ -68,7 +68,7 @@ abbrev pub count_from : ℕ → ℕ → List ℕ
 count_from at zero = []
 count_from at (suc count) = at ∷ count_from (at + 1) count
 
--- a number put among ascending ones, each of which stands once
+-- a number put among ascending ones, each of which occurs once
 abbrev pub placed : ℕ → List ℕ → List ℕ
 placed id [] = id ∷ []
 placed id (other ∷ ids) = if nat_lt id other then id ∷ other ∷ ids else if id == other then other ∷ ids else other ∷ placed id ids

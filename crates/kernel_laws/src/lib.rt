@@ -12,30 +12,34 @@ ghost use Rattle.kernel_laws.specs.Laws.{DenialIsSound, ListedAreAsked};
 ghost use Rattle.kernel_laws.specs.PlainCalls.{ShownIsNotDenied};
 ghost use Rattle.kernel_laws.specs.ReachLaws.{ReachByUnmounts, ReachOfTheTable};
 
-/// What a list of calls shows is not denied.
+/// A question that some list of calls shows is not denied.
 pub fn plain_calls()
     ensures never_both { ShownIsNotDenied }
 {}
 
-/// What the ceiling of a launched service closes is reached by no list of calls.
+/// No list of calls reaches a question that the ceiling of a launched service closes. Every question of the list may
+/// be asked.
 pub fn denial()
     ensures sound { DenialIsSound }
     ensures asked { ListedAreAsked }
 {}
 
-/// What can be found on a mount table, and on those that umount2(2) makes of it.
+/// `reach` says exactly which rows of the host a path can find: with no power on the mount table itself, and with
+/// umount2(2) on the tables that its calls make.
 pub fn reach_laws()
     ensures of_the_table { ReachOfTheTable }
     ensures by_unmounts { ReachByUnmounts }
 {}
 
-/// What the filters of settings look at.
+/// The filters of settings look at no more words of a call than its first choice needs. If a filter lets a call
+/// through that asks for a kind of thing, it lets the first choice through as well.
 pub fn first_choice()
     ensures first_passes { FirstPasses }
     ensures settings_choose { SettingsChoose }
 {}
 
-/// What the launched mount table does not show below a folder is shown in no world; and what shows it otherwise.
+/// If the launched mount table does not show what lies below a folder, no world shows it. If the table does show it,
+/// the folder is exposed: at once, on a table that umount2(2) makes, or after one mount(2).
 pub fn blindness()
     ensures sound { BlindIsSound }
     ensures at_once { ExposedAtOnce }

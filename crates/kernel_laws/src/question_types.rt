@@ -1,7 +1,8 @@
-//! The words in which a launched service is asked about: what is asked, what is wished of a file, what a call asks for.
+//! Types for the questions about a launched service: the question, what is wished of a file, and what a call asks
+//! for.
 //!
-//! There are types alone, which the kernel's laws cite in their definitions and the commands hand around. They rest on
-//! `filter_rules` for the types of namespaces; `Question::Path(Wish::Read, 3)` asks whether row 3 of a site is read.
+//! The module has types only. The laws cite them, and the commands hand them around. `Question::Path(Wish::Read, 3)`
+//! asks whether the service can read row 3 of a site.
 
 mod kind;
 mod power;

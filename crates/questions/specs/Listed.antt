@@ -48,7 +48,7 @@ pub data IsGidOf (site : Site) (id : ℕ) : Type 0 where
   of_further_group : Any (λ (user : User). Contains user.groups id) site.users → IsGidOf site id
   of_group_of_row : Any (λ (row : Row). row.setgid ≡ Some id) site.rows → IsGidOf site id
 
--- there is a thing that the question is asked of; a call is asked of at the first of all lines of its name, in whatever ABI
+-- the question has a thing to be asked of; a call is asked of at the first of all lines of its name, in whatever ABI
 abbrev pub IsAskedOf : calls.Table → Site → Question → Type 0
 IsAskedOf table site (ByPath wish at) = (row : Row) × (slice_get site.rows at ≡ Some row) × (is_asked_of wish row.kind ≡ true)
 IsAskedOf table site (Call at) =
@@ -60,7 +60,7 @@ IsAskedOf table site (Uid id) = IsUidOf site id
 IsAskedOf table site (Gid id) = IsGidOf site id
 IsAskedOf table site _ = Unit {0}
 
--- exactly these are in the list
+-- the list has exactly these questions
 abbrev pub ListsWhatIsAsked : Type 0
 ListsWhatIsAsked = (table : calls.Table) (site : Site) (question : Question)
     → Contains (questions table site) question ↔ IsAskedOf table site question

@@ -42,12 +42,17 @@ fn push_gids(list: &mut Vec<Question>, gids: &[u32]) -> Result<(), AllocError>
     Ok(())
 }
 
-/// All that is asked of a service, in this order: of each row to see and to read it, to write what is no directory and to
-/// execute what can be executed; of each call that no rule names, in the order of the table, once for each name, whichever
-/// ABIs have it; of each family; of the types of namespaces and the six other uses of memory, policies, domains and modes;
-/// of the capabilities by their numbers; of the uids and of the gids that the site knows, ascending, each once.
+/// Makes the list of all questions about a service, in this order:
+/// - for each row of the site, to see and to read it, to write it unless it is a directory, and to execute it if it
+///   is an executable;
+/// - for each plain call, in the order of the table, to make it, once for each name even if both ABIs have it;
+/// - for each family, to make a socket of it;
+/// - for each type of namespaces, to make one;
+/// - the six questions about executable memory, realtime policies, execution domains and set-id bits;
+/// - for each capability, by its number, to have it effective;
+/// - for each uid and then each gid that the site knows, ascending and once each, to have it.
 ///
-/// The one error is want of memory.
+/// The call fails only if memory runs out.
 pub fn questions(
     alloc: Global,
     calls: &CallTable,

@@ -1,8 +1,10 @@
-//! What is asked of a launched service: the list of all questions, in their order.
+//! Makes the list of all questions about a launched service, in their order.
 //!
-//! A question asks whether any process of the service can ever do one thing, as to read one file or to have one
-//! capability. It stands on `call_table` and `site_table` for what there is to ask of, and on `kernel_laws` for what each
-//! question means; `questions(alloc, &calls, &site)?` begins with seeing and reading the row of `/`.
+//! A question asks whether any process of the service can ever do one thing, for example read one file or have one
+//! capability. `call_table` and `site_table` say what there is to ask about, and `kernel_laws` says what each
+//! question means.
+//!
+//! `questions(alloc, &calls, &site)?` begins with seeing and reading the row of `/`.
 #![tactic(auto)]
 
 mod all;

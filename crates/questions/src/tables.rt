@@ -39,14 +39,14 @@ pub(crate) fn push_rows(list: &mut Vec<Question>, rows: &[Row]) -> Result<(), Al
     Ok(())
 }
 
-// Whether the kernel does not know the call of this line by its name, so that it neither has a rule of its own nor lacks it.
+// Returns whether the call of this line is plain: the kernel has no rule for its name, and does not lack it.
 fn is_plain(line: &CallLine) -> bool
     ensures { result ≡ is_plain (rule_of line.now) }
 {
     !is_known(line.name.as_str())
 }
 
-// How many calls there are, in all ABIs.
+// Returns how many calls there are, in all ABIs.
 #[tactic(auto, using(crate::proofs::AllCalls::count_all))]
 fn count_calls(table: &CallTable) -> usize
     ensures { result ≡ length (every_call table.now) }
@@ -54,7 +54,7 @@ fn count_calls(table: &CallTable) -> usize
     table.calls().len() + table.calls_in(1).len()
 }
 
-// Whether the line of this number is the first of its name.
+// Returns whether the line of this number is the first of its name.
 fn is_first(table: &CallTable, at: usize, line: &CallLine) -> bool
     ensures { result ≡ is_first (every_call table.now) line.now.name at }
 {
@@ -64,7 +64,8 @@ fn is_first(table: &CallTable, at: usize, line: &CallLine) -> bool
     }
 }
 
-// Whether the call of this number is asked of: it is plain, and its line the first of its name.
+// Returns whether the list has a question for the call of this number: it is plain, and its line is the first of its
+// name.
 fn is_asked(table: &CallTable, at: usize) -> bool
     ensures { let every = every_call table.now in
         result ≡ option_map_or (λ line. is_plain (rule_of line) && is_first every line.name at) (slice_get every at) false }

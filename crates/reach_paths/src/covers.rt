@@ -1,4 +1,4 @@
-//! Whether the entries of a mount table cover a path. The path is given as a front and a rest, and is never built.
+//! Tests if the entries of a mount table cover a path. The path is given as a front and a rest, and is never built.
 
 ghost use Rattle.std.specs.Prelude.{◌≡◌, ◌++◌, drop, is_some};
 ghost use Rattle.std.specs.List.{list_any};
@@ -10,7 +10,7 @@ ghost use Rattle.kernel_laws.specs.kern_mounts.Entry.{leads_to};
 use abs_path::AbsPath;
 use kernel_laws::MountTable;
 
-// Nothing, or a text that goes on at a slash.
+// Returns whether a text is empty or begins with a slash.
 fn is_behind(rest: &str) -> bool
     ensures { result ≡ is_behind rest.now }
 {
@@ -20,7 +20,7 @@ fn is_behind(rest: &str) -> bool
     }
 }
 
-// Whether a text is the other, or goes on behind it at a slash.
+// Returns whether a text is the other, or goes on after it at a slash.
 fn goes_on(text: &str, front: &str) -> bool
     ensures { result ≡ is_some (behind_text front.now text.now) }
 {
@@ -30,7 +30,7 @@ fn goes_on(text: &str, front: &str) -> bool
     }
 }
 
-// Whether the place leads to the path that the front and the rest make, by whole parts.
+// Returns whether the place leads to the path that the front and the rest make, by whole parts.
 fn leads_to(place: &AbsPath, front: &AbsPath, rest: &str) -> bool
     requires { IsRest rest.now }
     ensures { result ≡ is_prefix place.now (front.now ++ parts_of rest.now) }
@@ -41,8 +41,8 @@ fn leads_to(place: &AbsPath, front: &AbsPath, rest: &str) -> bool
     }
 }
 
-/// Whether an entry of this number or a later one covers the path that the front and the rest make: its place is that path or leads
-/// to it. What `AbsPath::rest` answers is a rest, and so is nothing. It takes no memory.
+/// Returns whether an entry of this number or a later one covers the path that the front and the rest make: its place
+/// is that path or leads to it. What `AbsPath::rest` answers is a rest, and so is nothing. It takes no memory.
 pub fn is_covered(table: &MountTable, from: usize, front: &AbsPath, rest: &str) -> bool
     requires may_be_joined { IsRest rest.now }
     ensures some_place_leads_there { result ≡ list_any (leads_to (front.now ++ parts_of rest.now)) (drop from (steps_of table.now)) }

@@ -17,7 +17,8 @@ use abs_path::AbsPath;
 use kernel_laws::question_types::{Power, Wish};
 use kernel_laws::{MountTable, What};
 
-// Whether the entry of this number shows the row, at a path that no later entry covers or that can be uncovered.
+// Returns whether the entry of this number shows the row, at a path that no later entry covers or that can be
+// uncovered.
 fn shows(table: &MountTable, at: usize, row: &AbsPath, uncover: bool) -> bool
     requires in_range { at < length table.now }
     requires few { length table.now ≤ mount_max }
@@ -46,12 +47,14 @@ fn first_that_serves(table: &MountTable, row: &AbsPath, wish: Wish, uncover: boo
     None
 }
 
-/// The number of the entry of a mount table that leads to a row of the host, with flags that allow what is wished: the
-/// first to which a path of this very table belongs that finds the row; with umount2(2) the first that shows the row at
-/// all, since what covers it can be taken away; with mount(2) the first of the table, since the host can be bound anew.
+/// Returns the number of the entry of a mount table that leads to a row of the host, with flags that allow the wish.
 ///
-/// On a table that a launch can mount, in a site that has the row, None comes exactly where no path finds the row so, on no
-/// table that the power makes of this one. It takes no memory.
+/// Without power it is the first entry to which a path belongs that finds the row. With umount2(2) it is the first
+/// that shows the row at all, because the service can unmount what covers it. With mount(2) it is the first of the
+/// table, because the service can bind the host anew.
+///
+/// For a table that a launch can mount and a row of the site, the answer is None exactly if no path finds the row on
+/// any table that the power makes of this one. The call takes no memory.
 pub fn reach(table: &MountTable, row: &AbsPath, wish: Wish, power: Power) -> Option<usize>
     ensures by_the_rule { result ≡ reach power (steps_of table.now) row.now wish }
     ensures first_that_leads_there { IsFirstByPower power (steps_of table.now) row.now wish result }

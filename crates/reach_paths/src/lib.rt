@@ -1,8 +1,10 @@
-//! Which entry of a mount table leads to a file of the host, by how far the table can be changed.
+//! Finds the entry of a mount table that leads to a file of the host.
 //!
-//! A path shows a file where some entry shows it and no later entry covers that path; umount2(2) takes covers away, and
-//! mount(2) shows the whole host. The crate rests on `kern_mounts` for tables and on `kernel_laws` for what it means;
-//! `reach(&table, &path, Wish::Read, Power::None)` is the number of the first entry that leads there. It takes no memory.
+//! A path shows a file if some entry shows the file there and no later entry covers the path. A service that may call
+//! umount2(2) can take covers away, and one that may call mount(2) can show the whole host.
+//!
+//! `reach(&table, &path, Wish::Read, Power::None)` is the number of the first entry that leads to the file. No call
+//! takes memory.
 #![tactic(auto)]
 
 mod covers;

@@ -6,7 +6,7 @@ ghost use Rattle.kernel_laws.specs.Reach.{fits};
 use kernel_laws::Flags;
 use kernel_laws::question_types::Wish;
 
-// Whether what is wished may be done on a mount with these flags, mount(2).
+// Returns whether what is wished may be done on a mount with these flags, mount(2).
 pub(crate) fn allows(flags: Flags, wish: Wish) -> bool
     ensures { result ≡ fits wish flags }
 {
