@@ -1,4 +1,4 @@
--- Which entries of a mount table lead to a row as the table stands, by what is wished of it.
+-- The entries of a mount table that lead to a row without any change of the table, by the wish.
 use Rattle.std.specs.Prelude.{◌≡◌, ℕ, Bool, false, not, List, map, Option}
 use Rattle.kernel_ways.specs.abs_path.Paths.{Path}
 use Rattle.kernel_ways.specs.abs_path.Prefix.{is_same}

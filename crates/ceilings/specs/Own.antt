@@ -1,4 +1,4 @@
--- A ceiling is that of a launched service: what each of its parts is.
+-- The meaning of each part of a launched service's ceiling.
 use Rattle.std.specs.Prelude.{◌≡◌, ℕ, ◌==◌}
 use Rattle.std.specs.List.{list_any}
 use Rattle.kernel_ways.specs.kernel_laws.Bound.{caps_at, power_of, any_uid, any_gid}
@@ -9,9 +9,12 @@ use Rattle.ceilings.specs.Passing.{ArePathCalls}
 use Rattle.ceilings.specs.Ruled.{AreRules}
 use Rattle.kernel_ways.specs.Spared.{uids_of, gids_of}
 
--- the capabilities that can become effective at the power that can be had, capabilities(7); that power; whether every id can be
--- taken by them; the ids that are had besides, each of these and no other, credentials(7); the calls on paths that pass; and what is
--- kept of each line of the table of calls and of each row of the site
+-- the parts, in their order:
+-- - the capabilities that can become effective at the power that can be had, capabilities(7);
+-- - that power;
+-- - whether every uid, and every gid, can be taken by them;
+-- - the uids and the gids that are had besides, each of these and no other, credentials(7);
+-- - the calls on paths that pass, the rule of each line of the table of calls, and the entries that lead to each row of the site
 pub record IsCeilingOf (launch : Launch) (top : Ceiling) : Type 0 where
   pub effective : top.effective ≡ caps_at launch (power_of launch)
   pub power : top.power ≡ power_of launch

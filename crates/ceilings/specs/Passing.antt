@@ -1,4 +1,4 @@
--- What is said of the calls that the filters of a launch let through: they are exactly those.
+-- The kinds of calls that the filters of a launch let through, exactly.
 use Rattle.std.specs.Prelude.{◌≡◌, Bool}
 use Rattle.kernel_ways.specs.kernel_laws.declared.question_types.kind.CallKind.TheVariants.{ForPath, ChangesMounts, RemovesMounts, SetsCaps}
 use Rattle.kernel_ways.specs.kernel_laws.declared.question_types.kind.CallKind.TheVariants.{TakesUid, TakesGid}

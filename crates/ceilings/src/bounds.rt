@@ -1,4 +1,4 @@
-//! What a ceiling is.
+//! The type of a ceiling.
 
 use crate::ids::IdList;
 use crate::leads::RowLeads;
@@ -7,7 +7,7 @@ use crate::ruled::LineRules;
 use kernel_model::CapSet;
 use kernel_ways::Power;
 
-/// What no process of a launched service passes, in any world that any calls of its processes lead to.
+/// The bounds that no process of a launched service passes, in any world that any calls of its processes lead to.
 #[derive(Drop)]
 pub struct Ceiling {
     /// The capabilities that can become effective, capabilities(7).

@@ -1,4 +1,4 @@
-//! What the filters of a launched service let through, one kind of calls at a time. It takes no memory.
+//! Asks the filters of a launched service if they let calls of one kind through. No call takes memory.
 
 ghost use Rattle.std.specs.Prelude.{◌≡◌, ◌&&◌, find, option_copied, slice_get, Some};
 ghost use Rattle.std.specs.Str.{bytes_eq};
@@ -36,7 +36,8 @@ fn arch_of(table: &CallTable, abi: u8) -> u32
     }
 }
 
-// Whether the filters of the first process let a call by this ABI, of this number and with these words, through.
+// Returns whether the filters of the first process let a call by this ABI, of this number and with these words,
+// through.
 fn lets_words(world: &World<'_>, abi: u8, number: u32, args: [u64; 6]) -> bool
     ensures { result ≡ lets_words (launch_of world.now) abi number (Some args) }
 {
@@ -55,8 +56,8 @@ fn lets_words(world: &World<'_>, abi: u8, number: u32, args: [u64; 6]) -> bool
     }
 }
 
-// Whether the call of this line, which has this rule, can ask for the kind, and the filters of the first process let it through
-// with the words that ask for it first.
+// Returns whether the call of this line, which has this rule, can ask for the kind, and the filters of the first
+// process let it through with the words that ask for it first.
 pub(crate) fn lets_rule(
     world: &World<'_>,
     kind: CallKind,
@@ -74,15 +75,15 @@ pub(crate) fn lets_rule(
     }
 }
 
-/// Whether the call of this line can ask for the kind, and the filters of the first process let it through with the words
-/// that ask for it first, seccomp(2). Calls that cannot ask for the kind are not put to the filters.
+/// Returns whether the call of this line can ask for the kind, and the filters of the first process let it through
+/// with the words that ask for it first, seccomp(2). Calls that cannot ask for the kind are not put to the filters.
 pub fn lets_line(world: &World<'_>, kind: CallKind, line: &CallLine) -> bool
     ensures passes_with_the_first_words { result ≡ lets_line (launch_of world.now) kind line.now }
 {
     lets_rule(world, kind, line, rule_of(line))
 }
 
-// The first of these lines whose call does.
+// Returns the first of these lines whose call the filters let through for the kind.
 fn passing_among<'a>(
     world: &World<'_>,
     kind: CallKind,
@@ -93,7 +94,8 @@ fn passing_among<'a>(
     lines.iter().find(|line| lets_line(world, kind, line))
 }
 
-/// The first line of the table whose call does: those of the native ABI come first.
+/// Returns the first line of the table whose call asks for the kind and passes the filters. The lines of the native
+/// ABI come first.
 #[tactic(auto, using(crate::proofs::AllCalls::found_in_all))]
 pub fn passing_line<'a>(world: &'a World<'_>, kind: CallKind) -> Option<&'a CallLine>
     ensures first_that_passes { let launch = launch_of world.now in
@@ -106,14 +108,14 @@ pub fn passing_line<'a>(world: &'a World<'_>, kind: CallKind) -> Option<&'a Call
     }
 }
 
-// Whether the line has the name, and its plain call passes.
+// Returns whether the line has the name, and its plain call passes.
 fn is_plain_named(world: &World<'_>, name: &str, line: &CallLine) -> bool
     ensures { result ≡ (bytes_eq name.now line.now.name && lets_line (launch_of world.now) PlainCall line.now) }
 {
     name == line.name.as_str() && lets_line(world, CallKind::PlainCall, line)
 }
 
-// The first of these lines of which that is so.
+// Returns the first of these lines that has the name and whose plain call passes.
 fn plain_among<'a>(world: &World<'_>, name: &str, lines: &'a [CallLine]) -> Option<&'a CallLine>
     ensures { let launch = launch_of world.now in
         option_copied result ≡ find (λ line. bytes_eq name.now line.name && lets_line launch PlainCall line) lines.now }

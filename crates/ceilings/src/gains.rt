@@ -15,8 +15,9 @@ use kernel_model::{CapSet, Row, World};
 use kernel_ways::Power;
 use kernel_ways::linux_numbers::capabilities::CAP_SETUID;
 
-// What execve of a row, and capset after it, make effective: all of the bounding set for a program that is run as root; else
-// the file's capabilities of the bounding set, by its effective bit or by capset.
+// Returns the capabilities that execve of a row, and capset after it, make effective. A program that runs as root has
+// all of the bounding set. Any other has the file's capabilities that are in the bounding set, by its effective bit
+// or by capset.
 fn file_gain(world: &World<'_>, passing: Passing, row: &Row) -> CapSet
     requires launched { IsLaunchedWorld world.now }
     requires passing { ArePassing (launch_of world.now) passing }
@@ -32,7 +33,7 @@ fn file_gain(world: &World<'_>, passing: Passing, row: &Row) -> CapSet
     }
 }
 
-// The same, if the row can be run. Most rows give nothing, and are not looked for.
+// The same if the row can be run, else none. Most rows give nothing, and no entry is searched for them.
 fn gain_at(world: &World<'_>, passing: Passing, power: Power, row: &Row) -> CapSet
     requires launched { IsLaunchedWorld world.now }
     requires passing { ArePassing (launch_of world.now) passing }
@@ -60,7 +61,7 @@ fn caps_before(world: &World<'_>, passing: Passing, power: Power) -> CapSet
     caps
 }
 
-// Who has CAP_SETUID and uses it takes uid 0, and has all of the bounding set.
+// Adds all of the bounding set if CAP_SETUID is among the capabilities and is used to take uid 0.
 fn with_root(caps: CapSet, bounding: CapSet, takes_uid: bool) -> CapSet
     ensures { result ≡ union caps (when (has caps cap_setuid && takes_uid) bounding) }
 {

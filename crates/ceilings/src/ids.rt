@@ -1,4 +1,5 @@
-//! The ids that processes of a service can have without taking any by CAP_SETUID or CAP_SETGID, credentials(7).
+//! Collects the ids that processes of a service can have without taking any by CAP_SETUID or CAP_SETGID,
+//! credentials(7).
 
 ghost use Rattle.std.specs.Prelude.{◌≡◌, ◌++◌, IfOk, OnOk};
 ghost use Rattle.kernel_ways.specs.kernel_laws.Launched.{IsLaunchedWorld, launch_of};

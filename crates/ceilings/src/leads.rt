@@ -1,4 +1,4 @@
-//! Which entries of the launched mount table lead to the rows of the site, found once for each row.
+//! Finds the entries of the launched mount table that lead to the rows of the site, once for each row.
 
 ghost use Rattle.std.specs.Prelude.{◌≡◌, slice_get, Some};
 ghost use Rattle.kernel_ways.specs.site_table.declared.row.Row.{Row};
@@ -24,7 +24,7 @@ pub struct RowLeads {
 }
 
 impl RowLeads {
-    /// That for what is wished.
+    /// Returns the entry for a wish.
     pub fn to(self, wish: Wish) -> Option<usize>
         ensures of_the_wish { result ≡ lead_to self wish }
     {
@@ -53,8 +53,8 @@ impl Ceiling {
     }
 }
 
-/// The number of the entry that leads to a row by a power over mount tables, as `reach` of `reach_paths` has it, by those that lead to
-/// it as the launched table stands. It takes no memory.
+/// Returns the number of the entry that leads to a row at a power over mount tables. It is the answer of `reach` of
+/// `reach_paths`, found from the entries of the launched table (`leads`). It takes no memory.
 pub fn reach_by(
     world: &World<'_>,
     leads: RowLeads,

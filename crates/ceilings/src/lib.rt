@@ -1,9 +1,11 @@
-//! What the processes of a launched service can ever have: capabilities, ids, and power over their mount tables.
+//! Computes the ceiling of a launched service: the capabilities, the ids and the power over mount tables that its
+//! processes can ever have.
 //!
-//! A ceiling is made once for a launched world, from its credentials, its filters and the programs of the site, and bounds
-//! every process in every world that any calls lead to. It rests on `launcher` for the launched service, on `reach_paths`
-//! for what can be executed and on `kernel_laws` for what it means; `ceiling(alloc, &launched)?.effective` has the
-//! capabilities, and its rules say without memory whether the filters let any call of one kind through.
+//! A ceiling is made once for a launched world, from its credentials, its filters and the programs of the site. It
+//! bounds every process in every world that any calls lead to.
+//!
+//! `ceiling(alloc, &launched)?.effective` has the capabilities. The rules of a ceiling say without taking memory if
+//! the filters let some call of a kind through. The crate uses `launcher`, `reach_paths` and `kernel_laws`.
 #![tactic(auto)]
 
 mod bounds;

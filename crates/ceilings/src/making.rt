@@ -1,4 +1,4 @@
-//! How a ceiling is made.
+//! Makes the ceiling of a launched service.
 
 ghost use Rattle.std.specs.Prelude.{◌≡◌, ℕ, ◌≤◌, ◌&&◌, true, false, Contains, IfOk};
 ghost use Rattle.kernel_ways.specs.linux_numbers.Capabilities.{cap_sys_admin};
@@ -25,20 +25,24 @@ use kernel_ways::Launched;
 use kernel_ways::linux_numbers::capabilities::{CAP_SETGID, CAP_SETUID};
 use std::alloc::{AllocError, Global};
 
-// Whether every id can be taken, by a capability and a call that passes.
+// Returns whether every id can be taken, by a capability and a call that passes.
 fn can_take_any(caps: CapSet, cap: u8, passes: bool) -> bool
     ensures { result ≡ (has caps cap && passes) }
 {
     caps.contains(cap) && passes
 }
 
-/// What bounds every process of a launched service. The capabilities are those of the launch and of what can be executed, as
-/// root, by its effective bit, or with capset(2) behind it (capabilities(7)); with no_new_privs those of the launch alone,
-/// prctl(2). A program counts where some mount table that can be had leads to it. CAP_SYS_ADMIN that is had on the launched
-/// table gives power over mount tables; at that power more programs may count, and what they give adds to no power.
+/// Makes the bounds of every process of a launched service.
 ///
-/// It takes time for a few passes over the site. What is asked of each line of the table of calls and of each row of the site again and
-/// again is found once.
+/// The capabilities are those of the launch and of the programs that can be executed: by running as root, by an
+/// effective bit, or with capset(2) after the program (capabilities(7)). With no_new_privs they are those of the
+/// launch alone, prctl(2). A program counts if some mount table that can be had leads to it.
+///
+/// CAP_SYS_ADMIN that can be had on the launched table gives power over mount tables. With that power more programs
+/// may count, but what they give adds no power.
+///
+/// The call takes a few passes over the site. What later calls ask again and again of each line of the table and of
+/// each row of the site is found here once.
 pub fn ceiling(alloc: Global, launched: &Launched<'_>) -> Result<Ceiling, AllocError>
     requires { IsLaunchedWorld launched.now.world }
     ensures is_its_own { IfOk result (IsCeilingOf (launch_of launched.now.world)) }
@@ -56,7 +60,7 @@ pub fn ceiling(alloc: Global, launched: &Launched<'_>) -> Result<Ceiling, AllocE
     ensures other_gids_are_denied { IfOk result (λ top. (id : ℕ)
         → top.any_gid ≡ false → ¬ Contains top.gids id → IsDenied launched.now.world (Gid id)) }
 
-    // And all of it is had by some list of calls, each of which is done.
+    // Some list of calls, each of them done, has all of it.
     ensures each_capability_is_had { IfOk result (λ top. IsServedWorld launched.now.world → (number : ℕ)
         → has top.effective number ≡ true → IsShown launched.now.world (Cap number)) }
     ensures every_uid_is_had { IfOk result (λ top. IsServedWorld launched.now.world → (id : ℕ)
@@ -64,8 +68,8 @@ pub fn ceiling(alloc: Global, launched: &Launched<'_>) -> Result<Ceiling, AllocE
     ensures every_gid_is_had { IfOk result (λ top. IsServedWorld launched.now.world → (id : ℕ)
         → top.any_gid ≡ true → id ≤ greatest_id → IsShown launched.now.world (Gid id)) }
 
-    // The uids are those that are had without a use of CAP_SETUID, whatever use is made of CAP_SETGID where a call passes that
-    // takes a gid; and the gids the other way round.
+    // Exactly these uids can be had without a use of CAP_SETUID, even if CAP_SETGID is used where a call passes that
+    // takes a gid; the gids likewise.
     ensures uids_are_had_without_setuid { IfOk result (λ top. IsServedWorld launched.now.world
         → AreHadSparing false (lets (launch_of launched.now.world) TakesGid) launched.now.world Uid top.uids) }
     ensures gids_are_had_without_setgid { IfOk result (λ top. IsServedWorld launched.now.world

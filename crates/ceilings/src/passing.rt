@@ -36,7 +36,7 @@ impl PathCalls {
         }
     }
 
-    /// Whether some call passes that does what is wished.
+    /// Returns whether some call passes that does what is wished.
     pub fn passes(self, wish: Wish) -> bool
         ensures of_the_wish { result ≡ passes self wish }
     {

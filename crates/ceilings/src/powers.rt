@@ -1,4 +1,4 @@
-//! How far a service can change its mount tables.
+//! Computes how far a service can change its mount tables.
 
 ghost use Rattle.std.specs.Prelude.{◌≡◌};
 ghost use Rattle.kernel_ways.specs.kernel_laws.Bound.{power_by};
@@ -12,7 +12,7 @@ use kernel_model::World;
 use kernel_ways::Power;
 use kernel_ways::linux_numbers::capabilities::CAP_SYS_ADMIN;
 
-// By whether CAP_SYS_ADMIN can be had on the launched table, and which calls pass.
+// Returns the power by CAP_SYS_ADMIN, if it can be had on the launched table, and by which calls pass.
 fn power_by(has_admin: bool, mounts: bool, unmounts: bool) -> Power
     ensures { result ≡ power_by has_admin mounts unmounts }
 {

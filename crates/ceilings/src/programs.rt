@@ -1,4 +1,4 @@
-//! Which programs of a site a service can run.
+//! Tests which programs of a site a service can run.
 
 ghost use Rattle.std.specs.Prelude.{◌≡◌};
 ghost use Rattle.kernel_ways.specs.kernel_laws.Bound.{can_run, is_barred};
@@ -8,8 +8,9 @@ use crate::first::{launched_process, launched_table};
 use kernel_model::{Row, RowKind, World};
 use kernel_ways::{Power, Wish, reach};
 
-/// Whether execve(2) refuses the row to every process that heeds its marks: its effective bit is set, and the bounding set of
-/// the launch withholds one of its capabilities (capabilities(7), "Safety checking for capability-dumb binaries").
+/// Returns whether the row's effective bit is set and the bounding set of the launch withholds one of its
+/// capabilities. Then execve(2) refuses the row, unless the row's marks are not looked at or the bounding set is full
+/// (capabilities(7), "Safety checking for capability-dumb binaries").
 pub fn is_barred(world: &World<'_>, row: &Row) -> bool
     requires { IsLaunchedWorld world.now }
     ensures withheld { result ≡ is_barred (launch_of world.now) row.now }
@@ -17,7 +18,7 @@ pub fn is_barred(world: &World<'_>, row: &Row) -> bool
     row.effective && !row.caps.within(launched_process(world).creds.bounding())
 }
 
-/// Whether the row is a program that some mount table of the power leads to, and that execve(2) does not refuse.
+/// Returns whether the row is a program that some mount table of the power leads to and that is not barred.
 pub fn can_run(world: &World<'_>, power: Power, row: &Row) -> bool
     requires launched { IsLaunchedWorld world.now }
     ensures runs { result ≡ can_run (launch_of world.now) power row.now }

@@ -1,4 +1,4 @@
-//! The rules of the lines of the table of calls, found once for each line, and what the filters let through by them.
+//! Finds the rules of the lines of the table of calls once for each line, and asks the filters by them.
 
 ghost use Rattle.std.specs.Prelude.{◌≡◌, map, IfOk};
 ghost use Rattle.std.specs.List.{list_any};
@@ -32,7 +32,7 @@ fn rules_of(alloc: Global, lines: &[CallLine]) -> Result<Vec<Option<Rule>>, Allo
     Ok(list)
 }
 
-// Whether the filters let the call of one of these lines through, which have these rules.
+// Returns whether the filters let the call of one of these lines through, which have these rules.
 fn lets_some(world: &World<'_>, kind: CallKind, lines: &[CallLine], rules: &[Option<Rule>]) -> bool
     requires { rules.now ≡ map rule_of lines.now }
     ensures { result ≡ list_any (lets_line (launch_of world.now) kind) lines.now }
@@ -57,8 +57,8 @@ impl LineRules {
         })
     }
 
-    /// Whether the filters of the first process let some call of the table through, by any ABI, that asks for the kind, seccomp(2):
-    /// what `lets` says. It takes no memory.
+    /// Returns whether the filters of the first process let some call of the table through, by any ABI, that asks for
+    /// the kind, seccomp(2): what `lets` says. It takes no memory.
     pub fn let_through(&self, world: &World<'_>, kind: CallKind) -> bool
         requires of_the_table { AreRules (launch_of world.now) self.now }
         ensures some_call_passes { result ≡ lets (launch_of world.now) kind }
@@ -69,7 +69,8 @@ impl LineRules {
     }
 }
 
-/// Whether a user namespace can be made, user_namespaces(7): the site allows one, and some call passes that asks for one.
+/// Returns whether a user namespace can be made, user_namespaces(7): the site allows one, and some call passes that
+/// asks for one.
 pub fn can_make_user(world: &World<'_>, rules: &LineRules) -> bool
     requires of_the_table { AreRules (launch_of world.now) rules.now }
     ensures allowed_and_let_through { result ≡ can_make_user (launch_of world.now) }

@@ -1,7 +1,7 @@
 //! The search of the entries of the launched mount table that lead to the rows of the site.
 //!
-//! Most entries show what the host has at their own place. Of these the one that a row's own path belongs to is the only one that
-//! can show the row, so only that one and those that show another place of the host are looked at.
+//! Most entries show what the host has at their own place. Only one of these can show a row: the one that the row's
+//! own path belongs to. So the search looks at that one, and at the entries that show another place of the host.
 
 ghost use Rattle.std.specs.Prelude.{◌≡◌, ◌+◌, ◌<◌, ◌≤◌, ◌&&◌, ◌++◌, false, not, drop, length, map, slice_get, IfOk, OnOk, Some};
 ghost use Rattle.std.specs.List.{list_any};
@@ -20,7 +20,7 @@ use kernel_model::{Flags, MountStep, MountTable, Row, What, World};
 use kernel_ways::{Wish, is_covered};
 use std::alloc::{AllocError, Global};
 
-// Whether what is wished may be done on a mount with these flags, mount(2).
+// Returns whether what is wished may be done on a mount with these flags, mount(2).
 fn allows(flags: Flags, wish: Wish) -> bool
     ensures { result ≡ fits wish flags }
 {
@@ -31,7 +31,7 @@ fn allows(flags: Flags, wish: Wish) -> bool
     }
 }
 
-// Whether the entry shows what the host has at another place.
+// Returns whether the entry shows what the host has at another place.
 fn is_moved(entry: &MountStep) -> bool
     ensures { result ≡ is_moved entry.now }
 {
@@ -52,7 +52,8 @@ fn moved_entries(alloc: Global, table: &MountTable) -> Result<Vec<bool>, AllocEr
     Ok(list)
 }
 
-// Whether an entry of this number and place that shows this source shows the row, at a path that no later entry covers.
+// Returns whether an entry of this number and place that shows this source shows the row, at a path that no later
+// entry covers.
 fn shows_source(
     table: &MountTable,
     at: usize,
@@ -79,7 +80,7 @@ struct Search<'a> {
     ghost of_the_table: { moved.now ≡ map is_moved (steps_of table.now) },
 }
 
-// Whether the entry, which has this number, shows the row so, whose own path belongs to the entry `own`.
+// Returns whether the entry, which has this number, shows the row so, whose own path belongs to the entry `own`.
 fn shows(search: &Search<'_>, at: usize, entry: &MountStep, own: usize, row: &AbsPath) -> bool
     requires few { length search.now.table.now ≤ mount_max }
     requires entry { slice_get (steps_of search.now.table.now) at ≡ Some entry.now }

@@ -1,4 +1,4 @@
--- A folder is blind by the launched mount table exactly where no list of calls exposes it.
+-- A folder is blind by the launched mount table exactly if no list of calls exposes it.
 use Rattle.std.specs.Prelude.{◌≡◌, true, false, List}
 use Rattle.launcher.specs.abs_path.Paths.{Path}
 use Rattle.launcher.specs.kernel_model.kernel_calls.Calls.{AreCalls}
@@ -16,11 +16,11 @@ pub record ExposesAfter (world : World) (calls : List Call) (folder : Path) : Ty
   pub done : AllDone (moments world calls)
   pub exposes : Exposes folder (run world calls)
 
--- after some list
+-- some list of calls exposes the folder
 abbrev pub IsExposed : World → Path → Type 0
 IsExposed world folder = (calls : List Call) × ExposesAfter world calls folder
 
--- blind by the table where no list exposes the folder and nowhere else, and not blind where some list does and nowhere else
+-- the folder is blind by the table exactly if no list of calls exposes it, and not blind exactly if some list does
 pub record IsBlindExactly (world : World) (folder : Path) : Type 0 where
   pub hides : is_blind (launch_of world) folder ≡ true → IsBlind world folder
   pub stays_hidden : IsBlind world folder → is_blind (launch_of world) folder ≡ true

@@ -44,7 +44,7 @@ pub record IsEntered (launch : Launch) (creds : Creds) (table : Table) (pid : �
 abbrev pub newer_at : Launch → Creds → Table → Bool → Caller
 newer_at launch creds table owns = record { creds = creds; stack = launch.stack; table = map plain table; newer = true; owns = owns }
 
--- the process can make the call, the filters let it through, it asks for this, and comes to this effect
+-- the process can make the call, the filters let it through, it asks for this, and has this effect
 pub record MakesIn (launch : Launch) (creds : Creds) (table : Table) (pid : ℕ) (doing : Doing) (call : Call) (effect : Effect) : Type 0 where
   pub fit : IsCall call
   pub by : call.pid ≡ pid

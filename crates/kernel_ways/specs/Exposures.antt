@@ -1,4 +1,4 @@
--- What a process that has CAP_SYS_ADMIN exposes, call by call: rows that mounts cover, and with mount(2) every row.
+-- A process that has CAP_SYS_ADMIN exposes rows call by call: those that mounts cover, and with mount(2) every row.
 use Rattle.std.specs.Prelude.{◌≡◌, ℕ, ◌<◌, ◌^◌, true, false, List, ◌++◌, Option, Some}
 use Rattle.launcher.specs.abs_path.Paths.{Path, proc}
 use Rattle.launcher.specs.call_table.declared.call_names.rule.CallRule.{CallRule}

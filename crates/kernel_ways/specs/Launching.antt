@@ -32,7 +32,7 @@ SettingsPassAlike = (launch : Launch) (settings : FilterSettings) → ((abi : �
     → AllByRecursion (Means settings launch.calls) launch.stack
     → ((input : CallData) → IsCallData input → ArePlain (answers_of launch.stack input)) → PassesAlike launch
 
--- the same premises as those under which a launch leaves a launched world, and a site that was read
+-- a launch with such programs, over a table and a site that were read and with a plan that can be mounted, leaves a served world
 abbrev pub LaunchedIsServed : Type 0
 LaunchedIsServed = (settings : FilterSettings) (table : calls.Table) (site : Site) (wanted : Wanted) (plan : Table) (last : World)
     (steps : ℕ)
@@ -40,7 +40,7 @@ LaunchedIsServed = (settings : FilterSettings) (table : calls.Table) (site : Sit
     → wanted.uid < no_id → AllByRecursion (IsMeant settings table) wanted.programs
     → launch table site wanted plan ≡ Launched last steps → IsServedWorld last
 
--- and the path that the settings give finds its program, with no mark, on a mount that runs programs
+-- the path that the settings give finds the program, which has no set-id bit and no capability, on a mount that runs programs
 abbrev pub LaunchedRunsProgram : Type 0
 LaunchedRunsProgram = (settings : FilterSettings) (table : calls.Table) (site : Site) (wanted : Wanted) (plan : Table) (last : World)
     (steps : ℕ)

@@ -1,4 +1,4 @@
--- What is open is shown by a list of calls, and what is not is denied; and the bounds of the ceiling are exact.
+-- The verdicts on a launched service and the bounds of its ceiling are exact.
 use Rattle.std.specs.Prelude.{◌≡◌, ℕ, ◌<◌, ◌≤◌, true, false, List, length, slice_get, Some}
 use Rattle.std.specs.List.{AllByRecursion}
 use Rattle.launcher.specs.cap_sets.Sets.{has}
@@ -21,8 +21,8 @@ use Rattle.launcher.specs.kernel_laws.Launched.{lets, launch_of, IsLaunchedWorld
 use Rattle.launcher.specs.kernel_laws.Questions.{IsAsked, questions}
 use Rattle.kernel_ways.specs.Offers.{Offers}
 
--- the question is put to what it is about: no directory is written, what is executed is an executable file, and the id -1, which
--- setresuid(2) takes for none, is no id
+-- the question can be answered: no directory is asked to be written and no other row than an executable to be executed; and the id -1,
+-- which setresuid(2) takes for none, is no id
 abbrev pub IsFit : Site → Question → Type 0
 IsFit site (ByPath ToWrite place) = (row : Row) → slice_get site.rows place ≡ Some row → is_dir row.kind ≡ false
 IsFit site (ByPath ToExec place) = (row : Row) → slice_get site.rows place ≡ Some row → is_exe row.kind ≡ true
@@ -30,7 +30,7 @@ IsFit site (Uid id) = id ≤ greatest_id
 IsFit site (Gid id) = id ≤ greatest_id
 IsFit site _ = Unit {0}
 
--- each question of the list is, for every site that is read
+-- each question of the list can be answered, for every site that is read
 abbrev pub ListedAreFit : Type 0
 ListedAreFit = (calls : calls.Table) (site : Site) → IsSite site → AllByRecursion (IsFit site) (questions calls site)
 
@@ -48,7 +48,7 @@ abbrev pub OpenIsShown : Type 0
 OpenIsShown = (world : World) (question : Question) → IsServedWorld world → IsFit world.site question
     → is_open (launch_of world) question ≡ true → IsShown world question
 
--- open where some list shows the question and nowhere else, denied where no list reaches it and nowhere else
+-- open exactly if some list shows the question, and denied exactly if no list reaches it
 pub record IsExact (world : World) (question : Question) : Type 0 where
   pub opens : is_open (launch_of world) question ≡ true → IsShown world question
   pub shows : IsShown world question → is_open (launch_of world) question ≡ true
@@ -59,12 +59,13 @@ abbrev pub VerdictIsExact : Type 0
 VerdictIsExact = (world : World) (question : Question) → IsServedWorld world → IsAsked world.calls question → IsFit world.site question
     → IsExact world question
 
--- so it is of each question of the list
+-- the verdict on each question of the list is exact
 abbrev pub QuestionsAreExact : Type 0
 QuestionsAreExact = (world : World) → IsServedWorld world → AllByRecursion (IsExact world) (questions world.calls world.site)
 
--- the capabilities of the ceiling are those that can become effective, capabilities(7); its power is by CAP_SYS_ADMIN among them and by
--- whether mount(2) and umount2(2) pass the filters; and where every uid or every gid is said to be had, each can be
+-- the capabilities of the ceiling are exactly those that can become effective, capabilities(7). Its power follows from CAP_SYS_ADMIN
+-- among them and from whether mount(2) and umount2(2) pass the filters. If it says that every uid or every gid can be had, some list of
+-- calls shows each of them
 pub record BoundsAreExact (world : World) : Type 0 where
   pub held : (number : ℕ) → has (ceiling (launch_of world)).effective number ≡ true → IsShown world (Cap number)
   pub withheld : (number : ℕ) → has (ceiling (launch_of world)).effective number ≡ false → IsDenied world (Cap number)

@@ -1,5 +1,5 @@
--- What a launched service has beside the facts that bound it: tables that were read, a plan that was mounted, a program that runs,
--- and filters that do not look at the words of some calls. With these, what is open can be shown.
+-- The facts of a launched service by which lists of calls show what is open. Its tables were read, its plan was mounted, its program
+-- runs, and its filters do not look at the words of some calls.
 use Rattle.std.specs.Prelude.{◌≡◌, ℕ, ◌<◌, ◌^◌, Bool, true, false, List, Some}
 use Rattle.launcher.specs.abs_path.Paths.{Path}
 use Rattle.launcher.specs.call_table.declared.call_names.rule.CallRule.TheVariants.{Execve, Mount, Umount, Setuid, Setgid, Setresuid}

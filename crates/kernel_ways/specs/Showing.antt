@@ -1,5 +1,4 @@
--- What a way of process 1 is and shows: each call is done; and it shows a question by one more call behind it, or by the credentials
--- that it leads to.
+-- Each call of a way of process 1 is done. A way shows a question by one more call after it, or by the credentials that it leads to.
 use Rattle.std.specs.Prelude.{◌≡◌, true, List, [], ◌∷◌, ◌++◌, slice_get, Some}
 use Rattle.launcher.specs.abs_path.Paths.{Path}
 use Rattle.launcher.specs.cap_sets.Sets.{has}
@@ -41,8 +40,8 @@ IsDoable (UserChild own) = ⊥
 IsDoable (OwnUser own) = ⊥
 IsDoable End = Unit {0}
 
--- such a call, which asks for this, answers the question once it is done: a path of the mount table finds the row of that place, the
--- number is that of a call of the name at that place, or it asks for such a thing
+-- once it is done, such a call that asks for this answers the question. A path of the mount table finds the row of that place, the number
+-- is that of a call of the name at that place, or the call asks for such a thing
 abbrev pub Answers : Launch → Table → Question → call.Call → Doing → Type 0
 Answers launch table (ByPath wish place) call doing =
     (path : Path) × (target : Row) × (path_for wish doing ≡ Some path) × (slice_get launch.site.rows place ≡ Some target) ×
@@ -61,14 +60,14 @@ Answers launch table (Cap number) call doing = ⊥
 Answers launch table (Uid id) call doing = ⊥
 Answers launch table (Gid id) call doing = ⊥
 
--- and such credentials do
+-- such credentials answer the question
 abbrev pub HaveAsked : Question → Creds → Type 0
 HaveAsked (Cap number) creds = has creds.effective number ≡ true
 HaveAsked (Uid id) creds = creds.uids.effective ≡ id
 HaveAsked (Gid id) creds = HasGid id creds
 HaveAsked question creds = ⊥
 
--- a way and one more call
+-- a way and one more call show the question
 abbrev pub CallsShow : Type 0
 CallsShow = (launch : Launch) (from to : Creds) (table now : Table) (world : World) (calls : List call.Call) (question : Question)
     (doing : Doing) (last : call.Call) (effect : Effect)
@@ -76,7 +75,7 @@ CallsShow = (launch : Launch) (from to : Creds) (table now : Table) (world : Wor
     → Answers launch now question last doing
     → Shows world question (calls ++ last ∷ [])
 
--- a way alone
+-- a way alone shows the question
 abbrev pub CredsShow : Type 0
 CredsShow = (launch : Launch) (from to : Creds) (table now : Table) (world : World) (calls : List call.Call) (question : Question)
     → IsSolo launch from table world → Way launch from table calls to now → HaveAsked question to → Shows world question calls

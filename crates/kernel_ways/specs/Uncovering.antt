@@ -12,14 +12,14 @@ use Rattle.launcher.specs.kernel_laws.Kinds.{one_word}
 use Rattle.kernel_ways.specs.Ways.{CallAt}
 use Rattle.launcher.specs.kernel_laws.Questions.{if_so}
 
--- the places of the entries whose places lead to the path, the last entry's first: of what stands behind an entry to whose place the
--- path leads, these cover the path (mount_namespaces(7))
+-- the places of the entries whose places lead to the path, the last entry's first. Of the entries after one whose place leads to the
+-- path, these cover the path (mount_namespaces(7))
 abbrev pub covering : Path → Table → List Path
 covering path [] = []
 covering path (entry ∷ later) = covering path later ++ if_so (leads_to path entry) entry.place
 
--- what calls of umount2(2) with MNT_DETACH at these places make of a table, each of them done, and each at the place of the entry
--- that the path then belongs to, the last whose place leads to it
+-- calls of umount2(2) with MNT_DETACH at these places make one table of another, and each of them is done. Each place is that of the
+-- entry to which the path then belongs: the last whose place leads to it
 pub data Detaches (path : Path) : Table → List Path → Table → Type 0 where
   still : {table : Table} → Detaches path table [] table
   then_one : {table next last : Table} {places : List Path} (split : Split) → split_at path table ≡ Some split

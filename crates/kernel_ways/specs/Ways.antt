@@ -43,14 +43,14 @@ pub record IsSolo (launch : Launch) (creds : Creds) (table : Table) (world : Wor
   pub home : slice_get owners (namespace - 1) ≡ Some 1
   pub few : nat_lt (length tables) most_namespaces ≡ true
 
--- what the kernel was told, and what process 1 has, as a rule sees them
+-- the rows and families of the host, and what process 1 has, as a rule sees them
 abbrev pub host_at : Launch → Host
 host_at launch = record { rows = row_at launch.site.rows; families = launch.calls.families }
 
 abbrev pub caller_at : Launch → Creds → Table → Caller
 caller_at launch creds table = record { creds = creds; stack = launch.stack; table = map plain table; newer = false; owns = true }
 
--- what a call comes to, by the entries of the caller's table alone
+-- the effect of a call, by the entries of the caller's table alone
 abbrev pub effect_on : Host → Caller → Table → Doing → Effect
 effect_on host caller table (See path) = looks (see_answer 0 (finds host.rows table path))
 effect_on host caller table (Open flags path) = looks (open_answer flags (flags_at table path) (finds host.rows table path))
@@ -80,7 +80,7 @@ rule_there launch at = rule_at (calls_in launch.calls at.abi) at.nr
 abbrev pub passes_at : Launch → CallAt → List ℕ → Type 0
 passes_at launch at args = passes launch at.abi at.nr args
 
--- process 1 can make the call, the filters let it through, it asks for this, and comes to this effect
+-- process 1 can make the call, the filters let it through, it asks for this, and has this effect
 pub record Makes (launch : Launch) (creds : Creds) (table : Table) (doing : Doing) (call : Call) (effect : Effect) : Type 0 where
   pub fit : IsCall call
   pub first : call.pid ≡ 1

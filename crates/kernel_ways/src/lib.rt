@@ -1,8 +1,10 @@
-//! What the ceiling of a launched service leaves open, lists of calls show; so its verdicts and its bounds are exact.
+//! States that the ceiling of a launched service is exact: for all that it leaves open some list of calls exists.
 //!
-//! There is no code: the definitions stand in specs/, and each function's contract is a law over them.
-//! It rests on `kernel_laws` for what denies, on `reach_paths` for what mounts show and on `launcher` for what a launch leaves; the
-//! crates that judge and that print calls cite its words.
+//! The crate has no code. Each function is a law: its contract states the law over the definitions in `specs/`. The
+//! crates that give verdicts and print calls cite these words.
+//!
+//! `kernel_laws` has the laws of what is denied, `reach_paths` those of what mounts show, and `launcher` says what a
+//! launch leaves.
 #![tactic(auto)]
 
 ghost use Rattle.kernel_ways.specs.Blindness.{BlindIsExact};
@@ -13,7 +15,9 @@ ghost use Rattle.kernel_ways.specs.Laws.{OpenIsShown, VerdictIsExact, ListedAreF
 ghost use Rattle.kernel_ways.specs.Showing.{WaysAreDone, ServedIsSolo, CallsShow, CredsShow};
 ghost use Rattle.kernel_ways.specs.Spared.{SparedIdsAreBounded, SparedIdsAreReached};
 
-/// What the ceiling of a launched service leaves open, some list of calls shows; what it closes, none does.
+/// After a launch of a unit's settings, some list of calls shows each question that the ceiling leaves open, and none
+/// reaches a question that it closes. So each verdict on the listed questions is exact, and so are the capabilities
+/// of the ceiling, its power, and that every uid or gid can be had.
 pub fn openness()
     ensures shown { OpenIsShown }
     ensures exact { VerdictIsExact }
@@ -22,21 +26,24 @@ pub fn openness()
     ensures bounds { CeilingIsExact }
 {}
 
-/// A launch by the programs of settings leaves a world of which this holds.
+/// A launch with programs that decide as the settings' filters leaves a world for which the other laws hold. Its
+/// filters pass the calls that set ids, capabilities or mounts by their numbers alone, and a path finds its program.
 pub fn launches()
     ensures pass_alike { SettingsPassAlike }
     ensures leave_a_served_world { LaunchedIsServed }
     ensures run_their_program { LaunchedRunsProgram }
 {}
 
-/// The uids that are reached without the use of CAP_SETUID, and the gids without the use of CAP_SETGID.
+/// Lists of calls reach exactly these uids without a use of CAP_SETUID, and exactly these gids without a use of
+/// CAP_SETGID.
 pub fn spared()
     ensures bounded { SparedIdsAreBounded }
     ensures reached { SparedIdsAreReached }
 {}
 
-/// Ways of process 1 alone from the launched world on: each call of one is done, and it shows what one more call answers, or what
-/// the credentials have that it leads to.
+/// A way is a list of calls of process 1 alone. Ways begin in the launched world, and each of their calls is done. A
+/// way shows a question by the credentials that it leads to, by one more call, or by one more call in a user
+/// namespace.
 pub fn ways()
     ensures begin { ServedIsSolo }
     ensures are_done { WaysAreDone }
@@ -45,8 +52,8 @@ pub fn ways()
     ensures show_inside { CallsShowInside }
 {}
 
-/// Calls by which process 1, with CAP_SYS_ADMIN, exposes a row: umount2(2) of what covers it, or two calls of mount(2). They are
-/// ways.
+/// With CAP_SYS_ADMIN process 1 can expose a row: by umount2(2) of what covers it, or by two calls of mount(2). These
+/// calls are ways.
 pub fn exposures()
     ensures by_unmounts { UnmountsShowRow }
     ensures by_unmounts_at_once { UnmountsShowRowAtOnce }
@@ -54,8 +61,8 @@ pub fn exposures()
     ensures by_mounts_at_once { TwoMountsShowRowsAtOnce }
 {}
 
-/// A folder of the host is blind by the launched mount table exactly where no list of calls leads to a world in which a path shows
-/// what lies below it; where it is not blind, some list of calls, each of which is done, leads to one.
+/// A folder of the host is blind by the launched mount table exactly if no list of calls leads to a world in which a
+/// path shows a place below it. If it is not blind, some list of calls, each of them done, leads to such a world.
 pub fn blindness()
     ensures exact { BlindIsExact }
 {}
