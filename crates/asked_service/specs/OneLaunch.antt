@@ -1,4 +1,4 @@
--- A unit over one table of calls and one site comes to one thing: its service, or one refusal.
+-- A unit over one table of calls and one site has one answer: its service, or one refusal.
 use Rattle.std.specs.Prelude.{◌≡◌, ◌≢◌, Result, Ok, Err}
 use Rattle.judge.specs.call_table.Facts.{IsWhole}
 use Rattle.judge.specs.call_table.Table as calls
@@ -23,7 +23,7 @@ pub record AreTables (table : calls.Table) (site : Site) : Type 0 where
   pub word_archs : HasWordArchs table
   pub is_site : IsSite site
 
--- after as many steps the two worlds differ in the programs of the launch alone, and these answer alike
+-- after the same number of steps the two worlds differ in the programs of the launch alone, and these answer alike
 pub record AreOneService (one other : Service) : Type 0 where
   pub as_many_steps : one.steps ≡ other.steps
   pub base : World
@@ -38,13 +38,13 @@ AreOneLaunch (Launched one) (Refused refusal) = ⊥
 AreOneLaunch (Refused refusal) (Launched other) = ⊥
 AreOneLaunch (Refused one) (Refused other) = one ≡ other
 
--- by its settings and the plan of its mounts a unit starts as one thing
+-- a unit that starts over the same tables twice starts as one thing
 abbrev pub StartsOnce : Type 0
 StartsOnce = (inputs : Inputs) (one other : UnitLaunch) → AreTables inputs.calls inputs.site → StartsAs inputs one → StartsAs inputs other
     → AreOneLaunch one other
 
--- where a unit is launched it is not refused, by no setting, no path and no step; and it is refused for one cause. Want of memory says
--- nothing
+-- a unit that is launched is not refused, by no setting, no path and no step; and one that is refused is refused for one cause. An answer
+-- that memory ran out says nothing
 abbrev pub AreOneAnswer : Result Service UnitRefusal → Result Service UnitRefusal → Type 0
 AreOneAnswer (Ok one) (Ok other) = AreOneService one other
 AreOneAnswer (Ok service) (Err refusal) = refusal ≡ Memory

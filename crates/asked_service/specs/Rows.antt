@@ -13,11 +13,11 @@ use Rattle.judge.specs.site_table.Table.{Site}
 use Rattle.asked_service.specs.Asked.{is_open_by}
 use Rattle.asked_service.specs.declared.rows.VerdictRow.{VerdictRow}
 
--- it is denied, where no list of calls of the service and its descendants reaches it, and nowhere else
+-- the verdict is exact: denied exactly if no list of calls of the service and its descendants reaches the question
 abbrev pub IsSo : World → Question → Bool → Type 0
 IsSo world question is_open = (is_open ≡ false) ↔ IsDenied world question
 
--- one verdict on each question of the tables, in their order, each of them so
+-- one exact verdict on each question of the tables, in their order
 pub record AreRows (world : World) (rows : List VerdictRow) : Type 0 where
   pub one_each : map (λ row. row.question) rows ≡ asked.questions world.calls world.site
   pub each_is_so : AllByRecursion (λ row. IsSo world row.question row.is_open) rows

@@ -32,7 +32,7 @@ pub fn bound<'a>(alloc: Global, service: Launched<'a>) -> Result<Bounded<'a>, Al
     })
 }
 
-// Whether a verdict says that a question is open.
+// Returns whether a verdict says that a question is open.
 fn says_open(found: Verdict) -> bool
     ensures { (result ≡ true) ↔ (found ≡ Verdict.Open) }
 {
@@ -43,14 +43,14 @@ fn says_open(found: Verdict) -> bool
 }
 
 impl Bounded<'_> {
-    /// Whether a question of the tables is open: one verdict alone, which takes no memory.
+    /// Returns whether a question of the tables is open: one verdict alone, which takes no memory.
     pub fn is_open(&self, question: &Question) -> bool
         requires bounded { IsBounded self.now }
         requires listed { Contains (questions self.now.service.world.calls self.now.service.world.site) question.now }
         ensures is_so { IsSo self.now.service.world question.now result }
         ensures by_the_rule { result ≡ is_open_by self.now.service.world question.now }
     {
-        // Why it is so.
+        // The law says why the verdict is exact.
         openness();
         says_open(verdict(&self.service, &self.ceiling, question))
     }

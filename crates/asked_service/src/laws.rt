@@ -1,10 +1,10 @@
-//! A law of launches: the function does nothing, and its contract is the law.
+//! The laws of launches. Each is the contract of a function that does nothing.
 
 ghost use Rattle.asked_service.specs.OneLaunch.{LaunchesOnce, StartsOnce};
 
-/// A unit over one table of calls and one site comes to one thing. A launch and a refusal exclude each other, and there is one
-/// refusal: the first setting, the first path, or the launch that is refused. Two services of it differ in the programs of their
-/// filters alone, which answer alike.
+/// A unit over one table of calls and one site has one answer. A launch and a refusal exclude each other. Two
+/// refusals are the same: the first setting, the first path, or the launch that is refused. Two services take the
+/// same number of steps, and their worlds differ only in the programs of the launch, which answer alike.
 pub fn one_launch()
     ensures one_answer { LaunchesOnce }
     ensures one_start { StartsOnce }

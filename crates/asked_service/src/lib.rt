@@ -6,10 +6,10 @@
 //! - [`launched_units`] takes a unit through its settings, its plan and its launch.
 //! - [`started_units`] does so for a named unit, and has the line of the first refusal.
 //!
-//! That there is one answer is a law, in [`laws`].
+//! A unit has one answer: a launched service or one refusal. That is a law, in [`laws`].
 //!
-//! `bound(alloc, service)?.is_open(&question)` is one verdict alone, and `verdict_rows(alloc, &bounded, &list)?` are those on all
-//! questions, in their order. The crate uses `launcher`, `ceilings`, `questions` and `judge`.
+//! `bound(alloc, service)?.is_open(&question)` gives one verdict, and `verdict_rows(alloc, &bounded, &list)?` those
+//! on all questions, in their order. The crate uses `launcher`, `ceilings`, `questions` and `judge`.
 #![tactic(auto)]
 
 mod bounding;

@@ -30,7 +30,7 @@ pub fn verdict_rows(
     ensures one_each_and_so { IfOk result (λ rows. AreRows bounded.now.service.world rows.items) }
     ensures by_the_rule { IfOk result (λ rows. rows.items ≡ rows_of bounded.now.service.world list.now) }
 {
-    // Why they are so.
+    // The law says why the verdicts are exact.
     openness();
     let mut rows = Vec::new(alloc);
     for question in list {
@@ -42,7 +42,7 @@ pub fn verdict_rows(
     Ok(rows)
 }
 
-/// How many of all questions of the tables are open. It takes no memory.
+/// Returns how many of all questions of the tables are open. It takes no memory.
 pub fn count_open(bounded: &Bounded<'_>, list: &[Question]) -> usize
     requires bounded { IsBounded bounded.now }
     requires all { list.now ≡ questions bounded.now.service.world.calls bounded.now.service.world.site }

@@ -1,9 +1,10 @@
-//! The launch of a unit, for the commands that launch one, and what is told of it.
+//! Launches a unit for the commands that launch one, and gives the printed facts of its service.
 //!
-//! A unit with its settings and the plan of its mounts is started in the modelled kernel; what is launched is handed out, and
-//! a launch that is refused has its line. It stands on `launcher` for the launch and on `report_text` for the lines.
+//! A unit with its settings and the plan of its mounts is started in the modelled kernel. The answer is the service,
+//! or a refusal that has its line. The module uses `launcher` for the launch and `report_text` for the lines.
 //!
-//! `launch_unit(alloc, &settings, plan.list(), &calls, &site)?` has the service or the refusal, and `told` what is printed of it.
+//! `launch_unit(alloc, &settings, plan.list(), &calls, &site)?` is the service or the refusal, and `told` has what is
+//! printed of the service.
 
 mod launching;
 mod refusal;

@@ -1,4 +1,4 @@
--- What ways are found by is that of a launch.
+-- The basis of ways is that of a launch.
 use Rattle.std.specs.Prelude.{◌≡◌}
 use Rattle.ceilings.specs.kernel_laws.Bound.{power_of}
 use Rattle.ceilings.specs.kernel_laws.declared.question_types.kind.CallKind.TheVariants.{SetsCaps, TakesUid, TakesGid}

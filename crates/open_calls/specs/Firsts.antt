@@ -26,7 +26,7 @@ first_as kind line = record { abi = line.abi; nr = line.number; args = args_of k
 abbrev pub first_of : Launch → CallKind → FirstCall
 first_of launch kind = first_as kind (line_of launch kind)
 
--- where it stands
+-- where it is
 abbrev pub place_in : FirstCall → CallAt
 place_in first = record { abi = first.abi; nr = first.nr }
 

@@ -1,4 +1,4 @@
-//! The calls of a question.
+//! Makes the calls of a question.
 
 ghost use Rattle.std.specs.Prelude.{◌≡◌, ◌++◌, ◌∷◌, [], Contains, true, option_copied, slice_get, IfOk, OnOk, Some};
 ghost use Rattle.std.specs.List.{list_any};
@@ -162,12 +162,14 @@ impl Service<'_> {
     }
 }
 
-/// The calls that are chosen to reach an open question of a launched service. They are made by process 1, one behind the other, and
-/// each is done; the last one does what is asked, or the process then has it. Where process 1 makes a child in a user namespace by
-/// clone(2), the child, process 2, makes the one call behind that. What the service has at launch needs no call.
+/// Makes the calls that are chosen to reach an open question of a launched service.
 ///
-/// Short lists come first: what can be done on the launched mount table is done there, and CAP_SYS_ADMIN is gained only for what
-/// cannot (capabilities(7), mount(2), umount2(2)).
+/// Process 1 makes them one after the other, and each is done. The last one does what is asked, or the process then
+/// has it. If process 1 makes a child in a user namespace by clone(2), that child, process 2, makes the one call that
+/// follows. What the service has at launch needs no call.
+///
+/// Short lists are preferred: what can be done on the launched mount table is done there, and CAP_SYS_ADMIN is gained
+/// only for what cannot (capabilities(7), mount(2), umount2(2)).
 pub fn calls(service: &Service<'_>, question: &Question) -> Result<Vec<Call>, AllocError>
     requires served { IsServedWorld service.now.world.now }
     requires program { RunsProgram (launch_of service.now.world.now) service.now.program.now }

@@ -1,4 +1,4 @@
-//! What ways are found by: the power over mount tables, and which calls pass.
+//! The facts of a service by which ways are found: its power over mount tables, and which calls pass.
 
 ghost use Rattle.std.specs.Prelude.{◌≡◌};
 ghost use Rattle.ceilings.specs.kernel_laws.Launched.{launch_of};
@@ -8,7 +8,7 @@ ghost use Rattle.open_calls.specs.Bases.{IsBasis};
 use ceilings::Ceiling;
 use questions::{CallKind, Power, World};
 
-/// What is known of a launched service before any way is found.
+/// The facts of a launched service that are known before any way is found.
 #[derive(Clone, Copy)]
 pub(crate) struct Basis {
     // its own power over mount tables, mount(2), umount2(2)
@@ -20,7 +20,7 @@ pub(crate) struct Basis {
 }
 
 impl Basis {
-    /// That of a launched service, by its own ceiling.
+    /// Returns the basis of a launched service, by its own ceiling.
     pub(crate) fn of(world: &World<'_>, top: &Ceiling) -> Basis
         requires its_own { IsCeilingOf (launch_of world.now) top.now }
         ensures { IsBasis (launch_of world.now) result }

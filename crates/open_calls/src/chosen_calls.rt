@@ -1,12 +1,13 @@
-//! Which list of calls is printed below an open question, that it shows the question, and who makes the calls.
+//! Defines which list of calls is printed below an open question, with the laws that it shows the question and who
+//! makes its calls.
 //!
-//! There is no code: the definitions stand in specs/, and the function's contract is a law over them.
-//! It rests on `kernel_ways` for what each call comes to; `open_calls` makes the lists.
+//! The module has no code: the function's contract is a law over the definitions in `specs/`. `kernel_ways` has the
+//! laws of what each call does; `open_calls` makes the lists.
 
 ghost use Rattle.open_calls.specs.chosen_calls.Laws.{ChoiceIsMade, ChoiceShows};
 
-/// The calls that are chosen for an open question of a launched service are all done, and reach it; process 1 makes them, but for
-/// one call behind a clone(2) with CLONE_NEWUSER, which its child makes.
+/// After a launch of a unit's settings, the calls that are chosen for an open question are all done and show it.
+/// Process 1 makes them. One call alone may be its child's: the one after a clone(2) with CLONE_NEWUSER.
 pub fn choices()
     ensures shown { ChoiceShows }
     ensures made { ChoiceIsMade }

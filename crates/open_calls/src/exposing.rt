@@ -1,4 +1,5 @@
-//! The path that names a row of the site, the calls that expose it there (mount(2), umount2(2)), and the call behind them.
+//! Makes the path that names a row of the site, the calls that expose the row there (mount(2), umount2(2)), and the
+//! call after them.
 
 ghost use Rattle.std.specs.Prelude.{◌≡◌, ◌≤◌, ◌<◌, ◌++◌, [], true, drop, length, IfOk, OnOk, Some};
 ghost use Rattle.ceilings.specs.abs_path.Paths.{Path, tail_of, proc};
@@ -39,7 +40,7 @@ const MS_BIND: u64 = 4096;
 /// The flags of the second mount, with which a single mount is changed: MS_REMOUNT and MS_BIND of mount(2).
 pub(crate) const REMOUNT: u64 = 0x1020;
 
-/// And MS_NOSUID, where marks of programs are not looked at.
+/// The same with MS_NOSUID, with which execve(2) does not look at the marks of programs.
 pub(crate) const REMOUNT_UNMARKED: u64 = 0x1022;
 
 /// What is wished of a row, and by which power over mount tables.
@@ -55,7 +56,7 @@ pub(crate) struct Aim<'a> {
     pub(crate) at: usize,
 }
 
-// Where the entry of this number shows the row.
+// Returns the path at which the entry of this number shows the row.
 fn shown_at(alloc: Global, table: &MountTable, row: &AbsPath, at: usize) -> Made<AbsPath>
     requires in_range { at < length (steps_of table.now) }
     requires leads { IsLead (steps_of table.now) row.now at }
@@ -68,7 +69,7 @@ fn shown_at(alloc: Global, table: &MountTable, row: &AbsPath, at: usize) -> Made
     }
 }
 
-// The row's path below that folder.
+// Returns the path of the row below the folder of the processes.
 fn below_proc(alloc: Global, row: &AbsPath) -> Made<AbsPath>
     requires short { length (tail_of (proc ++ row.now)) ≤ 512 }
     ensures { IfOk result (λ path. path ≡ proc ++ row.now) }
@@ -95,7 +96,7 @@ pub(crate) fn reach_row(world: &World<'_>, power: Power, wish: Wish, row: &Row) 
     reach(launched_table(world), &row.path, wish, power)
 }
 
-/// Its number, where one does.
+/// Returns the number of that entry, or 0 without one.
 pub(crate) fn lead(world: &World<'_>, power: Power, wish: Wish, row: &Row) -> usize
     requires launched { IsLaunchedWorld world.now }
     ensures first { result ≡ lead power (launch_of world.now).table row.now.path wish }

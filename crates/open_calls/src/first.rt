@@ -1,4 +1,5 @@
-//! Which call of a kind is made, with which words: of those that the filters let through, the first in the order of names.
+//! Chooses the call that is made for a kind, with its words: of those that the filters let through, the first in the
+//! order of names.
 
 ghost use Rattle.std.specs.Prelude.{◌≡◌, true, find, option_copied, option_map, IfOk};
 ghost use Rattle.ceilings.specs.call_table.Lookups.{named};
@@ -22,7 +23,7 @@ fn line_named<'a>(world: &'a World<'_>, abi: u8, name: &str) -> Option<&'a CallL
     lines.iter().find(|line| name == line.name.as_str())
 }
 
-// Whether the ABI has a call of the name that asks for the kind, and the filters let it through.
+// Returns whether the ABI has a call of the name that asks for the kind, and the filters let it through.
 fn lets_name(world: &World<'_>, kind: CallKind, abi: u8, name: &str) -> bool
     ensures { result ≡ lets_name (launch_of world.now) kind abi name.now }
 {
@@ -32,7 +33,7 @@ fn lets_name(world: &World<'_>, kind: CallKind, abi: u8, name: &str) -> bool
     }
 }
 
-// The first name of which that is so.
+// Returns the first of these names that the filters let through for the kind.
 fn first_name(
     world: &World<'_>,
     kind: CallKind,
@@ -55,7 +56,8 @@ fn line_in<'a>(world: &'a World<'_>, kind: CallKind, abi: u8) -> Option<&'a Call
     line_named(world, abi, name)
 }
 
-// The line of the call that is made, if there is one: by the native ABI, else by the other.
+// Returns the line of the call that is made, if there is one: by the native ABI, else by the other, else the first of
+// the table.
 fn first_line<'a>(world: &'a World<'_>, kind: CallKind) -> Option<&'a CallLine>
     ensures { option_copied result ≡ first_line (launch_of world.now) kind }
 {
@@ -108,7 +110,7 @@ pub(crate) fn call_of(line: &CallLine, args: [u64; 6], payload: Payload) -> Call
     }
 }
 
-/// The first call of a kind: where it stands in the table, the words that ask for the kind, and its rule.
+/// The first call of a kind: where it is in the table, the words that ask for the kind, and its rule.
 #[derive(Clone, Copy)]
 pub(crate) struct FirstCall {
     // By which ABI it is made.
@@ -122,7 +124,7 @@ pub(crate) struct FirstCall {
 }
 
 impl FirstCall {
-    /// It, by process 1, with these words and this payload.
+    /// Returns the call by process 1, with these words and this payload.
     pub(crate) fn with(self, args: [u64; 6], payload: Payload) -> Call
         ensures { result ≡ call_as self args payload }
     {
@@ -162,7 +164,7 @@ pub(crate) fn id_words(rule: Rule, id: u32) -> [u64; 6]
     }
 }
 
-/// And its payload.
+/// Returns the payload of a call of the rule that takes the id.
 pub(crate) fn id_payload(alloc: Global, rule: Rule, id: u32) -> Made<Payload>
     ensures { IfOk result (λ payload. payload ≡ id_payload rule id) }
 {

@@ -49,7 +49,7 @@ fn first_if(world: &World<'_>, kind: CallKind, passes: bool) -> Option<FirstCall
 }
 
 impl Firsts {
-    /// Those of a service, by its own ceiling.
+    /// Returns the first calls of a service, by its own ceiling.
     pub(crate) fn of(world: &World<'_>, top: &Ceiling, basis: Basis) -> Firsts
         requires its_own { IsCeilingOf (launch_of world.now) top.now }
         requires its_basis { IsBasis (launch_of world.now) basis }
@@ -77,7 +77,7 @@ impl Firsts {
         }
     }
 
-    // That of the kind, if it is kept.
+    // Returns the first call of the kind, if it is kept.
     fn kept(&self, kind: CallKind) -> Option<FirstCall>
         ensures { (launch : Launch) → AreFirsts launch self.now → IsFirst launch kind result }
     {
@@ -117,7 +117,7 @@ impl Service<'_> {
         first.with(first.args, payload)
     }
 
-    /// What the first call for a family carries: the family, where the call is socketcall(2).
+    /// Returns what the first call for a family carries: the family, where the call is socketcall(2).
     pub(crate) fn socket_payload(&self, family: u32) -> Payload
         requires some_passes { lets (launch_of self.now.world.now) (ForFamily family) ≡ true }
         ensures { result ≡ socket_payload (launch_of self.now.world.now) family }
@@ -137,7 +137,7 @@ impl Service<'_> {
         self.call_by(kind, Payload::Nothing)
     }
 
-    // Who is in it: by unshare(2) process 1, else its first child.
+    // Returns the number of the process that is in the user namespace: process 1 by unshare(2), else its first child.
     fn pid_inside(&self) -> u32
         requires some_passes { lets (launch_of self.now.world.now) (ForNamespace User) ≡ true }
         ensures { result ≡ pid_inside (launch_of self.now.world.now) }

@@ -23,7 +23,7 @@ pub(crate) enum Gained<'a> {
     Found(Option<GainWay<'a>>),
 }
 
-// What is kept of this capability, by those that can be had.
+// Returns what is kept of this capability, by those that can be had.
 fn found_way<'a>(world: &'a World<'_>, basis: Basis, held: CapSet, cap: u8) -> Gained<'a>
     requires launched { IsLaunchedWorld world.now }
     requires its_own { IsBasis (launch_of world.now) basis }
@@ -36,7 +36,7 @@ fn found_way<'a>(world: &'a World<'_>, basis: Basis, held: CapSet, cap: u8) -> G
     }
 }
 
-/// What is kept of each capability, by its number and by those that can be had.
+/// Returns what is kept of each capability, by its number and by those that can be had.
 pub(crate) fn gains<'a>(
     alloc: Global,
     world: &'a World<'_>,
@@ -54,7 +54,7 @@ pub(crate) fn gains<'a>(
     Ok(list)
 }
 
-// What is kept of the capability of this number.
+// Returns what is kept of the capability of this number.
 #[tactic(auto, using(crate::proofs::Keeping::kept_there))]
 fn kept<'a>(gains: &[Gained<'a>], cap: u8) -> Gained<'a>
     ensures { (launch : Launch) → AreGained launch gains.now → IsGained launch cap result }
@@ -66,7 +66,7 @@ fn kept<'a>(gains: &[Gained<'a>], cap: u8) -> Gained<'a>
 }
 
 impl<'a> Service<'a> {
-    /// How the capability is gained, if it is.
+    /// Returns how the capability is gained, if it is.
     pub(crate) fn gain(&self, cap: u8) -> Option<GainWay<'a>>
         requires { IsLaunchedWorld self.now.world.now }
         ensures { option_map meant_gain result ≡ gain (launch_of self.now.world.now) cap }
@@ -77,7 +77,7 @@ impl<'a> Service<'a> {
         }
     }
 
-    /// How it is gained on the launched table, if it is.
+    /// Returns how it is gained on the launched table, if it is.
     #[tactic(auto, using(crate::proofs::Keeping::once_at_once, crate::proofs::Keeping::once_behind, crate::proofs::Keeping::once_none))]
     pub(crate) fn at_once(&self, cap: u8) -> Option<CapWay<'a>>
         requires { IsLaunchedWorld self.now.world.now }

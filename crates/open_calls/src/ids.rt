@@ -44,7 +44,7 @@ impl IdKind {
         }
     }
 
-    // Whether a set-id bit of the row gives the id.
+    // Returns whether a set-id bit of the row gives the id.
     fn gives(self, id: u32, row: &Row) -> bool
         ensures { result ≡ gives self id row.now }
     {
@@ -54,7 +54,7 @@ impl IdKind {
         }
     }
 
-    // Whether the process has the id at launch, a gid also among its groups.
+    // Returns whether the process has the id at launch, a gid also among its groups.
     fn is_had(self, world: &World<'_>, id: u32) -> bool
         requires { IsLaunchedWorld world.now }
         ensures { result ≡ is_had self (launch_of world.now) id }
@@ -67,7 +67,7 @@ impl IdKind {
     }
 }
 
-// Whether the id is among these.
+// Returns whether the id is among these.
 fn is_among(id: u32, ids: &[u32]) -> bool
     ensures { result ≡ list_any (λ own. id == own) ids.now }
 {
@@ -98,7 +98,7 @@ fn runner<'a>(world: &'a World<'_>, power: Power, kind: IdKind, id: u32) -> Opti
 }
 
 impl Service<'_> {
-    // Whether a call passes that takes such an id.
+    // Returns whether a call passes that takes such an id.
     fn is_taken(&self, kind: IdKind) -> bool
         ensures { result ≡ lets (launch_of self.now.world.now) (meant_kind kind) }
     {
@@ -108,7 +108,7 @@ impl Service<'_> {
         }
     }
 
-    // How the capability is gained on the launched table, where such a call passes.
+    // Returns how the capability is gained on the launched table, where such a call passes.
     fn cap_way(&self, kind: IdKind) -> Option<CapWay<'_>>
         requires { IsLaunchedWorld self.now.world.now }
         ensures { let launch = launch_of self.now.world.now in
@@ -161,8 +161,8 @@ impl Service<'_> {
         }
     }
 
-    /// Adds the calls that take an id that can be had, and none for one that the launch has: by a row of the launched table,
-    /// else by the capability there, else with the launch's power over mount tables.
+    /// Adds the calls that take an id that can be had; for an id that the launch has, none. They take it by a row of
+    /// the launched table, else by the capability there, else with the launch's power over mount tables.
     pub(crate) fn push_id(&self, calls: &mut Vec<Call>, kind: IdKind, id: u32) -> Made<()>
         requires served { IsServedWorld self.now.world.now }
         requires reachable { is_open (launch_of self.now.world.now) (asked kind id) ≡ true }

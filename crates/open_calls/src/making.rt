@@ -114,7 +114,7 @@ impl Service<'_> {
         }
     }
 
-    // Adds the calls of a way on the launched table, or behind CAP_SYS_ADMIN.
+    // Adds the calls of a way on the launched table, or after CAP_SYS_ADMIN.
     fn push_gain(&self, calls: &mut Vec<Call>, way: GainWay<'_>) -> Made<()>
         requires served { IsServedWorld self.now.world.now }
         requires serves { GainCanBeMade (launch_of self.now.world.now) (meant_gain way) }

@@ -25,7 +25,7 @@ fn listed_row<'a>(world: &'a World<'_>, at: usize) -> Option<&'a Row>
     world.site_table().rows().get(at)
 }
 
-// Whether the row is to be executed, and execve refuses it wherever its marks are looked at.
+// Returns whether the row is to be executed, and execve refuses it wherever its marks are looked at.
 fn is_held_off(world: &World<'_>, wish: Wish, row: &Row) -> bool
     requires { IsLaunchedWorld world.now }
     ensures { result ≡ is_held_off (launch_of world.now) wish row.now }
@@ -36,7 +36,7 @@ fn is_held_off(world: &World<'_>, wish: Wish, row: &Row) -> bool
     }
 }
 
-// Whether the power makes mounts.
+// Returns whether the power makes mounts.
 fn can_mount(power: Power) -> bool
     ensures { result ≡ is_mounting power }
 {
@@ -66,8 +66,8 @@ impl Service<'_> {
         }
     }
 
-    // Adds the calls that execute a row in a user namespace, by the entry that leads to it at once, if one does; execve holds it off
-    // elsewhere, and there the bounding set is full, user_namespaces(7).
+    // Adds the calls that execute a row in a user namespace, by the entry that leads to it at once, if one does.
+    // execve refuses the row elsewhere, but the bounding set is full there, user_namespaces(7).
     fn push_held_off(&self, calls: &mut Vec<Call>, near: Option<usize>, row: &Row) -> Made<()>
         requires served { IsServedWorld self.now.world.now }
         requires known { row_at self.now.world.now.site.rows row.now.path ≡ Some row.now }

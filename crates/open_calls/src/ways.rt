@@ -14,11 +14,11 @@ use questions::{Power, World};
 /// How a capability becomes effective by a file.
 #[derive(Clone, Copy)]
 pub(crate) enum FileWay<'a> {
-    /// It is so at launch.
+    /// It is effective at launch.
     Held,
     /// By execve(2) of the row.
     Run(&'a Row),
-    /// And by capset(2) behind it.
+    /// And by capset(2) after it.
     Capset(&'a Row),
 }
 
@@ -27,7 +27,7 @@ pub(crate) enum FileWay<'a> {
 pub(crate) enum CapWay<'a> {
     /// By a file.
     File(FileWay<'a>),
-    /// CAP_SETUID by a file, then setuid(2), and execve(2) behind it.
+    /// CAP_SETUID by a file, then setuid(2), and execve(2) after it.
     Root(FileWay<'a>),
 }
 
@@ -40,7 +40,7 @@ pub(crate) enum GainWay<'a> {
     Behind(CapWay<'a>, CapWay<'a>),
 }
 
-// Whether execve of the row makes the capability effective.
+// Returns whether execve of the row makes the capability effective.
 fn gives_at_once(world: &World<'_>, cap: u8, row: &Row) -> bool
     requires { IsLaunchedWorld world.now }
     ensures { result ≡ gives_at_once (launch_of world.now) cap row.now }
@@ -49,7 +49,7 @@ fn gives_at_once(world: &World<'_>, cap: u8, row: &Row) -> bool
     (row.setuid == Some(0) && bounding.contains(cap)) || (row.effective && row.caps.contains(cap))
 }
 
-// Whether it makes the capability permitted, for capset to make it effective.
+// Returns whether it makes the capability permitted, for capset to make it effective.
 fn gives_by_capset(world: &World<'_>, cap: u8, row: &Row) -> bool
     requires { IsLaunchedWorld world.now }
     ensures { result ≡ gives_by_capset (launch_of world.now) cap row.now }
@@ -120,7 +120,7 @@ fn by_launch<'a>(world: &'a World<'_>, basis: Basis, cap: u8) -> Option<FileWay<
     }
 }
 
-// Whether who takes uid 0 has the capability.
+// Returns whether who takes uid 0 has the capability.
 fn takes_root(world: &World<'_>, basis: Basis, cap: u8) -> bool
     requires launched { IsLaunchedWorld world.now }
     requires its_own { IsBasis (launch_of world.now) basis }
@@ -130,7 +130,7 @@ fn takes_root(world: &World<'_>, basis: Basis, cap: u8) -> bool
     !creds.no_new_privs() && basis.takes_uid && creds.bounding().contains(cap)
 }
 
-// How the capability is gained on the launched table, if it is.
+// Returns how the capability is gained on the launched table, if it is.
 #[tactic(auto, unfolding(crate::specs::chosen_calls::Gaining::at_once))]
 fn at_once<'a>(world: &'a World<'_>, basis: Basis, cap: u8) -> Option<CapWay<'a>>
     requires launched { IsLaunchedWorld world.now }
@@ -173,7 +173,7 @@ fn behind<'a>(world: &'a World<'_>, basis: Basis, cap: u8) -> Option<GainWay<'a>
     Some(GainWay::Behind(admin, own))
 }
 
-/// How the capability is gained, if it is: on the launched table, else behind CAP_SYS_ADMIN.
+/// Returns how the capability is gained, if it is: on the launched table, else after CAP_SYS_ADMIN.
 pub(crate) fn gain<'a>(world: &'a World<'_>, basis: Basis, cap: u8) -> Option<GainWay<'a>>
     requires launched { IsLaunchedWorld world.now }
     requires its_own { IsBasis (launch_of world.now) basis }

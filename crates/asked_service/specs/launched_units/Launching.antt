@@ -29,8 +29,8 @@ RefusesPath row_at mentions (plan.Missing path) = kept_of row_at mentions ≡ Er
 RefusesPath row_at mentions (plan.Kind path) = kept_of row_at mentions ≡ Err (wrong_kind path)
 RefusesPath row_at mentions plan.Memory = ⊥
 
--- what is kept of the mentions are those that the rules keep, each path belongs to an entry that has what the view by these has there,
--- the places are the root and paths of the mentions, and a launch can take the plan
+-- the plan shows what the mentions say. The rules keep the kept mentions. Each path belongs to an entry that has what the view by these
+-- has there. The places are the root and paths of the mentions, and a launch can take the plan
 pub record FitsMentions (row_at : Host) (mentions : List Mention) (plan : List MountStep) : Type 0 where
   pub keeps_by_rules : IfOk (kept_of row_at mentions) (KeepsByRules row_at mentions)
   pub finds_as_view : IfOk (kept_of row_at mentions) (λ kept. FindsAsView kept plan)
@@ -57,7 +57,7 @@ pub record IsRefusedUnit (unit : Resolved) (table : calls.Table) (site : Site) (
   pub fits : FitsMentions (host_of site) (unit_mentions unit site) plan
   pub refused : IsRefused table site settings plan refusal
 
--- why a unit is not launched: the first setting, the first path or the launch that is refused; want of memory says nothing
+-- why a unit is not launched: the first setting, the first path or the launch that is refused. An answer that memory ran out says nothing
 abbrev pub IsNotLaunched : Resolved → calls.Table → Site → UnitRefusal → Type 0
 IsNotLaunched unit table site (InSettings error) = refusal_of unit table site ≡ Some error
 IsNotLaunched unit table site (Plan error) = (refusal_of unit table site ≡ None) × RefusesPath (host_of site)

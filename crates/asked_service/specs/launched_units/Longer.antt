@@ -1,4 +1,4 @@
--- A unit with one more file behind its files (systemd.unit(5): what stands in a later file is added, or takes back what was before).
+-- A unit with one more file after its files (systemd.unit(5)): the assignments of a later file are added, or take back what was before.
 use Rattle.std.specs.Prelude.{ℕ, List, [], ◌∷◌, ◌++◌, Result, Ok, Err}
 use Rattle.judge.specs.dropin_merge.declared.resolved.Resolved.{Resolved}
 use Rattle.report_text.specs.unit_grammar.Reading.{unit_of}
@@ -13,7 +13,7 @@ unless_refused (Err error) = record { assignments = []; notes = [] }
 abbrev pub says : List ℕ → UnitText
 says bytes = unless_refused (unit_of bytes)
 
--- the unit with a file of these bytes behind its files
+-- the unit with a file of these bytes after its files
 abbrev pub with_file : Resolved → List ℕ → Resolved
 with_file unit bytes = record {
   name = unit.name;

@@ -1,4 +1,4 @@
--- What a unit starts as, and what is refused before: its settings, and then its paths.
+-- The launch by which a unit starts, and the refusals before it: of its settings, and then of its paths.
 use Rattle.std.specs.Prelude.{◌≡◌, ℕ, List, ◌++◌, Option, Result, Ok, Err}
 use Rattle.judge.specs.call_table.Table as calls
 use Rattle.plan_command.specs.unit_inputs.command_answers.Stops.{first_refusal}
@@ -49,7 +49,7 @@ StopsWith line (Err (stop.Refused told)) = told.items ≡ line
 StopsWith line (Err stop.ReadFault) = ⊥
 StopsWith line (Err stop.Memory) = Unit {0}
 
--- the launch that is refused, or the line of the setting or the path; want of memory tells nothing
+-- the launch that is refused, or the line of the setting or the path. An answer that memory ran out has no line
 abbrev pub TellsRefusal : List ℕ → UnitRefusal → Result LaunchRefusal Stop → Type 0
 TellsRefusal name (InSettings error) result = StopsWith (settings_line name error) result
 TellsRefusal name (Plan error) result = StopsWith (error_line name error) result

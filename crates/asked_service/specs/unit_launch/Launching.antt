@@ -1,4 +1,4 @@
--- What the launch of a unit comes to.
+-- The result of the launch of a unit.
 use Rattle.std.specs.Prelude.{Err}
 use Rattle.judge.specs.call_table.Table as calls
 use Rattle.judge.specs.site_table.Table.{Site}
@@ -16,10 +16,9 @@ use Rattle.asked_service.specs.declared.unit_launch.launching.UnitLaunch.TheVari
 use Rattle.asked_service.specs.declared.unit_launch.refusal.LaunchRefusal.{LaunchRefusal}
 use Rattle.asked_service.specs.declared.unit_launch.refusal.LaunchRefusal.TheVariants as refusal
 
--- the settings are launched to this service, by programs that match their filters: process 1 alone, with those programs in
--- their order and the plan as its table, in a world that a judgement can stand on; and whichever programs match the filters,
--- its calls are answered alike; what is open there can be shown, and its program can be executed again by the path that the
--- settings give
+-- the settings are launched to this service, by programs that match their filters. Process 1 is alone, with those programs in their order
+-- and the plan as its table, in a launched world. With whichever other programs that match the filters its calls are answered alike
+-- (`WhicheverPrograms`). What is open there can be shown, and its program can be executed again by the path that the settings give
 pub record IsLaunched (table : calls.Table) (site : Site) (settings : Settings) (plan : Table) (service : Service) : Type 0 where
   pub launches : LaunchesTo table site settings plan service
   pub leaves_one_process : LeavesService table site settings plan service
@@ -28,7 +27,7 @@ pub record IsLaunched (table : calls.Table) (site : Site) (settings : Settings) 
   pub is_served : IsServedWorld service.world
   pub runs_its_program : RunsProgram (launch_of service.world) service.program
 
--- the first step that is not done, whatever programs match the filters; or the program is privileged
+-- the program is privileged; or this is the first step that is not done, with all programs that match the filters
 abbrev pub IsRefused : calls.Table → Site → Settings → Table → LaunchRefusal → Type 0
 IsRefused table site settings plan (refusal.Privileged program) = EndsAs table site settings plan (Err (error.PrivilegedProgram program))
 IsRefused table site settings plan (refusal.Refused step errno) = EndsAs table site settings plan (Err (error.Refused step errno))

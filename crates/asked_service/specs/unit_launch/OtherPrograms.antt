@@ -1,5 +1,5 @@
--- A launch by other programs that match the filters of the same settings: it ends as well, and what the service's calls are
--- answered rests on the programs at one place alone, where seccomp(2) answers that there is no room (ENOMEM).
+-- A launch by other programs that match the filters of the same settings ends as well. The answers to the service's calls depend on the
+-- programs at one place alone: where seccomp(2) answers that there is no room (ENOMEM).
 use Rattle.std.specs.Prelude.{◌≡◌, ℕ, ◌+◌, ◌<◌, ◌≤◌, List, length}
 use Rattle.judge.specs.bpf_code.declared.machine.Insn.{Insn}
 use Rattle.judge.specs.bpf_code.Stack.{room_of}
@@ -28,9 +28,9 @@ pub record AreOthers (settings : Settings) (programs : List (List ℕ)) (codes :
   pub matching : AreMatching settings.filters.items codes
   pub read : AreRead programs codes
 
--- seccomp(2), MAX_INSNS_PER_PATH: a program that a process may push has no room wherever the programs that the service pushed
--- itself pass the limit with it, each earlier one counted with 4 more; and it has room where they do not pass it together with
--- the most that programs of the launch may take
+-- seccomp(2), MAX_INSNS_PER_PATH: when a program that a process may push has room. It has none if the programs that the service pushed
+-- itself pass the limit with it, each earlier one counted with 4 more. It has room if they do not pass the limit together with the most
+-- that the programs of the launch may take
 pub record HasRoomByBounds (settings : Settings) (codes : List (List Insn)) : Type 0 where
   pub full : (world : World) (call : Call) (process : Process) (code : List Insn) → Pushes codes world call process code
       → max_insns_per_path < room_of process.stack + length code → (step (above codes world) call).0 ≡ Refused enomem
@@ -38,9 +38,9 @@ pub record HasRoomByBounds (settings : Settings) (codes : List (List Insn)) : Ty
       → most_room settings.filters.items + room_of process.stack + length code ≤ max_insns_per_path
       → (step (above codes world) call).0 ≡ Done 0
 
--- the launch by them takes as many steps, to a world that differs in the programs of the launch alone; from both worlds on
--- every list of calls is answered alike, and leaves worlds that differ in these programs alone, up to the first call of
--- seccomp(2) for whose program there is room in one of them alone
+-- the launch by them takes the same number of steps, and its world differs in the programs of the launch alone. From both worlds on every
+-- list of calls is answered alike and leaves worlds that differ in these programs alone. That ends at the first call of seccomp(2) whose
+-- program has room in one of the two alone
 pub record GoesOnAlike (table : calls.Table) (site : Site) (settings : Settings) (plan : Table) (service : Service) (programs : List (List ℕ)) (codes : List (List Insn)) : Type 0 where
   pub base : World
   pub own : service.world ≡ above (codes_of service.filters) base

@@ -1,4 +1,4 @@
--- What is told of a launched service.
+-- The printed facts of a launched service.
 use Rattle.std.specs.Prelude.{ℕ}
 use Rattle.judge.specs.kernel_laws.Launched.{first_of}
 use Rattle.judge.specs.kernel_model.World.{World}

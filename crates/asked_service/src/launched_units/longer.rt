@@ -1,4 +1,4 @@
-//! A unit with one more file behind its files.
+//! Adds one more file after the files of a unit.
 
 ghost use Rattle.std.specs.Prelude.{◌≡◌, IfOk};
 ghost use Rattle.asked_service.specs.launched_units.Longer.{says, with_file};
@@ -6,7 +6,7 @@ ghost use Rattle.asked_service.specs.launched_units.Longer.{says, with_file};
 use report_text::{Assignments, Notes, Resolved, UnitError, UnitText, read_unit};
 use std::alloc::{AllocError, Global};
 
-// What a file of these bytes says; one that is refused says nothing.
+// Returns what a file of these bytes says; one that is refused says nothing.
 fn said(alloc: Global, bytes: &[u8]) -> Result<UnitText, AllocError>
     ensures { IfOk result (λ text. text ≡ says bytes.now) }
 {
@@ -20,7 +20,7 @@ fn said(alloc: Global, bytes: &[u8]) -> Result<UnitText, AllocError>
     }
 }
 
-/// The unit with a file of these bytes behind its files, where a drop-in with the last name of all would stand.
+/// Makes the unit with a file of these bytes after its files, as a drop-in with the last name of all would be.
 pub fn with_file(alloc: Global, unit: &Resolved, bytes: &[u8]) -> Result<Resolved, AllocError>
     ensures file_stands_last { IfOk result (λ longer. longer ≡ with_file unit.now bytes.now) }
 {

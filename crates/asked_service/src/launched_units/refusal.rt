@@ -1,6 +1,6 @@
 //! Why a unit is not launched.
 //!
-//! Each cause is told by the layer that found it.
+//! Each cause comes from the layer that found it.
 
 ghost use Rattle.std.specs.Prelude.{◌≡◌};
 ghost use Rattle.asked_service.specs.declared.launched_units.refusal.UnitRefusal.TheVariants.{Memory};

@@ -1,4 +1,4 @@
-//! The launch of a unit, or the line of the first of its settings and paths that is refused.
+//! Launches a unit, or returns the line of the first of its settings and paths that is refused.
 ghost use Rattle.std.specs.Prelude.{IsErrOf};
 ghost use Rattle.plan_command.specs.unit_inputs.command_answers.Stops.{Prepares};
 ghost use Rattle.asked_service.specs.started_units.Starting.{StartsAs, TellsRefusal, given, start_refusals};

@@ -11,7 +11,7 @@ use judge::{LaunchError, Launched, MountStep, Settings, launch};
 use report_text::{CallTable, SiteTable};
 use std::alloc::{AllocError, Global};
 
-/// What the launch of a unit comes to.
+/// The result of the launch of a unit.
 #[derive(Drop)]
 pub enum UnitLaunch<'a> {
     /// It ended well, and left this service.
@@ -32,7 +32,7 @@ pub fn launch_unit<'a>(
     requires settings { (unit : Resolved) × AreSettings unit calls.now site.now settings.now }
     ensures comes_to { IfOk result (ComesTo calls.now site.now settings.now plan.now) }
 {
-    // What holds of each site and each path is said by the calls that lend their parts.
+    // The calls that lend parts of a site or a path say what holds of each.
     let _uid = site.dynamic_uid();
     let _program = settings.program.text();
     calls.look_at();

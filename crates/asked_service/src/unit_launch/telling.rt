@@ -1,11 +1,11 @@
-//! What is told of a launched service.
+//! Gives the printed facts of a launched service.
 ghost use Rattle.std.specs.Prelude.{◌≡◌};
 ghost use Rattle.asked_service.specs.unit_launch.Told.{told_of};
 
 use judge::World;
 use report_text::Launched;
 
-// What is told of a world that a launch of so many steps left.
+// Returns the printed facts of a world that a launch of so many steps left.
 fn told_by(world: &World, steps: u32) -> Launched
     ensures { result ≡ told_of world.now steps }
 {
@@ -25,8 +25,8 @@ fn told_by(world: &World, steps: u32) -> Launched
     }
 }
 
-/// What is told of a launched service: the effective ids of its first process, whether that has no_new_privs, and how many
-/// steps the launch took.
+/// Returns the printed facts of a launched service: the effective ids of its first process, whether that has
+/// no_new_privs, and the number of steps that the launch took.
 pub fn told(service: &judge::Launched) -> Launched
     ensures tells_the_first_process { result ≡ told_of service.now.world service.now.steps }
 {

@@ -80,7 +80,7 @@ row_inside launch program row =
     if reaches Nowise launch.table row.path ToExec then inside_calls launch Nowise row
     else gaining launch program cap_sys_admin ++ inside_calls launch (power_of launch) row
 
--- on the launched table; else behind the calls for CAP_SYS_ADMIN, on what it makes of that table
+-- on the launched table; else after the calls for CAP_SYS_ADMIN, on what it makes of that table
 abbrev pub row_calls : Launch → Path → Wish → Row → List Call
 row_calls launch program wish row =
     if is_held_off launch wish row && not (is_mounting (power_of launch)) then row_inside launch program row
@@ -98,7 +98,7 @@ runner launch power gives = if launch.creds.no_new_privs then None else find (λ
 abbrev pub taking : Launch → CallKind → ℕ → List Call
 taking launch kind id = id_call (place_of (line_of launch kind)) (own_rule (line_of launch kind)) id ∷ []
 
--- by a row behind the calls for CAP_SYS_ADMIN, else by the capability, whatever gains it
+-- by a row after the calls for CAP_SYS_ADMIN, else by the capability, however it is gained
 abbrev pub id_at_power : Launch → Path → CallKind → ℕ → ℕ → Option Row → List Call
 id_at_power launch program kind cap id (Some row) = gaining launch program cap_sys_admin ++ run_calls launch (power_of launch) row
 id_at_power launch program kind cap id None = gaining launch program cap ++ taking launch kind id
@@ -121,7 +121,7 @@ id_calls launch program kind cap id gives = id_by_row launch program kind cap id
 abbrev pub IsIdOpen : Launch → CallKind → (Row → Bool) → Type 0
 IsIdOpen launch kind gives = (lets launch kind ≡ true) ⊎ ((row : Row) × (runner launch (power_of launch) gives ≡ Some row))
 
--- nothing is to be done for what is had at launch
+-- what the launch has needs no call
 abbrev pub uid_calls : Launch → Path → ℕ → List Call
 uid_calls launch program id = if id == launch.creds.uids.effective then [] else id_calls launch program TakesUid cap_setuid id
     (λ row. is_owner id row.setuid)

@@ -1,5 +1,5 @@
--- Which call of a kind is made: of those that the filters let through the first in an order of names (syscalls(2)), by the native ABI
--- before the other, and behind these the first of the table.
+-- The call that is made for a kind. Of the calls that the filters let through it is the first in an order of names (syscalls(2)), by the
+-- native ABI before the other; without one, the first of the table.
 use Rattle.std.specs.Prelude.{ℕ, Bool, false, codes, List, [], ◌∷◌, find, Option, None, option_and_then, unwrap_or}
 use Rattle.std.specs.Option.{option_or, option_map_or}
 use Rattle.ceilings.specs.call_table.declared.listed.CallLine.{CallLine}
@@ -20,8 +20,8 @@ use Rattle.ceilings.specs.kernel_laws.declared.question_types.kind.CallKind.TheV
 use Rattle.ceilings.specs.kernel_laws.declared.question_types.wish.Wish.TheVariants.{See as ToSee, Read as ToRead, Write as ToWrite}
 use Rattle.ceilings.specs.kernel_laws.declared.question_types.wish.Wish.TheVariants.{Exec as ToExec}
 
--- the names of the calls of a kind, in the order in which they are tried; socketcall(2), by which 32-bit programs make sockets, comes
--- behind socket(2) of every ABI, as the first of the table
+-- the names of the calls of a kind, in the order in which they are tried. socketcall(2), by which 32-bit programs make sockets, comes
+-- after socket(2) of every ABI, as the first of the table
 abbrev pub names_of : CallKind → List (List ℕ)
 names_of (ForPath ToSee) = codes "stat" ∷ codes "lstat" ∷ codes "newfstatat" ∷ codes "statx" ∷ codes "access" ∷ codes "faccessat" ∷ codes
     "faccessat2" ∷ []

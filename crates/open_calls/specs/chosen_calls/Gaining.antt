@@ -23,11 +23,11 @@ use Rattle.open_calls.specs.chosen_calls.First.{call_by, line_of, own_rule}
 
 -- how a capability becomes effective by a file
 pub data FileWay : Type 0 where
-  -- it is so at launch
+  -- it is effective at launch
   Held : FileWay
   -- by execve(2) of the row
   ByRun : Row → FileWay
-  -- and by capset(2) behind it
+  -- and by capset(2) after it
   ByCapset : Row → FileWay
 
 -- and by uid 0: CAP_SETUID is gained by a file, setuid(2) takes uid 0, and execve(2) gives root its capabilities
@@ -85,11 +85,11 @@ at_once launch number = cap_way launch number (by_launch launch number) (by_laun
 unfoldable pub at_power : Launch → ℕ → Option CapWay
 at_power launch number = cap_way launch number (by_rows launch (power_of launch) number) (by_rows launch (power_of launch) cap_setuid)
 
--- behind the calls for CAP_SYS_ADMIN
+-- after the calls for CAP_SYS_ADMIN
 abbrev pub behind_way : Launch → ℕ → Option GainWay
 behind_way launch number = option_and_then (λ admin. option_map (Behind admin) (at_power launch number)) (at_once launch cap_sys_admin)
 
--- on the launched table, else behind them
+-- on the launched table, else after them
 abbrev pub gain : Launch → ℕ → Option GainWay
 gain launch number = option_or (option_map AtOnce (at_once launch number)) (behind_way launch number)
 
@@ -154,7 +154,7 @@ gain_calls launch program (Behind admin way) = cap_calls launch program Nowise a
 unfoldable pub gaining : Launch → Path → ℕ → List Call
 gaining launch program number = option_map_or (gain_calls launch program) (gain launch number) []
 
--- those that a call is made behind, if it asks for a capability
+-- those that a call is made after, if it asks for a capability
 abbrev pub gaining_if : Launch → Path → Option ℕ → List Call
 gaining_if launch program None = []
 gaining_if launch program (Some number) = gaining launch program number

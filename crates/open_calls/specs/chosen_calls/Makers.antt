@@ -13,7 +13,7 @@ pub record MakesUserChild (table : Table) (call : Call) : Type 0 where
   pub asks : asked_of table call ≡ Does (Clone flags)
   pub newer : has_all (flag_of User) flags ≡ true
 
--- process 1 makes each call; but for one last call behind such a clone, which the child makes: process 2
+-- process 1 makes each call; but for one last call after such a clone, which the child makes: process 2
 pub data AreMadeByService (table : Table) : List Call → Type 0 where
   no_more : AreMadeByService table []
   by_first : (call : Call) (calls : List Call) → call.pid ≡ 1 → AreMadeByService table calls → AreMadeByService table (call ∷ calls)
