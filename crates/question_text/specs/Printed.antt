@@ -1,4 +1,4 @@
--- Questions of the list as they are printed, and what is read back.
+-- Questions of the list as they are printed, and how they are read back.
 use Rattle.std.specs.Prelude.{◌≡◌, ℕ, List, Option, Some, None, Contains, map}
 use Rattle.report_text.specs.call_table.Table as calls
 use Rattle.report_text.specs.site_table.Table.{Site}

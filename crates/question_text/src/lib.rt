@@ -1,10 +1,11 @@
-//! Questions, read as a report prints them.
+//! Reads questions as a report prints them.
 //!
-//! A line names one question of the list of a table of calls and a site, or none: behind its verdict a report prints each as
-//! `read /etc/passwd` or `cap CAP_SYS_ADMIN`, and no two alike. It stands on `report_text` for what is printed.
+//! A line names one question of the list of a table of calls and a site, or none. A report prints each question after
+//! its verdict, for example `read /etc/passwd` or `cap CAP_SYS_ADMIN`, and prints no two alike.
 //!
-//! `read_question(alloc, &calls, &site, b"uid 0")?` is the question of root; where many lines are read,
-//! `print_questions(alloc, &calls, &site)?` prints the list once, and `find_question(&printed, line)` looks a line up in it.
+//! `read_question(alloc, &calls, &site, b"uid 0")?` is the question of root. If you read many lines,
+//! `print_questions(alloc, &calls, &site)?` prints the list once, and `find_question(&printed, line)` looks a line up
+//! in it.
 #![tactic(auto)]
 
 pub mod laws;

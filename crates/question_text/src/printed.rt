@@ -1,4 +1,4 @@
-//! All questions of a table of calls and a site, as they are printed.
+//! Prints all questions of a table of calls and a site.
 ghost use Rattle.std.specs.Prelude.{◌≡◌, ◌∷◌, ◌++◌, [], ℕ, List, Contains, IfOk, codes, map};
 ghost use Rattle.std.specs.List.{All};
 ghost use Rattle.report_text.specs.kernel_laws.Questions.{questions};
@@ -9,14 +9,14 @@ use crate::laws::one_reading;
 use report_text::{CallTable, Question, SiteTable, Verdict, questions, verdict_line};
 use std::alloc::{AllocError, Global};
 
-/// A question, with what a report prints behind its verdict.
+/// A question, with the text that a report prints after its verdict.
 #[derive(Drop)]
 pub struct PrintedQuestion {
     pub question: Question,
     pub text: Vec<u8>,
 }
 
-// What a line has behind the verdict, without the line feed.
+// Returns the text of a line after its verdict, without the line feed.
 fn behind_verdict(alloc: Global, line: &[u8]) -> Result<Vec<u8>, AllocError>
     requires begins { (words : List ℕ) × (line.now ≡ codes "denied" ++ (codes " " ++ (words ++ 10 ∷ []))) }
     ensures { (words : List ℕ) → line.now ≡ codes "denied" ++ (codes " " ++ (words ++ 10 ∷ [])) → IfOk result (λ text. text.items ≡ words) }
@@ -60,9 +60,9 @@ fn print_list(
     Ok(printed)
 }
 
-/// The questions of a table of calls and a site, in the order of the list, each with what is printed of it.
+/// Prints the questions of a table of calls and a site, in the order of the list.
 ///
-/// The one error is want of memory.
+/// The call fails only if memory runs out.
 pub fn print_questions(
     alloc: Global,
     calls: &CallTable,
@@ -70,7 +70,7 @@ pub fn print_questions(
 ) -> Result<Vec<PrintedQuestion>, AllocError>
     ensures prints_the_list { IfOk result (λ printed. ArePrinted calls.now site.now printed.items) }
 {
-    // Why no two are printed alike.
+    // The law says why no two are printed alike.
     one_reading(calls, site);
     let list = questions(alloc, calls, site)?;
     print_list(alloc, list.as_slice(), calls, site)

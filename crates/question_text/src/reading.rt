@@ -1,4 +1,4 @@
-//! A question, read as it is printed.
+//! Reads a question as it is printed.
 ghost use Rattle.std.specs.Prelude.{IfOk};
 ghost use Rattle.report_text.specs.call_table.Table.{Table};
 ghost use Rattle.report_text.specs.site_table.Table.{Site};
@@ -8,7 +8,7 @@ use crate::printed::{PrintedQuestion, print_questions};
 use report_text::{CallTable, Question, SiteTable};
 use std::alloc::{AllocError, Global};
 
-/// The question among all printed ones of which this is printed, without a line feed, if there is one.
+/// Returns the question that is printed so among all printed ones, without a line feed, if there is one.
 pub fn find_question(printed: &[PrintedQuestion], text: &[u8]) -> Option<Question>
     ensures reads { (table : Table) (site : Site) → ArePrinted table site printed.now → Reads table site text.now result }
 {
@@ -20,9 +20,10 @@ pub fn find_question(printed: &[PrintedQuestion], text: &[u8]) -> Option<Questio
     None
 }
 
-/// The question of the list of a table of calls and a site of which this is printed, without a line feed, if there is one.
+/// Returns the question of the list of a table of calls and a site that is printed so, without a line feed, if there
+/// is one.
 ///
-/// The one error is want of memory.
+/// The call fails only if memory runs out.
 pub fn read_question(
     alloc: Global,
     calls: &CallTable,

@@ -21,15 +21,15 @@ verdict_word Open = codes "open"
 abbrev pub question_line : List ℕ → calls.Table → Site → Question → List ℕ
 question_line word table site question = word ++ (codes " " ++ (question_words table site question ++ 10 ∷ []))
 
--- a question after what is found about it
+-- a question after its verdict
 abbrev pub verdict_line : calls.Table → Site → Question → Verdict → List ℕ
 verdict_line table site question verdict = question_line (verdict_word verdict) table site question
 
--- a call of a list that shows an open question, as a script has it
+-- a call below an open question, as a script has it
 abbrev pub call_line : calls.Table → Call → List ℕ
 call_line table call = codes "  " ++ (call_text table call ++ 10 ∷ [])
 
--- an open question, and the calls of a list that shows it
+-- an open question, and these calls below it
 abbrev pub open_lines : calls.Table → Site → Question → List Call → List ℕ
 open_lines table site question list = verdict_line table site question Open ++ flat_map (call_line table) list
 

@@ -1,4 +1,4 @@
--- The first lines of a report: the unit, and notes on what was passed over in its files.
+-- The first lines of a report: the unit, and notes on parts of its files that have no effect.
 use Rattle.std.specs.Prelude.{ℕ, List, [], ◌∷◌, ◌++◌, codes, slice_get}
 use Rattle.std.specs.Fmt.{decimal}
 use Rattle.std.specs.Option.{option_map_or}

@@ -44,8 +44,8 @@ path_at rows at = option_map_or (λ row. text_of row.path) (slice_get rows at) [
 abbrev pub name_at : List CallLine → ℕ → List ℕ
 name_at lines at = option_map_or (λ line. line.name) (slice_get lines at) []
 
--- what is asked: rows go by their paths, calls and families by their names, ids by their numbers, and capabilities by the names
--- of capabilities(7)
+-- a question in words: rows by their paths, calls and families by their names, ids by their numbers, and capabilities by the names of
+-- capabilities(7)
 abbrev pub question_words : calls.Table → Site → Question → List ℕ
 question_words table site (ByPath wish at) = wish_word wish ++ (codes " " ++ escaped_word (path_at site.rows at))
 question_words table site (Call at) = codes "call " ++ escaped_word (name_at (calls.every_call table) at)

@@ -31,7 +31,7 @@ fn push_question_line(
     requires asked { Contains (questions calls.now site.now) question.now }
     ensures tells_the_question { OnOk result (text.new.items ≡ text.old.items ++ question_line word.now calls.now site.now question.now) }
 {
-    // There is a thing that each question of the list is asked of.
+    // Each question of the list has a thing that it asks about.
     members();
     text.extend_from_slice(word.as_bytes())?;
     text.push(b' ')?;
@@ -40,12 +40,12 @@ fn push_question_line(
     Ok(())
 }
 
-// How much memory the lines of an answer begin with: most need no more.
+// The memory that the lines of an answer begin with; most need no more.
 const ANSWER_LEN: usize = 128;
 
 /// Returns the line of a question of the list after this word, as a report has it after its verdict.
 ///
-/// The one error is want of memory.
+/// The call fails only if memory runs out.
 pub fn question_line(
     alloc: Global,
     word: &str,
@@ -61,10 +61,11 @@ pub fn question_line(
     Ok(line)
 }
 
-/// Returns the line of a question of the list: the verdict, and what is asked. Rows go by their paths and calls and families by their
-/// names, each an escaped word; ids go by their numbers, and capabilities by the names of capabilities(7).
+/// Returns the line of a question of the list: the verdict and the question. Rows are named by their paths, and calls
+/// and families by their names, each an escaped word. Ids are named by their numbers, and capabilities by the names
+/// of capabilities(7).
 ///
-/// The one error is want of memory.
+/// The call fails only if memory runs out.
 pub fn verdict_line(
     alloc: Global,
     question: &Question,
@@ -78,7 +79,7 @@ pub fn verdict_line(
     question_line(alloc, verdict_word(verdict), question, calls, site)
 }
 
-// Puts the line of a call behind a text.
+// Appends the line of a call.
 fn push_call_line(
     alloc: Global,
     text: &mut Vec<u8>,
@@ -93,8 +94,8 @@ fn push_call_line(
     Ok(())
 }
 
-/// Puts the lines of these calls behind a text, below the open question that they lead to: each is two spaces, and the call as a
-/// script has it.
+/// Appends the lines of these calls, as they are below an open question: two spaces each, and the call as a script
+/// has it.
 pub fn push_call_lines(
     alloc: Global,
     text: &mut Vec<u8>,
@@ -109,7 +110,7 @@ pub fn push_call_lines(
     Ok(())
 }
 
-/// The lines of a question of the list that is open: the verdict, and below it these calls, which show it.
+/// Returns the lines of an open question of the list: the verdict, and below it these calls.
 pub fn open_lines(
     alloc: Global,
     question: &Question,
@@ -125,7 +126,7 @@ pub fn open_lines(
     Ok(text)
 }
 
-/// Puts the line of a folder that is blind behind a text.
+/// Appends the line of a folder that is blind.
 pub fn push_blind_line(text: &mut Vec<u8>, folder: &AbsPath) -> Result<(), AllocError>
     ensures names_the_folder { OnOk result (text.new.items ≡ text.old.items ++ blind_line folder.now) }
 {
@@ -135,7 +136,7 @@ pub fn push_blind_line(text: &mut Vec<u8>, folder: &AbsPath) -> Result<(), Alloc
     Ok(())
 }
 
-/// The last line of a report: how many questions are denied, and how many open.
+/// Returns the last line of a report: how many questions are denied, and how many open.
 pub fn summary_line(alloc: Global, denied: usize, reachable: usize) -> Result<Vec<u8>, AllocError>
     ensures counts { IfOk result (λ line. line.items ≡ summary_line denied reachable) }
 {

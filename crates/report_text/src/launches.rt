@@ -6,7 +6,7 @@ use abs_path::AbsPath;
 use exposure_score::push_word;
 use std::alloc::{AllocError, Global};
 
-/// What a launch that ended well is told by.
+/// The printed facts of a launch that ended well.
 #[derive(Clone, Copy)]
 pub struct Launched {
     /// The user that the program runs as.
@@ -25,7 +25,8 @@ fn yes_or_no(yes: bool) -> &'static str
     if yes { "yes" } else { "no" }
 }
 
-/// The line of a launch that ended well: the user, the group, whether there are new privileges, and the steps.
+/// Returns the line of a launch that ended well: the user, the group, whether there are new privileges, and the
+/// steps.
 pub fn launched_line(alloc: Global, launched: Launched) -> Result<Vec<u8>, AllocError>
     ensures tells_the_launch { IfOk result (λ line. line.items ≡ launched_line launched) }
 {
@@ -39,21 +40,21 @@ pub fn launched_line(alloc: Global, launched: Launched) -> Result<Vec<u8>, Alloc
     Ok(format!(in alloc; "launched uid {uid} gid {gid} nnp {nnp} steps {steps}\n")?.into_bytes())
 }
 
-/// The line of a launch at whose step the kernel refuses a call.
+/// Returns the line of a launch at whose step the kernel refuses a call.
 pub fn refused_line(alloc: Global, step: u32, errno: u32) -> Result<Vec<u8>, AllocError>
     ensures tells_step_and_errno { IfOk result (λ line. line.items ≡ refused_line step errno) }
 {
     Ok(format!(in alloc; "launch refused step {step} errno {errno}\n")?.into_bytes())
 }
 
-/// The line of a launch at whose step the service is killed.
+/// Returns the line of a launch at whose step the service is killed.
 pub fn killed_line(alloc: Global, step: u32) -> Result<Vec<u8>, AllocError>
     ensures tells_the_step { IfOk result (λ line. line.items ≡ killed_line step) }
 {
     Ok(format!(in alloc; "launch killed step {step}\n")?.into_bytes())
 }
 
-/// The line of a launch whose program has a set-id bit or capabilities.
+/// Returns the line of a launch whose program has a set-id bit or capabilities.
 pub fn privileged_line(alloc: Global, program: &AbsPath) -> Result<Vec<u8>, AllocError>
     ensures names_the_program { IfOk result (λ line. line.items ≡ privileged_line program.now) }
 {

@@ -1,9 +1,9 @@
-//! The lines of reports on services, each ended by a line feed.
+//! Makes the lines of reports on services, each with its line feed.
 //!
-//! A report begins with the unit and with notes on what was passed over, goes on with its launch, and answers questions; a
-//! score has a line for each test of its policy. The crate rests on `text_forms` for escaped words, on `dropin_merge` for the
-//! files of a unit, on `questions` for what is asked, on `script_text` for calls and on
-//! `exposure_score` for scores; `unit_line(alloc, "web.service")?` is `unit web.service`.
+//! A report begins with the unit and the notes on parts of its files that have no effect. Then come its launch and
+//! the answers to questions. A score has a line for each test of its policy.
+//!
+//! `unit_line(alloc, "web.service")?` is `unit web.service` with its line feed.
 #![tactic(auto)]
 
 mod answers;

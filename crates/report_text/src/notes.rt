@@ -1,11 +1,11 @@
-//! The first lines of a report: the unit, and what was passed over in its files.
+//! Makes the first lines of a report: the unit, and the notes on its files.
 ghost use Rattle.std.specs.Prelude.{◌≡◌, IfOk};
 ghost use Rattle.report_text.specs.Notes.{note_line, path_at, unit_line};
 
 use exposure_score::{FileNote, Resolved, UnitFile, push_word};
 use std::alloc::{AllocError, Global};
 
-/// The first line of a report: the name of the unit, as an escaped word.
+/// Returns the first line of a report: the name of the unit, as an escaped word.
 pub fn unit_line(alloc: Global, unit: &str) -> Result<Vec<u8>, AllocError>
     ensures names_the_unit { IfOk result (λ line. line.items ≡ unit_line unit.now) }
 {
@@ -25,7 +25,7 @@ fn path_at(files: &[UnitFile], at: usize) -> &str
     }
 }
 
-/// The line of a note: the file as an escaped word, the line, and why something there was passed over.
+/// Returns the line of a note: the file as an escaped word, the line, and why something there has no effect.
 pub fn note_line(alloc: Global, unit: &Resolved, note: &FileNote) -> Result<Vec<u8>, AllocError>
     ensures tells_where_and_why { IfOk result (λ line. line.items ≡ note_line unit.now.files note.now) }
 {

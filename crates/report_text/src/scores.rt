@@ -15,7 +15,7 @@ fn skip_line(alloc: Global, row: &ScoreRow) -> Result<Vec<u8>, AllocError>
     Ok(line)
 }
 
-// What stands behind the identifier of a test.
+// Returns the text after the identifier of a test.
 fn numbers_of(alloc: Global, row: &ScoreRow) -> Result<Vec<u8>, AllocError>
     ensures { IfOk result (λ text. text.items ≡ numbers_of row.now) }
 {
@@ -38,8 +38,8 @@ fn test_line(alloc: Global, row: &ScoreRow) -> Result<Vec<u8>, AllocError>
     Ok(line)
 }
 
-/// The line of a test of a policy: its identifier as an escaped word, and its badness, range, weight and term, or that it is
-/// skipped.
+/// Returns the line of a test of a policy: its identifier as an escaped word, and its badness, range, weight and
+/// term, or that it is skipped.
 pub fn score_line(alloc: Global, row: &ScoreRow) -> Result<Vec<u8>, AllocError>
     ensures tells_the_row { IfOk result (λ line. line.items ≡ score_line row.now) }
 {
@@ -50,7 +50,7 @@ pub fn score_line(alloc: Global, row: &ScoreRow) -> Result<Vec<u8>, AllocError>
     }
 }
 
-/// The last line of a score: the exposure, and the threshold that it is held against, both in hundredths.
+/// Returns the last line of a score: the exposure, and the threshold that it is compared with, both in hundredths.
 pub fn exposure_line(alloc: Global, exposure: u32, threshold: u32) -> Result<Vec<u8>, AllocError>
     ensures tells_both { IfOk result (λ line. line.items ≡ exposure_line exposure threshold) }
 {

@@ -11,10 +11,10 @@ text_only bytes = cond (is_utf8 bytes) (Some bytes) None
 unfoldable pub escaped_text : List ℕ → Option (List ℕ)
 escaped_text word = option_and_then text_only (word_read word)
 
--- the first byte of what an escaped word stands for, and the word behind it
+-- the first byte of what an escaped word stands for, and the word after it
 abbrev pub GivesByte : List ℕ → Option (ℕ × Bor (List ℕ)) → Type 0
 GivesByte word taken = MatchOption taken (word_read word ≡ None) (λ taken. word_read word ≡ with_byte taken.0 (word_read taken.1.now))
 
--- the same behind a `%`
+-- the same after a `%`
 abbrev pub GivesCode : List ℕ → Option (ℕ × Bor (List ℕ)) → Type 0
 GivesCode word taken = MatchOption taken (code_read word ≡ None) (λ taken. code_read word ≡ with_byte taken.0 (word_read taken.1.now))

@@ -21,7 +21,7 @@ abbrev pub all_read : {A : Type 0} → (List ℕ → Option A) → List (List �
 all_read read [] = Some []
 all_read read (word ∷ words) = option_and_then (λ first. with_front first (all_read read words)) (read word)
 
--- WORD: decimal, or hexadecimal behind `0x`, below 2^64
+-- WORD: decimal, or hexadecimal after `0x`, below 2^64
 abbrev pub numbers_of : List (List ℕ) → Option (List ℕ)
 numbers_of words = all_read number_value words
 

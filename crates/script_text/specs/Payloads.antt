@@ -44,7 +44,7 @@ is_code word = not (length word == 0) && (length word % 16 == 0 && list_all is_l
 unfoldable pub code_of : List ℕ → Option (List ℕ)
 code_of word = cond (bytes_eq word (codes "-")) (Some []) (cond (is_code word) (result_ok (decode_of word)) None)
 
--- what a payload is read as, and the words behind it
+-- what a payload is read as, and the words after it
 abbrev pub Taken : Type 0
 Taken = Payload × List (List ℕ)
 
@@ -58,8 +58,7 @@ abbrev pub three_sets : List ℕ → List ℕ → List ℕ → Option Payload
 three_sets permitted effective inheritable =
     option_and_then (λ p. option_and_then (λ e. option_map (λ i. Sets p e i) (set_of inheritable)) (set_of effective)) (set_of permitted)
 
--- the payload of a form at the front of the words of a line, and the words behind it; nothing where it is missing or not of
--- its form
+-- the payload of a form at the front of the words of a line, and the words after it; nothing where it is missing or not of its form
 abbrev pub payload_of : PayloadForm → List (List ℕ) → Option Taken
 payload_of form.Nothing words = Some (Nothing, words)
 payload_of form.OnePath (word ∷ words) = option_map (λ path. (OnePath path, words)) (path_of word)

@@ -28,11 +28,11 @@ has_form form.Family (Family family) = true
 has_form form.Program (Code bytes) = length bytes % 8 == 0
 has_form _ _ = false
 
--- words, each behind a separator
+-- words, each after a separator
 abbrev pub each_behind : List ℕ → List (List ℕ) → List ℕ
 each_behind separator words = flat_map (λ word. separator ++ word) words
 
--- numbers in decimal, each behind a separator
+-- numbers in decimal, each after a separator
 abbrev pub each_number : List ℕ → List ℕ → List ℕ
 each_number separator numbers = flat_map (λ number. separator ++ decimal number) numbers
 
@@ -66,7 +66,7 @@ hash_word nr = codes "#" ++ decimal nr
 abbrev pub numbered_words : Table → Call → List (List ℕ)
 numbered_words table call = spelling table call.abi (hash_word call.nr) ∷ []
 
--- a call of the table whose payload is of its form goes by its name and has its payload; any other goes by its number
+-- a call of the table whose payload is of its form is printed by its name with its payload; any other is printed by its number
 abbrev pub named_words : Table → Call → Option CallLine → List (List ℕ)
 named_words table call None = numbered_words table call
 named_words table call (Some line) = cond (has_form (form_of_name line.name) call.payload)
@@ -80,7 +80,7 @@ argument_words args = map decimal (without_last_zeros args)
 abbrev pub front_words : Table → Call → List (List ℕ)
 front_words table call = named_words table call (numbered call.nr (calls_in table call.abi))
 
--- the words behind the number of the process
+-- the words after the number of the process
 abbrev pub words_behind_pid : Table → Call → List (List ℕ)
 words_behind_pid table call = front_words table call ++ argument_words call.args
 

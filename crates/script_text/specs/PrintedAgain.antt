@@ -1,4 +1,4 @@
--- Which printed calls are read again as themselves.
+-- The printed calls that are read again as themselves.
 use Rattle.std.specs.Prelude.{◌≡◌, ◌⊎◌, ◌<◌, ◌≤◌, ◌==◌, ℕ, true, false, Some, List, length, slice_get, Ok, IfSome, IsSome}
 use Rattle.std.specs.List.{All, AllByRecursion}
 use Rattle.std.specs.Str.{is_utf8}
@@ -17,7 +17,7 @@ use Rattle.kernel_model.specs.declared.kernel_calls.payload.Payload.TheVariants.
 use Rattle.script_text.specs.Printed.{call_text, has_form}
 use Rattle.script_text.specs.Reading.{call_of, form_of_name}
 
--- a word that stands between spaces
+-- a word that is between spaces
 pub record IsWord (word : List ℕ) : Type 0 where
   pub some : (length word == 0) ≡ false
   pub plain : AllByRecursion (λ byte. (byte == 32) ≡ false) word
@@ -59,8 +59,8 @@ pub record IsHeld (call : Call) : Type 0 where
   pub fits : IsCall call
   pub texts : HasTexts call.payload
 
--- a printed call has one reading, the call itself, where the names of the ABIs, and the names and numbers of the calls of its
--- ABI, stand once
+-- a printed call that can be written has one reading, the call itself. The names of the ABIs, and the names and numbers of the calls of
+-- its ABI, occur once and are words
 abbrev pub ReadsBack : Type 0
 ReadsBack = (table : Table) (call : Call) → HasOtherName table → AreOnce (calls_in table call.abi) → AreNamed table → IsHeld call
     → IsWritten table call

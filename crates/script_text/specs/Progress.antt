@@ -1,4 +1,4 @@
--- What the steps of the reading answer.
+-- The answers of the steps of the reader.
 use Rattle.std.specs.Prelude.{◌≡◌, ℕ, ◌<◌, ◌≤◌, Option, Some, None, Result, Ok, Err, List, [], ◌∷◌, ◌++◌, length, map, Vec}
 use Rattle.std.specs.declared.alloc.Global.{Global}
 use Rattle.kernel_model.specs.declared.kernel_calls.call.Call.{Call}
@@ -26,7 +26,7 @@ ReadsList wanted cause (Ok made) = wanted ≡ Some (made.items)
 ReadsList wanted cause (Err NoMemory) = Unit {0}
 ReadsList wanted cause (Err (Faulty found)) = (wanted ≡ None) × (found ≡ cause)
 
--- a payload, and the words behind it
+-- a payload, and the words after it
 abbrev pub taken_view : TakenPayload → Taken
 taken_view taken = (taken.payload, map (λ word. word.now) taken.rest.now)
 
@@ -57,7 +57,7 @@ ReadsLine number wanted (Err NotText) = ⊥
 ReadsLine number wanted (Err (AtLine line cause)) = (line ≡ number) × (wanted ≡ Err cause)
 ReadsLine number wanted (Err TooMany) = ⊥
 
--- what a reader has behind some lines without a fault: a call of each
+-- what a reader has after some lines without a fault: a call of each
 pub record HasRead (table : Table) (lines : List Line) (made : List Call) : Type 0 where
   pub faultless : fault_of table lines ≡ None
   pub read : made ≡ calls_of table lines

@@ -1,4 +1,4 @@
--- What a line of a script is, by its words: `PID NAME [PAYLOAD] [WORD ..]`.
+-- The call of a line of a script, by its words: `PID NAME [PAYLOAD] [WORD ..]`.
 use Rattle.std.specs.Prelude.{ℕ, nat_le, cond, Option, Some, None, option_and_then, Result, Ok, Err, List, [], ◌∷◌, length}
 use Rattle.std.specs.Option.{option_map}
 use Rattle.kernel_model.specs.call_table.call_names.Known.{known_call, form_of}
@@ -48,7 +48,7 @@ named_by table abi word (Some digits) = option_map (bare_number abi) (number_of 
 abbrev pub named_in : Table → ℕ → List ℕ → Option Named
 named_in table abi word = named_by table abi word (behind_hash word)
 
--- NAME is of the native ABI, or of the one that stands before its last colon
+-- NAME is of the native ABI, or of the ABI before its last colon
 unfoldable pub named_call : Table → List ℕ → Option Named
 named_call table word = option_and_then (λ call. named_in table call.0 call.1) (spelled table word)
 

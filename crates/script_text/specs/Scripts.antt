@@ -20,7 +20,7 @@ abbrev pub fault_by : ℕ → Line → Result Call ScriptCause → Option Script
 fault_by at line (Err cause) = Some (AtLine line.number cause)
 fault_by at line (Ok call) = cond (nat_lt at most_calls) None (Some TooMany)
 
--- the fault of a line behind so many others that count: its cause, or one call more than there may be
+-- the fault of a line after so many others that count: its cause, or one call more than there may be
 abbrev pub fault_at : Table → ℕ × Line → Option ScriptError
 fault_at table place = fault_by place.0 place.1 (line_call table place.1)
 

@@ -1,4 +1,4 @@
--- What the values of the code stand for.
+-- The values of the code, as definitions see them.
 use Rattle.script_text.specs.Reading.{Named}
 use Rattle.script_text.specs.declared.names.NamedCall.{NamedCall}
 

@@ -22,9 +22,9 @@ pub(crate) fn read_pid(word: &str) -> Option<u32>
     u32::try_from(number).ok()
 }
 
-/// The numbers that words write, where each of them writes one.
+/// Returns the numbers that words write, if each of them writes one.
 ///
-/// `Number` is the cause where one does not.
+/// `Number` is the cause if one does not.
 pub(crate) fn read_numbers(alloc: Global, words: &[&str]) -> Result<Vec<u64>, LineFault>
     ensures { ReadsList (numbers_of (map (λ word. word.now) words.now)) NumberCause result }
 {

@@ -20,7 +20,7 @@ fn hex_value(digit: u8) -> Option<u8>
     }
 }
 
-// the byte that the two digits behind a `%` write, and the word behind them
+// the byte that the two digits after a `%` write, and the word after them
 fn coded_byte(word: &[u8]) -> Option<(u8, &[u8])>
     ensures code { GivesCode word.now result }
     ensures shorter { IfSome result (λ taken. length taken.1.now ≤ length word.now) }
@@ -30,7 +30,7 @@ fn coded_byte(word: &[u8]) -> Option<(u8, &[u8])>
     Some((hex_value(*high)? * 16 + hex_value(*low)?, rest))
 }
 
-// the first byte of what an escaped word stands for, and the word behind it
+// the first byte of what an escaped word stands for, and the word after it
 fn first_byte(word: &[u8]) -> Option<(u8, &[u8])>
     requires { 0 < length word.now }
     ensures first { GivesByte word.now result }
@@ -70,8 +70,8 @@ fn text_of(bytes: Vec<u8>) -> Option<String>
     }
 }
 
-/// The text that an escaped word is read as: each `%` and two hex digits of either case is a byte, any other byte
-/// stands for itself. None where `%` stands before anything else, or where the bytes are not UTF-8.
+/// Returns the text that an escaped word is read as: each `%` with two hex digits of either case is a byte, and any
+/// other byte is itself. None if `%` precedes anything else, or if the bytes are not UTF-8.
 #[tactic(auto, unfolding(crate::specs::Escapes::escaped_text))]
 pub(crate) fn read_text(alloc: Global, word: &str) -> Result<Option<String>, AllocError>
     ensures { IfOk result (λ text. option_map (λ text. string_bytes text) text ≡ escaped_text word.now) }

@@ -1,4 +1,5 @@
-//! What every call that a program holds keeps: its numbers are those of their types, and its paths are texts.
+//! States what holds of every call that a program holds: its numbers are those of their types, and its paths are
+//! texts.
 
 ghost use Rattle.std.specs.Prelude.{◌<◌};
 ghost use Rattle.std.specs.List.{All};
@@ -45,7 +46,8 @@ fn payload_is_text(payload: &Payload)
     }
 }
 
-/// Every call that a program holds is one that can be read again. It looks at the call and changes nothing.
+/// States that the numbers of a held call are those of their types and its paths are texts. It looks at the call and
+/// changes nothing.
 pub(crate) fn is_held(call: &Call)
     ensures { IsHeld call.now }
 {

@@ -1,10 +1,10 @@
-//! Scripts of system calls: texts that write a call on each line, and calls as they are printed.
+//! Reads scripts of system calls, one call a line, and prints calls in the same form.
 //!
-//! A line is `PID NAME [PAYLOAD] [WORD ..]`; what a call carries is said by its name, as the kernel's one table of
-//! calls says it, and a name of another ABI stands behind that of the ABI. It rests on `line_text` for lines and words, on
-//! `text_forms` for numbers and escaped words, on `call_words` for the ABI of a word, and on `kernel_calls` for calls. With a
-//! table that has `call open 2`, the line `1 open /etc/passwd 0 1` is a call of process 1 that opens the file for writing, and
-//! `print_call` gives that text again.
+//! A line is `PID NAME [PAYLOAD] [WORD ..]`. The kernel's one table of calls says which payload a name has. A name of
+//! another ABI follows the name of that ABI and a colon.
+//!
+//! With a table that has `call open 2`, the line `1 open /etc/passwd 0 1` is a call of process 1 that opens the file
+//! for writing, and `print_call` gives that text again.
 #![tactic(auto)]
 
 mod arguments;

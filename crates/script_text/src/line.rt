@@ -16,7 +16,7 @@ use kernel_model::kernel_calls::Call;
 use kernel_model::{CallTable, Line, words};
 use std::alloc::Global;
 
-// the call of a process, by the words behind the name of the call
+// the call of a process, by the words after the name of the call
 fn read_named(alloc: Global, pid: u32, named: NamedCall, words: &[&str]) -> Result<Call, LineFault>
     ensures { ReadsCall (with_name pid (map (λ word. word.now) words.now) (Some (view_named named))) result }
 {

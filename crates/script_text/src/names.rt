@@ -1,4 +1,4 @@
-//! The call that a line names.
+//! Finds the call that a line names.
 
 ghost use Rattle.std.specs.Prelude.{◌≡◌, option_map};
 ghost use Rattle.kernel_model.specs.call_table.Numbers.{number_of};
@@ -19,7 +19,7 @@ pub(crate) struct NamedCall {
     pub form: PayloadForm,
 }
 
-/// What calls of this name carry beside their words.
+/// Returns the form of the payload that calls of this name carry.
 pub(crate) fn form_of_name(name: &str) -> PayloadForm
     ensures { result ≡ form_of_name name.now }
 {
@@ -42,7 +42,7 @@ pub(crate) fn read_number(digits: &str) -> Option<u32>
     u32::try_from(read_decimal(digits)?).ok()
 }
 
-// the call of an ABI that a name stands for, or behind `#` the call of a decimal number, which carries nothing
+// the call of an ABI that a name stands for, or after `#` the call of a decimal number, which carries nothing
 fn call_in(calls: &CallTable, abi: u8, word: &str) -> Option<NamedCall>
     ensures { option_map view_named result ≡ named_in calls.now abi word.now }
 {
@@ -60,8 +60,8 @@ fn call_in(calls: &CallTable, abi: u8, word: &str) -> Option<NamedCall>
     }
 }
 
-/// The call that a word names, of the native ABI or of the one that stands before its last colon: one of the table, or behind
-/// `#` the call of a decimal number, which carries nothing.
+/// Returns the call that a word names, of the native ABI or of the ABI before the word's last colon. A name is a call
+/// of the table; `#` and a decimal number is any call, without a payload.
 #[tactic(auto, unfolding(crate::specs::Reading::named_call))]
 pub(crate) fn find_call(calls: &CallTable, word: &str) -> Option<NamedCall>
     ensures { option_map view_named result ≡ named_call calls.now word.now }

@@ -1,4 +1,4 @@
-//! What the words of a line say of the pointers among a call's words.
+//! Reads the payload of a call: what the pointers among its words point to.
 
 ghost use Rattle.std.specs.Prelude.{◌≡◌, ◌==◌, IfOk, map, option_map};
 ghost use Rattle.std.specs.List.{list_all, slice_split};
@@ -63,21 +63,21 @@ fn read_sets(permitted: &str, effective: &str, inheritable: &str) -> Result<Payl
     Ok(Payload::Sets(permitted, effective, inheritable))
 }
 
-// what stands behind `[`
+// the text after `[`
 fn behind_bracket(word: &str) -> Option<&str>
     ensures { option_map (λ text. text.now) result ≡ behind 91 word.now }
 {
     word.strip_prefix('[')
 }
 
-// what stands before `]`
+// the text before `]`
 fn before_bracket(word: &str) -> Option<&str>
     ensures { option_map (λ text. text.now) result ≡ before 93 word.now }
 {
     word.strip_suffix(']')
 }
 
-// what stands between brackets
+// the text between brackets
 fn between_brackets(word: &str) -> Option<&str>
     ensures { option_map (λ text. text.now) result ≡ between_brackets word.now }
 {
@@ -91,7 +91,7 @@ fn pieces_of(alloc: Global, text: &str) -> Result<Vec<&str>, AllocError>
     text.split(',').collect(alloc)
 }
 
-// what stands between commas
+// the text between commas
 fn between_commas(alloc: Global, text: &str) -> Result<Vec<&str>, AllocError>
     ensures { IfOk result (λ pieces. map (λ piece. piece.now) pieces.items ≡ between_commas text.now) }
 {
@@ -168,16 +168,16 @@ fn read_code(alloc: Global, word: &str) -> Result<Bytes, LineFault>
     }
 }
 
-/// A payload, and the words of the line behind it.
+/// A payload, and the words of the line after it.
 #[derive(Drop)]
 pub(crate) struct TakenPayload<'w, 't> {
     pub payload: Payload,
     pub rest: &'w [&'t str],
 }
 
-/// The payload of a form that stands at the front of these words, and the words behind it.
+/// Takes the payload of a form from the front of these words, and returns it with the words after it.
 ///
-/// `Payload` is the cause where a word of it is missing or not of its form.
+/// `Payload` is the cause if a word of it is missing or not of its form.
 pub(crate) fn take_payload<'w, 't>(
     alloc: Global,
     form: PayloadForm,

@@ -1,4 +1,4 @@
-//! Calls as they are printed, in the form of lines of a script.
+//! Prints calls in the form of lines of a script.
 
 ghost use Rattle.std.specs.Prelude.{◌≡◌, ◌++◌, ◌∷◌, OnOk, IfOk, codes, decimal};
 ghost use Rattle.kernel_model.specs.abs_path.Paths.{text_of};
@@ -53,7 +53,7 @@ fn push_path(out: &mut Vec<u8>, path: &AbsPath) -> Result<(), AllocError>
     push_word(out, path.text())
 }
 
-// the ids, each behind a comma
+// the ids, each after a comma
 fn push_others(out: &mut Vec<u8>, ids: &[u32]) -> Result<(), AllocError>
     ensures { OnOk result (out.new.items ≡ out.old.items ++ each_number (codes ",") ids.now) }
 {
@@ -95,7 +95,7 @@ fn push_code(alloc: Global, out: &mut Vec<u8>, bytes: &[u8]) -> Result<(), Alloc
     out.extend_from_slice(encode(alloc, bytes)?.as_bytes())
 }
 
-// the words of a payload, each behind a space
+// the words of a payload, each after a space
 fn push_payload(alloc: Global, out: &mut Vec<u8>, payload: &Payload) -> Result<(), AllocError>
     ensures { OnOk result (out.new.items ≡ out.old.items ++ each_behind (codes " ") (payload_words payload.now)) }
 {
@@ -162,7 +162,7 @@ fn without_last_zeros(args: &[u64]) -> &[u64]
     left
 }
 
-// numbers, each behind a space
+// numbers, each after a space
 fn push_numbers(out: &mut Vec<u8>, numbers: &[u64]) -> Result<(), AllocError>
     ensures { OnOk result (out.new.items ≡ out.old.items ++ each_number (codes " ") numbers.now) }
 {
@@ -172,11 +172,12 @@ fn push_numbers(out: &mut Vec<u8>, numbers: &[u64]) -> Result<(), AllocError>
     Ok(())
 }
 
-/// Puts the text of a call behind a text, as a line of a script has it: `PID NAME [PAYLOAD] [WORD ..]`, without a line feed.
+/// Appends the text of a call, as a line of a script has it: `PID NAME [PAYLOAD] [WORD ..]`, without a line feed.
 ///
-/// The call goes by its name where its ABI has its number and its payload is of the form of that name (a program is whole
-/// instructions of eight bytes); else it goes by `#` and its number, and its payload is not written. The name of an ABI that is
-/// not the native one stands before it with a colon. Numbers are decimal, and words that are zero are dropped at the end.
+/// The call is printed by its name if its ABI has its number and its payload is of the form of that name (a program
+/// is whole instructions of eight bytes). Otherwise it is printed by `#` and its number, without its payload. The
+/// name of an ABI other than the native one comes before it, with a colon. Numbers are decimal, and words that are
+/// zero are dropped at the end.
 pub fn push_call(
     alloc: Global,
     out: &mut Vec<u8>,
@@ -190,15 +191,15 @@ pub fn push_call(
     push_numbers(out, without_last_zeros(&call.args))
 }
 
-/// The text of a call, as `push_call` has it.
+/// Returns the text of a call, as `push_call` appends it.
 ///
-/// Where the table was read and has the call's ABI, and the call has a process from 1 on and carries nothing or what its name
-/// carries, the text has one reading as a line, the call itself.
+/// The text has one reading as a line, the call itself, under these conditions. The table was read and has the call's
+/// ABI. The call has a process from 1 on, and carries nothing or what its name carries.
 pub fn print_call(alloc: Global, call: &Call, calls: &CallTable) -> Result<Vec<u8>, AllocError>
     ensures text { IfOk result (λ text. text.items ≡ call_text calls.now call.now) }
     ensures reads_back { IfOk result (λ text. IsReadAs calls.now call.now text.items) }
 {
-    // What holds of each call and of each table.
+    // These calls say what holds of each call and of each table.
     is_held(call);
     let _abis = calls.abis();
     let _calls = calls.calls_in(call.abi);

@@ -1,4 +1,4 @@
-//! A script, line by line.
+//! Reads a script, line by line.
 
 ghost use Rattle.std.specs.Prelude.{◌≡◌, ◌≢◌, map, IfOk, IfErr, Ok, Err};
 ghost use Rattle.std.specs.List.{All};
@@ -30,7 +30,7 @@ fn read_numbered(alloc: Global, calls: &CallTable, line: &Line) -> Result<Call, 
     }
 }
 
-// puts a call behind the others, where there may be one more
+// adds a call after the others, where there may be one more
 fn add(made: &mut Vec<Call>, call: Call) -> Result<(), ScriptError>
     ensures { Adds made.old.items call made.new.items result }
 {
@@ -66,26 +66,36 @@ fn read_bytes(alloc: Global, calls: &CallTable, bytes: &[u8]) -> Result<Script, 
 
 /// Reads the calls of a script, with the calls of this table.
 ///
-/// The bytes are cut at LF; empty lines and lines that begin with `#` are passed over, and words stand between spaces.
-/// A line is `PID NAME [PAYLOAD] [WORD ..]`. PID is decimal, from 1 and below 2^32. NAME is a call of the native ABI, or `#`
-/// and a decimal number, which has no payload; behind the name of an ABI and a colon it is one of that ABI. At most six WORDs are the arguments in their positions, decimal or `0x`
-/// and hex digits, below 2^64; those that are not written are 0. The payload stands for what pointers among the words
-/// point to: an escaped path for stat(2) and its like, open(2), openat(2), creat(2), truncate(2), execve(2) and
-/// umount2(2); two, source and target, for mount(2); three numbers below 2^41 for capset(2), the permitted, the
-/// effective and the inheritable set; `[id,id,..]` for setgroups(2), in decimal; the number of the family, in decimal and below
-/// 2^32, for socketcall(2); the program in lower-case hex, 16
-/// digits an instruction, or `-` without any, for seccomp(2).
+/// The bytes are cut at LF. Empty lines and lines that begin with `#` are skipped, and spaces separate words. A line
+/// is `PID NAME [PAYLOAD] [WORD ..]`:
+/// - PID is decimal, from 1 and below 2^32.
+/// - NAME is a call of the native ABI, or `#` and a decimal number, which has no payload. After the name of an ABI
+///   and a colon it is one of that ABI.
+/// - WORDs, at most six, are the arguments in their positions: decimal or `0x` and hex digits, below 2^64. Arguments
+///   that are not written are 0.
+/// - PAYLOAD is what pointers among the words point to, by the call:
 ///
-/// `NotText` comes first, where the bytes are not UTF-8 or have a NUL; then `Line` of the first faulty line, with the
-/// first of its causes in the order of `ScriptCause`, or `TooMany` where a 16,385th call stands before any such line.
-/// Whether a program is one that seccomp(2) takes is not looked at here. Each call is one that `print_call` prints so that it
-/// is read again.
+/// | Call | Payload |
+/// |---|---|
+/// | stat(2) and its like, open(2), openat(2), creat(2), truncate(2), execve(2), umount2(2) | an escaped path |
+/// | mount(2) | two escaped paths, source and target |
+/// | capset(2) | three numbers below 2^41: the permitted, the effective and the inheritable set |
+/// | setgroups(2) | `[id,id,..]`, in decimal |
+/// | socketcall(2) | the number of the family, in decimal and below 2^32 |
+/// | seccomp(2) | the program in lower-case hex, 16 digits an instruction, or `-` without any |
+///
+/// The refusals have this order. `NotText` comes first, if the bytes are not UTF-8 or have a NUL. Then comes `Line`
+/// of the first faulty line, with the first of its causes in the order of `ScriptCause`. `TooMany` comes if a
+/// 16,385th call precedes any such line.
+///
+/// The reader does not look if a program is one that seccomp(2) takes. It reads each printed call of a script again
+/// as that call (`print_call`).
 pub fn read_script(alloc: Global, calls: &CallTable, bytes: &[u8]) -> Result<Script, ScriptError>
     ensures reads_the_calls { IfOk result (λ script. script_of calls.now bytes.now ≡ Ok script) }
     ensures each_is_printed_again { IfOk result (λ script. All (IsWritten calls.now) script) }
     ensures first_refusal { IfErr result (λ error. error ≢ Memory → script_of calls.now bytes.now ≡ Err error) }
 {
-    // What holds of each table is said by the call that counts its ABIs.
+    // The call that counts the ABIs says what holds of each table.
     let _abis = calls.abis();
     read_bytes(alloc, calls, bytes)
 }
