@@ -1,6 +1,6 @@
 //! The action of a rule set on a call, decided from the rules themselves.
 //!
-//! One chain a function: which test holds, which case passes, which rule is the call's. No memory is taken.
+//! No memory is taken.
 ghost use Rattle.std.specs.Prelude.{◌≡◌, ◌==◌, find, option_copied};
 ghost use Rattle.call_rules.specs.Action.{test_holds, case_holds, call_action, case_action};
 
@@ -41,8 +41,8 @@ fn action_of(call: &CallRule, input: &CallData) -> Action
     }
 }
 
-/// The action of the rules on a call: for another architecture than theirs the action for it; else the
-/// first case of the call's rule whose tests all hold decides, else that rule's rest, and for a number
+/// Returns the action of the rules on a call. For another architecture than theirs that is the action for it. Else
+/// the first case of the call's rule whose tests all hold decides, else the rest of that rule, and for a number
 /// without a rule the rest of the set.
 pub fn action(rules: &RuleSet, input: &CallData) -> Action
     ensures decides_by_case { result ≡ case_action rules.now input.now }

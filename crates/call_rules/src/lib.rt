@@ -1,8 +1,7 @@
-//! Which action a rule set takes on a system call.
+//! Defines rule sets, and gives the action of a rule set on a system call.
 //!
-//! A rule set says, for each call number, which tests of the arguments lead to which action, as seccomp(2)
-//! filters do. It stands on `bpf_code` for the call's data and on
-//! `linux_numbers` for the words of actions; `seccomp_compile` turns it into a program.
+//! A rule set says, for each call number, which tests of the arguments lead to which action, as seccomp(2) filters
+//! do. `bpf_code` has the data of a call, and `seccomp_compile` turns rules into a program.
 #![tactic(auto)]
 
 mod actions;

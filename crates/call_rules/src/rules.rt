@@ -69,7 +69,7 @@ impl Held for CallRule {
 /// The rules of some calls, whose numbers ascend strictly, as `are_ascending` tests.
 pub type CallRules = HeldList<CallRule>;
 
-/// Whether the numbers of these rules ascend strictly.
+/// Returns whether the numbers of these rules ascend strictly.
 pub fn are_ascending(calls: &[CallRule]) -> bool
     ensures strictly { IsTrue result ↔ IsStrictlyIncreasing (map (λ call. call.number) calls.now) }
 {

@@ -1,4 +1,4 @@
--- What the answer of a launch says.
+-- The meaning of a launch's answer.
 use Rattle.std.specs.Prelude.{◌≡◌, ⊤, ℕ, List, [], ◌∷◌, map, length, Result, Ok, Err}
 use Rattle.kernel_laws.specs.bpf_code.declared.machine.Insn.{Insn}
 use Rattle.kernel_laws.specs.bpf_code.Reading.{IsProgram, bytes_of}
@@ -30,8 +30,8 @@ wanted_of settings programs = record {
   programs = programs;
 }
 
--- a program of the filter: it has its name and matches it, decides after few instructions where the rules have short cases, and seccomp(2)
--- takes its bytes
+-- a program of the filter: it has the filter's name and ABI and matches the filter, decides after few instructions if the rules have
+-- short cases, and seccomp(2) takes its bytes
 pub record IsProgramOf (filter : Filter) (one : FilterProgram) : Type 0 where
   pub named : one.name ≡ filter.name
   pub own_abi : one.abi ≡ filter.abi
@@ -70,7 +70,7 @@ pub record EndsWithAll (table : calls.Table) (site : Site) (settings : Settings)
   pub each : (programs : List (List ℕ)) (stack : List (List Insn)) → AreRead programs stack → AreMatching settings.filters.items stack
       → launch_with table site settings plan programs ≡ ending
 
--- the answer and the launch are alike; whether the program is privileged does not rest on any programs
+-- the answer says how the launch ends; whether the program is privileged does not depend on any programs of filters
 abbrev pub EndsAs : calls.Table → Site → Settings → Table → Result Service LaunchError → Type 0
 EndsAs table site settings plan (Ok service) = LaunchesTo table site settings plan service
 EndsAs table site settings plan (Err (error.PrivilegedProgram path)) = (programs : List (List ℕ))

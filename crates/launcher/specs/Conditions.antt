@@ -1,5 +1,5 @@
--- What a launch asks of settings: each rule set can be made a program, all programs have room in one stack (seccomp(2)), and
--- the ids are none that stands for no id (setresuid(2)).
+-- A launch needs settings whose rule sets can be made programs, with room for all programs in one stack (seccomp(2)), and whose ids are
+-- none that stands for no id (setresuid(2)).
 use Rattle.std.specs.Prelude.{◌<◌, ◌≤◌}
 use Rattle.std.specs.List.{All}
 use Rattle.exec_settings.specs.call_rules.Sizes.{CanCompile}

@@ -1,4 +1,4 @@
--- What the steps of a launch come to, as its parts say it.
+-- The ends of a launch's steps, as its parts give them.
 use Rattle.std.specs.Prelude.{◌≡◌, ⊤, ℕ, ◌+◌, ◌≤◌, List, [], ◌∷◌, ◌++◌, length, Option, Some, None, Result, Ok, Err}
 use Rattle.kernel_laws.specs.kern_mounts.declared.step.MountStep.{MountStep}
 use Rattle.kernel_laws.specs.kernel_model.declared.process.Process.{Process}

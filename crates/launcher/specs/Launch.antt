@@ -153,7 +153,7 @@ call_steps lines wanted = identity_steps lines wanted ++ filter_steps lines want
 abbrev pub launch_steps : List CallLine → Wanted → Table → List LaunchStep
 launch_steps lines wanted plan = with_unshare lines (mount_steps plan) ++ call_steps lines wanted
 
--- what a step comes to: a mount step is never refused
+-- the result of a step: a mount step is never refused
 abbrev pub launch_step : World → LaunchStep → Reply × World
 launch_step world (Makes call) = step world call
 launch_step world (Mounts entry) = (Done 0, after_mount_step world 1 entry)

@@ -1,4 +1,4 @@
--- A launch by the programs of settings leaves what a judgement of the service stands on.
+-- A launch by the programs of settings leaves a world in which the service can be judged.
 use Rattle.std.specs.Prelude.{◌≡◌, ℕ, ◌<◌, ◌^◌, List, Some}
 use Rattle.std.specs.List.{AllByRecursion}
 use Rattle.kernel_laws.specs.bpf_code.ProgramOf.{program_of}

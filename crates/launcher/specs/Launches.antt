@@ -38,9 +38,9 @@ AreRead [] [] = Unit {0}
 AreRead (bytes ∷ programs) (code ∷ stack) = (program_of bytes ≡ Some code) × AreRead programs stack
 AreRead programs stack = ⊥
 
--- what the launched program has (credentials(7), capabilities(7)): the three uids are one, and the three gids; all that is
--- permitted is effective; the ambient set is within the inheritable and the permitted one, and the inheritable one within the
--- bounding and the effective one; the superuser has all that is not taken from the bounding set
+-- the credentials of the launched program (credentials(7), capabilities(7)). The three uids are one, and so are the three gids. All that
+-- is permitted is effective. The ambient set is within the inheritable and the permitted one, and the inheritable one within the bounding
+-- and the effective one. The superuser has all that is not taken from the bounding set
 pub record IsLaunchedCreds (creds : Creds) : Type 0 where
   pub real : creds.uids.real ≡ creds.uids.effective
   pub saved : creds.uids.saved ≡ creds.uids.effective

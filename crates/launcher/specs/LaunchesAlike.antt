@@ -1,4 +1,4 @@
--- How a launch ends does not rest on which programs the filters are.
+-- A launch ends in the same way for all programs of the filters that answer alike.
 use Rattle.std.specs.Prelude.{◌≡◌, ℕ, ◌<◌, ◌≤◌, ◌^◌, List}
 use Rattle.kernel_laws.specs.bpf_code.declared.machine.Insn.{Insn}
 use Rattle.kernel_laws.specs.bpf_code.Stack.{room_of}
@@ -14,7 +14,7 @@ use Rattle.launcher.specs.Alike.{HasWordArchs, AnswerAlike, above}
 use Rattle.launcher.specs.Launch.{Wanted, Ending, Launched, StepRefused, StepKilled, PrivilegedProgram, launch}
 use Rattle.launcher.specs.Launches.{AreRead}
 
--- both launch after as many steps, and the worlds differ in the programs alone; or both are refused alike
+-- both launch after the same number of steps, and the worlds differ in the programs alone; or both are refused alike
 abbrev pub EndAlike : List (List Insn) → List (List Insn) → Ending → Ending → Type 0
 EndAlike one other (Launched world count) (Launched world' count') =
     (count ≡ count') × (base : World) × (world ≡ above one base) × (world' ≡ above other base)

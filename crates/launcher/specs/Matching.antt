@@ -26,7 +26,7 @@ AreMatching [] [] = Unit {0}
 AreMatching (one ∷ filters) (code ∷ stack) = IsMatch one code × AreMatching filters stack
 AreMatching filters stack = ⊥
 
--- what matches means what the settings say, takes no more room than it may, and all lists that match answer alike
+-- programs that match mean what the settings say and take no more room than they may, and all lists that match answer alike
 pub record MatchingLaws : Type 0 where
   pub means : (settings : FilterSettings) (table : calls.Table) (filters : List Filter) (stack : List (List Insn))
       → AllByRecursion (HasWantedRules settings table) filters

@@ -76,7 +76,7 @@ impl CallSteps {
         }
     }
 
-    /// Puts a call behind the others.
+    /// Adds a call after the others.
     pub fn push(&mut self, call: Call) -> Result<(), AllocError>
         ensures goes_last { OnOk result (self.new ≡ self.old ++ Makes call ∷ []) }
     {
@@ -84,7 +84,7 @@ impl CallSteps {
         Ok(())
     }
 
-    /// Puts a call behind the others, where it is wanted.
+    /// Adds a call after the others, where it is wanted.
     pub fn push_if(&mut self, wanted: bool, call: Call) -> Result<(), AllocError>
         ensures goes_last_where_wanted { OnOk result (self.new ≡ self.old ++ if_so wanted (Makes call)) }
     {

@@ -1,4 +1,4 @@
-//! What the service is made before its filters: its groups, its uids and its capabilities (credentials(7), capabilities(7)).
+//! Makes the steps before the filters: groups, uids and capabilities (credentials(7), capabilities(7)).
 
 ghost use Rattle.std.specs.Prelude.{◌≡◌, [], ◌++◌, IfOk, OnOk};
 ghost use Rattle.launcher.specs.Answers.{wanted_of};
@@ -124,7 +124,7 @@ fn privilege_steps(
     steps.push_if(settings.no_new_privs, prctl(table, SET_NO_NEW_PRIVS, 1, 0))
 }
 
-/// The calls before the filters: groups and gids, the bounding set, the uids, the ambient set, no_new_privs.
+/// Returns the calls before the filters: groups and gids, the bounding set, the uids, the ambient set, no_new_privs.
 pub fn identity_steps(
     alloc: Global,
     table: &CallTable,

@@ -41,12 +41,13 @@ fn make_steps(
     make_calls(alloc, world, calls.list(), mounted)
 }
 
-/// Starts a service in the modelled kernel, step by step: with its mounts in a namespace of their own, then its groups, its
-/// uids and its capabilities, no_new_privs, its filters as programs, and its program (systemd.exec(5)).
+/// Starts a service in the modelled kernel, step by step (systemd.exec(5)). It makes the mounts in a namespace of
+/// their own, the groups, the uids, the capabilities and no_new_privs. Then it installs the filters as programs and
+/// executes the service's program.
 ///
-/// Each call goes by the kernel's step, with the table's number. PrivilegedProgram comes before all steps, exactly where the
-/// program finds an executable file with a set-id bit or capabilities on the plan. Refused and Killed come exactly where a
-/// step is the first that is not done, whatever programs match the filters. Memory may come at any settings.
+/// Each call is made by the kernel's step, with the table's number. PrivilegedProgram comes before all steps, exactly
+/// if the program's path finds an executable file with a set-id bit or capabilities on the plan. Refused and Killed
+/// name the first step that is not done, whatever programs match the filters. Memory may come for any settings.
 pub fn launch<'a>(
     alloc: Global,
     settings: &Settings,
@@ -60,7 +61,7 @@ pub fn launch<'a>(
     ensures ends_as_its_steps_do { EndsAs calls.now site.now settings.now plan.now result }
     ensures leaves_one_process { IfOk result (LeavesService calls.now site.now settings.now plan.now) }
 
-    // What a judgement of the service stands on, where the settings are those of a unit.
+    // With the settings of a unit the service can be judged.
     ensures is_a_launched_world { (unit : Resolved) → AreSettings unit calls.now site.now settings.now
         → IfOk result (λ launched. IsLaunchedWorld launched.world) }
 {

@@ -1,9 +1,9 @@
-//! A service is started in the modelled kernel, step by step, as its settings and the plan of its mounts say
+//! Starts a service in the modelled kernel, step by step, as its settings and the plan of its mounts say
 //! (systemd.exec(5), capabilities(7), seccomp(2)).
 //!
-//! It rests on `exec_settings` for settings, on `mount_plan` for plans, on `seccomp_compile` for the programs of filters, and on
-//! `kernel_model`, whose step makes each call. `launch(alloc, &settings, plan.list(), &calls, &site)?.world` is the world in
-//! which the program runs, and `steps` the number of steps that it took.
+//! `launch(alloc, &settings, plan.list(), &calls, &site)?.world` is the world in which the program runs, and `steps`
+//! the number of steps that the launch took. `exec_settings` makes the settings, `mount_plan` the plan, and
+//! `seccomp_compile` the programs of the filters. Each call is a step of `kernel_model`.
 #![tactic(auto)]
 
 mod calls;

@@ -15,7 +15,7 @@ use std::alloc::{AllocError, Global};
 /// CLONE_NEWNS, unshare(2).
 const NEW_MOUNTS: u64 = 0x2_0000;
 
-// Whether there is a flag.
+// Returns whether there is a flag.
 fn has_flags(flags: Flags) -> bool
     ensures { result ≡ has_flags flags }
 {

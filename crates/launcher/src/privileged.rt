@@ -1,4 +1,5 @@
-//! Whether a program has a set-id bit or capabilities, by what its path finds on a plan (execve(2), capabilities(7)).
+//! Tests if a program has a set-id bit or capabilities, by the row that its path finds on a plan (execve(2),
+//! capabilities(7)).
 
 ghost use Rattle.std.specs.Prelude.{◌≡◌, option_map, option_copied, true, if◌then◌else◌};
 ghost use Rattle.exec_settings.specs.abs_path.Prefix.{is_prefix};
@@ -12,7 +13,7 @@ use abs_path::AbsPath;
 use exec_settings::{CapSet, Row, RowKind, SiteTable};
 use kernel_laws::{MountStep, What};
 
-// Whether the row is an executable file with a set-id bit or capabilities.
+// Returns whether the row is an executable file with a set-id bit or capabilities.
 fn is_marked(file: &Row) -> bool
     ensures { result ≡ is_privileged_row (row file.now) }
 {
@@ -20,7 +21,7 @@ fn is_marked(file: &Row) -> bool
     matches!(file.kind, RowKind::Exe) && (is_set_id || file.caps != CapSet::empty())
 }
 
-// Whether the row, if there is one, is such a file.
+// Returns whether the row, if there is one, is such a file.
 fn is_some_marked(file: Option<&Row>) -> bool
     ensures { result ≡ is_privileged_row (row_or_nothing (option_map (λ row. row.now) file.entry)) }
 {
@@ -56,7 +57,7 @@ fn entry_of<'p>(plan: &'p [MountStep], path: &AbsPath) -> Option<&'p MountStep>
     found
 }
 
-// Whether what the entry shows at a path that its place leads to is such a file.
+// Returns whether the entry shows such a file at a path that its place leads to.
 fn shows_marked(site: &SiteTable, entry: &MountStep, path: &AbsPath) -> bool
     requires { is_prefix entry.now.place path.now ≡ true }
     ensures { result ≡ is_privileged_row (found_by (row_at site.now.rows) entry.now.what entry.now.place path.now) }
@@ -68,7 +69,7 @@ fn shows_marked(site: &SiteTable, entry: &MountStep, path: &AbsPath) -> bool
     }
 }
 
-/// Whether the program finds an executable file with a set-id bit or capabilities on the plan.
+/// Returns whether the program finds an executable file with a set-id bit or capabilities on the plan.
 pub fn is_privileged(plan: &[MountStep], site: &SiteTable, program: &AbsPath) -> bool
     ensures by_the_row_that_is_found { result ≡ is_privileged_row (finds (row_at site.now.rows) plan.now program.now) }
 {

@@ -1,4 +1,4 @@
-//! Calls of a launch, made in turn up to the first that is not done.
+//! Makes the calls of a launch in turn, up to the first that is not done.
 
 ghost use Rattle.std.specs.Prelude.{◌+◌, ◌<◌, ◌^◌, map, length};
 ghost use Rattle.launcher.specs.Ends.{Ends, StepsTo, RepliesTo};
@@ -8,7 +8,7 @@ use crate::error::LaunchError;
 use kernel_laws::{Call, Reply, World};
 use std::alloc::Global;
 
-// What a reply says of the step of this number.
+// Turns the reply to the step of this number into an answer.
 fn done(reply: Reply, step: u32) -> Result<(), LaunchError>
     ensures { RepliesTo reply step result }
 {

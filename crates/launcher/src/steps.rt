@@ -1,4 +1,5 @@
-//! All calls of a launch in their order: what the service is made, its filters, and its program.
+//! Makes all calls of a launch in their order: those of ids and capabilities, those of the filters, and execve(2) of
+//! the program.
 
 ghost use Rattle.std.specs.Prelude.{◌≡◌, ◌++◌, IfOk, OnOk};
 ghost use Rattle.launcher.specs.Answers.{given_bytes, wanted_of};

@@ -1,4 +1,4 @@
--- What a compiled program does, and after how many instructions.
+-- The answers of a compiled program, and the number of instructions that they take.
 use Rattle.std.specs.Prelude.{ℕ, ◌≤◌, List, length}
 use Rattle.call_rules.specs.bpf_code.declared.machine.Insn.{Insn}
 use Rattle.call_rules.specs.bpf_code.declared.machine.CallData.{CallData}

@@ -17,7 +17,7 @@ jumps false between = if nat_le between most_between then 0 else 1
 abbrev pub look_len : ℕ → ℕ
 look_len mask = if mask == whole_word then 1 else 2
 
--- a jump is wanted to an ending that stands elsewhere
+-- a jump is needed to an ending that is elsewhere
 abbrev pub hop : Bool → ℕ
 hop true = 1
 hop false = 0
@@ -29,8 +29,8 @@ most_of (looks offset mask next) = look_len mask + hop (is_end next) + most_of n
 most_of (splits comparison number miss hit) = 1 + jumps (is_end hit) (most_of miss) + most_of miss + most_of hit
 most_of (both first second action otherwise) = 7 + most_of otherwise
 
--- Every path through the code has at most so many instructions: a look has a load, a mask and a jump at most, a comparison
--- itself and a jump, and a test a load, a mask and a comparison.
+-- Every path through the code has at most so many instructions. A look has a load, a mask and a jump at most, a comparison itself and a
+-- jump, and a test a load, a mask and a comparison.
 abbrev pub PathWithin : ℕ → Decision → Type 0
 PathWithin limit (ends action) = 1 ≤ limit
 PathWithin limit (looks offset mask next) = (rest : ℕ) × PathWithin rest next × (rest + 3 ≤ limit)

@@ -25,7 +25,7 @@ pub record EndsWithin (code : List Insn) (input : CallData) (regs : Regs) (answe
 abbrev pub most_in_front : ℕ
 most_in_front = 200
 
--- behind so many instructions, which are few, stands one that ends with the action
+-- an instruction that ends with the action is after so many others, which are few
 pub record StandsAt (action : Action) (code : List Insn) (count : ℕ) : Type 0 where
   pub insn : Insn
   pub near : count < most_in_front
@@ -33,11 +33,11 @@ pub record StandsAt (action : Action) (code : List Insn) (count : ℕ) : Type 0 
   pub found : slice_get code count ≡ Some insn
   pub ends : IsEnd action insn
 
--- behind fewer instructions than these stands none that ends with the action
+-- no instruction that ends with the action is after fewer others than these
 abbrev pub NoneBefore : Action → List Insn → ℕ → Type 0
 NoneBefore action code most = (count : ℕ) (insn : Insn) → count < most → slice_get code count ≡ Some insn → ¬ IsEnd action insn
 
--- nor does one stand behind few
+-- no instruction that ends with the action is after few others
 abbrev pub NoneStands : Action → List Insn → Type 0
 NoneStands action code = NoneBefore action code most_in_front
 

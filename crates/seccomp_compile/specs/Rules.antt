@@ -1,4 +1,4 @@
--- The decisions that rules come to.
+-- The decisions that rules become.
 use Rattle.std.specs.Prelude.{◌≡◌, ℕ, ◌+◌, ◌*◌, ◌^◌, ◌<◌, ◌≤◌, ◌==◌, ◌&&◌, Bool, true, false, find, List, [], ◌∷◌, length, Option, Some}
 use Rattle.std.specs.Prelude.{None, sum_by}
 use Rattle.std.specs.Option.{option_map_or}
@@ -32,7 +32,7 @@ DecidesFrom wanted from to decision =
 abbrev pub number_wanted : List CallRule → Action → Wanted
 number_wanted calls rest input word = option_map_or (call_action input) (find (λ call. call.number == word) calls) rest
 
--- the action where the test holds; what comes behind does not look at the same word again
+-- the action where the test holds; what comes after does not look at the same word again
 abbrev pub one_test : Tested → Action → Decision → Decision
 one_test test action otherwise =
     let behind = past_look (arg_offset test.arg) (mask_of test) otherwise in

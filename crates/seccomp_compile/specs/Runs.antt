@@ -5,7 +5,7 @@ use Rattle.seccomp_compile.specs.declared.runs.Run.{Run}
 use Rattle.seccomp_compile.specs.declared.tree.Comparison.TheVariants.{AtLeast, Equal}
 use Rattle.seccomp_compile.specs.Decisions.{Decision, ends, splits, decision_of, is_split}
 
--- what the numbers of a run come to
+-- the decision of the numbers of a run
 abbrev pub run_decision : Run → Decision
 run_decision run = decision_of run.tree
 
@@ -53,8 +53,8 @@ pub record Extends (runs : List Run) (run : Run) : Type 0 where
   pub around : run_decision lowest_run ≡ splits Equal number (ends action) hit
   pub run_ends : run_decision run ≡ ends action
 
--- A run is added below. Where it ends as the lowest one does, or as that one does around a number, it takes that one's place,
--- and where it encloses a number with the two lowest ones, the place of both.
+-- A run is added below. If it ends as the lowest one does, or as that one does around a number, it replaces that one. If it encloses a
+-- number with the two lowest ones, it replaces both.
 pub data AddsRun : List Run → Run → List Run → Type 0 where
   below : (runs after : List Run) (run : Run) → after ≡ runs ++ run ∷ [] → AddsRun runs run after
   merged : (runs after : List Run) (run : Run) (alike : EndAlike runs run) → after ≡ alike.others ++ run ∷ [] → AddsRun runs run after

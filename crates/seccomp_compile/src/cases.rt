@@ -9,7 +9,7 @@ use crate::tree::Tree;
 use call_rules::{Action, Case, Test};
 use std::alloc::{AllocError, Global};
 
-// A test, which ends with the action where it holds. What comes behind does not look at the same word again.
+// A test, which ends with the action where it holds. What comes after does not look at the same word again.
 fn test_tree(alloc: Global, test: Test, action: Action, otherwise: Tree) -> Result<Tree, AllocError>
     ensures tests { IfOk result (λ tree. decision_of tree ≡ one_test test action (decision_of otherwise)) }
     ensures looks { LooksInside (decision_of otherwise) → IfOk result (λ tree. LooksInside (decision_of tree)) }

@@ -1,4 +1,4 @@
-//! The compiler's call.
+//! Compiles a rule set.
 ghost use Rattle.std.specs.Prelude.{◌≤◌, length, IfOk};
 ghost use Rattle.call_rules.specs.linux_numbers.Limits.{bpf_maxinsns};
 ghost use Rattle.call_rules.specs.bpf_code.Reading.{IsProgram};
@@ -13,14 +13,15 @@ use call_rules::{Program, RuleSet};
 use std::alloc::{AllocError, Global};
 use std::collections::VecDeque;
 
-/// A program that decides every call as the rules do: for every number, architecture, instruction pointer and
-/// argument words its answer is the action of the rules.
+/// Makes a program that decides every call as the rules do: its answer is the action of the rules, for every number,
+/// architecture, instruction pointer and argument words.
 ///
-/// It has at most 16 + 5c + 2k + 4t instructions for c calls, k cases and t tests in all, which is never more than
-/// a program may have. Where each call has at most 8 cases, or where each of its cases is one test of one argument
-/// with all of its low 32 bits, the program makes at most 96 instructions for a call. The condition is that there are
-/// at most 512 calls, at most 128 cases over all calls together, and at most 2 tests a case, as `can_compile` tests.
-/// The only error is want of memory.
+/// The program has at most `16 + 5c + 2k + 4t` instructions for c calls, k cases and t tests in all, which is never
+/// more than a program may have. A call takes at most 96 instructions, if each rule has short cases: at most 8, or
+/// each of them one test of one argument with all of its low 32 bits.
+///
+/// The condition is at most 512 calls, at most 128 cases over all calls together, and at most 2 tests a case, as
+/// `can_compile` tests. The call fails only if memory runs out.
 pub fn compile(alloc: Global, rules: &RuleSet) -> Result<Program, AllocError>
     requires { CanCompile rules.now }
     ensures decides_every_call { IfOk result (λ program. Decides program rules.now) }

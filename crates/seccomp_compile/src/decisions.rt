@@ -1,4 +1,4 @@
-//! From rules to decision trees.
+//! Makes decision trees of rules.
 ghost use Rattle.std.specs.Prelude.{◌≡◌, map, IfOk};
 ghost use Rattle.std.specs.List.{All};
 ghost use Rattle.std.specs.List.Sorted.{IsStrictlyIncreasing};
@@ -70,7 +70,7 @@ fn for_arch(alloc: Global, arch: u32, other: Action, tree: Tree) -> Result<Tree,
     })
 }
 
-/// The rules as a tree: the architecture is looked at first, then the number.
+/// Returns the rules as a tree, which looks at the architecture first and then at the number.
 pub fn rules_tree(alloc: Global, rules: &RuleSet) -> Result<Tree, AllocError>
     requires { CanCompile rules.now }
     ensures decides_the_rules { IfOk result (λ tree. DecidesRules rules.now (decision_of tree)) }

@@ -1,7 +1,7 @@
-//! From decision trees to instructions.
+//! Makes instructions of decision trees.
 //!
-//! A program is made from its end: what is added stands in front, and leads to what stands already. A place is
-//! counted from the end, so that it stays the same. An ending that stands near is used again.
+//! A program is made from its end: new instructions are put in front, and lead to those that are there already. A
+//! place is counted from the end, so that it stays the same. An ending that is near is used again.
 ghost use Rattle.std.specs.Prelude.{◌≡◌, ◌+◌, ◌-◌, ◌<◌, ◌≤◌, ◌++◌, length, OnOk, IfOk, MatchOption};
 ghost use Rattle.std.specs.List.{All};
 ghost use Rattle.call_rules.specs.bpf_code.Reading.{Fits};
@@ -19,15 +19,15 @@ use call_rules::{Action, Insn, Test};
 use std::alloc::AllocError;
 use std::collections::VecDeque;
 
-/// How many instructions may stand in front of an ending that is used again: so few that a comparison in front of
-/// another tree of some length still leads to it.
+/// The most instructions in front of an ending that is used again: so few that a comparison in front of another tree
+/// of some length still leads to it.
 const NEAR: usize = 200;
 
-/// How many instructions may stand in front of a place that a comparison leads to, since its offsets have eight bits
-/// and one instruction may be added in between.
+/// The most instructions in front of a place that a comparison leads to. Its offsets have eight bits, and one
+/// instruction may be added in between.
 const FARTHEST_SKIP: usize = 254;
 
-// How many instructions stand in front of an ending with the action that is near.
+// Returns the number of instructions in front of an ending with the action that is near.
 fn end_near(code: &VecDeque<Insn>, action: Action) -> Option<usize>
     ensures { MatchOption result (NoneStands action code.now.items) (StandsAt action code.now.items) }
 {
@@ -59,7 +59,7 @@ fn place_end(code: &mut VecDeque<Insn>, action: Action) -> Result<usize, AllocEr
     }
 }
 
-// The place, or where a jump to it stands, with at most so many instructions in front.
+// Returns the place, or that of a jump to it, with at most so many instructions in front.
 fn within(code: &mut VecDeque<Insn>, place: usize, limit: usize) -> Result<usize, AllocError>
     requires sound { IsSound code.old.items }
     requires fit { All Fits code.old.items }
@@ -135,7 +135,7 @@ fn test(code: &mut VecDeque<Insn>, test: Test, miss: usize, hit: usize) -> Resul
     Ok(())
 }
 
-/// Adds the tree's code where it is not there, and gives its place.
+/// Adds the tree's code unless it is there, and returns its place.
 pub fn place(code: &mut VecDeque<Insn>, tree: &Tree) -> Result<usize, AllocError>
     requires sound { IsSound code.old.items }
     requires fit { All Fits code.old.items }

@@ -39,7 +39,7 @@ pub fn and_mask(mask: u32) -> Insn
     plain(ALU_AND_K, mask)
 }
 
-/// Goes on behind so many instructions.
+/// Goes on after so many instructions.
 pub fn jump(count: u32) -> Insn
     ensures is { result ≡ skip count }
     ensures fits { Fits result }
@@ -82,7 +82,7 @@ pub fn answer(action: Action) -> Insn
     plain(RET_K, action.word())
 }
 
-/// Whether the instruction ends with the action.
+/// Returns whether the instruction ends with the action.
 pub fn is_answer(insn: Insn, action: Action) -> bool
     ensures ends_with_it { IsTrue result ↔ IsEnd action insn }
 {

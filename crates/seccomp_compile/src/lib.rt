@@ -1,12 +1,12 @@
-//! From rule sets to BPF programs that decide as they do, for seccomp(2).
+//! Compiles rule sets to BPF programs that decide as the rules do, for seccomp(2).
 //!
-//! [`compile`] gives for every rule set within its condition a program whose answer on the data of any system
-//! call is the action of the rules: `if can_compile(&rules) { compile(alloc, &rules)? }`. It stands on `call_rules`
-//! for what the rules mean and on `bpf_code` for what a program answers.
+//! For every rule set within its condition, [`compile`] gives a program whose answer on the data of any system call
+//! is the action of the rules: `if can_compile(&rules) { compile(alloc, &rules)? }`. `call_rules` says what the rules
+//! mean, and `bpf_code` what a program answers.
 //!
 //! Rules become a decision tree, and the tree becomes a program. Neighbouring numbers that end with the same action
-//! are one run, and a balanced tree of comparisons finds the run of a number, and the value of an argument in the
-//! same way; other cases stand in order. Endings that are near are used again.
+//! are one run, and a balanced tree of comparisons finds the run of a number. Such a tree also finds the value of an
+//! argument. Other cases are tested in order. An ending that is near is used again.
 #![tactic(auto)]
 
 mod cases;

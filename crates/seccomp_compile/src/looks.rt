@@ -1,4 +1,4 @@
-//! How the word of a test is looked at.
+//! Chooses how the word of a test is looked at.
 ghost use Rattle.std.specs.Prelude.{◌≡◌};
 ghost use Rattle.seccomp_compile.specs.Looks.{asks_for_a_bit as asks, mask_of, comparison_of};
 
@@ -6,15 +6,15 @@ use crate::offsets::WHOLE_WORD;
 use crate::tree::Comparison;
 use call_rules::Test;
 
-// Whether the test asks for one bit.
+// Returns whether the test asks for one bit.
 fn asks_for_a_bit(test: Test) -> bool
     ensures { result ≡ asks test }
 {
     test.mask == test.value && test.mask.is_power_of_two()
 }
 
-/// The mask of the word that is compared: where a test asks for one bit, the whole word is compared by that bit, and
-/// the tests behind it can compare the same word.
+/// Returns the mask of the word that is compared. If a test asks for one bit, the whole word is compared by that bit,
+/// so that the tests after it can compare the same word.
 pub fn mask_for(test: Test) -> u32
     ensures of_the_test { result ≡ mask_of test }
 {
@@ -25,7 +25,7 @@ pub fn mask_for(test: Test) -> u32
     }
 }
 
-/// How the word is compared with the value of the test.
+/// Returns how the word is compared with the value of the test.
 pub fn comparison_for(test: Test) -> Comparison
     ensures of_the_test { result ≡ comparison_of test }
 {

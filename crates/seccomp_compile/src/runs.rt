@@ -15,14 +15,15 @@ pub struct Run {
     pub tree: Tree,
 }
 
-// Whether the tree ends at once with the action.
+// Returns true only if the tree ends at once with the action.
 fn ends_with(tree: &Tree, action: Action) -> bool
     ensures { IsTrue result → decision_of tree.now ≡ ends action }
 {
     tree.ending().is_some_and(|other| other == action)
 }
 
-// Where the runs begin, which stand one below the other; without a run, above all numbers.
+// Returns the number at which the runs begin, each of which follows the next one below; without a run, the number
+// after all numbers.
 fn floor(runs: &[Run]) -> u64
     ensures { result ≡ floor_of (2 ^ 32) runs.now }
 {
@@ -32,7 +33,7 @@ fn floor(runs: &[Run]) -> u64
     }
 }
 
-// Whether the lowest run and the one below it end at once with the same action.
+// Returns true only if the lowest run and the one below it end at once with the same action.
 fn end_alike(runs: &[Run], run: &Run) -> bool
     ensures { IsTrue result → EndAlike runs.now run.now }
 {
@@ -42,7 +43,7 @@ fn end_alike(runs: &[Run], run: &Run) -> bool
     }
 }
 
-// Whether the lowest run is one number, the run above it ends as the one below it, and the number is no comparison.
+// Returns true only if the lowest run is one number and no comparison, and the run above it ends as the one below it.
 fn encloses(runs: &[Run], run: &Run) -> bool
     ensures { IsTrue result → Encloses runs.now run.now }
 {
@@ -80,7 +81,7 @@ fn enclosed(alloc: Global, middle: Run, run: Run) -> Result<Run, AllocError>
     })
 }
 
-// Whether the lowest run compares one number of its own, and ends around it as the one below it.
+// Returns true only if the lowest run compares one number of its own, and ends around it as the one below it.
 fn extends(runs: &[Run], run: &Run) -> bool
     ensures { IsTrue result → Extends runs.now run.now }
 {
@@ -90,7 +91,7 @@ fn extends(runs: &[Run], run: &Run) -> bool
     }
 }
 
-// Whether the tree compares one number from this one on, and ends around it with the action.
+// Returns true only if the tree compares one number from this one on, and ends around it with the action.
 fn goes_around(tree: &Tree, from: u32, action: Action) -> bool
     ensures { IsTrue result → GoesAround from action (decision_of tree.now) }
 {
@@ -108,8 +109,8 @@ fn goes_around(tree: &Tree, from: u32, action: Action) -> bool
     }
 }
 
-// Adds a run below the others. Where it ends as the lowest of them, the two are one run, and so are the lowest two and
-// this one where it encloses a number with them.
+// Adds a run below the others. If it ends as the lowest of them, the two become one run. If it encloses a number with
+// the lowest two, the three become one.
 fn add_run(alloc: Global, runs: &mut Vec<Run>, run: Run) -> Result<(), AllocError>
     ensures { OnOk result (AddsRun runs.old.items run runs.new.items) }
 {

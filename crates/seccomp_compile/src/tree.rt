@@ -16,7 +16,7 @@ pub enum Comparison {
     AnyBit,
 }
 
-/// How a call is decided, where one word of its data is looked at.
+/// A decision about a call, once one word of its data is looked at.
 #[derive(Drop)]
 pub enum Tree {
     /// Ends with the action.
@@ -54,7 +54,7 @@ impl Tree {
         }
     }
 
-    /// What the tree does where the word at this offset and this mask is looked at already.
+    /// Returns the tree without a first look at this offset and mask, which is looked at already.
     pub fn past_look(self, offset: u32, mask: u32) -> Tree
         ensures past_the_look { decision_of result ≡ past_look offset mask (decision_of self) }
     {
@@ -68,14 +68,14 @@ impl Tree {
         }
     }
 
-    /// Whether the tree ends at once.
+    /// Returns whether the tree ends at once.
     pub fn is_end(&self) -> bool
         ensures ends { result ≡ is_end (decision_of self.now) }
     {
         self.ending().is_some()
     }
 
-    /// Whether the tree begins with a comparison.
+    /// Returns whether the tree begins with a comparison.
     pub fn is_split(&self) -> bool
         ensures splits { result ≡ is_split (decision_of self.now) }
     {

@@ -20,7 +20,7 @@ fn is_whole(test: Test, arg: u8) -> bool
     test.arg == arg && test.mask == WHOLE_WORD
 }
 
-// Whether the case is one test, of all of the low 32 bits of this argument.
+// Returns whether the case is one test, of all of the low 32 bits of this argument.
 fn is_value(case: &Case, arg: u8) -> bool
     ensures { result ≡ is_value_of arg case.now }
 {
@@ -53,7 +53,7 @@ fn arg_of_first(cases: &[Case]) -> Option<u8>
     Some(arg_of(*test))
 }
 
-/// The argument of which each case is a value.
+/// Returns the argument of which each case is a value.
 pub fn value_arg(cases: &[Case]) -> Option<u8>
     ensures values { IfSome result (λ arg. (arg ≤ 5) × (0 < length cases.now) × AreValuesOf arg cases.now) }
     ensures others { result ≡ None → (arg : ℕ) → AreValuesOf arg cases.now → cases.now ≡ [] }
@@ -132,7 +132,8 @@ fn values_by_tree(alloc: Global, cases: &[Case], rest: Action) -> Result<Tree, A
     close(alloc, runs, rest)
 }
 
-/// A tree that finds the value of a word: the action of the first case with the value, and the rest where none has it.
+/// Returns a tree that finds the value of a word: the action of the first case with the value, or the rest if no case
+/// has it.
 pub fn values_tree(alloc: Global, cases: &[Case], rest: Action) -> Result<Tree, AllocError>
     ensures decides_the_values { IfOk result (λ tree. DecidesValues cases.now rest (decision_of tree)) }
 {
