@@ -14,7 +14,7 @@ abbrev pub AreAscending : List Path → Type 0
 AreAscending [] = Unit {0}
 AreAscending (path ∷ paths) = AllByRecursion (λ later. is_before path later ≡ true) paths × AreAscending paths
 
--- an ascending list with one more path in its place, unless it stands there
+-- an ascending list with one more path in its place, unless it is there
 abbrev pub placed : Path → List Path → List Path
 placed path [] = path ∷ []
 placed path (first ∷ paths) = cond (is_before path first) (path ∷ first ∷ paths)

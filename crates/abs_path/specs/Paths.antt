@@ -7,7 +7,7 @@ use Rattle.std.specs.List.{slice_split, list_any, list_all}
 abbrev pub Path : Type 0
 Path = List (List ℕ)
 
--- the parts, each behind a slash; nothing for the root
+-- the parts, each after a slash; nothing for the root
 abbrev pub tail_of : Path → List ℕ
 tail_of [] = []
 tail_of (part ∷ parts) = ascii "/" ∷ part ++ tail_of parts
@@ -22,7 +22,7 @@ abbrev pub is_root : Path → Bool
 is_root [] = true
 is_root (part ∷ path) = false
 
--- a part that stands in a path as written and says nothing: empty, between two slashes, or a lone dot
+-- a part that is in a path as written and says nothing: empty, between two slashes, or a lone dot
 abbrev pub is_idle : List ℕ → Bool
 is_idle part = bytes_eq part [] || bytes_eq part (codes ".")
 
@@ -30,7 +30,7 @@ is_idle part = bytes_eq part [] || bytes_eq part (codes ".")
 abbrev pub proc : Path
 proc = codes "proc" ∷ []
 
--- what stands between the slashes of a text
+-- the text between the slashes of a text
 abbrev pub pieces_of : List ℕ → List (List ℕ)
 pieces_of text = slice_split (λ byte. byte == ascii "/") text
 

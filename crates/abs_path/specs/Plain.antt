@@ -2,7 +2,7 @@
 use Rattle.std.specs.Prelude.{◌==◌, ◌||◌, ◌&&◌, ℕ, Bool, not, List, [], ◌∷◌}
 use Rattle.std.specs.Str.{byte as ascii}
 
--- no NUL, and a byte behind each slash that is no slash and no dot; whether a slash stood before the text
+-- no NUL, and a byte after each slash that is no slash and no dot; whether a slash stood before the text
 abbrev pub is_plain : Bool → List ℕ → Bool
 is_plain behind [] = not behind
 is_plain behind (byte ∷ text) =

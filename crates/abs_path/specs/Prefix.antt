@@ -1,4 +1,4 @@
--- Which path leads to which, by whole parts, and what lies behind.
+-- Paths that lead to others, by whole parts, and the rest after them.
 use Rattle.std.specs.Prelude.{◌≡◌, ◌==◌, ◌&&◌, ◌<◌, ◌≤◌, ⊤, ℕ, Bool, true, false, not, cond, nat_eq, List, [], ◌∷◌, ◌++◌, length, drop}
 use Rattle.std.specs.Prelude.{Option, Some, None, option_and_then, Result, Ok, Err}
 use Rattle.std.specs.Str.{bytes_eq, byte as ascii}
@@ -22,20 +22,20 @@ is_same one other = pointwise bytes_eq one other
 abbrev pub is_below : Path → Path → Bool
 is_below path other = is_prefix other path && not (is_same other path)
 
--- what a path has behind a prefix of it
+-- the rest of a path after a prefix of it
 abbrev pub rest_of : Path → Path → Path
 rest_of front path = drop (length front) path
 
--- the text of what a path has behind a prefix of it
+-- the text of the rest of a path after a prefix of it
 abbrev pub rest_text : Path → Path → Option (List ℕ)
 rest_text front path = cond (is_prefix front path) (Some (tail_of (rest_of front path))) None
 
--- a text that a path may have behind a prefix: nothing, or normal parts, each after a slash
+-- a text that a path may have after a prefix: nothing, or normal parts, each after a slash
 pub record IsRest (text : List ℕ) : Type 0 where
   pub parts : is_normal (parts_of text) ≡ true
   pub whole : tail_of (parts_of text) ≡ text
 
--- the path with the rest's parts behind it, or more than 512 bytes
+-- the path with the rest's parts after it, or more than 512 bytes
 abbrev pub Joins : Path → List ℕ → Result Path JoinError → Type 0
 Joins path rest (Ok joined) = (joined ≡ path ++ parts_of rest) × (length (tail_of joined) ≤ 512)
 Joins path rest (Err TooLong) = 512 < length (tail_of (path ++ parts_of rest))
@@ -53,6 +53,6 @@ behind_only rest = cond (is_behind rest) (Some rest) None
 abbrev pub after : List ℕ → List ℕ → Option (List ℕ)
 after front text = cond (starts_with nat_eq text front) (Some (drop (length front) text)) None
 
--- what a text has behind another, where it goes on at a slash
+-- the rest of a text after another, if it goes on at a slash
 abbrev pub behind_text : List ℕ → List ℕ → Option (List ℕ)
 behind_text front text = option_and_then behind_only (after front text)

@@ -1,4 +1,4 @@
--- Which path a text is, and the first thing that is wrong with it.
+-- The path of a text, and the first thing that is wrong with a text.
 use Rattle.std.specs.Prelude.{◌≡◌, ◌==◌, ⊤, ℕ, cond, nat_lt, nat_eq, List, length, codes, Option, Some, None, Result, Ok, Err}
 use Rattle.std.specs.List.{list_any, starts_with}
 use Rattle.std.specs.Str.{bytes_eq}
@@ -15,7 +15,7 @@ fault_of text =
     (cond (list_any (λ piece. bytes_eq piece (codes "..")) (pieces_of text)) (Some DotDot) None)
     (Some Relative)))
 
--- the parts of a text without fault, or its first fault; want of memory may come at any text
+-- the parts of a text without fault, or its first fault; memory may run out at any text
 abbrev pub Reads : List ℕ → Result Path PathError → Type 0
 Reads text (Ok path) = (fault_of text ≡ None) × (path ≡ parts_of text)
 Reads text (Err Memory) = ⊤

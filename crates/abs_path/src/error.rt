@@ -1,4 +1,4 @@
-//! Why a text is no path, or two are none together.
+//! The errors of texts that are no path, and of two that are none together.
 
 ghost use Rattle.std.specs.Prelude.{◌≡◌};
 ghost use Rattle.abs_path.specs.declared.error.PathError.TheVariants.{Memory};
@@ -6,7 +6,7 @@ ghost use Rattle.abs_path.specs.declared.error.PathError.TheVariants.{Memory};
 use std::alloc::AllocError;
 use thiserror::Error;
 
-/// Why a text is no path. Of several faults the one listed first is told.
+/// Why a text is no path. Of several faults the one listed first is reported.
 #[derive(Clone, Copy, Debug, PartialEq, Eq, Error)]
 pub enum PathError {
     /// The text has more than 512 bytes.

@@ -1,4 +1,4 @@
-//! Laws of paths, each the contract of a function that does nothing.
+//! The laws of paths. Each is the contract of a function that does nothing.
 
 ghost use Rattle.std.specs.Prelude.{◌≡◌, ◌⊎◌, ◌↔◌, ◌≤◌, ℕ, List, [], ◌++◌, IsTrue, Some, None, length};
 ghost use Rattle.std.specs.List.{AllByRecursion, Contains};
@@ -37,8 +37,8 @@ pub fn text_read_again()
     ensures same_parts { (path : Path) → IsTrue (is_normal path) → parts_of (text_of path) ≡ path }
 {}
 
-/// Byte order is an order, puts each path after its proper prefixes, and tells any two normal
-/// paths apart. A list in it has exactly the paths that are given.
+/// Byte order is an order. It puts each path after its proper prefixes, and no two normal paths are equal in it. A
+/// list in it has exactly the paths that are given.
 pub fn byte_order()
     ensures after_prefixes { (front path : Path)
         → IsTrue (is_prefix front path) → (front ≡ path) ⊎ IsTrue (is_before front path) }

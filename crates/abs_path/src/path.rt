@@ -53,7 +53,7 @@ impl AbsPath {
         Ok(AbsPath { tail })
     }
 
-    /// The text: a lone slash for the root, else the parts, each behind a slash.
+    /// Returns the text: a lone slash for the root, else the parts, each after a slash.
     pub fn text(&self) -> &str
         ensures whole { result.now ≡ text_of self.now }
         ensures normal { IsTrue (is_normal self.now) }
@@ -63,14 +63,14 @@ impl AbsPath {
         if tail.is_empty() { "/" } else { tail }
     }
 
-    /// Whether it is the root.
+    /// Returns whether it is the root.
     pub fn is_root(&self) -> bool
         ensures without_parts { result ≡ is_root self.now }
     {
         self.tail.as_str().is_empty()
     }
 
-    /// How many bytes the parts have, each with the slash before it; none for the root.
+    /// Returns how many bytes the parts have, each with the slash before it; none for the root.
     pub fn tail_len(&self) -> usize
         ensures length { result ≡ length (tail_of self.now) }
         ensures short { result ≤ 512 }

@@ -1,7 +1,7 @@
-//! A tree over the parts of paths, which says the last of many places that leads to a path.
+//! Keeps places in a tree over their parts, and finds the last place that leads to a path.
 //!
-//! It answers in the time of the path's parts, however many places it keeps.
-//! The crate rests on `abs_path`; `PlaceTree::new(alloc)?` keeps no place.
+//! A search takes the time of the path's parts, however many places the tree keeps. `PlaceTree::new(alloc)?` keeps no
+//! place.
 
 mod arena;
 mod node;

@@ -66,7 +66,7 @@ impl Text {
         Ok(Text { held })
     }
 
-    /// The text with a rest behind it.
+    /// The text with a rest after it.
     pub(crate) fn with_rest(&self, alloc: Global, rest: &str) -> Result<Text, AllocError>
         ensures { IfOk result (λ text. text ≡ self.now ++ rest.now) }
     {
@@ -88,7 +88,7 @@ impl Text {
         Ok(Text { held })
     }
 
-    /// How many bytes it has.
+    /// Returns how many bytes it has.
     pub(crate) fn len(&self) -> usize
         ensures { result ≡ length self.now }
     {
@@ -112,7 +112,7 @@ fn short(text: &str) -> Option<ArrayString<IN_PLACE>>
     ArrayString::from(text).ok()
 }
 
-// the text with a rest behind it in place, where the two are short enough
+// the text with a rest after it in place, where the two are short enough
 fn short_with_rest(front: &Held, rest: &str) -> Option<ArrayString<IN_PLACE>>
     ensures { IfSome result (λ short. short.bytes ≡ bytes_of front.now ++ rest.now) }
 {

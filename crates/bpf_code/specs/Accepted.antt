@@ -1,4 +1,4 @@
--- Which programs are accepted: the checks of seccomp(2), as its program is read.
+-- The programs that are accepted: the checks of seccomp(2), as its program is read.
 use Rattle.std.specs.Prelude.{◌≡◌, ℕ, ◌+◌, ◌-◌, ◌%◌, ◌==◌, ◌<◌, ◌≤◌, nat_lt, ◌&&◌, Bool, true, false, if◌then◌else◌, ◌⊎◌, List, [], ◌∷◌}
 use Rattle.std.specs.Prelude.{length, slice_get, Option, Some, None}
 use Rattle.linux_numbers.specs.Limits.{bpf_maxinsns}
@@ -22,8 +22,8 @@ number_fault alu.Lsh k = unless (nat_lt k 32) fault.Shift
 number_fault alu.Rsh k = unless (nat_lt k 32) fault.Shift
 number_fault op k = None
 
--- the fault of an instruction behind which so many stand: a load is of a whole word of the data, there are sixteen
--- scratch words, and a jump stays inside the program
+-- the fault of an instruction that so many follow. A load is of a whole word of the data, there are sixteen scratch words, and a jump
+-- stays inside the program
 abbrev pub op_fault : Op → Insn → ℕ → Option Fault
 op_fault LoadWord insn left = unless (nat_lt insn.k 64 && insn.k % 4 == 0) fault.Load
 op_fault (LoadScratch r) insn left = unless (nat_lt insn.k 16) fault.Scratch

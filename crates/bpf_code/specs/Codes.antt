@@ -1,5 +1,5 @@
--- The parts that codes of instructions are made of, by their names in <linux/bpf_common.h>: a class, and with it a size
--- and a mode, an operation and an operand, a test and an operand, or what is returned or moved.
+-- The parts of the codes of instructions, by their names in <linux/bpf_common.h>. A code has a class. With it comes a size and a mode, an
+-- operation and an operand, a test and an operand, or what is returned or moved.
 use Rattle.std.specs.Prelude.{ℕ}
 
 -- classes

@@ -1,4 +1,4 @@
--- What each instruction does to the registers, and where it leads: the instruction table of classic BPF (seccomp(2), bpf_insn in
+-- The effect of each instruction on the registers, and where it leads: the instruction table of classic BPF (seccomp(2), bpf_insn in
 -- <linux/filter.h>).
 use Rattle.std.specs.Prelude.{ℕ, ◌+◌, ◌-◌, ◌*◌, ◌/◌, ◌%◌, ◌^◌, ◌<◌, ◌==◌, nat_lt, nat_le, Bool, not, if◌then◌else◌, List, [], ◌∷◌, ◌++◌}
 use Rattle.std.specs.Prelude.{flat_map, slice_index, slice_set, bit_and, bit_or, bit_xor, Option, Some, None}
@@ -24,8 +24,8 @@ use Rattle.bpf_code.specs.declared.ops.Source.TheVariants as source
 abbrev pub halves : ℕ → List ℕ
 halves n = n % 2 ^ 32 ∷ n / 2 ^ 32 ∷ []
 
--- struct seccomp_data as its sixteen words, in the order of their offsets: nr at 0, arch at 4, the instruction
--- pointer at 8, and from 16 on the six arguments, the low half of each number first
+-- struct seccomp_data as its sixteen words, in the order of their offsets: nr at 0, arch at 4, the instruction pointer at 8, and from 16
+-- on the six arguments. Each number of 64 bits has its low half first
 abbrev pub words_of : CallData → List ℕ
 words_of input = input.nr ∷ input.arch ∷ halves input.ip ++ flat_map halves input.args
 
@@ -67,7 +67,7 @@ abbrev pub alu_effect : AluOp → ℕ → Regs → Effect × Regs
 alu_effect alu.Div n regs = if n == 0 then (End 0, regs) else (Skip 0, record regs { a = result_of_op alu.Div regs.a n })
 alu_effect op n regs = (Skip 0, record regs { a = result_of_op op regs.a n })
 
--- the table: an instruction ends the program with a result, or changes the registers and goes on behind so many instructions
+-- the table: an instruction ends the program with a result, or changes the registers and goes on after so many instructions
 abbrev pub effect_of : Op → Insn → Regs → CallData → Effect × Regs
 effect_of LoadWord insn regs input = (Skip 0, record regs { a = slice_index (words_of input) (insn.k / 4) })
 effect_of (LoadLen r) insn regs input = (Skip 0, with_reg r 64 regs)

@@ -1,4 +1,4 @@
--- What a program answers for the data of a call.
+-- The answer of a program for the data of a call.
 use Rattle.std.specs.Prelude.{◌≡◌, ℕ, zero, suc, ◌+◌, ◌^◌, ◌<◌, ◌≤◌, List, [], ◌∷◌, length, replicate, slice_get, Option, Some, None, All}
 use Rattle.bpf_code.specs.declared.machine.Insn.{Insn}
 use Rattle.bpf_code.specs.declared.machine.CallData.{CallData}
@@ -8,8 +8,8 @@ use Rattle.bpf_code.specs.declared.machine.Effect.TheVariants.{End, Skip}
 use Rattle.bpf_code.specs.Ops.{op_of}
 use Rattle.bpf_code.specs.Effects.{effect_by}
 
--- Started at the instruction at this place with these registers, the program ends with this result after so many
--- instructions: the instruction there ends it, or it goes on, and ends from the place that the instruction leads to.
+-- Started at the instruction at this place with these registers, the program ends with this result after so many instructions. The
+-- instruction there ends it, or it goes on and ends from the place that the instruction leads to.
 pub data Ends (code : List Insn) (input : CallData) : ℕ → Regs → ℕ → ℕ → Type 0 where
   stops : (at : ℕ) (regs after : Regs) (insn : Insn) (result : ℕ) → slice_get code at ≡ Some insn
       → effect_by (op_of insn.code) insn regs input ≡ Some (End result, after) → Ends code input at regs result 1
@@ -46,14 +46,14 @@ abbrev pub counted : Option (ℕ × ℕ) → Option (ℕ × ℕ)
 counted None = None
 counted (Some end) = Some (end.0, end.1 + 1)
 
--- goes on behind the instructions that are skipped, and counts one more
+-- goes on after the instructions that are skipped, and counts one more
 abbrev pub goes_on : Option (Effect × Regs) → (ℕ → Regs → Option (ℕ × ℕ)) → Option (ℕ × ℕ)
 goes_on None go = None
 goes_on (Some (End result, regs)) go = Some (result, 1)
 goes_on (Some (Skip skip, regs)) go = counted (go skip regs)
 
--- The same as a function, by which proofs compute: the result of these instructions behind the first ones that are
--- skipped, and how many were made, or none where they run out.
+-- The same as a function, by which proofs compute: the result of these instructions after the first ones that are skipped, and how many
+-- were made, or none where they run out.
 abbrev pub run_from : List Insn → CallData → ℕ → Regs → Option (ℕ × ℕ)
 run_from [] input skip regs = None
 run_from (insn ∷ code) input zero regs = goes_on (effect_by (op_of insn.code) insn regs input) (run_from code input)

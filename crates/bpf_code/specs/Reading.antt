@@ -1,4 +1,4 @@
--- Which bytes are a program, and why others are refused.
+-- The bytes that are a program, and the refusals of others.
 use Rattle.std.specs.Prelude.{◌≡◌, ℕ, ◌*◌, ◌/◌, ◌%◌, ◌^◌, ◌<◌, ◌≤◌, ◌⊎◌, true, false, List, [], ◌∷◌, ◌++◌, map, flat_map, length}
 use Rattle.std.specs.Prelude.{slice_index, Result, Err}
 use Rattle.std.specs.Int.{from_le_bytes, to_le_bytes, w16, w32}
@@ -80,10 +80,10 @@ pub data Refuses (bytes : List ℕ) : ProgramError → Type 0 where
   too_long : length bytes % 8 ≡ 0 → 8 * bpf_maxinsns < length bytes → Refuses bytes error.TooLong
   for_code : (error : ProgramError) → IsCode bytes → RefusesCode (insns_of bytes) error → Refuses bytes error
 
--- of a refusal that is not want of memory
+-- the fact holds of a refusal, unless memory ran out
 abbrev pub UnlessMemory : (ProgramError → Type 0) → ProgramError → Type 0
 UnlessMemory fact refusal = ¬ (refusal ≡ error.Memory) → fact refusal
 
--- the answer is this, or want of memory
+-- the answer is this, or memory ran out
 abbrev pub IsOrMemory : Result (List Insn) ProgramError → Result (List Insn) ProgramError → Type 0
 IsOrMemory result answer = (result ≡ answer) ⊎ (result ≡ Err error.Memory)

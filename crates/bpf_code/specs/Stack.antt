@@ -21,8 +21,8 @@ action_word answer = answer / 2 ^ 16 * 2 ^ 16
 abbrev pub action_of : ℕ → ℤ
 action_of answer = cast_signed w32 (action_word answer)
 
--- what an answer decides: ALLOW and LOG let the call pass, ERRNO answers its lower 16 bits, at most 4,095; no tracer
--- and no listener is there, so TRACE and USER_NOTIF answer that there is no such call; every other action kills
+-- the decision of an answer. ALLOW and LOG let the call pass, and ERRNO answers its lower 16 bits, at most 4,095. No tracer and no
+-- listener is there, so TRACE and USER_NOTIF answer that there is no such call. Every other action kills
 abbrev pub decision_of : ℕ → Decision
 decision_of answer =
     let action = action_word answer in

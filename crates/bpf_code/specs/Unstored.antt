@@ -13,7 +13,7 @@ Has words word = bit_at words word ≡ 1
 abbrev pub without_word : ℕ → ℕ → ℕ
 without_word words word = bit_and words (bit_not w16 (1 * 2 ^ word % 2 ^ 16))
 
--- the words that are still unstored behind an instruction
+-- the words that are still unstored after an instruction
 abbrev pub unstored_behind : Option Op → Insn → ℕ → ℕ
 unstored_behind (Some (Store r)) insn words = without_word words insn.k
 unstored_behind op insn words = words

@@ -104,7 +104,7 @@ pub const JMP_JSET_K: u16 = JMP | JSET | K;
 /// BPF_RET | BPF_K
 pub const RET_K: u16 = RET | K;
 
-/// What a code stands for, or none where it is not in the table.
+/// Returns the operation of a code, or none if it is not in the table.
 pub(crate) fn decode(code: u16) -> Option<Op>
     ensures { result ≡ op_of code }
 {

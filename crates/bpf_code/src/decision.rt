@@ -1,4 +1,4 @@
-// What answers of programs decide.
+// Decides by the answers of programs.
 ghost use Rattle.std.specs.Prelude.{◌≡◌};
 ghost use Rattle.bpf_code.specs.Stack.{action_word, action_of, stronger, decision_of};
 
@@ -6,7 +6,7 @@ use linux_numbers::actions::{ALLOW, DATA, ERRNO, LOG, TRACE, USER_NOTIF};
 use linux_numbers::errnos::ENOSYS;
 use linux_numbers::limits::MAX_ERRNO;
 
-/// What a stack of programs decides about a call.
+/// The decision of a stack of programs about a call.
 #[derive(Clone, Copy, PartialEq, Eq)]
 pub enum Decision {
     /// The call is performed.
@@ -42,7 +42,7 @@ pub(crate) fn stronger_answer(older: u32, newer: u32) -> u32
     }
 }
 
-/// What an answer decides.
+/// Returns the decision of an answer.
 pub(crate) fn decision_for(answer: u32) -> Decision
     ensures { result ≡ decision_of answer }
 {

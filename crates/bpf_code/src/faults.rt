@@ -1,4 +1,4 @@
-// What is wrong with an instruction, and whether the last one ends the program.
+// Finds faults of instructions, and tests if the last one ends the program.
 ghost use Rattle.std.specs.Prelude.{◌≡◌, ◌-◌, Some, None, MatchOption};
 ghost use Rattle.bpf_code.specs.Ops.{op_of};
 ghost use Rattle.bpf_code.specs.Accepted.{unless, number_fault, op_fault, fault_of, AreFine, IsFirstFault, is_return, ends_in_return};
@@ -29,7 +29,7 @@ fn fault_of_number(op: AluOp, number: u32) -> Option<Fault>
     }
 }
 
-// The fault of an instruction whose code stands for this operation, and behind which so many stand.
+// The fault of an instruction whose code means this operation, and which so many follow.
 fn fault_in(op: Op, insn: Insn, left: usize) -> Option<Fault>
     ensures { result ≡ op_fault op insn left }
 {
@@ -48,7 +48,7 @@ fn fault_in(op: Op, insn: Insn, left: usize) -> Option<Fault>
     }
 }
 
-// The fault of an instruction behind which so many stand.
+// The fault of an instruction that so many follow.
 fn fault(insn: Insn, left: usize) -> Option<Fault>
     ensures { result ≡ fault_of insn left }
 {
@@ -70,14 +70,14 @@ pub fn first_fault(insns: &[Insn]) -> Option<(usize, Fault)>
     None
 }
 
-// Whether an instruction ends the program.
+// Returns whether an instruction ends the program.
 fn is_end(insn: Insn) -> bool
     ensures { result ≡ is_return (op_of insn.code) }
 {
     matches!(decode(insn.code), Some(Op::Return(_)))
 }
 
-/// Whether the last instruction ends the program.
+/// Returns whether the last instruction ends the program.
 pub fn ends(insns: &[Insn]) -> bool
     ensures in_a_return { result ≡ ends_in_return insns.now }
 {

@@ -1,4 +1,4 @@
-// What a program answers.
+// Runs a program.
 //
 // A step performs one instruction (`effects`); an accepted program (`program`) has an instruction wherever a step
 // leads, so it always ends.
@@ -13,7 +13,7 @@ use crate::effects::perform;
 use crate::machine::{CallData, Effect, Insn, Regs};
 use crate::program::Program;
 
-// Performs an instruction that has no fault, and behind which so many stand.
+// Performs an instruction that has no fault and that so many follow.
 fn step(insn: Insn, left: usize, regs: &mut Regs, input: &CallData) -> Effect
     requires fine { fault_of insn left ≡ None }
     requires more { is_return (op_of insn.code) ≡ false → 0 < left }
@@ -23,7 +23,7 @@ fn step(insn: Insn, left: usize, regs: &mut Regs, input: &CallData) -> Effect
     perform(decode(insn.code).unwrap(), insn, regs, input)
 }
 
-/// What the program answers for the data of a call.
+/// Returns the answer of the program for the data of a call.
 ///
 /// Every program ends on all data, with one answer, after at most as many instructions as it has. Nothing is
 /// allocated.

@@ -1,4 +1,4 @@
-// Laws of programs and stacks: each function does nothing, and its contract is the law.
+// The laws of programs and stacks. Each is the contract of a function that does nothing.
 ghost use Rattle.bpf_code.specs.Refusing.{RefusalsStand};
 ghost use Rattle.bpf_code.specs.Tied.{AcceptsByFunction, DecidesByFunction, FittingPrograms};
 
@@ -7,7 +7,7 @@ pub fn refusals_stand()
     ensures stand { RefusalsStand }
 {}
 
-/// Instructions are a program exactly where their numbers fit and they are accepted.
+/// Instructions are a program exactly if their numbers fit and they are accepted.
 pub fn programs_fit()
     ensures fit_and_accepted { FittingPrograms }
 {}

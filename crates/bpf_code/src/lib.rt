@@ -1,8 +1,8 @@
-//! Classic BPF as seccomp(2) runs it: programs, and what they answer for the data of a system call.
+//! Runs classic BPF programs as seccomp(2) does, on the data of a system call.
 //!
-//! It rests on `linux_numbers` for actions and limits. A [`Program`] is read from bytes or made of instructions, and
-//! [`run`] answers for a call: `run(&program, &CallData { nr: 1, arch: 0xc000_003e, ip: 0, args: [0; 6] })`. A
-//! [`Stack`] decides by all programs that a process has installed.
+//! `run(&program, &CallData { nr: 1, arch: 0xc000_003e, ip: 0, args: [0; 6] })` answers for a call. A [`Program`] is
+//! read from bytes or made of instructions. A [`Stack`] decides by all programs that a process has installed. The
+//! words of actions are those of `linux_numbers`.
 #![tactic(auto)]
 
 pub mod codes;

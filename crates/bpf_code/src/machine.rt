@@ -47,7 +47,7 @@ pub struct Regs {
 pub enum Effect {
     /// The program ends with this result.
     End(u32),
-    /// The program goes on behind this many instructions.
+    /// The program goes on after this many instructions.
     Skip(u32),
 }
 

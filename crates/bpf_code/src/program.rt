@@ -1,6 +1,6 @@
-// Programs that seccomp(2) accepts, and why others are refused.
+// Reads programs as seccomp(2) accepts them, and says why it refuses others.
 //
-// The checks stand in `faults` and `unstored`, the bytes of instructions in `format`.
+// The checks are in `faults` and `unstored`, and the bytes of instructions in `format`.
 ghost use Rattle.std.specs.Prelude.{◌≡◌, ◌≤◌, List, length, OnOk, IfOk, IfErr, MatchResult};
 ghost use Rattle.bpf_code.specs.declared.machine.Insn.{Insn};
 ghost use Rattle.bpf_code.specs.declared.program.ProgramError.{ProgramError};
@@ -120,7 +120,7 @@ impl Model for Program {
     ghost invariant = { λ p. IsProgram p.insns.items };
 }
 
-// Whether the bytes are whole instructions, at least one and not too many.
+// Checks that the bytes are whole instructions, at least one and not too many.
 fn check_length(bytes: &[u8]) -> Result<(), ProgramError>
     ensures { MatchResult result (λ _. IsCode bytes.now) (Refuses bytes.now) }
 {
@@ -136,7 +136,7 @@ fn check_length(bytes: &[u8]) -> Result<(), ProgramError>
     Ok(())
 }
 
-// Whether the instructions are accepted.
+// Checks that the instructions are accepted.
 fn check_insns(alloc: Global, insns: &[Insn]) -> Result<(), ProgramError>
     requires { length insns.now ≤ 4096 }
     ensures accepted { OnOk result (IsAccepted insns.now) }
@@ -155,15 +155,15 @@ fn check_insns(alloc: Global, insns: &[Insn]) -> Result<(), ProgramError>
 }
 
 impl Program {
-    /// The program that bytes are, as seccomp(2) checks them: the first refusal comes, or the program.
+    /// Reads the program of some bytes, with the checks of seccomp(2), or gives the first refusal.
     ///
-    /// Each instruction is a `struct sock_filter`, little endian. Without want of memory the answer is the one that
-    /// the bytes have: the program exactly where they are one, and each refusal exactly where it is the first.
+    /// Each instruction is a `struct sock_filter`, little endian. Unless memory runs out, the answer is the program
+    /// exactly if the bytes are one, and each refusal exactly if it is the first.
     pub fn read(alloc: Global, bytes: &[u8]) -> Result<Program, ProgramError>
         ensures accepts { IfOk result (Accepts bytes.now) }
         ensures refuses { IfErr result (UnlessMemory (Refuses bytes.now)) }
 
-        // And each where it stands, but for want of memory.
+        // And each answer comes if it must, unless memory runs out.
         ensures whole_program { (program : List Insn) → Accepts bytes.now program → IsOrMemory result (Ok program) }
         ensures first_refusal { (error : ProgramError) → Refuses bytes.now error → IsOrMemory result (Err error) }
 

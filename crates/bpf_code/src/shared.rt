@@ -1,4 +1,4 @@
-// A program that several processes have: it is held once, and goes with the last of them.
+// Holds a program once for all processes that have it; it is dropped with the last of them.
 ghost use Rattle.std.specs.Prelude.{◌≡◌, IfOk, length};
 ghost use Rattle.bpf_code.specs.Meaning.{Answers};
 
@@ -44,14 +44,14 @@ impl SharedProgram {
         })
     }
 
-    /// How many instructions it has.
+    /// Returns how many instructions it has.
     pub fn len(&self) -> usize
         ensures counts { result ≡ length self.now }
     {
         self.program.insns().len()
     }
 
-    /// What it answers for the data of a call.
+    /// Returns its answer for the data of a call.
     pub fn run(&self, input: &CallData) -> u32
         ensures answers { Answers self.now input.now result }
     {

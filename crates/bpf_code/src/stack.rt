@@ -107,7 +107,7 @@ impl Stack {
         })
     }
 
-    /// Puts a program on top, where there is room for it; on a refusal the stack stays as it was.
+    /// Puts a program on top, if there is room for it. On a refusal the stack stays as it was.
     pub fn push(&mut self, program: Program) -> Result<(), PushError>
         ensures on_top { OnOk result (self.new ≡ self.old ++ program ∷ []) }
         ensures has_room { OnOk result (room_of self.old + length program ≤ max_insns_per_path) }
@@ -123,8 +123,8 @@ impl Stack {
         }
     }
 
-    /// What the programs decide about a call: all of them answer, and the least action decides, the newest of
-    /// several answers that have it. Nothing is allocated.
+    /// Returns the decision of the programs about a call. All of them answer, and the least action decides; of
+    /// several answers with that action, the newest. Nothing is allocated.
     pub fn decide(&self, input: &CallData) -> Decision
         ensures decides { Decides self.now input.now result }
         ensures decision { result ≡ decision_on self.now input.now }

@@ -42,7 +42,7 @@ fn join(marks: &mut [Words], at: usize, words: Words)
     }
 }
 
-// Whether an instruction loads one of these words.
+// Returns whether an instruction loads one of these words.
 fn loads(insn: Insn, words: Words) -> bool
     requires { (left : ℕ) × (fault_of insn left ≡ None) }
     ensures { IsTrue result ↔ ((is_scratch_load (op_of insn.code) ≡ true) × Has words insn.k) }
@@ -53,7 +53,7 @@ fn loads(insn: Insn, words: Words) -> bool
     }
 }
 
-// The words that are still unstored behind an instruction.
+// The words that are still unstored after an instruction.
 fn left_unstored(insn: Insn, words: Words) -> Words
     requires { (left : ℕ) × (fault_of insn left ≡ None) }
     ensures { result ≡ unstored_behind (op_of insn.code) insn words }

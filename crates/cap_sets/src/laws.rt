@@ -1,11 +1,11 @@
-//! Laws of sets of capabilities, each the contract of a function that does nothing.
+//! The laws of sets of capabilities. Each is the contract of a function that does nothing.
 
 ghost use Rattle.std.specs.Prelude.{◌≡◌, ℕ, ◌≤◌, codes};
 ghost use Rattle.linux_numbers.specs.Capabilities.{cap_setgid, cap_setuid, cap_setpcap, cap_sys_module, cap_sys_rawio, cap_sys_admin, cap_sys_time, cap_mknod, cap_syslog, cap_wake_alarm, cap_last_cap};
 ghost use Rattle.cap_sets.specs.Sets.{has, IsWithin};
 ghost use Rattle.cap_sets.specs.Names.{name_of, in_lower_case};
 
-/// A set is its members, and within is a partial order.
+/// A set is determined by its members, and `within` is a partial order.
 pub fn set_order()
     ensures same_members { (one other : ℕ) → ((number : ℕ) → has one number ≡ has other number) → one ≡ other }
     ensures within_itself { (one : ℕ) → IsWithin one one }

@@ -1,7 +1,7 @@
-//! Sets of Linux capabilities and their names (capabilities(7)).
+//! Holds sets of Linux capabilities, and names capabilities (capabilities(7)).
 //!
-//! A `CapSet` holds numbers 0 to 40, with the algebra of sets. No call takes memory.
-//! The crate rests on `linux_numbers` and `bitflags`; `CapSet::empty().with(21).contains(21)` is true.
+//! A `CapSet` holds numbers from 0 to 40: `CapSet::empty().with(21).contains(21)` is true. It has the operations of
+//! sets, and no call takes memory.
 #![tactic(auto)]
 
 mod bits;

@@ -83,7 +83,7 @@ impl CapSet {
         }
     }
 
-    /// Whether the capability of this number is in the set; none above 40 is.
+    /// Returns whether the capability of this number is in the set; none above 40 is.
     #[tactic(auto, using(crate::proofs::Words::shifted, crate::proofs::Words::shifted_out), unfolding(crate::specs::Sets::has))]
     pub fn contains(self, cap: u8) -> bool
         ensures has { result ≡ has self cap }
@@ -92,7 +92,7 @@ impl CapSet {
         cap <= 40 && (self.bits >> cap) & 1 == 1
     }
 
-    /// Whether each of this set is in the other.
+    /// Returns whether each of this set is in the other.
     #[tactic(auto, unfolding(crate::specs::Sets::within))]
     pub fn within(self, other: CapSet) -> bool
         ensures test { result ≡ within self other }

@@ -25,7 +25,7 @@ later None other = other
 later (Some one) None = Some one
 later (Some one) (Some other) = Some (max one other)
 
--- behind a number, or else 0 where the path is that place
+-- after a number, or else 0 where the path is that place
 abbrev pub behind_or : Option ℕ → Path → Path → Option ℕ
 behind_or (Some at) place path = Some (suc at)
 behind_or None place path = cond (is_same place path) (Some 0) None

@@ -1,4 +1,4 @@
-//! Prefixes by whole parts, what a path has behind one, and joining the two again.
+//! Tests prefixes by whole parts, takes a path apart after one, and joins the two again.
 
 ghost use Rattle.std.specs.Prelude.{◌≡◌, ◌≤◌, ◌++◌, IfOk, IfSome, IsTrue, length, option_map, true};
 ghost use Rattle.abs_path.specs.Paths.{is_normal, parts_of, tail_of};
@@ -23,7 +23,7 @@ fn after<'a>(front: &str, text: &'a str) -> Option<&'a str>
     text.strip_prefix(front)
 }
 
-// what the text has behind the front, where it ends there or goes on at a slash
+// the rest of the text after the front, if it ends there or goes on at a slash
 fn behind<'a>(front: &str, text: &'a str) -> Option<&'a str>
     ensures { option_map (λ rest. rest.now) result ≡ behind_text front.now text.now }
 {
@@ -32,14 +32,14 @@ fn behind<'a>(front: &str, text: &'a str) -> Option<&'a str>
 }
 
 impl AbsPath {
-    /// Whether this path is the other or leads to it, by whole parts.
+    /// Returns whether this path is the other or leads to it, by whole parts.
     pub fn is_prefix(&self, of: &AbsPath) -> bool
         ensures by_whole_parts { result ≡ is_prefix self.now of.now }
     {
         self.rest(of).is_some()
     }
 
-    /// Whether the other path leads to this one, and is not this one.
+    /// Returns whether the other path leads to this one, and is not this one.
     pub fn is_below(&self, other: &AbsPath) -> bool
         ensures by_whole_parts { result ≡ is_below self.now other.now }
     {
@@ -49,8 +49,8 @@ impl AbsPath {
         }
     }
 
-    /// What the other path has behind this one: nothing, or further parts, each after a slash.
-    /// None where this one does not lead there.
+    /// Returns the rest of the other path after this one: nothing, or further parts, each after a slash. None if this
+    /// path does not lead to the other.
     pub fn rest<'a>(&self, of: &'a AbsPath) -> Option<&'a str>
         ensures behind { option_map (λ rest. rest.now) result ≡ rest_text self.now of.now }
         ensures further_parts { IfSome result (λ rest. parts_of rest.now ≡ rest_of self.now of.now) }
@@ -60,9 +60,10 @@ impl AbsPath {
         behind(self.tail.as_str(), of.tail.as_str())
     }
 
-    /// The path with a rest behind it. What `rest` answers is one: nothing, or normal parts, each after a slash.
+    /// Returns the path with a rest after it. `rest` answers such a rest: nothing, or normal parts, each after a
+    /// slash.
     ///
-    /// TooLong where the two have more than 512 bytes; Memory may come at any rest.
+    /// TooLong comes if the two have more than 512 bytes. Memory may come for any rest.
     pub fn join(&self, alloc: Global, rest: &str) -> Result<AbsPath, JoinError>
         requires { IsRest rest.now }
         ensures joins_or_too_long { Joins self.now rest.now result }
@@ -73,7 +74,7 @@ impl AbsPath {
         self.with_rest(alloc, rest).or(Err(JoinError::Memory))
     }
 
-    // The path with a rest behind it, where there is room for both.
+    // The path with a rest after it, where there is room for both.
     fn with_rest(&self, alloc: Global, rest: &str) -> Result<AbsPath, AllocError>
         requires is_rest { IsRest rest.now }
         requires short { length (tail_of (self.now ++ parts_of rest.now)) ≤ 512 }
@@ -83,7 +84,8 @@ impl AbsPath {
         Ok(AbsPath { tail })
     }
 
-    /// The path moved from a front that leads to it onto another path: that path with what this one has behind the front.
+    /// Moves the path from a front that leads to it onto another path: the result is that path with the rest of this
+    /// one after the front.
     pub fn moved(
         &self,
         alloc: Global,

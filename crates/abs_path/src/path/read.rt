@@ -26,7 +26,7 @@ fn pieces<'a>(alloc: Global, text: &'a str) -> Result<Vec<&'a str>, AllocError>
     text.split('/').collect(alloc)
 }
 
-// the pieces that say something, each behind a slash
+// the pieces that say something, each after a slash
 fn folded(alloc: Global, pieces: &[&str]) -> Result<String, AllocError>
     ensures { IfOk result (λ tail. string_bytes tail
         ≡ tail_of (filter (λ piece. not (is_idle piece)) (map (λ piece. piece.now) pieces.now))) }
@@ -59,8 +59,8 @@ fn climbs(pieces: &[&str]) -> bool
     pieces.iter().any(|piece| *piece == "..")
 }
 
-// whether nothing in the text folds away, where a slash is in front: no byte is NUL, and each slash
-// has a byte behind it that is no slash and no dot
+// whether nothing in the text folds away, where a slash is in front: no byte is NUL, and each slash has a byte after
+// it that is no slash and no dot
 fn is_plain(text: &str) -> bool
     ensures { result ≡ is_plain false text.now }
 {
@@ -88,8 +88,8 @@ impl AbsPath {
 
     /// Reads a text: repeated slashes, `.` parts and a final slash fold away (path_resolution(7)).
     ///
-    /// The first fault in this order is told: TooLong above 512 bytes, HasNul, Relative without a
-    /// slash in front, DotDot where a part is `..`. Memory may come at any text.
+    /// The first fault in this order is reported: TooLong above 512 bytes, HasNul, Relative without a slash in front,
+    /// DotDot if a part is `..`. Memory may come for any text.
     pub fn read(alloc: Global, text: &str) -> Result<AbsPath, PathError>
         ensures reads_or_first_fault { Reads text.now result }
     {

@@ -3,14 +3,14 @@
 ghost use Rattle.std.specs.Prelude.{◌≡◌, ◌∷◌, [], ◌<◌, length, MatchOption};
 ghost use Rattle.abs_path.specs.Paths.{parts_of, is_idle};
 
-// Whether a piece between slashes is no part.
+// Returns whether a piece between slashes is no part.
 fn is_idle(piece: &str) -> bool
     ensures { result ≡ is_idle piece.now }
 {
     piece == "" || piece == "."
 }
 
-// The first part of a text, and the text behind it.
+// The first part of a text, and the text after it.
 pub(crate) fn next_part(text: &str) -> Option<(&str, &str)>
     ensures first_and_rest { MatchOption result (parts_of text.now ≡ [])
         (λ both. parts_of text.now ≡ both.0.now ∷ parts_of both.1.now) }

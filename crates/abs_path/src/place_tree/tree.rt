@@ -1,4 +1,5 @@
-//! The type of a tree of places: places are added behind the others, the first of them are kept, and the last that leads to a path is found.
+//! The type of a tree of places. It adds places after the others, keeps the first of them, and finds the last that
+//! leads to a path.
 //!
 //! A contract sees a tree as the list of its places. Nodes that no place is at may stay.
 
@@ -43,14 +44,15 @@ impl PlaceTree {
         })
     }
 
-    /// The number of the last place that leads to the path, by whole parts; places are numbered from 0. It takes no memory.
+    /// Returns the number of the last place that leads to the path, by whole parts. Places are numbered from 0. It
+    /// takes no memory.
     pub fn last_leading(&self, path: &AbsPath) -> Option<usize>
         ensures last_that_leads { IsLastLeading self.now path.now result }
     {
         greatest(&self.nodes, path)
     }
 
-    /// Adds a place behind the others. Where there is no memory the places stay.
+    /// Adds a place after the others. If memory runs out, the places stay.
     pub fn push(&mut self, place: &AbsPath) -> Result<(), AllocError>
         ensures appended { OnOk result (self.new ≡ self.old ++ place.now ∷ []) }
         ensures unchanged_on_error { OnErr result (self.new ≡ self.old) }
