@@ -22,7 +22,7 @@ pub record AreGroups (count : ℕ) (groups : List GroupLine) : Type 0 where
   pub by_name : (at : ℕ) (group : GroupLine) → slice_get groups at ≡ Some group → group_named group.name groups ≡ Some group
   pub members : All (HasMembers count) groups
 
--- names and numbers stand once, capabilities are known, and there are not too many lines
+-- names and numbers occur once, capabilities are known, and there are not too many lines
 pub record AreLines (most : ℕ) (lines : List CallLine) : Type 0 where
   pub once : AreOnce lines
   pub in_range : All IsInRange lines

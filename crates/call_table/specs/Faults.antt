@@ -1,4 +1,4 @@
--- What may be wrong with a line behind the first abi line, by the table of the lines before it.
+-- What may be wrong with a line after the first abi line, by the table of the lines before it.
 use Rattle.std.specs.Prelude.{ℕ, ◌==◌, ◌&&◌, ◌||◌, not, nat_le, Bool, true, false, is_some, is_none, Option, Some, None, option_and_then}
 use Rattle.std.specs.Prelude.{List, [], ◌∷◌, length, find, codes}
 use Rattle.std.specs.List.{list_any, list_all}
@@ -48,7 +48,7 @@ abbrev pub is_listed : List CallLine → Entry → Bool
 is_listed lines entry = list_any (has_name entry.name) lines || option_map_or (λ number. list_any (has_number number) lines)
     (number_of entry.digits) false
 
--- a call or a family, behind others of the kind; another ABI gives a call of the name the same capability
+-- a call or a family, after others of the kind; another ABI gives a call of the name the same capability
 unfoldable pub entry_fault : List CallLine → List CallLine → ℕ → Bool → Entry → Option CallsCause
 entry_fault others lines most without_cap entry =
     first_of
@@ -56,7 +56,7 @@ entry_fault others lines most without_cap entry =
     (is_bad_cap entry.cap_word || has_other_cap others entry.name (option_and_then cap_of entry.cap_word), Cap) ∷
     (without_cap && is_some entry.cap_word, Modelled) ∷ (is_listed lines entry, Duplicate) ∷ (nat_le most (length lines), TooMany) ∷ [])
 
--- a group, behind some calls and other groups
+-- a group, after some calls and other groups
 unfoldable pub group_fault : List CallLine → List GroupLine → List ℕ → List (List ℕ) → Option CallsCause
 group_fault calls groups name members =
     first_of
@@ -76,8 +76,7 @@ abi_fault two table name digits =
     (is_none (arch_of digits), Number) ∷
     (bytes_eq name table.name || option_map_or (λ arch. arch == table.arch) (arch_of digits) false, Duplicate) ∷ [])
 
--- the cause of a line, behind those that gave the table; a call that the kernel models by a rule of its own, or lacks,
--- takes no capability
+-- the cause of a line, after those that gave the table; a call that the kernel models by a rule of its own, or lacks, takes no capability
 abbrev pub cause_of : Bool → Table → Kind → Option CallsCause
 cause_of two table (abi name digits) = abi_fault two table name digits
 cause_of two table (call entry) = call_fault table.second table.calls entry

@@ -31,7 +31,7 @@ pub record NamesGroup (groups : List GroupLine) (word : List ℕ) (position : �
 abbrev pub StandsFor : List CallLine → List GroupLine → List ℕ → ℕ → Type 0
 StandsFor calls groups word position = NamesCall calls word position ⊎ NamesGroup groups word position
 
--- a group line behind some calls and groups: its members ascend, and are the calls that some word stands for
+-- a group line after some calls and groups: its members ascend, and are the calls that some word stands for
 pub record IsGroup (calls : List CallLine) (groups : List GroupLine) (name : List ℕ) (words : List (List ℕ)) (made : GroupLine) : Type 0 where
   pub called : made.name ≡ name
   pub ascending : IsStrictlyIncreasing made.members
@@ -51,13 +51,13 @@ pub data ReadsGroups : List Line → List GroupLine → Type 0 where
       → line_kind line ≡ group name words → IsGroup (every_call_of lines) groups name words made
       → ReadsGroups (lines ++ line ∷ []) (groups ++ made ∷ [])
 
--- the first abi line and the lines behind it, where two ABIs are announced by a line before them, or one is
+-- the first abi line and the lines after it, where two ABIs are announced by a line before them, or one is
 pub data BeginsWith (first : Line) (rest : List Line) : Bool → List Line → Type 0 where
   alone : is_version first ≡ false → BeginsWith first rest false (first ∷ rest)
   behind_version : (version : Line) → is_version version ≡ true → BeginsWith first rest true (version ∷ first ∷ rest)
 
--- the bytes are text; the first abi line gives the name and the architecture, and the lines behind it the lists, each
--- line without a fault by those before it; the native ABI has the calls of every launch
+-- the bytes are text. The first abi line gives the name and the architecture, and the lines after it the lists, each line without a fault
+-- by those before it. The native ABI has the calls of every launch
 pub record ReadsTable (bytes : List ℕ) (table : Table) : Type 0 where
   pub text : is_text bytes ≡ true
   pub two : Bool

@@ -39,7 +39,7 @@ abbrev pub is_known_by : List CallLine → List GroupLine → List ℕ → Optio
 is_known_by calls groups word None = list_any (has_name word) calls
 is_known_by calls groups word (Some name) = list_any (has_group name) groups
 
--- the word names one of these calls, or behind `@` one of these groups
+-- the word names one of these calls, or after `@` one of these groups
 abbrev pub is_known : List CallLine → List GroupLine → List ℕ → Bool
 is_known calls groups word = is_known_by calls groups word (behind_at word)
 

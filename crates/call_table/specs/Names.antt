@@ -11,7 +11,7 @@ is_name_byte byte = is_ascii_alphanumeric byte || (byte == 95 || byte == 45)
 abbrev pub is_name : List ℕ → Bool
 is_name word = not (length word == 0) && list_all is_name_byte word
 
--- what stands behind `@` at the front of a word, which is a group's name there
+-- the text after `@` at the front of a word, which is a group's name there
 abbrev pub behind_at : List ℕ → Option (List ℕ)
 behind_at [] = None
 behind_at (byte ∷ name) = cond (byte == 64) (Some name) None

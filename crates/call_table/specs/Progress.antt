@@ -37,7 +37,7 @@ Steps cause number wanted made (Err (AtLine line found)) = (line ≡ number) × 
 Steps cause number wanted made (Err NoAbi) = ⊥
 Steps cause number wanted made (Err (NoCall name)) = ⊥
 
--- an entry without a fault behind some lines has this number and this capability
+-- an entry without a fault after some lines has this number and this capability
 pub record IsChecked (others lines : List CallLine) (most : ℕ) (without_cap : Bool) (entry : Entry) (number : ℕ) (cap' : Option ℕ) : Type 0 where
   pub faultless : entry_fault others lines most without_cap entry ≡ None
   pub listed : (place : ℕ) → listed_as place entry ≡ Some (record { name = entry.name; number = number; cap = cap'; abi = place })
@@ -89,7 +89,7 @@ with_kind table kind =
       second = second_with table.second kind;
     }
 
--- what a reader has behind some lines without a fault
+-- what a reader has after some lines without a fault
 pub record HasRead (two : Bool) (head : Head) (lines : List Line) (table : Table) : Type 0 where
   pub faultless : fault_of two head lines ≡ None
   pub read : table ≡ table_behind head lines

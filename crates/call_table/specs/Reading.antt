@@ -68,7 +68,7 @@ abbrev pub native_lines : List Line → List Line
 native_lines [] = []
 native_lines (line ∷ lines) = cond (is_abi (line_kind line)) [] (line ∷ native_lines lines)
 
--- the ABI that a line opens, where it is an abi line, with the calls of the lines behind it; an ill-formed ARCH is a fault
+-- the ABI that a line opens, where it is an abi line, with the calls of the lines after it; an ill-formed ARCH is a fault
 abbrev pub opened_by : Kind → List Line → Option Abi
 opened_by (abi name digits) lines = Some (record { name = name; arch = unwrap_or (arch_of digits) 0; calls = calls_of 1 lines })
 opened_by (call entry) lines = None
@@ -76,16 +76,16 @@ opened_by (family entry) lines = None
 opened_by (group name members) lines = None
 opened_by malformed lines = None
 
--- the second ABI of some lines behind the first abi line: that of the first abi line among them
+-- the second ABI of some lines after the first abi line: that of the first abi line among them
 abbrev pub second_of : List Line → Option Abi
 second_of [] = None
 second_of (line ∷ lines) = option_or (opened_by (line_kind line) lines) (second_of lines)
 
--- all calls of the lines behind the first abi line
+-- all calls of the lines after the first abi line
 abbrev pub every_call_of : List Line → List CallLine
 every_call_of lines = calls_of 0 (native_lines lines) ++ second_calls (second_of lines)
 
--- one more line behind some groups: the members of a group are calls and groups of the lines before it
+-- one more line after some groups: the members of a group are calls and groups of the lines before it
 abbrev pub with_group : List GroupLine → List Line × Line → List GroupLine
 with_group groups place = groups ++ cons_option (group_of (every_call_of place.0) groups (line_kind place.1)) []
 
@@ -102,7 +102,7 @@ pub record Head : Type 0 where
   pub name : List ℕ
   pub arch : ℕ
 
--- the table of the first abi line and the lines behind it
+-- the table of the first abi line and the lines after it
 abbrev pub table_behind : Head → List Line → Table
 table_behind head lines = record {
   name = head.name;
@@ -120,7 +120,7 @@ at_line number cause = AtLine number cause
 abbrev pub fault_at : Bool → Head → List Line × Line → Option CallsError
 fault_at two head place = option_map (at_line place.1.number) (cause_of two (table_behind head place.0) (line_kind place.1))
 
--- the first fault of the lines behind the first abi line
+-- the first fault of the lines after the first abi line
 abbrev pub fault_of : Bool → Head → List Line → Option CallsError
 fault_of two head lines = slice_get (filter_map (fault_at two head) (with_before [] lines)) 0
 
@@ -145,7 +145,7 @@ abbrev pub unless_fault : Option CallsError → Table → Result Table CallsErro
 unless_fault None table = unless_missing (missing_call table.calls) table
 unless_fault (Some fault) table = Err fault
 
--- the lines behind the first abi line: the first fault, else the first missing call, else the table
+-- the lines after the first abi line: the first fault, else the first missing call, else the table
 abbrev pub table_of_rest : Bool → Head → List Line → Result Table CallsError
 table_of_rest two head lines = unless_fault (fault_of two head lines) (table_behind head lines)
 
@@ -190,6 +190,6 @@ begins_alone (line ∷ lines) = not (is_version line)
 abbrev pub is_first_version : List ℕ → Bool
 is_first_version bytes = begins_alone (lines_of bytes)
 
--- the same text behind a line `version 2`
+-- the same text after a line `version 2`
 abbrev pub with_version : List ℕ → List ℕ
 with_version bytes = codes "version 2\n" ++ bytes

@@ -1,8 +1,8 @@
-//! The system calls that the modelled kernel knows by name.
+//! Lists the system calls that the modelled kernel knows by name.
 //!
-//! Each known call has a rule of its own, or is one that the kernel lacks; every other call of a table is a
-//! plain one. A rule says what payload its calls carry. The crate rests on std alone;
-//! `known_call("openat")` is a modelled call whose flags are the third argument.
+//! Each known call has a rule of its own, or is one that the kernel lacks. Every other call of a table is a plain
+//! one. A rule says which payload its calls carry: `known_call("openat")` is a modelled call whose flags are the
+//! third argument.
 
 mod known;
 pub mod laws;

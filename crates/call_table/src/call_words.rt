@@ -1,7 +1,7 @@
-//! Words that name calls of either ABI.
+//! Reads and writes words that name calls of either ABI.
 //!
-//! A call of the native ABI goes by its name or its number, and one of another ABI by `ABI:NAME` or `ABI:#NUMBER`. It rests
-//! on `call_table`: with a table of x86-64 and i386, `i386:read` is the `read` of the second ABI.
+//! A call of the native ABI is named by its name or its number, and one of another ABI by `ABI:NAME` or
+//! `ABI:#NUMBER`. With a table of x86-64 and i386, `i386:read` is the `read` of the second ABI.
 
 ghost use Rattle.std.specs.Prelude.{◌≡◌, ◌++◌, OnOk, option_map, slice_get};
 ghost use Rattle.call_table.specs.Table.{every_call};
@@ -37,7 +37,7 @@ fn place_of_abi(table: &CallTable, name: &str) -> Option<u8>
     }
 }
 
-/// The ABI that a word speaks of, and the name or number that stands there: behind the last colon, or the whole word.
+/// Returns the ABI of a word and the name or number in it: the text after the last colon, or the whole word.
 pub fn spelled<'a>(table: &CallTable, word: &'a str) -> Option<(u8, &'a str)>
     ensures by_the_table { option_map (λ call. (call.0, call.1.now)) result ≡ spelled table.now word.now }
 {
@@ -47,7 +47,7 @@ pub fn spelled<'a>(table: &CallTable, word: &'a str) -> Option<(u8, &'a str)>
     }
 }
 
-/// The name of the call at a position among all calls, from 0: those of the native ABI come first.
+/// Returns the name of the call at a position among all calls, from 0. Those of the native ABI come first.
 pub fn name_at(table: &CallTable, place: usize) -> Option<&str>
     ensures by_position { option_map (λ name. name.now) result ≡ option_map (λ call. call.name) (slice_get (every_call table.now) place) }
 {
@@ -66,8 +66,8 @@ fn push_second(out: &mut Vec<u8>, table: &CallTable) -> Result<(), AllocError>
     }
 }
 
-/// Writes what stands before the name or the number of a call: nothing for the native ABI, and for another its name and a
-/// colon.
+/// Appends the text before the name or the number of a call: nothing for the native ABI, and for another its name and
+/// a colon.
 pub fn push_abi(out: &mut Vec<u8>, table: &CallTable, abi: u8) -> Result<(), AllocError>
     ensures writes_the_abi { OnOk result (out.new.items ≡ out.old.items ++ abi_word table.now abi) }
 {

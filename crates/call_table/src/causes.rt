@@ -7,17 +7,17 @@ use crate::names::Name;
 use std::alloc::AllocError;
 use thiserror::Error;
 
-/// What is wrong with a line; of several, the first in this order.
+/// The fault of a line; of several, the first in this order.
 #[derive(Clone, Copy, Debug, PartialEq, Eq)]
 pub enum CallsCause {
-    /// An unknown first word, a wrong count of words, an ill-formed name, or an `abi` line that is
-    /// missing at the front or stands elsewhere: a second one without a line `version 2` or of the name
-    /// `native`, and a third one.
+    /// An unknown first word, a wrong count of words, an ill-formed name, or an `abi` line in a wrong place. Such a
+    /// line is missing at the front, is a second one without a line `version 2` or of the name `native`, or is a
+    /// third one.
     Words,
     /// An ill-formed NUMBER or ARCH.
     Number,
-    /// CAP is no name of a capability, or another than the other ABI gives a call of the name, as one
-    /// beside none.
+    /// CAP is no name of a capability, or the other ABI gives a call of the name another CAP, or one of the two has a
+    /// CAP and the other none.
     Cap,
     /// A CAP for a call that takes none.
     Modelled,
@@ -56,7 +56,7 @@ pub enum CallsError {
     /// The first faulty line, from 1, and its cause.
     #[error("line {0}: {1:?}")]
     Line(u64, CallsCause),
-    /// No line is there that is not passed over, but at most a first `version 2`.
+    /// No line is left for an `abi` line: all lines but a first `version 2` are skipped.
     #[error("no abi line")]
     NoAbi,
     /// The first call that every launch makes and the native ABI lacks.

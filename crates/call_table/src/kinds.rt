@@ -1,4 +1,4 @@
-// What a line is, by its words.
+// The kind of a line, by its words.
 ghost use Rattle.std.specs.Prelude.{◌≡◌, map};
 ghost use Rattle.std.specs.Option.{option_map};
 ghost use Rattle.call_table.specs.Names.{behind_at};
@@ -14,7 +14,7 @@ pub struct Entry<'a> {
     pub cap_word: Option<&'a str>,
 }
 
-/// What a line is.
+/// The kind of a line.
 #[derive(Clone, Copy)]
 pub enum Kind<'a, 'b> {
     /// `abi NAME ARCH`, with the name and the digits of ARCH.
@@ -106,7 +106,7 @@ fn kind_by<'a, 'b>(word: &str, words: &'b [&'a str]) -> Kind<'a, 'b>
     }
 }
 
-/// What the line of these words is.
+/// Returns the kind of the line of these words.
 pub fn kind_of_words<'a, 'b>(words: &'b [&'a str]) -> Kind<'a, 'b>
     ensures by_first_word { seen result ≡ kind_of (map (λ word. word.now) words.now) }
 {

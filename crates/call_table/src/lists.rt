@@ -1,4 +1,4 @@
-// The lists of a table, which grow line by line: a line is judged by the lists of the lines before it.
+// Builds the lists of a table line by line, and judges a line by the lists of the lines before it.
 ghost use Rattle.std.specs.Prelude.{◌≡◌, ◌≤◌, ◌++◌, ◌∷◌, [], None, true, false, OnOk, map, length};
 ghost use Rattle.std.specs.List.{cons_option, All};
 ghost use Rattle.std.specs.Option.{option_map};
@@ -84,7 +84,7 @@ fn is_same_cap(cap: Option<u8>, other: Option<u8>) -> bool
     }
 }
 
-// Whether another ABI gives a call of this name another capability.
+// Returns whether another ABI gives a call of this name another capability.
 fn has_other_cap(others: Option<&CallLines>, name: &str, cap: Option<u8>) -> bool
     ensures { result ≡ has_other_cap (lines_seen others.entry) name.now cap }
 {
@@ -109,7 +109,7 @@ fn check_cap(
     Ok(cap)
 }
 
-// The number and the capability of a call or a family, or its first fault behind these lines.
+// The number and the capability of a call or a family, or its first fault after these lines.
 #[tactic(auto, unfolding(crate::specs::Faults::entry_fault))]
 fn check_entry(
     others: Option<&CallLines>,
@@ -206,7 +206,7 @@ fn add_group(
 }
 
 impl Lists {
-    /// The lists of no line behind the first abi line.
+    /// The lists of no line after the first abi line.
     pub fn new(alloc: Global, name: Name, arch: u32) -> Lists
         ensures has_no_lines { made result ≡ record { name = name; arch = arch; calls = []; families = []; groups = []; second = None } }
     {

@@ -1,4 +1,4 @@
-// Lines by number, of which a list has at most 512 and is gone through, and calls by name where there may be two ABIs.
+// Finds lines by number, by going through a list of at most 512, and calls by name in one ABI or two.
 ghost use Rattle.std.specs.Prelude.{◌≡◌, ◌<◌, ◌+◌, ◌^◌, ◌++◌, length, option_copied};
 ghost use Rattle.std.specs.List.{list_any};
 ghost use Rattle.call_table.specs.Lookups.{has_number, named, numbered, place_named};
@@ -6,7 +6,7 @@ ghost use Rattle.call_table.specs.Views.{lines_seen};
 
 use crate::listed::{CallLine, CallLines};
 
-/// Whether a line has this number.
+/// Returns whether a line has this number.
 pub fn has_number(lines: &[CallLine], number: u32) -> bool
     ensures some_line { result ≡ list_any (has_number number) lines.now }
 {
@@ -44,7 +44,7 @@ fn place_in(calls: Option<&CallLines>, name: &str) -> Option<usize>
     calls?.place(name)
 }
 
-/// The position of the first call of this name, from 0, where the calls of another ABI stand behind these.
+/// The position of the first call of this name, from 0, where the calls of another ABI stand after these.
 pub fn place_among(calls: &CallLines, more: Option<&CallLines>, name: &str) -> Option<usize>
     requires { length calls.now + length (lines_seen more) < 2 ^ 63 }
     ensures by_name { result ≡ place_named name.now (calls.now ++ lines_seen more.entry) }

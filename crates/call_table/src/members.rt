@@ -1,4 +1,4 @@
-// Which calls the words of a group stand for.
+// Finds the calls that the words of a group stand for.
 ghost use Rattle.std.specs.Prelude.{◌≡◌, ◌==◌, ◌<◌, ◌≤◌, ◌||◌, ◌++◌, ℕ, IsTrue, true, false, map, filter, length, slice_index_or, IfOk};
 ghost use Rattle.std.specs.List.{list_any, list_all, All, enumerate_from};
 ghost use Rattle.call_table.specs.Members.{stands_for, is_member, is_known, FindsMembers};
@@ -23,7 +23,7 @@ fn mark_all(marks: &mut [bool], positions: &[usize])
     }
 }
 
-// Marks the calls that a word stands for, or answers false where it names nothing.
+// Marks the calls that a word stands for, or returns false if it names nothing.
 fn mark_word(
     marks: &mut [bool],
     calls: &CallLines,
@@ -54,7 +54,7 @@ fn mark_word(
     }
 }
 
-// Marks the calls that the words stand for, or answers false where one names nothing.
+// Marks the calls that the words stand for, or returns false if one names nothing.
 fn mark_words(
     marks: &mut [bool],
     calls: &CallLines,
@@ -109,8 +109,8 @@ fn members_among(
     }
 }
 
-/// The calls that the words stand for, or `None` where a word names neither an earlier call nor an earlier group; the
-/// calls are those of the native ABI and more behind them.
+/// Returns the calls that the words stand for, or `None` if a word names neither an earlier call nor an earlier
+/// group. The calls are those of the native ABI and then more.
 pub fn find_members(
     alloc: Global,
     calls: &CallLines,

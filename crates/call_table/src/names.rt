@@ -61,7 +61,7 @@ fn has_name_bytes(word: &str) -> bool
     word.as_bytes().iter().all(|byte| is_name_byte(*byte))
 }
 
-/// Whether the word is a name: ASCII letters, digits, `_` and `-`, at least one.
+/// Returns whether the word is a name: ASCII letters, digits, `_` and `-`, at least one.
 pub fn is_name(word: &str) -> bool
     ensures by_its_bytes { result ≡ is_name word.now }
 {

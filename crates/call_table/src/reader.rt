@@ -1,6 +1,6 @@
-// The table, line by line.
+// Reads the table, line by line.
 //
-// The lines come from `line_text`, what each is from `kinds`; `lists` judges a line by those before it.
+// `line_text` gives the lines and `kinds` their kinds; `lists` judges a line by those before it.
 ghost use Rattle.std.specs.Prelude.{◌≡◌, ◌≢◌, true, map, IfOk, IfErr, Ok, Err};
 ghost use Rattle.call_table.specs.declared.causes.CallsError.TheVariants.{Memory};
 ghost use Rattle.text_forms.specs.line_text.Views.{line_view};
@@ -34,7 +34,7 @@ fn read_abi(alloc: Global, line: &Line) -> Result<(Name, u32), CallsError>
     Ok((Name::new(alloc, name)?, arch))
 }
 
-// The lines behind the first abi line.
+// The lines after the first abi line.
 fn read_rest(
     alloc: Global,
     two: bool,
@@ -51,7 +51,7 @@ fn read_rest(
     Ok(lists)
 }
 
-// The first abi line and the lines behind it.
+// The first abi line and the lines after it.
 fn read_from(alloc: Global, two: bool, lines: &[Line]) -> Result<CallTable, CallsError>
     ensures { IsUnlessMemory result (table_from two (map line_view lines.now)) }
 {
@@ -69,7 +69,7 @@ fn are_version(words: &[&str]) -> bool
     }
 }
 
-// Whether the line announces two ABIs.
+// Returns whether the line announces two ABIs.
 #[tactic(auto, unfolding(crate::specs::Reading::is_version))]
 fn is_version(alloc: Global, line: &Line) -> Result<bool, AllocError>
     ensures { IfOk result (λ found. found ≡ is_version (line_view line.now)) }
@@ -78,7 +78,7 @@ fn is_version(alloc: Global, line: &Line) -> Result<bool, AllocError>
     Ok(are_version(words.as_slice()))
 }
 
-// The lines that are not passed over.
+// Returns the lines that are not skipped.
 fn read_table(alloc: Global, lines: &[Line]) -> Result<CallTable, CallsError>
     ensures { IsUnlessMemory result (table_of_lines (map line_view lines.now)) }
 {
@@ -89,7 +89,7 @@ fn read_table(alloc: Global, lines: &[Line]) -> Result<CallTable, CallsError>
     read_from(alloc, false, lines)
 }
 
-// What the bytes give.
+// Returns the table of the bytes.
 #[tactic(auto, unfolding(crate::specs::Reading::table_of))]
 fn read_bytes(alloc: Global, bytes: &[u8]) -> Result<CallTable, CallsError>
     ensures { IsUnlessMemory result (table_of bytes.now) }
@@ -101,24 +101,25 @@ fn read_bytes(alloc: Global, bytes: &[u8]) -> Result<CallTable, CallsError>
     read_table(alloc, lines.as_slice())
 }
 
-/// Reads the table of system calls that the bytes of calls.txt give.
+/// Reads the table of system calls in the bytes of calls.txt.
 ///
-/// The file is cut at LF; empty lines and lines that begin with `#` are passed over, and words stand
-/// between spaces. The first line is `abi NAME ARCH`, ARCH eight hex digits in lower case, which is the
-/// native ABI. Behind it stand `call NAME NUMBER [CAP]`, `family NAME NUMBER [CAP]` and
-/// `group @NAME MEMBER ..`, in any order; NUMBER is decimal and below 2^32, CAP the name of a capability
-/// (capabilities(7)). A member is the name of a call, or `@` and the name of a group, of an earlier line.
-/// Calls that the kernel models by a rule of their own, and calls that it lacks, have no CAP.
+/// The file is cut at LF. Empty lines and lines that begin with `#` are skipped, and spaces separate words. The first
+/// line is `abi NAME ARCH`, which is the native ABI; ARCH is eight hex digits in lower case. The lines after it are
+/// `call NAME NUMBER [CAP]`, `family NAME NUMBER [CAP]` and `group @NAME MEMBER ..`, in any order. NUMBER is decimal
+/// and below 2^32, and CAP is the name of a capability (capabilities(7)). A member is the name of a call, or `@` and
+/// the name of a group, of an earlier line. Calls that the kernel models by a rule of their own, and calls that it
+/// lacks, have no CAP.
 ///
-/// Where a line `version 2` stands before all that, one further `abi` line may follow, of another name
-/// and another ARCH, and no `native`. A call belongs to the last ABI before it. Its name and its number
-/// are given once in that ABI, with the CAP that a call of its name has in the other. A member stands
-/// for the calls of its name in both.
+/// After a first line `version 2`, one further `abi` line may follow, of another name and another ARCH, and not of
+/// the name `native`. A call belongs to the last ABI before it. Its name and its number are given once in that ABI,
+/// with the CAP that a call of its name has in the other. A member stands for the calls of its name in both.
 ///
-/// `NotText` comes first, where the bytes are not UTF-8 or have a NUL. Then `Line` of the first
-/// faulty line, with the first of its causes in the order of `CallsCause`; then `NoAbi`, where no line
-/// is left for the first `abi`, and `NoCall` with the first of the calls capset, execve, prctl, seccomp,
-/// setgroups, setresgid, setresuid and unshare that the native ABI lacks.
+/// The refusals come in this order:
+/// - `NotText`, if the bytes are not UTF-8 or have a NUL;
+/// - `Line` of the first faulty line, with the first of its causes in the order of `CallsCause`;
+/// - `NoAbi`, if no line is left for the first `abi`;
+/// - `NoCall` with the first of the calls capset, execve, prctl, seccomp, setgroups, setresgid, setresuid and unshare
+///   that the native ABI lacks.
 pub fn read_calls(alloc: Global, bytes: &[u8]) -> Result<CallTable, CallsError>
     ensures reads_the_table { IfOk result (λ table. table_of bytes.now ≡ Ok table) }
     ensures first_refusal { IfErr result (λ error. error ≢ Memory → table_of bytes.now ≡ Err error) }
@@ -128,8 +129,8 @@ pub fn read_calls(alloc: Global, bytes: &[u8]) -> Result<CallTable, CallsError>
     read_bytes(alloc, bytes)
 }
 
-/// The law that a text of the first version, which has no line `version 2` at its front, stays what it is behind one: where
-/// it is accepted, so is the longer text, with the same table.
+/// States that a text of the first version, without a first line `version 2`, stays accepted with that line in front
+/// of it, and has the same table.
 pub fn same_reading(_bytes: &[u8])
     ensures same_table { (table : Table) → is_first_version _bytes.now ≡ true → table_of _bytes.now ≡ Ok table → table_of (with_version _bytes.now) ≡ Ok table }
 {}

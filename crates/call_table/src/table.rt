@@ -21,8 +21,8 @@ use std::marker::Model;
 
 /// The system calls of one ABI or two, groups of them, and families of sockets.
 ///
-/// Contracts see a table as the name and the architecture of the native ABI, the lists of its calls, of the families and of the groups,
-/// and a second ABI where there is one.
+/// Contracts see a table as the name and the architecture of the native ABI, the lists of its calls, its families and
+/// its groups, and a second ABI if there is one.
 #[derive(Drop)]
 pub struct CallTable {
     lists: Lists,
@@ -117,7 +117,7 @@ impl CallTable {
         place_among(&self.lists.calls, second_calls(&self.lists.second), name)
     }
 
-    /// How many ABIs there are: 1 or 2.
+    /// Returns the number of ABIs: 1 or 2.
     pub fn abis(&self) -> u8
         ensures counts { result ≡ length (abis self.now) }
         ensures whole { IsWhole self.now }
@@ -163,7 +163,8 @@ impl CallTable {
         }
     }
 
-    /// What holds of every table: it is whole, and its architectures are words of 32 bits. It does nothing.
+    /// States what holds of every table: it is whole, and its architectures are words of 32 bits. The call does
+    /// nothing.
     pub fn look_at(&self)
         ensures whole { IsWhole self.now }
         ensures native { self.now.arch < 2 ^ 32 }

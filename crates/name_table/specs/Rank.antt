@@ -1,4 +1,4 @@
--- Where a name stands among the names in their order, or would stand.
+-- The place of a name among the names in their order, or the place that it would have.
 use Rattle.std.specs.Prelude.{◌≡◌, ℕ, ◌<◌, ◌≤◌, List, length, true, false}
 use Rattle.name_table.specs.Before.{is_before}
 use Rattle.name_table.specs.NameAt.{name_at}

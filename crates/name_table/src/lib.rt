@@ -1,8 +1,8 @@
-//! Lines that have names, in the order of a file, found by their names.
+//! Keeps named lines in the order of a file, and finds them by their names.
 //!
-//! A `NameTable` holds the lines in the order in which they were put, and beside them their places in the order of their names,
-//! in which a name is found by halving. Contracts see the list of the lines: `table.push(alloc, line)?` puts a line last,
-//! `table.get("read")` finds it, and `table.lines()` lends all.
+//! A `NameTable` holds the lines in the order in which they were put. It also holds their places in the order of
+//! their names, and finds a name by halving. Contracts see the list of the lines: `table.push(alloc, line)?` puts a
+//! line last, `table.get("read")` finds it, and `table.lines()` lends all.
 #![tactic(auto)]
 
 ghost use Rattle.std.specs.Prelude.{◌≡◌, ◌++◌, ◌∷◌, [], map, false, is_some, find, position, option_copied, OnOk, OnErr};
@@ -62,7 +62,7 @@ impl<L: Named> NameTable<L> {
         self.lines.as_slice()
     }
 
-    /// Whether a line has this name.
+    /// Returns whether a line has this name.
     pub fn has(&self, name: &str) -> bool
         ensures by_name { result ≡ list_any (λ line. bytes_eq name.now (L.name_of line)) self.now }
     {
@@ -86,7 +86,7 @@ impl<L: Named> NameTable<L> {
 }
 
 impl<L: Named + Drop> NameTable<L> {
-    /// Puts a line last, whose name no other has; where there is no memory the lines stay as they were.
+    /// Puts a line last, whose name no other has. If memory runs out, the lines stay as they were.
     pub fn push(&mut self, alloc: Global, line: L) -> Result<(), AllocError>
         requires new_name { list_any (λ other. bytes_eq (L.name_of line) (L.name_of other)) self.old ≡ false }
         ensures goes_last { OnOk result (self.new ≡ self.old ++ line ∷ []) }
@@ -102,7 +102,7 @@ impl<L: Named + Drop> NameTable<L> {
     }
 }
 
-/// How many of the names come before this one.
+/// Returns how many of the names come before this one.
 fn rank_of<L: Named>(lines: &[L], places: &[usize], name: &str) -> usize
     requires { ArePlaces (map L.name_of lines.now) places.now }
     ensures rank { IsRank (map L.name_of lines.now) places.now name.now result }

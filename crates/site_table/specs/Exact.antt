@@ -8,8 +8,8 @@ use Rattle.site_table.specs.Order.{has_row, plain_dir}
 use Rattle.site_table.specs.Rows.{path_of, is_row_at, is_always_dir, row_of}
 use Rattle.site_table.specs.Table.{row_at}
 
--- the rows have exactly the listed paths, and `/` and `/proc`: the row of a listed path says what the list says of it, and `/` and
--- `/proc` are directories of which nothing else is said where they are not listed
+-- the rows have exactly the listed paths, and `/` and `/proc`. The row of a listed path says what the list says of it. `/` and `/proc`
+-- are directories, and nothing else is said of them if they are not listed
 pub record AreExactly (listed : List Data) (rows : List Row) : Type 0 where
   pub paths : (path : Path) → has_row rows path ≡ (list_any (is_row_at path) listed || is_always_dir path)
   pub as_listed : (row : Data) (path : Path) → Contains listed row → path_of row ≡ Some path → row_at rows path ≡ Some (row_of row)

@@ -1,4 +1,4 @@
--- Ids of users and groups (credentials(7)): 0 to 4,294,967,294; the number above stands for none in the calls that set ids.
+-- Ids of users and groups (credentials(7)): 0 to 4,294,967,294. The next number means no id in the calls that set ids.
 use Rattle.std.specs.Prelude.{ℕ, ℤ, codes, pos, negsuc, nat_le, Bool, false, cond, not, is_some, List, Option, Some, None, option_and_then}
 use Rattle.std.specs.List.{list_all, filter_map}
 use Rattle.std.specs.Option.{option_map_or}
@@ -17,7 +17,7 @@ id_of (negsuc number) = None
 abbrev pub id_at : List ℕ → Data → Option ℕ
 id_at key value = option_and_then id_of (number_at key value)
 
--- a number out of range stands at a key
+-- there is a number out of range at a key
 abbrev pub is_out_of_range : List ℕ → Data → Bool
 is_out_of_range key value = option_map_or (λ number. not (is_some (id_of number))) (number_at key value) false
 
@@ -34,7 +34,7 @@ abbrev pub count_by : Option ℤ → Option ℕ
 count_by None = Some 0
 count_by (Some number) = count_of number
 
--- how many user namespaces may be made, if the number that stands at the key is in range; none where the key is missing
+-- the number of user namespaces that may be made, if the number at the key is in range; 0 if the key is missing
 abbrev pub spaces_at : Data → Option ℕ
 spaces_at site = count_by (number_at (codes "user_namespaces") site)
 

@@ -1,4 +1,4 @@
--- The keys of site.toml: the name of each, what stands at it, and whether it must be there.
+-- The keys of site.toml: the name of each, the shape of its value, and whether it must be there.
 use Rattle.std.specs.Prelude.{codes, List, [], ◌∷◌}
 use Rattle.toml_shapes.specs.Keys.{KnownKey}
 use Rattle.toml_shapes.specs.declared.keys.Shape.TheVariants.{Text, Number, Flag, Texts, Numbers, Tables}

@@ -45,7 +45,7 @@ pub record IsAt (rows : List Row) (text : List ℕ) (at : ℕ) : Type 0 where
   pub within : at < length rows
   pub here : (d : Row) → tail_of (slice_index_or rows at d).path ≡ text
 
--- the rows before a place have texts before this one, and the others have texts behind it
+-- the rows before a place have texts before this one, and the others have texts after it
 pub record IsGap (rows : List Row) (text : List ℕ) (at : ℕ) : Type 0 where
   pub within : at ≤ length rows
   pub before : (k : ℕ) (d : Row) → k < at → slice_cmp nat_cmp (tail_of (slice_index_or rows k d).path) text ≡ Less

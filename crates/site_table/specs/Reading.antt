@@ -57,7 +57,7 @@ is_too_large site = nat_lt 2048 (length (rows_in site)) || nat_lt 512 (length (u
 abbrev pub size_faults : Data → List SiteError
 size_faults site = cond (is_too_large site) (TooMany ∷ []) []
 
--- all that is wrong with a site, in the order in which it is told
+-- all that is wrong with a site, in the order of the reports
 abbrev pub faults_of : Data → List SiteError
 faults_of site = top_faults site ++ size_faults site ++ row_faults (rows_in site) ++ user_faults (users_in site) ++ group_faults
     (groups_in site)

@@ -82,7 +82,7 @@ is_folder rows path = is_always_dir path || list_any (is_dir_at path) rows
 abbrev pub has_parent : List Data → Data → Bool
 has_parent rows row = option_map_or (is_folder rows) (option_and_then parent_of (path_of row)) true
 
--- what may be wrong with a row by itself, in the order in which it is told
+-- what may be wrong with a row by itself, in the order of the reports
 abbrev pub own_causes : Data → List (Bool × RowCause)
 own_causes row =
     (not (has_keys row_keys row), Key) ∷

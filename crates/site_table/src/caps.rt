@@ -34,7 +34,7 @@ fn all_caps(values: &[Value]) -> bool
     values.iter().all(|value| as_cap(value).is_some())
 }
 
-/// Whether each value is the name of a capability.
+/// Returns whether each value is the name of a capability.
 pub fn are_caps(values: &[Value]) -> bool
     ensures all_are_caps { result ≡ are_caps (map view values.now) }
 {

@@ -6,21 +6,20 @@ ghost use Rattle.site_table.specs.declared.error.SiteError.TheVariants.{Memory};
 use std::alloc::{AllocError, AllocFailed};
 use thiserror::Error;
 
-/// What is wrong with a row. Of several causes on one row the one listed first is told.
+/// The fault of a row. Of several causes on one row the one listed first is reported.
 #[derive(Clone, Copy, Debug, PartialEq, Eq)]
 pub enum RowCause {
     /// A key is unknown, missing, or of a wrong type.
     Key,
     /// The path is none that `AbsPath` reads, or has more than 250 bytes.
     Path,
-    /// The kind is unknown, a key of executables stands on another kind, or `/` or `/proc` is no
-    /// directory.
+    /// The kind is unknown, a key of executables is on another kind, or `/` or `/proc` is no directory.
     Kind,
     /// An id is above 4,294,967,294 or below 0.
     Number,
-    /// A capability is unknown, or `effective` stands without capabilities.
+    /// A capability is unknown, or there is `effective` without capabilities.
     Caps,
-    /// An owner's uid stands beside capabilities.
+    /// A row has both an owner's uid and capabilities.
     Both,
     /// An earlier row has the path.
     Duplicate,
@@ -28,8 +27,8 @@ pub enum RowCause {
     NoParent,
 }
 
-/// Why a site is refused. Of several faults the one listed first is told, and of several rows, users
-/// or groups with faults the first in the file, which are numbered from 1.
+/// Why a site is refused. Of several faults the one listed first is reported; of several rows, users or groups with
+/// faults, the first in the file. They are numbered from 1.
 #[derive(Clone, Copy, Debug, PartialEq, Eq, Error)]
 pub enum SiteError {
     /// The bytes are no TOML.

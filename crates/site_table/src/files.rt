@@ -1,4 +1,4 @@
-//! What a row of the file says by itself.
+//! Reads a row of the file by itself.
 
 ghost use Rattle.std.specs.Prelude.{◌≡◌, ◌&&◌, ◌||◌, not, false, Some, drop};
 ghost use Rattle.toml.specs.View.{view};
@@ -39,15 +39,15 @@ fn has_exe_key(row: &Value) -> bool
     has(row, "setuid") || has(row, "setgid") || has(row, "caps") || has(row, "effective")
 }
 
-/// Whether the row is of kind dir, whatever else is in it.
+/// Returns whether the row is of kind dir, whatever else is in it.
 pub fn is_dir(row: &Value) -> bool
     ensures by_its_kind { result ≡ option_map_or is_dir (kind_of (view row.now)) false }
 {
     matches!(kind_of(row), Some(RowKind::Dir))
 }
 
-/// Whether the text is that of `/` or `/proc`, which are directories whether or not they are listed.
-/// The text of `/` is here the empty one.
+/// Returns whether the text is that of `/` or `/proc`, which are directories even if they are not listed. The text of
+/// `/` is here the empty one.
 pub fn is_always_dir_text(text: &str) -> bool
     ensures root_or_proc { result ≡ is_always_dir_text text.now }
 {
@@ -109,7 +109,7 @@ fn exe_cause(row: &Value) -> Option<RowCause>
     None
 }
 
-/// What a row says of the file at its path, where it has no key that only an executable may have.
+/// Returns the row of a path and a kind without any key that only an executable may have.
 pub fn plain_file(path: AbsPath, kind: RowKind) -> Row
     ensures path_and_kind { result ≡ plain_file path kind }
 {
@@ -160,7 +160,7 @@ fn read_file(path: AbsPath, row: &Value) -> Result<Row, RowCause>
     }
 }
 
-/// What the row of this number says, or the first cause by which it is wrong by itself.
+/// Returns the row of this number, or the first cause by which it is wrong by itself.
 pub fn read_row(alloc: Global, number: u64, row: &Value) -> Result<Row, SiteError>
     ensures says_the_row { SaysRow number (view row.now) result }
 {

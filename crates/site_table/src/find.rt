@@ -1,4 +1,4 @@
-//! The search of a row by the text of a path that is never built: a front and what lies behind it.
+//! Searches a row by the text of a path that is never built: a front and the rest after it.
 
 ghost use Rattle.std.specs.Prelude.{◌≡◌, ◌++◌, IsTrue, length};
 ghost use Rattle.std.specs.Ordering.{nat_cmp};
@@ -11,7 +11,7 @@ use crate::row::Row;
 use abs_path::AbsPath;
 use std::cmp::Ordering;
 
-// byte order of a text and of two others, one behind the other
+// byte order of a text and of two others, one after the other
 fn order_of(text: &[u8], front: &[u8], rest: &[u8]) -> Ordering
     ensures { result ≡ slice_cmp nat_cmp text.now (front.now ++ rest.now) }
 {
@@ -45,8 +45,8 @@ fn ends_before(rows: &[Row], front: &str, rest: &str) -> bool
     }
 }
 
-/// The place of the row whose path has the text of the front with the rest behind it, or the place
-/// where such a row would go. Rows that come in their order are placed at once.
+/// Returns the place of the row whose path has the text of the front with the rest after it, or the place for such a
+/// row. Rows that come in their order are placed at once.
 pub fn search_text(rows: &[Row], front: &str, rest: &str) -> Result<usize, usize>
     requires { AreOrdered rows.now }
     ensures searches { Searches rows.now (front.now ++ rest.now) result }

@@ -10,7 +10,7 @@ use std::alloc::{AllocError, Global};
 use toml::Value;
 use toml_shapes::{elements_at, number_at};
 
-/// The greatest id. The number above stands for none in setresuid(2) and the like.
+/// The greatest id. The next number means no id in setresuid(2) and the like.
 const GREATEST_ID: i64 = 4_294_967_294;
 
 /// The most user namespaces that a site may allow.
@@ -33,7 +33,7 @@ pub fn id_at(value: &Value, key: &str) -> Option<u32>
     id_of(number_at(value, key)?)
 }
 
-/// Whether a number out of range stands at a key.
+/// Returns whether there is a number out of range at a key.
 pub fn is_out_of_range(value: &Value, key: &str) -> bool
     ensures past_the_ids { result ≡ is_out_of_range key.now (view value.now) }
 {
@@ -51,7 +51,8 @@ fn count_of(number: i64) -> Option<u32>
     }
 }
 
-/// How many user namespaces may be made: none where the key is missing, and no answer where the number is out of range.
+/// Returns the number of user namespaces that may be made: 0 if the key is missing, and no answer if the number is
+/// out of range.
 pub fn spaces_at(site: &Value) -> Option<u32>
     ensures count_in_range { result ≡ spaces_at (view site.now) }
 {
@@ -90,7 +91,7 @@ pub fn ids_at(alloc: Global, value: &Value, key: &str) -> Result<Ids, AllocError
     Ok(Ids::new(ids))
 }
 
-/// Whether each element of the array at a key is an id.
+/// Returns whether each element of the array at a key is an id.
 pub fn are_ids(value: &Value, key: &str) -> bool
     ensures all_are_ids { result ≡ are_ids key.now (view value.now) }
 {

@@ -1,4 +1,4 @@
-//! Laws of sites, each the contract of a function that does nothing.
+//! The laws of sites. Each is the contract of a function that does nothing.
 
 ghost use Rattle.std.specs.Prelude.{◌≡◌, ◌≤◌, ◌↔◌, ℕ, true, List, Some, None, Ok, slice_get};
 ghost use Rattle.toml.specs.Data.{Data, Members, table};
@@ -19,15 +19,15 @@ pub fn place_and_row()
         → place_of rows path ≡ None → row_at rows path ≡ None }
 {}
 
-/// A site that is read has its rows in byte order, each with its folder, and whatever else holds of
-/// each table. Its rows are exactly those of the list, and `/` and `/proc`.
+/// A site that is read has its rows in byte order, each with its folder, and all else that holds of each table. Its
+/// rows are exactly those of the list, and `/` and `/proc`.
 pub fn accepted_sites()
     ensures holds { (bytes : List ℕ) (site : Site) → site_of bytes ≡ Ok site → IsSite site }
     ensures exact_rows { (bytes : List ℕ) (members : Members) (site : Site) → tree_of bytes ≡ Some members
         → site_of bytes ≡ Ok site → AreExactly (rows_in (table members)) site.rows }
 {}
 
-/// A capability is in the set of a row exactly where the row's list names it.
+/// A capability is in the set of a row exactly if the row's list names it.
 pub fn caps_of_rows()
     ensures named { (row : Data) (number : ℕ) → number ≤ 40
         → (has (row_of row).caps number ≡ true) ↔ IsNamed (cap_names row) number }

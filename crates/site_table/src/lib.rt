@@ -1,13 +1,11 @@
-//! The description of a site: its files, users and groups, read from `site.toml`.
+//! Reads the description of a site from `site.toml`: its files, users and groups.
 //!
-//! A site is read exactly or refused with the first refusal. It stands on `abs_path` for paths, on
-//! `cap_sets` for the capabilities of files, and on `toml` and `toml_shapes` for the tree of the text and its
-//! keys.
-//! `read_site(alloc, b"dynamic_uid = 61184\n")?` has the two rows `/` and `/proc`.
+//! A site is read exactly or refused with the first refusal: `read_site(alloc, b"dynamic_uid = 61184\n")?` has the
+//! two rows `/` and `/proc`.
 //!
-//! What is TOML is the promise of `toml`: TOML 1.1 in UTF-8, with integers of 64 bits, and with arrays,
-//! inline tables and dotted keys nested at most 80 deep. Other bytes are refused as `NotToml`, however
-//! long or deep they are, and none make a call panic.
+//! The crate `toml` promises what is TOML: TOML 1.1 in UTF-8, with integers of 64 bits, and with arrays, inline
+//! tables and dotted keys nested at most 80 deep. Other bytes are refused as `NotToml`, however long or deep they
+//! are, and no bytes make a call panic.
 #![tactic(auto)]
 
 mod accounts;

@@ -1,4 +1,4 @@
-//! Rows in byte order of their paths.
+//! Keeps rows in byte order of their paths.
 
 ghost use Rattle.std.specs.Prelude.{◌≡◌, ◌&&◌, true, IfSome, OnOk, MatchOption};
 ghost use Rattle.std.specs.Str.{bytes_eq};
@@ -56,15 +56,15 @@ impl Held for Row {
 /// Rows in byte order of their paths, each path once.
 pub type OrderedRows = HeldList<Row>;
 
-/// Where a row of this path goes; None where one stands there.
+/// Returns the place for a row of this path, or None if there is one already.
 pub fn place_for(ordered: &OrderedRows, path: &AbsPath) -> Option<usize>
     ensures where_it_goes { MatchOption result (has_row ordered.now path.now ≡ true) (GoesAt ordered.now path.now) }
 {
     search(ordered.list(), path, "").err()
 }
 
-/// A number of the row of the folder that a path is in, where that is among the rows or always there,
-/// to be given as the hint for the next path; for the root any number.
+/// Returns the number of the row of the folder that a path is in, if that folder is among the rows or always there.
+/// The number is the hint for the next path. For the root it is any number.
 pub fn folder_of(ordered: &OrderedRows, hint: usize, path: &AbsPath) -> Option<usize>
     ensures folder_stands { IfSome result (λ at. stands_behind ordered.now path.now ≡ true) }
 {

@@ -1,4 +1,4 @@
-//! The users and the groups of a site, which are read alike.
+//! Reads the users and the groups of a site in the same way.
 
 ghost use Rattle.std.specs.Prelude.{◌≡◌, ◌||◌, map};
 ghost use Rattle.std.specs.List.{list_any};
@@ -18,7 +18,7 @@ use std::alloc::{AllocError, Global};
 use toml::Value;
 use toml_shapes::{has_keys, text_at};
 
-/// What an element of the tree says of an owner.
+/// Reads an owner from an element of the tree.
 trait Telling<L: Named + Drop> {
     ghost use Rattle.std.specs.Prelude.{◌≡◌, IfOk};
     ghost use Rattle.toml.specs.Data.{Data};
@@ -27,17 +27,17 @@ trait Telling<L: Named + Drop> {
 
     ghost said_of: { Data → L };
 
-    // What the element says, where nothing is wrong with it.
+    // Returns the owner of the element, if nothing is wrong with it.
     fn say(alloc: Global, owner: &Value) -> Result<L, AllocError>
         ensures { IfOk result (λ said. said ≡ said_of (view owner.now)) };
 
     ghost keeps_name: { (owner : Data) → L.Named.name_of (said_of owner) ≡ name_told owner };
 }
 
-/// How an element tells a user.
+/// Reads a user.
 struct UserTelling;
 
-/// How an element tells a group.
+/// Reads a group.
 struct GroupTelling;
 
 impl Telling<User> for UserTelling {

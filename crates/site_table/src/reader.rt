@@ -1,4 +1,4 @@
-//! A site, from its bytes to its table.
+//! Reads a site, from its bytes to its table.
 
 ghost use Rattle.std.specs.Prelude.{◌≡◌, ◌≢◌, Ok, Err, IfOk, IfErr, ◌||◌};
 ghost use Rattle.toml.specs.View.{view};
@@ -78,18 +78,21 @@ fn read_bytes(alloc: Global, bytes: &[u8]) -> Result<SiteTable, SiteError>
 
 /// Reads the description of a site.
 ///
-/// The top keys are `dynamic_uid`, a number, `user_namespaces`, a number of 0 to 64 that may be missing, and the arrays of tables `row`, `user` and `group`, each
-/// of which may be missing. A row has a `path` and a `kind`, which is `dir`, `file` or `exe`; an exe may
-/// have `setuid` and `setgid`, its owner's uid and its group's gid, and `caps`, a list of names of
-/// capabilities, with a boolean `effective`. A user has `name`, `uid`, `gid` and may have `groups`, a
-/// list of gids; a group has `name` and `gid`. Ids are 0 to 4,294,967,294.
+/// The top keys are `dynamic_uid`, a number, `user_namespaces`, a number from 0 to 64 that may be missing, and the
+/// arrays of tables `row`, `user` and `group`, each of which may be missing. Their tables have these keys:
+/// - A row has a `path` and a `kind`, which is `dir`, `file` or `exe`. An exe may have `setuid` and `setgid`, its
+///   owner's uid and its group's gid. It may also have `caps`, a list of names of capabilities, with a boolean
+///   `effective`.
+/// - A user has `name`, `uid` and `gid`, and may have `groups`, a list of gids.
+/// - A group has `name` and `gid`.
 ///
-/// `/` and `/proc` are rows of kind dir also where they are not listed, and each row stands in a folder
-/// that is a row of kind dir, listed before or after it.
+/// Ids are numbers from 0 to 4,294,967,294.
 ///
-/// `NotToml` comes where the bytes are no TOML. Then the first in this order is told: `Top`, `TooMany`,
-/// the first row with a fault, the first user and the first group with one. `Memory` may come at any
-/// bytes.
+/// `/` and `/proc` are rows of kind dir even if they are not listed. Each row is in a folder that is a row of kind
+/// dir, listed before or after it.
+///
+/// `NotToml` comes if the bytes are no TOML. Otherwise the first in this order is reported: `Top`, `TooMany`, the
+/// first row with a fault, the first user and the first group with one. `Memory` may come for any bytes.
 pub fn read_site(alloc: Global, bytes: &[u8]) -> Result<SiteTable, SiteError>
     ensures reads_the_site { IfOk result (λ site. site_of bytes.now ≡ Ok site) }
     ensures first_fault { IfErr result (λ error. error ≢ Memory → site_of bytes.now ≡ Err error) }

@@ -1,4 +1,4 @@
-//! The rows of a site: each by itself, and then its place among the others.
+//! Reads the rows of a site: each by itself, and then its place among the others.
 
 ghost use Rattle.std.specs.Prelude.{◌≡◌, ◌||◌, ℕ, List, map, Ok, OnOk, IfOk, IfSome};
 ghost use Rattle.toml.specs.View.{view};
@@ -89,7 +89,7 @@ fn place_behind(
     Ok(Some(folder))
 }
 
-// the listed rows in their order, where none has a fault and each comes behind its folder
+// the listed rows in their order, where none has a fault and each comes after its folder
 fn rows_behind_folders(alloc: Global, rows: &[Value]) -> Result<Option<OrderedRows>, AllocError>
     ensures { IfOk result (λ found. IfSome found (λ ordered.
         unless_fault (row_faults (map view rows.now)) (rows_in_order (map row_of (map view rows.now))) ≡ Ok ordered)) }
@@ -120,8 +120,8 @@ fn all_rows(alloc: Global, rows: &[Value]) -> Result<OrderedRows, SiteError>
     Ok(ordered)
 }
 
-// the listed rows in their order: in one pass where each comes behind its folder, as in a sorted list; else
-// the folders are looked up first
+// the listed rows in their order: in one pass where each comes after its folder, as in a sorted list; else the
+// folders are looked up first
 fn listed_rows(alloc: Global, rows: &[Value]) -> Result<OrderedRows, SiteError>
     ensures { IsUnlessMemory (λ ordered. ordered) result
         (unless_fault (row_faults (map view rows.now)) (rows_in_order (map row_of (map view rows.now)))) }
@@ -141,8 +141,8 @@ fn complete(alloc: Global, mut ordered: OrderedRows) -> Result<Vec<Row>, AllocEr
     Ok(ordered.into_items())
 }
 
-/// The rows that the elements of the tree describe, in byte order of their paths, with `/` and `/proc`
-/// among them; or the first fault of the first row that has one.
+/// Returns the rows that the elements of the tree describe, in byte order of their paths, with `/` and `/proc` among
+/// them; or the first fault of the first row that has one.
 pub fn read_rows(alloc: Global, rows: &[Value]) -> Result<Vec<Row>, SiteError>
     ensures reads_the_rows { IsUnlessMemory (λ read. read.items) result
         (unless_fault (row_faults (map view rows.now))

@@ -32,7 +32,7 @@ impl Seen {
         }
     }
 
-    /// Whether the text is among them.
+    /// Returns whether the text is among them.
     pub fn has(&self, text: &str) -> bool
         ensures has_it { result ≡ has_text self.now text.now }
     {

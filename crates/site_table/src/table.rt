@@ -16,9 +16,9 @@ use std::marker::Model;
 
 /// The files, users and groups of a site.
 ///
-/// The rows stand in byte order of their paths, `/` and `/proc` among them, and are numbered from 0
-/// in that order. Users and groups stand in the order of the file. A row is found by binary search, a
-/// user or a group by a map of their names; the user of a uid by going through the users, at most 512.
+/// The rows are in byte order of their paths, `/` and `/proc` among them, and are numbered from 0 in that order.
+/// Users and groups are in the order of the file. A row is found by binary search, and a user or a group by a map of
+/// their names. The user of a uid is found by going through the users, at most 512.
 #[derive(Drop)]
 pub struct SiteTable {
     dynamic_uid: u32,
@@ -69,7 +69,7 @@ impl SiteTable {
         self.dynamic_uid
     }
 
-    /// How many user namespaces may be made, user_namespaces(7).
+    /// Returns the number of user namespaces that may be made, user_namespaces(7).
     pub fn user_namespaces(&self) -> u32
         ensures user_namespaces { result ≡ self.now.user_namespaces }
         ensures holds_of_each_site { IsSite self.now }
@@ -77,7 +77,7 @@ impl SiteTable {
         self.user_namespaces
     }
 
-    /// How many rows there are, `/` and `/proc` among them.
+    /// Returns the number of rows, `/` and `/proc` among them.
     pub fn len(&self) -> usize
         ensures number_of_rows { result ≡ length self.now.rows }
     {
@@ -100,9 +100,9 @@ impl SiteTable {
         &self.rows[at]
     }
 
-    /// The number of the row whose text is that of `front` with `rest` behind it, where the root has no
-    /// text; None where there is no such row. With a rest in the form that `AbsPath::rest` answers it is
-    /// the row of the joined path. No path is built.
+    /// Returns the number of the row whose text is that of `front` with `rest` after it, where the root has no text.
+    /// None if there is no such row. With a rest in the form that `AbsPath::rest` answers it is the row of the joined
+    /// path. No path is built.
     pub fn find(&self, front: &AbsPath, rest: &str) -> Option<usize>
         ensures place_of_the_text { result ≡ place_of_text self.now.rows (tail_of front.now ++ rest.now) }
         ensures place_of_the_path { IsRest rest.now → result ≡ place_of self.now.rows (front.now ++ parts_of rest.now) }
@@ -110,7 +110,7 @@ impl SiteTable {
         search(&self.rows, front, rest).ok()
     }
 
-    /// The row at the front with the rest behind it, as `AbsPath::rest` answers it.
+    /// The row at the front with the rest after it, as `AbsPath::rest` answers it.
     pub fn row_behind(&self, front: &AbsPath, rest: &str) -> Option<&Row>
         requires { IsRest rest.now }
         ensures the_row { option_map (λ row. row.now) result ≡ row_at self.now.rows (front.now ++ parts_of rest.now) }
@@ -121,7 +121,7 @@ impl SiteTable {
         }
     }
 
-    /// The row at the source with what the path has behind the place, as a bind shows it (mount(2)). No path is built.
+    /// The row at the source with what the path has after the place, as a bind shows it (mount(2)). No path is built.
     pub fn row_through(&self, source: &AbsPath, place: &AbsPath, path: &AbsPath) -> Option<&Row>
         requires { is_prefix place.now path.now ≡ true }
         ensures by_the_source { option_map (λ row. row.now) result ≡ row_at self.now.rows (source.now ++ rest_of place.now path.now) }

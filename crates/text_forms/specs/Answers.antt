@@ -1,4 +1,4 @@
--- What splitting answers; want of memory alone is free.
+-- The answers of splitting. Memory may run out at any text.
 use Rattle.std.specs.Prelude.{◌≡◌, ⊤, ℕ, List, map, Vec, String, string_bytes, Result, Ok, Err}
 use Rattle.std.specs.declared.alloc.Global.{Global}
 use Rattle.text_forms.specs.declared.error.WordsError.{WordsError}

@@ -29,7 +29,7 @@ unfoldable mutual
   word_read [] = Some []
   word_read (byte ∷ word) = cond (byte == ascii "%") (code_read word) (with_byte byte (word_read word))
 
-  -- the same behind a `%`
+  -- the same after a `%`
   pub code_read : List ℕ → Option (List ℕ)
   code_read [] = None
   code_read (high ∷ []) = None

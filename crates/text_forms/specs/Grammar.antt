@@ -23,7 +23,7 @@ abbrev pub IsWritten : Symbol → List ℕ → Type 0
 IsWritten (Plain byte) written = (written ≡ byte ∷ []) × (byte ≢ ascii "\\")
 IsWritten (Escaped byte) written = IsLetterEscape byte written ⊎ IsHexEscape byte written
 
--- the text is the symbols as they are written, one behind the other
+-- the text is the symbols as they are written, one after the other
 abbrev pub Spells : List Symbol → List ℕ → Type 0
 Spells [] text = text ≡ []
 Spells (symbol ∷ symbols) text = (written rest : List ℕ) × IsWritten symbol written × (text ≡ written ++ rest) × Spells symbols rest

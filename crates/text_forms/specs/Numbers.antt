@@ -1,4 +1,4 @@
--- Numbers as texts: decimal, or hexadecimal behind `0x`.
+-- Numbers as texts: decimal, or hexadecimal after `0x`.
 use Rattle.std.specs.Prelude.{ℕ, Bool, ◌==◌, ◌&&◌, ◌^◌, not, nat_eq, nat_lt, if◌then◌else◌, List, length, drop, codes, Option, Some, None}
 use Rattle.std.specs.List.{list_all, starts_with}
 use Rattle.std.specs.Char.{is_digit}
@@ -17,7 +17,7 @@ numeral_value radix digits =
 unfoldable pub decimal_value : List ℕ → Option ℕ
 decimal_value text = numeral_value 10 text
 
--- what stands behind `0x`
+-- the text after `0x`
 abbrev pub hex_digits : List ℕ → Option (List ℕ)
 hex_digits text = if starts_with nat_eq text (codes "0x") then Some (drop 2 text) else None
 
@@ -25,6 +25,6 @@ abbrev pub number_by : Option (List ℕ) → List ℕ → Option ℕ
 number_by (Some digits) text = numeral_value 16 digits
 number_by None text = numeral_value 10 text
 
--- hex digits behind `0x`, or decimal digits
+-- hex digits after `0x`, or decimal digits
 unfoldable pub number_value : List ℕ → Option ℕ
 number_value text = number_by (hex_digits text) text

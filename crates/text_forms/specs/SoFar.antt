@@ -1,4 +1,4 @@
--- What a text comes to that is split as far as it is read.
+-- The words of a text that is split as far as it is read.
 use Rattle.std.specs.Prelude.{ℕ, if◌then◌else◌, is_some, List, [], ◌∷◌, ◌++◌, map, Vec, String, string_bytes, Option, Some, None, Result}
 use Rattle.std.specs.Prelude.{Err}
 use Rattle.std.specs.declared.alloc.Global.{Global}
@@ -24,13 +24,13 @@ abbrev pub found : Option (Vec (String Global) Global) → List (List ℕ) → R
 found None more = Err NotText
 found (Some words) more = text_only (map string_bytes words.items ++ more)
 
--- with these symbols behind it
+-- with these symbols after it
 abbrev pub comes_to : SoFar → List Symbol → Result (List (List ℕ)) WordsError
 comes_to so_far symbols =
     if is_some (open_at_end so_far.opened symbols) then Err Quote
     else found so_far.whole (words_in (marks_of (begun_bytes so_far.begun) ++ marks_from so_far.opened symbols))
 
--- with this text behind it, as symbols if its escapes can be read
+-- with this text after it, as symbols if its escapes can be read
 abbrev pub splits_on : SoFar → Option (List Symbol) → Result (List (List ℕ)) WordsError
 splits_on so_far None = Err Escape
 splits_on so_far (Some symbols) = comes_to so_far symbols

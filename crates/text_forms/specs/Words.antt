@@ -17,7 +17,7 @@ use Rattle.text_forms.specs.declared.splitting.marks.Mark.TheVariants.{Part, Edg
 abbrev pub is_backslash : ℕ → Bool
 is_backslash byte = byte == ascii "\\"
 
--- the byte behind a backslash, but for `x`: a backslash, a quote or a space is itself, and `s`, `n`, `t` are a space, a line feed (10), a
+-- the byte after a backslash, but for `x`: a backslash, a quote or a space is itself, and `s`, `n`, `t` are a space, a line feed (10), a
 -- tab (9)
 unfoldable pub escape_of : ℕ → Option ℕ
 escape_of letter =
@@ -39,17 +39,17 @@ with_escaped None symbols = None
 with_escaped (Some byte) symbols = with_symbol (Escaped byte) symbols
 
 unfoldable mutual
-  -- the symbols of a text; None where a backslash stands before another byte, or is cut
+  -- the symbols of a text; None where a backslash precedes another byte, or is cut
   pub symbols_of : List ℕ → Option (List Symbol)
   symbols_of [] = Some []
   symbols_of (byte ∷ text) = cond (is_backslash byte) (escaped_symbols text) (with_symbol (Plain byte) (symbols_of text))
 
-  -- the symbols of a text behind a backslash
+  -- the symbols of a text after a backslash
   pub escaped_symbols : List ℕ → Option (List Symbol)
   escaped_symbols [] = None
   escaped_symbols (letter ∷ text) = cond (letter == ascii "x") (coded_symbols text) (with_escaped (escape_of letter) (symbols_of text))
 
-  -- the symbols of a text behind `\x`: two hex digits of either case are a byte
+  -- the symbols of a text after `\x`: two hex digits of either case are a byte
   pub coded_symbols : List ℕ → Option (List Symbol)
   coded_symbols [] = None
   coded_symbols (high ∷ []) = None
@@ -72,7 +72,7 @@ mark_of opened (Escaped byte) = Part byte
 mark_of None (Plain byte) = if is_white byte then Gap else if is_quote byte then Edge else Part byte
 mark_of (Some quote) (Plain byte) = if byte == quote then Edge else Part byte
 
--- which quote is open behind a symbol
+-- which quote is open after a symbol
 unfoldable pub open_after : Option ℕ → Symbol → Option ℕ
 open_after opened (Escaped byte) = opened
 open_after None (Plain byte) = if is_quote byte then Some byte else None
@@ -86,7 +86,7 @@ marks_from opened (symbol ∷ symbols) = mark_of opened symbol ∷ marks_from (o
 abbrev pub open_at_end : Option ℕ → List Symbol → Option ℕ
 open_at_end opened symbols = fold open_after opened symbols
 
--- ---- words: what stands between gaps, but for nothing at all; two edges alone are an empty word
+-- ---- words: what is between gaps, but for nothing at all; two edges alone are an empty word
 
 abbrev pub is_gap : Mark → Bool
 is_gap (Part byte) = false

@@ -2,10 +2,10 @@
 
 use thiserror::Error;
 
-/// Why a text is no list of words. Of several faults the one listed first is told.
+/// Why a text is no list of words. Of several faults the one listed first is reported.
 #[derive(Clone, Copy, Debug, PartialEq, Eq, Error)]
 pub enum WordsError {
-    /// A backslash stands before another byte than those of systemd.syntax(7), or is cut.
+    /// A backslash precedes another byte than those of systemd.syntax(7), or is cut.
     #[error("an escape cannot be read")]
     Escape,
     /// A quote is open at the end.

@@ -38,7 +38,7 @@ fn coded_at(bytes: &[u8]) -> Option<usize>
     bytes.iter().position(|byte| is_coded(*byte))
 }
 
-// the bytes before the first that is coded, that byte, and those behind it
+// the bytes before the first that is coded, that byte, and those after it
 fn split_at_coded(bytes: &[u8]) -> Option<(&[u8], u8, &[u8])>
     ensures coded { IfSome result (λ parts. IsTrue (is_coded parts.1)) }
     ensures escaped { MatchOption result (escaped_word bytes.now ≡ bytes.now)
@@ -63,8 +63,8 @@ fn push_bytes(out: &mut Vec<u8>, bytes: &[u8]) -> Result<(), AllocError>
     out.extend_from_slice(left)
 }
 
-/// Appends the text as an escaped word: each byte up to the space, DEL and `%` becomes `%` and two
-/// upper-case hex digits, and all others stand. Where there is no memory `out` stays.
+/// Appends the text as an escaped word: each byte up to the space, DEL and `%` becomes `%` and two upper-case hex
+/// digits, and all other bytes stay. If memory runs out, `out` stays as it was.
 pub fn push_word(out: &mut Vec<u8>, text: &str) -> Result<(), AllocError>
     ensures appends_the_word { OnOk result (out.new.items ≡ out.old.items ++ escaped_word text.now) }
     ensures unchanged_on_error { OnErr result (out.new.items ≡ out.old.items) }

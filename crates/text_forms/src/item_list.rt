@@ -1,8 +1,8 @@
-//! Items in their order, which contracts see as a list.
+//! Holds items in their order, which contracts see as a list.
 //!
-//! A type that a definition compares holds such a list in place of a plain `Vec`, and names it by an alias:
-//! `pub type Notes = ItemList<Note>`. It rests on std alone; `ItemList::new(notes).list()` lends the notes again.
-//! A `HeldList` keeps a fact of its items besides, which their type tells.
+//! An alias names such a list: `pub type Notes = ItemList<Note>`. A type that a definition compares holds it in place
+//! of a plain `Vec`. `ItemList::new(notes).list()` lends the notes again. A `HeldList` also keeps a fact about its
+//! items, which their type states.
 
 ghost use Rattle.std.specs.Prelude.{◌≡◌, ◌==◌, ◌++◌, ◌∷◌, [], IfOk, OnOk, OnErr};
 ghost use Rattle.std.specs.List.{list_any};
@@ -53,7 +53,7 @@ impl<T> ItemList<T> {
 }
 
 impl<T: Drop> ItemList<T> {
-    /// Puts an item behind the others; where there is no memory they stay as they were.
+    /// Adds an item after the others; if memory runs out, they stay as they were.
     pub fn push(&mut self, item: T) -> Result<(), AllocError>
         ensures longer { OnOk result (self.new ≡ self.old ++ item ∷ []) }
         ensures unchanged { OnErr result (self.new ≡ self.old) }
@@ -62,7 +62,7 @@ impl<T: Drop> ItemList<T> {
         Ok(())
     }
 
-    /// These items, and behind them those.
+    /// These items, and after them those.
     pub fn and(self, more: ItemList<T>) -> Result<ItemList<T>, AllocError>
         ensures appended { IfOk result (λ all. all ≡ self ++ more) }
     {
@@ -89,7 +89,7 @@ impl<T: Copy> ItemList<T> {
 }
 
 impl ItemList<u32> {
-    /// Whether the number is among them.
+    /// Returns whether the number is among them.
     pub fn contains(&self, number: u32) -> bool
         ensures is_among { result ≡ list_any (λ own. number == own) self.now }
     {

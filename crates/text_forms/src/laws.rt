@@ -1,4 +1,4 @@
-//! Laws of the forms, each the contract of a function that does nothing.
+//! The laws of the forms. Each is the contract of a function that does nothing.
 
 ghost use Rattle.std.specs.Prelude.{◌≡◌, ◌≢◌, ◌<◌, ◌^◌, ℕ, List, Some, Ok, Err, All, IsTrue, ◌↔◌, codes, decimal, slice_index, false};
 ghost use Rattle.text_forms.specs.Numbers.{number_value};
@@ -23,9 +23,9 @@ pub fn escaped_word_read()
     ensures no_white_space { (text : List ℕ) → All (λ byte. 32 < byte) (escaped_word text) }
 {}
 
-/// The grammar of systemd.syntax(7) decides: a text that is written and laid out by it is split so,
-/// one that cannot be written is Escape, one that cannot be laid out is Quote, and one of whose
-/// words one is not UTF-8 is NotText.
+/// A text is split as the grammar of systemd.syntax(7) says, if it is written and laid out by that grammar. A text
+/// that cannot be written is Escape, one that cannot be laid out is Quote, and one with a word that is not UTF-8 is
+/// NotText.
 pub fn text_split_by_grammar()
     ensures symbols_as_written { (text : List ℕ) (symbols : List Symbol)
         → (symbols_of text ≡ Some symbols) ↔ Spells symbols text }

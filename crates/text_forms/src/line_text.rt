@@ -1,8 +1,8 @@
-//! Texts that are read line by line.
+//! Reads texts line by line.
 //!
-//! Bytes are text where they are UTF-8 without NUL. A text is cut at each LF; empty lines and lines that begin with `#`
-//! are passed over but keep their numbers, and the words of a line stand between spaces. It rests on std alone:
-//! `words(alloc, "call  read 0")?` has the three words `call`, `read` and `0`.
+//! Bytes are text if they are UTF-8 without NUL. A text is cut at each LF. Empty lines and lines that begin with `#`
+//! are skipped but keep their numbers, and spaces separate the words of a line: `words(alloc, "call  read 0")?` has
+//! the three words `call`, `read` and `0`.
 
 mod lines;
 mod text;

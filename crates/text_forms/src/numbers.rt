@@ -1,4 +1,4 @@
-//! Reading and printing of numbers.
+//! Reads and prints numbers.
 
 ghost use Rattle.std.specs.Prelude.{◌≡◌, ◌≤◌, ◌++◌, OnOk, OnErr, decimal, nat_eq, codes, option_map};
 ghost use Rattle.std.specs.List.{starts_with};
@@ -13,7 +13,7 @@ fn has_plus(digits: &str) -> bool
     digits.as_bytes().starts_with(b"+")
 }
 
-// what stands behind `0x`
+// the text after `0x`
 fn hex_digits(text: &str) -> Option<&str>
     ensures { option_map (λ digits. digits.now) result ≡ hex_digits text.now }
 {
@@ -32,7 +32,7 @@ fn read_numeral(digits: &str, radix: u32) -> Option<u64>
     u64::from_str_radix(digits, radix).ok()
 }
 
-/// The number of a decimal text, one or more ASCII digits, or None: another form, or 2^64 and above.
+/// Returns the number of a decimal text, one or more ASCII digits. None is for another form, and for 2^64 and above.
 #[tactic(auto, unfolding(crate::specs::Numbers::decimal_value))]
 pub fn read_decimal(text: &str) -> Option<u64>
     ensures decimal { result ≡ decimal_value text.now }
@@ -40,7 +40,7 @@ pub fn read_decimal(text: &str) -> Option<u64>
     read_numeral(text, 10)
 }
 
-/// The number of a decimal text, or of `0x` and one or more hex digits of either case.
+/// Returns the number of a decimal text, or of `0x` and one or more hex digits of either case.
 ///
 /// Leading zeros change nothing. None is for another form, and for 2^64 and above.
 #[tactic(auto, unfolding(crate::specs::Numbers::number_value))]
@@ -53,7 +53,7 @@ pub fn read_u64(text: &str) -> Option<u64>
     }
 }
 
-/// Appends the number in decimal, without leading zeros. Where there is no memory `out` stays.
+/// Appends the number in decimal, without leading zeros. If memory runs out, `out` stays.
 pub fn push_u64(out: &mut Vec<u8>, n: u64) -> Result<(), AllocError>
     ensures appends_decimal { OnOk result (out.new.items ≡ out.old.items ++ decimal n) }
     ensures unchanged_on_error { OnErr result (out.new.items ≡ out.old.items) }

@@ -1,7 +1,6 @@
 //! Splitting a text into words, with quotes and escapes (systemd.syntax(7), Quoting).
 //!
-//! A text is gone through symbol by symbol: its escapes are read, its quotes are seen, and what
-//! stands between gaps is a word.
+//! The text is read symbol by symbol: escapes are read, quotes are seen, and what is between gaps is a word.
 
 mod marks;
 mod symbols;
@@ -29,7 +28,7 @@ struct SoFar {
     whole: Option<Vec<String>>,
 }
 
-// puts a byte behind the word that is begun, which it may begin
+// puts a byte after the word that is begun, which it may begin
 fn push_part(alloc: Global, begun: &mut Option<Vec<u8>>, byte: u8) -> Result<(), AllocError>
     ensures { OnOk result (begun_bytes begun.new ≡ Some (unwrap_or (begun_bytes begun.old) [] ++ byte ∷ [])) }
 {
@@ -105,12 +104,12 @@ impl SoFar {
     }
 }
 
-/// The words of a text, split at spaces, tabs and carriage returns.
+/// Splits a text into words at spaces, tabs and carriage returns.
 ///
-/// `'..'` and `".."` quote, also within a word, and `''` is an empty word. A backslash stands,
-/// within quotes too, before `\`, `"`, `'`, a space, `s` for a space, `n`, `t` or `x` and two hex
-/// digits. The first other or cut escape is Escape; else a quote that is open at the end is Quote;
-/// else a word that is not UTF-8 is NotText. Memory may come at any text.
+/// `'..'` and `".."` quote, also within a word, and `''` is an empty word. A backslash, also within quotes, precedes
+/// `\`, `"`, `'`, a space, `s` for a space, `n`, `t` or `x` and two hex digits. The first other or cut escape is
+/// Escape; else a quote that is open at the end is Quote; else a word that is not UTF-8 is NotText. Memory may come
+/// for any text.
 pub fn words(alloc: Global, text: &str) -> Result<Vec<String>, WordsError>
     ensures splits_or_first_fault { Splits text.now result }
 {

@@ -1,4 +1,4 @@
--- The keys that a table may have, what stands at each, and which of them must be there.
+-- The keys that a table may have, the shape of each value, and which of them must be there.
 use Rattle.std.specs.Prelude.{ℕ, Bool, true, false, ◌&&◌, List, is_some}
 use denote.Ref.{Bor}
 use Rattle.std.specs.List.{list_any, list_all}
@@ -11,7 +11,7 @@ use Rattle.toml_shapes.specs.declared.keys.Need.{Need}
 use Rattle.toml_shapes.specs.declared.keys.Need.TheVariants.{Must, May}
 use Rattle.toml_shapes.specs.Tree.{elements_of}
 
--- a key: its name, what stands at it, and whether it must be there
+-- a key: its name, the shape of its value, and whether it must be there
 abbrev pub KnownKey : Type 0
 KnownKey = List ℕ × Shape × Need
 
@@ -43,7 +43,7 @@ has_shape Texts value = is_array_of is_text value
 has_shape Numbers value = is_array_of is_number value
 has_shape Tables value = is_array_of is_table value
 
--- a known key, with what may stand at it
+-- a known key, with the value that it may have
 abbrev pub is_known : List KnownKey → List ℕ → Data → Bool
 is_known keys key value = list_any (λ one. bytes_eq key one.0 && has_shape one.1 value) keys
 

@@ -1,4 +1,4 @@
-//! The keys that a table may have, with what stands at each.
+//! The keys that a table may have, with the shape of each value.
 
 ghost use Rattle.std.specs.Prelude.{◌≡◌, map, string_bytes};
 ghost use Rattle.std.specs.List.{list_all};
@@ -8,7 +8,7 @@ ghost use Rattle.toml_shapes.specs.Keys.{known, is_held, is_text, is_number, is_
 use crate::tree::elements_of;
 use toml::{Table, Value};
 
-/// What stands at a key.
+/// The shape of the value at a key.
 #[derive(Clone, Copy)]
 pub enum Shape {
     Text,
@@ -29,7 +29,7 @@ pub enum Need {
     May,
 }
 
-/// A key of a table: its name, what stands at it, and whether it must be there.
+/// A key of a table: its name, the shape of its value, and whether it must be there.
 pub type Key = (&'static str, Shape, Need);
 
 fn is_text(value: &Value) -> bool
@@ -78,7 +78,7 @@ impl Shape {
     }
 }
 
-// whether the key is known, and this may stand at it
+// whether the key is known and may have this value
 #[tactic(auto, unfolding(crate::specs::Keys::is_held))]
 fn is_known(keys: &[Key], key: &str, value: &Value) -> bool
     ensures { result ≡ is_held keys.now key.now (view value.now) }
@@ -99,7 +99,7 @@ fn lacks_none(keys: &[Key], value: &Value) -> bool
     keys.iter().all(|one| matches!(one.2, Need::May) || value.get(one.0).is_some())
 }
 
-/// Whether the value is a table with these keys alone, and each that must be there.
+/// Returns whether the value is a table with these keys alone, and each that must be there.
 pub fn has_keys(keys: &[Key], value: &Value) -> bool
     ensures known_and_needed { result ≡ has_keys (map known keys.now) (view value.now) }
 {

@@ -1,7 +1,7 @@
-//! Tables of TOML with a shape: what stands at a key, and whether a table has the keys that it may have.
+//! Looks up keys in tables of TOML, and tests if a table has the keys that it may have.
 //!
-//! It stands on `toml` for the tree of a text. With `KEYS` of one key `("path", Shape::Text, Need::Must)`
-//! the table of `path = "/"` has its keys, and `text_at(&table, "path")` is `Some("/")`.
+//! `text_at(&table, "path")` is `Some("/")` in the table of `path = "/"`. That table has the keys `KEYS` of one key
+//! `("path", Shape::Text, Need::Must)`. `toml` gives the tree of a text.
 #![tactic(auto)]
 
 mod keys;

@@ -1,4 +1,4 @@
-//! What a value of the tree has at a key.
+//! Looks up keys in a value of the tree.
 
 ghost use Rattle.std.specs.Prelude.{◌≡◌, map, option_map, option_copied};
 ghost use Rattle.toml.specs.Data.{get};

@@ -14,21 +14,21 @@ pub data Kind : Type 0 where
   no_equals : Kind
   assigns : (key value : List ℕ) → Kind
 
--- what stands behind a byte at the front
+-- the text after a byte at the front
 abbrev pub behind : ℕ → List ℕ → Option (List ℕ)
 behind byte [] = None
 behind byte (first ∷ text) = cond (first == byte) (Some text) None
 
--- what stands before a byte at the end
+-- the text before a byte at the end
 abbrev pub before : ℕ → List ℕ → Option (List ℕ)
 before byte text = option_map reverse (behind byte (reverse text))
 
--- what stands on the two sides of the first such byte
+-- the text on the two sides of the first such byte
 abbrev pub cut_at : ℕ → List ℕ → Option (List ℕ × List ℕ)
 cut_at byte text = cond (nat_lt (position_or_len (λ b. b == byte) text) (length text))
     (Some (before_first (λ b. b == byte) text, after_first (λ b. b == byte) text)) None
 
--- what stands between the brackets is the name
+-- the text between the brackets is the name
 abbrev pub named_header : Option (List ℕ) → Kind
 named_header None = bad_header
 named_header (Some section) = header section
@@ -38,7 +38,7 @@ abbrev pub keyed : List ℕ → List ℕ → Kind
 keyed [] value = no_equals
 keyed (byte ∷ key) value = assigns (byte ∷ key) value
 
--- the key stands before the first `=`, the value behind it
+-- the key is before the first `=`, the value after it
 abbrev pub assigned : Option (List ℕ × List ℕ) → Kind
 assigned None = no_equals
 assigned (Some sides) = keyed (trim sides.0) (trim sides.1)

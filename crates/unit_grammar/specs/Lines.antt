@@ -16,7 +16,7 @@ parts_from number lines = filter (λ part. not (is_comment part.text)) (map part
 abbrev pub file_parts : List ℕ → List Line
 file_parts text = parts_from 1 (slice_split (λ byte. byte == 10) text)
 
--- a list that is cut behind each element that passes
+-- a list that is cut after each element that passes
 abbrev pub split_after : {X : Type 0} → (X → Bool) → List X → List (List X)
 split_after test [] = []
 split_after test (x ∷ xs) = cond (test x) ((x ∷ []) ∷ split_after test xs) (onto_first x (split_after test xs))

@@ -32,7 +32,7 @@ Takes lines line (Err NotText) section assignments notes = ⊥
 Takes lines line (Err TooMany) section assignments notes = fault_at (lines, line) ≡ Some TooMany
 Takes lines line (Err (BadHeader number)) section assignments notes = fault_at (lines, line) ≡ Some (BadHeader number)
 
--- where a reader stands in a file of some joined lines: behind some of them, with a line that goes on or none, and before these parts
+-- the place of a reader in a file of some joined lines: after some of them, with a line that goes on or none, and before these parts
 pub record StandsBefore (lines : List Line) (begun : Option Line) (parts : List Line) (section : Option (List ℕ)) (assignments : List Assignment) (notes : List Note) : Type 0 where
   pub front : List Line
   pub read : HasRead front section assignments notes

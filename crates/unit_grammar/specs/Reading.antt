@@ -22,7 +22,7 @@ header_name kind = None
 abbrev pub section_of : List Line → Option (List ℕ)
 section_of before = last_of (filter_map (λ line. header_name (kind_of line.text)) before)
 
--- an assignment that stands under a header
+-- an assignment that is under a header
 abbrev pub under : Option (List ℕ) → ℕ → List ℕ → List ℕ → Option Assignment
 under None number key value = None
 under (Some section) number key value = Some (record { section = section; key = key; value = value; line = number })
@@ -35,7 +35,7 @@ assignment_in section number bad_header = None
 assignment_in section number no_equals = None
 assignment_in section number (assigns key value) = under section number key value
 
--- what a line assigns, behind those before it
+-- what a line assigns, after those before it
 abbrev pub assignment_at : List Line × Line → Option Assignment
 assignment_at place = assignment_in (section_of place.0) place.1.number (kind_of place.1.text)
 
@@ -56,7 +56,7 @@ note_in section number bad_header = None
 note_in section number no_equals = Some (record { line = number; cause = NoEquals })
 note_in section number (assigns key value) = unplaced section number
 
--- what is noted of a line, behind those before it
+-- what is noted of a line, after those before it
 abbrev pub note_at : List Line × Line → Option Note
 note_at place = note_in (section_of place.0) place.1.number (kind_of place.1.text)
 
@@ -64,7 +64,7 @@ note_at place = note_in (section_of place.0) place.1.number (kind_of place.1.tex
 abbrev pub notes_of : List Line → List Note
 notes_of lines = filter_map note_at (with_before [] lines)
 
--- an assignment under a header is one too many behind 4,096 others
+-- an assignment under a header is one too many after 4,096 others
 abbrev pub overfull : Option (List ℕ) → ℕ → Option UnitError
 overfull None count = None
 overfull (Some section) count = cond (nat_le 4096 count) (Some TooMany) None
@@ -77,7 +77,7 @@ fault_in section count number bad_header = Some (BadHeader number)
 fault_in section count number no_equals = None
 fault_in section count number (assigns key value) = overfull section count
 
--- the fault of a line, behind those before it
+-- the fault of a line, after those before it
 abbrev pub fault_at : List Line × Line → Option UnitError
 fault_at place = fault_in (section_of place.0) (length (assignments_of place.0)) place.1.number (kind_of place.1.text)
 

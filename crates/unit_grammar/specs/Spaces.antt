@@ -14,7 +14,7 @@ is_backslash byte = byte == 92
 abbrev pub trim_start : List ℕ → List ℕ
 trim_start text = drop (prefix_len is_white text) text
 
--- without the white space behind it
+-- without the white space after it
 abbrev pub trim_end : List ℕ → List ℕ
 trim_end text = take (length text - suffix_len is_white text) text
 

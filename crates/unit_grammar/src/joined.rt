@@ -1,6 +1,6 @@
 // A line that goes on in the next.
 //
-// Only such a line has a text of its own; any other is read where it stands in the file.
+// Only such a line has a text of its own; any other is read where it is in the file.
 ghost use Rattle.std.specs.Prelude.{◌≡◌, IfOk, true};
 ghost use Rattle.unit_grammar.specs.Spaces.{continues};
 ghost use Rattle.unit_grammar.specs.Joining.{opened, extended};
@@ -17,7 +17,7 @@ pub struct Line {
     pub text: Text,
 }
 
-// The line that has been begun, with a part behind it, or the part alone.
+// The line that has been begun, with a part after it, or the part alone.
 fn extend(alloc: Global, begun: Option<Line>, number: u64, text: &str) -> Result<Line, AllocError>
     ensures { IfOk result (λ line. line ≡ extended begun (record { number = number; text = text.now })) }
 {

@@ -84,7 +84,7 @@ fn kind_of_trimmed(line: &str) -> Kind<'_>
     }
 }
 
-/// What the line is.
+/// Returns the kind of the line.
 pub fn kind_of_line(line: &str) -> Kind<'_>
     ensures its_kind { seen result ≡ kind_of line.now }
 {

@@ -1,7 +1,7 @@
-//! What a unit file assigns.
+//! Reads the assignments of a unit file.
 //!
-//! Lines are joined, and each joined line is skipped, a header, noted or an assignment;
-//! systemd.syntax(7) has the rules. It rests on nothing, and `dropin_merge` reads files by it.
+//! Lines are joined, and each joined line is skipped, a header, an assignment, or gets a note (systemd.syntax(7)).
+//! `dropin_merge` reads files by it.
 //!
 //! `read_unit(alloc, b"[Service]\nUser=web\n")?` has one assignment and no note.
 #![tactic(auto)]

@@ -1,4 +1,4 @@
-// What is remarked on a line that is passed over.
+// Notes on lines that have no effect.
 //
 // The grammar makes two of the causes; the others are for the readers of the values.
 ghost use Rattle.std.specs.Prelude.{◌≡◌};

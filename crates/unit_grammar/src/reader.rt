@@ -1,6 +1,6 @@
-// A unit, line by line.
+// Reads a unit, line by line.
 //
-// Each joined line is read as soon as it is whole; what it is comes from `kinds`.
+// Each joined line is read as soon as it is whole; `kinds` gives its kind.
 ghost use Rattle.std.specs.Prelude.{◌≡◌, ◌≢◌, ◌↔◌, ◌+◌, ◌∷◌, [], ℕ, List, IfOk, IfErr, Ok, Err, None};
 ghost use Rattle.std.specs.Option.{option_map};
 ghost use Rattle.unit_grammar.specs.declared.joined.Line.{Line};
@@ -25,14 +25,14 @@ use std::str;
 /// The most assignments that a file may have under its headers.
 const MOST_ASSIGNMENTS: usize = 4096;
 
-// Puts a note on a line behind the others.
+// Adds a note on a line after the others.
 fn add_note(notes: &mut Notes, line: u64, cause: NoteCause) -> Result<(), UnitError>
     ensures { AddsNote notes.old (record { line = line; cause = cause }) result notes.new }
 {
     Ok(notes.push(Note { line, cause })?)
 }
 
-// Puts an assignment in a section behind the others.
+// Adds an assignment in a section after the others.
 fn add_assignment(
     assignments: &mut Assignments,
     alloc: Global,
@@ -54,8 +54,8 @@ fn add_assignment(
     })?)
 }
 
-// What has been read: the section of the last header, what stands in the joined lines so far, and
-// the line that goes on.
+// What has been read: the section of the last header, the assignments and notes of the joined lines so far, and the
+// line that goes on.
 #[derive(Drop)]
 struct Reader {
     section: Option<Text>,
@@ -136,7 +136,7 @@ impl Reader {
         }
     }
 
-    // What has been read.
+    // Returns the unit that has been read.
     fn unit(self) -> UnitText
         ensures { (lines : List Line) → HasRead lines self.section self.assignments self.notes → unit_of_lines lines ≡ Ok result }
     {
@@ -149,14 +149,14 @@ impl Reader {
     }
 }
 
-// The first line and what stands behind its LF, where there is one.
+// Returns the first line and the text after its LF, if there is one.
 fn first_line(text: &str) -> Option<(&str, &str)>
     ensures { option_map (λ sides. (sides.0.now, sides.1.now)) result ≡ cut_at 10 text.now }
 {
     text.split_once('\n')
 }
 
-// What the lines of a text assign.
+// Returns the unit of the lines of a text.
 fn read_text(alloc: Global, text: &str) -> Result<UnitText, UnitError>
     ensures { IsUnlessMemory result (unit_of_lines (joined_lines text.now)) }
 {
@@ -178,7 +178,7 @@ fn read_text(alloc: Global, text: &str) -> Result<UnitText, UnitError>
     Ok(reader.unit())
 }
 
-// What the bytes assign.
+// Returns the unit of the bytes.
 fn read_bytes(alloc: Global, bytes: &[u8]) -> Result<UnitText, UnitError>
     ensures { IsUnlessMemory result (unit_of bytes.now) }
 {
@@ -193,21 +193,20 @@ fn read_bytes(alloc: Global, bytes: &[u8]) -> Result<UnitText, UnitError>
 
 /// Reads what a unit file assigns, as systemd.syntax(7) says.
 ///
-/// Lines are split at LF, and white space is space, tab and CR. A line whose first other character is
-/// `#` or `;` is passed over. A line that ends in an odd number of backslashes goes on in the next:
-/// its last backslash becomes a space. `[NAME]` is a header; any other line that is not empty gives
-/// the key before its first `=` the value behind it. A line without `=` or without a key is noted,
-/// and so is an assignment before any header.
+/// Lines are split at LF, and white space is space, tab and CR. A line whose first other character is `#` or `;` is
+/// skipped. A line that ends in an odd number of backslashes continues in the next, and its last backslash becomes a
+/// space. `[NAME]` is a header. Any other line that is not empty assigns the value after its first `=` to the key
+/// before it. A line without `=` or without a key gets a note, and so does an assignment before any header.
 ///
-/// `NotText` comes first, where the bytes are not UTF-8 or have a NUL. Then the earlier decides:
-/// `BadHeader` of the first header without its closing bracket, or `TooMany` at the 4,097th
-/// assignment under a header, in all sections together.
+/// `NotText` comes first, if the bytes are not UTF-8 or have a NUL. Then the earlier of two faults decides:
+/// `BadHeader` of the first header without its closing bracket, or `TooMany` at the 4,097th assignment under a
+/// header, in all sections together.
 pub fn read_unit(alloc: Global, bytes: &[u8]) -> Result<UnitText, UnitError>
     ensures reads_the_unit { IfOk result (λ unit. unit_of bytes.now ≡ Ok unit) }
     ensures first_fault { IfErr result (λ error. error ≢ Memory → unit_of bytes.now ≡ Err error) }
-    // What joining means: which stretches of the file the joined lines are.
+    // Joining: the joined lines are these stretches of the file.
     ensures joining_is_by_stretches { (lines : List Line) → (joined_lines bytes.now ≡ lines) ↔ Joins bytes.now lines }
-    // What a joined line means: by the text between the white space at its ends.
+    // The meaning of a joined line is that of the text between the white space at its ends.
     ensures kinds_are_meanings { (line : List ℕ) (kind : LineKind) → (kind_of line ≡ kind) ↔ Means (trim line) kind }
 {
     read_bytes(alloc, bytes)

@@ -53,7 +53,7 @@ pub fn trimmed(text: &str) -> &str
     trimmed_end(trimmed_start(text))
 }
 
-/// Whether a line goes on in the next.
+/// Returns whether a line goes on in the next.
 pub fn continues_line(line: &str) -> bool
     ensures ends_open { result ≡ continues line.now }
 {
@@ -68,7 +68,7 @@ pub fn without_backslash(line: &str) -> &str
     &line[..line.len() - 1]
 }
 
-/// Whether a line without leading white space is a comment.
+/// Returns whether a line without leading white space is a comment.
 pub fn is_comment_line(line: &str) -> bool
     ensures by_its_first_mark { result ≡ is_comment line.now }
 {

@@ -49,7 +49,7 @@ impl Text {
         self.inner.as_str()
     }
 
-    /// Puts a piece behind the text.
+    /// Appends a piece to the text.
     pub fn push(&mut self, piece: &str) -> Result<(), AllocError>
         ensures longer { OnOk result (self.new ≡ self.old ++ piece.now) }
         ensures unchanged { OnErr result (self.new ≡ self.old) }

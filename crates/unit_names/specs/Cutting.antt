@@ -5,21 +5,21 @@ use Rattle.std.specs.Option.{option_and_then, option_copied}
 use Rattle.unit_names.specs.Names.{Name, at_sign, is_unit_name}
 use Rattle.unit_names.specs.declared.cutting.Parts.{Parts}
 
--- what stands before an ending
+-- the text before an ending
 abbrev pub before_end : List ℕ → List ℕ → Option (List ℕ)
 before_end ending text = cond (ends_with nat_eq text ending) (Some (take (length text - length ending) text)) None
 
--- what stands on the two sides of the first such byte
+-- the text on the two sides of the first such byte
 abbrev pub cut_at : ℕ → List ℕ → Option (List ℕ × List ℕ)
 cut_at byte text = cond (nat_lt (position_or_len (λ b. b == byte) text) (length text))
     (Some (before_first (λ b. b == byte) text, after_first (λ b. b == byte) text)) None
 
--- the parts of a stem, by what stands on the two sides of its first `@`
+-- the parts of a stem, by the text on the two sides of its first `@`
 abbrev pub of_sides : List ℕ → Option (List ℕ × List ℕ) → Name
 of_sides stem None = record { prefix = stem; instance = None }
 of_sides stem (Some sides) = record { prefix = sides.0; instance = Some sides.1 }
 
--- the parts of what stands before `.service`
+-- the parts of the text before `.service`
 abbrev pub of_stem : List ℕ → Name
 of_stem stem = of_sides stem (cut_at at_sign stem)
 

@@ -29,7 +29,7 @@ abbrev pub is_instance : Option (List ℕ) → Bool
 is_instance None = true
 is_instance (Some instance) = is_filled_by is_instance_byte instance
 
--- an instance stands behind an `@`
+-- an instance is after an `@`
 abbrev pub behind_prefix : Option (List ℕ) → List ℕ
 behind_prefix None = []
 behind_prefix (Some instance) = at_sign ∷ instance

@@ -35,7 +35,7 @@ spelling UserName = percent ∷ codes "u"
 spelling UserNumber = percent ∷ codes "U"
 spelling HomeFolder = percent ∷ codes "h"
 
--- the prefix behind its last dash, or all of it
+-- the prefix after its last dash, or all of it
 abbrev pub last_part : List ℕ → List ℕ
 last_part prefix = after_last (λ byte. byte == dash) prefix
 
@@ -83,7 +83,7 @@ specifiers =
     StateFolder ∷ CacheFolder ∷ LogFolder ∷ ConfigFolder ∷ TemporaryFolder ∷ LastingTemporaryFolder ∷ UserName ∷ UserNumber ∷
     HomeFolder ∷ []
 
--- the character behind the `%`
+-- the character after the `%`
 abbrev pub letter_of : Specifier → ℕ
 letter_of specifier = slice_index (spelling specifier) 1
 

@@ -9,20 +9,20 @@ use Rattle.unit_names.specs.declared.expansion.ExpandError.{ExpandError}
 use Rattle.unit_names.specs.declared.expansion.ExpandError.TheVariants.{Specifier as Refused, Memory}
 use denote.Ref.{Bor}
 
--- the first piece of an escaped text: its byte, and the text behind it
+-- the first piece of an escaped text: its byte, and the text after it
 abbrev pub TakesPart : List ℕ → Result (Option (ℕ × Bor (List ℕ))) ExpandError → Type 0
 TakesPart text (Ok None) = text ≡ []
 TakesPart text (Ok (Some taken)) = (unescaped text ≡ onto (Some taken.0) (unescaped taken.1.now)) × (length taken.1.now < length text)
 TakesPart text (Err Refused) = unescaped text ≡ None
 TakesPart text (Err Memory) = ⊥
 
--- what is put behind some bytes
+-- what is put after some bytes
 abbrev pub AddsMeaning : List ℕ → Option (List ℕ) → Result (Unit {0}) ExpandError → List ℕ → Type 0
 AddsMeaning old meant (Ok done) new = option_append (Some old) meant ≡ Some new
 AddsMeaning old meant (Err Refused) new = meant ≡ None
 AddsMeaning old meant (Err Memory) new = Unit {0}
 
--- what the first piece of a value puts behind some bytes, and the value behind the piece
+-- what the first piece of a value puts after some bytes, and the value after the piece
 abbrev pub TakesPiece : Name → List ℕ → List ℕ → Result (Bor (List ℕ)) ExpandError → List ℕ → Type 0
 TakesPiece name value old (Ok rest) new =
     (option_append (Some old) (expanded_bytes name value) ≡ option_append (Some new) (expanded_bytes name rest.now)) ×

@@ -46,7 +46,7 @@ begins_with byte (first ∷ text) = first == byte
 abbrev pub is_other : ℕ → List ℕ → Bool
 is_other byte text = not (byte == dash) && not (byte == backslash && begins_with letter_x text)
 
--- whether each piece is one where it stands
+-- whether each piece is one where it is
 abbrev pub are_parts : List Part → Bool
 are_parts [] = true
 are_parts (dashed ∷ parts) = are_parts parts

@@ -7,7 +7,7 @@ ghost use Rattle.std.specs.Option.{option_map, option_copied};
 ghost use Rattle.unit_names.specs.Names.{is_prefix_byte, is_instance_byte, is_filled_by, is_instance};
 ghost use Rattle.unit_names.specs.Cutting.{before_end, cut_at, of_stem, name_of, borrowed_name};
 
-/// What stands behind a prefix and an instance.
+/// The end of every name, after its prefix and its instance.
 pub const SUFFIX: &str = ".service";
 
 /// The most bytes that a name has.
@@ -20,7 +20,7 @@ pub struct Parts<'a> {
     pub instance: Option<&'a str>,
 }
 
-/// What stands before `.service`, where the text ends so.
+/// Returns the text before `.service`, if the text ends so.
 pub fn stem_of(text: &str) -> Option<&str>
     ensures before_the_ending { option_map (λ stem. stem.now) result ≡ before_end (codes ".service") text.now }
 {
@@ -33,7 +33,7 @@ fn sides_of_at(stem: &str) -> Option<(&str, &str)>
     stem.split_once('@')
 }
 
-/// The parts of what stands before `.service`: they are cut at the first `@`.
+/// Returns the parts of the text before `.service`, which is cut at the first `@`.
 pub fn parts_of(stem: &str) -> Parts<'_>
     ensures of_the_stem { borrowed_name result ≡ of_stem stem.now }
 {
@@ -86,7 +86,7 @@ fn is_instance(instance: Option<&str>) -> bool
     instance.is_none_or(|instance| is_instance_text(instance))
 }
 
-/// The parts of the name that a text is, or nothing where it is none.
+/// Returns the parts of a text that is a name, or nothing if it is none.
 pub fn name_parts(text: &str) -> Option<Parts<'_>>
     ensures of_a_name { option_map (λ parts. borrowed_name parts) result ≡ name_of text.now }
 {

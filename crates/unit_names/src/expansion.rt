@@ -1,6 +1,6 @@
-// A value with its specifiers expanded.
+// Expands the specifiers of a value.
 //
-// The pieces of a value are taken one by one; `specifier` tells what each stands for.
+// The pieces of a value are taken one by one; `specifier` gives the text of each.
 ghost use Rattle.std.specs.Prelude.{◌≡◌, ◌↔◌, ◌∷◌, List, ℕ, IfOk, Some, None};
 ghost use Rattle.std.specs.String.{string_bytes};
 ghost use Rattle.unit_names.specs.Specifiers.{percent, meaning};
@@ -38,7 +38,7 @@ impl From<AllocError> for ExpandError {
     }
 }
 
-// Puts what a specifier stands for behind the bytes.
+// Appends what a specifier stands for to the bytes.
 fn push_meaning(
     bytes: &mut Vec<u8>,
     name: &UnitName,
@@ -54,7 +54,7 @@ fn push_meaning(
     }
 }
 
-// Puts what a specifier stands for behind the bytes, and gives what stands behind its letter.
+// Appends what a specifier stands for to the bytes, and gives the text after its letter.
 fn push_specifier<'a>(
     bytes: &mut Vec<u8>,
     name: &UnitName,
@@ -68,7 +68,7 @@ fn push_specifier<'a>(
     Ok(rest)
 }
 
-// Puts what a piece stands for behind the bytes, and gives what stands behind the piece.
+// Appends what a piece stands for to the bytes, and gives the text after the piece.
 fn push_piece<'a>(
     bytes: &mut Vec<u8>,
     name: &UnitName,
@@ -118,18 +118,18 @@ fn expanded(alloc: Global, name: &UnitName, value: &str) -> Result<String, Expan
     text_of(bytes)
 }
 
-/// A value with its specifiers expanded; `Specifier` exactly where that cannot be.
+/// Expands the specifiers of a value. `Specifier` comes exactly if that cannot be done.
 ///
-/// systemd.unit(5), Specifiers: `%%`, `%n`, `%N`, `%p`, `%i`, `%j`, `%P`, `%I`, `%J`, `%t`, `%S`,
-/// `%C`, `%L`, `%E`, `%T`, `%V`, `%u`, `%U` and `%h`. A `%` that makes none of them, an unescaped
-/// text whose `\x` lacks its two digits, and a result that is not UTF-8 are refused, and so is one of
-/// more than 1,048,576 bytes, the longest line that systemd reads.
+/// The specifiers are `%%`, `%n`, `%N`, `%p`, `%i`, `%j`, `%P`, `%I`, `%J`, `%t`, `%S`, `%C`, `%L`, `%E`, `%T`, `%V`,
+/// `%u`, `%U` and `%h` (systemd.unit(5), Specifiers). A `%` that makes none of them is refused, and so is an
+/// unescaped text whose `\x` lacks its two digits. A result is refused if it is not UTF-8 or has more than 1,048,576
+/// bytes, the longest line that systemd reads.
 pub fn expand(alloc: Global, name: &UnitName, value: &str) -> Result<String, ExpandError>
     ensures expands_the_value { IfOk result (λ text. expansion name.now value.now ≡ Some (string_bytes text)) }
     ensures refuses_the_value { result ≡ Err NotExpanded → expansion name.now value.now ≡ None }
-    // What expanding means: the pieces of the value, and what they stand for together.
+    // Expanding: the pieces of the value, and the text that they make together.
     ensures expanding_is_by_pieces { (text : List ℕ) → (expansion name.now value.now ≡ Some text) ↔ Expands name.now value.now text }
-    // What unescaping means in it: the pieces of the text, and what each stands for.
+    // Unescaping: the pieces of the text, and the byte of each.
     ensures unescaping_is_by_pieces { (text plain : List ℕ) → (unescaped text ≡ Some plain) ↔ Unescapes text plain }
 {
     expanded(alloc, name, value)

@@ -1,6 +1,6 @@
-// The folders of a name's drop-ins.
+// Lists the folders of a name's drop-ins.
 //
-// The most specific comes first; systemd.unit(5), Description, has the rule.
+// The most specific comes first (systemd.unit(5), Description).
 ghost use Rattle.std.specs.Prelude.{◌≡◌, ◌++◌, ◌<◌, ◌+◌, IfOk, OnOk, map, length, true};
 ghost use Rattle.std.specs.String.{string_bytes};
 ghost use Rattle.unit_names.specs.Folders.{is_inner_dash, dash_folder, dash_folders, folder_of, template_folders, folders_of};
@@ -16,7 +16,7 @@ fn folder_of(alloc: Global, unit: &str) -> Result<String, AllocError>
     format!(in alloc; "{unit}.d")
 }
 
-// Whether a dash stands at a place of a prefix, with text on both sides.
+// Returns whether a dash stands at a place of a prefix, with text on both sides.
 fn is_inner_dash(prefix: &[u8], place: usize) -> bool
     requires { place < length prefix.now }
     ensures { result ≡ is_inner_dash prefix.now place }
@@ -63,11 +63,14 @@ fn push_template_folder(
     Ok(())
 }
 
-/// The folders of a name's drop-ins, the most specific first.
+/// Lists the folders of a name's drop-ins, the most specific first.
 ///
-/// They are `NAME.d`, for an instance `PREFIX@.service.d`, for each dash of the prefix that has text
-/// on both sides the prefix up to that dash with `.service.d`, from the last dash to the first, and
-/// `service.d`.
+/// They are, in this order:
+/// - `NAME.d`;
+/// - for an instance, `PREFIX@.service.d`;
+/// - for each dash of the prefix that has text on both sides, from the last dash to the first, the prefix up to and
+///   with that dash and then `.service.d`;
+/// - `service.d`.
 pub fn dropin_folders(alloc: Global, name: &UnitName) -> Result<Vec<String>, AllocError>
     ensures most_specific_first { IfOk result (λ folders. map string_bytes folders.items ≡ folders_of name.now) }
 {

@@ -1,7 +1,7 @@
-//! The names of services, the folders of their drop-ins, and the specifiers in their settings.
+//! Reads names of services, lists the folders of their drop-ins, and expands the specifiers in their settings.
 //!
-//! A name is read once, and then tells its prefix and its instance; systemd.unit(5) has the rules.
-//! It rests on nothing: `dropin_merge` looks for the folders, and `unit_values` expands the values.
+//! A name is read once, and then has its prefix and its instance (systemd.unit(5)). `dropin_merge` looks for the
+//! folders, and `unit_values` expands the values.
 //!
 //! `dropin_folders(alloc, &UnitName::read(alloc, "web@1.service")?)` begins with `web@1.service.d`.
 #![tactic(auto)]

@@ -45,11 +45,11 @@ pub enum NameError {
 }
 
 impl UnitName {
-    /// Reads a name: `BadName` exactly where the text is none.
+    /// Reads a name. `BadName` comes exactly if the text is none.
     ///
-    /// systemd.unit(5), Description: a prefix of ASCII letters, digits, `:`, `-`, `_`, `.` and `\`,
-    /// for an instance an `@` and the instance, which may have further `@`, and `.service`; no part
-    /// is empty, and the whole has at most 255 bytes.
+    /// A name is a prefix and `.service`, or for an instance a prefix, `@`, the instance and `.service`
+    /// (systemd.unit(5), Description). The prefix has ASCII letters, digits, `:`, `-`, `_`, `.` and `\`, and the
+    /// instance may also have further `@`. No part is empty, and the whole has at most 255 bytes.
     pub fn read(alloc: Global, text: &str) -> Result<UnitName, NameError>
         ensures reads_the_name { IfOk result (λ name. name_of text.now ≡ Some name) }
         ensures bad_name { result ≡ Err BadName → name_of text.now ≡ None }
@@ -97,29 +97,29 @@ impl UnitName {
         self.text.as_str()
     }
 
-    /// What stands before the first `@`, or before `.service` where the name has no instance.
+    /// Returns the prefix: the text before the first `@`, or before `.service` if the name has no instance.
     pub fn prefix(&self) -> &str
         ensures before_the_at { result.now ≡ self.now.prefix }
     {
         self.prefix.as_str()
     }
 
-    /// What stands between the first `@` and `.service`; `None` exactly where there is no `@`.
+    /// Returns the instance: the text between the first `@` and `.service`. `None` exactly if there is no `@`.
     pub fn instance(&self) -> Option<&str>
         ensures behind_the_at { option_copied result ≡ self.now.instance }
     {
         self.instance.as_ref().map(|instance| instance.as_str())
     }
 
-    /// What stands before `.service`.
+    /// Returns the text before `.service`.
     pub fn stem(&self) -> &str
         ensures before_the_ending { result.now ≡ stem_of self.now }
     {
         self.text.strip_suffix(SUFFIX).unwrap()
     }
 
-    /// The name of the file that an instance is made from, `PREFIX@.service`; `None` exactly where
-    /// the name has no instance.
+    /// Returns the name of the file that an instance is made from, `PREFIX@.service`. `None` exactly if the name has
+    /// no instance.
     pub fn template(&self, alloc: Global) -> Result<Option<String>, AllocError>
         ensures without_instance { IfOk result (λ template. option_map (λ t. string_bytes t) template ≡ template_of self.now) }
     {

@@ -19,7 +19,7 @@ pub enum Specifier {
     Prefix,
     /// `%i`: the instance, or nothing.
     Instance,
-    /// `%j`: the prefix behind its last dash, or all of it.
+    /// `%j`: the prefix after its last dash, or all of it.
     LastPart,
     /// `%P`: the prefix, unescaped.
     PrefixUnescaped,
@@ -78,7 +78,7 @@ impl Specifier {
         })
     }
 
-    /// Whether it stands for an unescaped text.
+    /// Returns whether it stands for an unescaped text.
     pub fn unescapes(self) -> bool
         ensures by_kind { result ≡ unescapes self }
     {
@@ -120,7 +120,7 @@ fn instance_text(name: &UnitName) -> &str
     name.instance().unwrap_or("")
 }
 
-// The prefix behind its last dash, or all of it.
+// The prefix after its last dash, or all of it.
 fn last_part(prefix: &str) -> &str
     ensures { result.now ≡ last_part prefix.now }
 {

@@ -1,4 +1,4 @@
-// Escaped names and what they stand for.
+// Unescapes names.
 //
 // systemd.unit(5), String Escaping for Inclusion in Unit Names, has the rule.
 ghost use Rattle.std.specs.Prelude.{◌≡◌, ◌<◌, true};
@@ -32,14 +32,14 @@ fn hex_byte(high: u8, low: u8) -> Option<u8>
     }
 }
 
-// What a byte that begins no `\x` stands for.
+// Returns the byte that a byte without `\x` stands for.
 fn plain_byte(byte: u8) -> u8
     ensures { result ≡ plain_byte byte }
 {
     if byte == b'-' { b'/' } else { byte }
 }
 
-// The byte that the first piece of a text stands for, and what stands behind the piece.
+// Returns the byte that the first piece of a text stands for, and the text after the piece.
 fn first_byte(text: &[u8]) -> Result<Option<(u8, &[u8])>, ExpandError>
     ensures { TakesPart text.now result }
 {
@@ -54,7 +54,7 @@ fn first_byte(text: &[u8]) -> Result<Option<(u8, &[u8])>, ExpandError>
     }
 }
 
-/// Puts what an escaped text stands for behind the bytes.
+/// Appends the bytes that an escaped text stands for.
 pub fn push_unescaped(bytes: &mut Vec<u8>, text: &[u8]) -> Result<(), ExpandError>
     ensures adds_its_meaning { AddsMeaning bytes.old.items (unescaped text.now) result bytes.new.items }
 {

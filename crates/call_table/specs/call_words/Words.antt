@@ -33,12 +33,12 @@ spelled_by table word (Some cut) = option_map (λ abi. (abi, cut.1)) (place_of_a
 abbrev pub spelled : Table → List ℕ → Option (ℕ × List ℕ)
 spelled table word = spelled_by table word (last_cut 58 word)
 
--- what stands before a name or a number of a second ABI: its name and a colon
+-- the text before a name or a number of a second ABI: its name and a colon
 abbrev pub named_abi : Option Abi → List ℕ
 named_abi None = []
 named_abi (Some second) = second.name ++ 58 ∷ []
 
--- what stands before a name or a number of an ABI; nothing for the native one
+-- the text before a name or a number of an ABI; nothing for the native one
 abbrev pub abi_word : Table → ℕ → List ℕ
 abi_word table zero = []
 abi_word table (suc abi) = named_abi table.second

@@ -8,7 +8,7 @@ use crate::call_names::rule::Argument::{Second, Third};
 use crate::call_names::rule::CallRule;
 use KnownCall::{Absent, Modelled};
 
-/// What the kernel does with a call that it knows by name.
+/// The kernel's treatment of a call that it knows by name.
 #[derive(Clone, Copy)]
 pub enum KnownCall {
     /// It has a rule of its own for it.
@@ -95,7 +95,7 @@ fn line_named<'a>(lines: &'a [(&'a str, KnownCall)], name: &str) -> Option<&'a (
     lines.iter().find(|line| name == line.0)
 }
 
-/// What the kernel does with the call of this name; None where the name is not among its known ones.
+/// Returns the kernel's treatment of the call of this name, or None if the name is not among its known ones.
 #[tactic(auto, unfolding(crate::specs::call_names::Known::known_call))]
 pub fn known_call(name: &str) -> Option<KnownCall>
     ensures by_the_table { result ≡ known_call name.now }
@@ -104,7 +104,8 @@ pub fn known_call(name: &str) -> Option<KnownCall>
     Some(line.1)
 }
 
-/// Whether the kernel knows the name: it has a rule of its own for the call, or lacks it. Every other call is plain.
+/// Returns whether the kernel knows the name: it has a rule of its own for the call, or lacks it. Every other call is
+/// plain.
 pub fn is_known(name: &str) -> bool
     ensures in_the_table { result ≡ is_known name.now }
 {

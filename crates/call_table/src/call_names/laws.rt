@@ -1,4 +1,4 @@
-//! Laws of the table, each the contract of a function that does nothing.
+//! The laws of the table. Each is the contract of a function that does nothing.
 
 ghost use Rattle.std.specs.Prelude.{◌≡◌, ℕ, List, Some, map, slice_get};
 ghost use Rattle.std.specs.Str.{bytes_eq};
@@ -6,7 +6,7 @@ ghost use Rattle.std.specs.List.{IsDistinct};
 ghost use Rattle.call_table.specs.call_names.Known.{known_calls, known_call};
 ghost use Rattle.call_table.specs.declared.call_names.known.KnownCall.{KnownCall};
 
-/// No name stands twice, so what is known of a name is its own line.
+/// No name occurs twice, so each line is the one that its name finds.
 pub fn names_stand_once()
     ensures once { IsDistinct bytes_eq (map (λ line. line.0) known_calls) }
     ensures each_line_is_found { (place : ℕ) (name : List ℕ) (call : KnownCall)

@@ -1,4 +1,4 @@
-//! What the pointers among a call's arguments point to, as far as a rule looks at it.
+//! The payloads of calls: what the pointers among a call's arguments point to, as far as a rule looks at it.
 
 ghost use Rattle.std.specs.Prelude.{◌≡◌};
 ghost use Rattle.call_table.specs.call_names.Known.{form_of};

@@ -3,12 +3,12 @@
 ghost use Rattle.std.specs.Prelude.{◌≡◌, ◌<◌};
 ghost use Rattle.call_table.specs.call_names.Known.{place_of};
 
-/// An argument of a call, syscall(2): of calls of one rule, some have their flags or mode one further.
+/// The argument with the flags or the mode of a call, syscall(2): some calls of a rule have it one further.
 #[derive(Clone, Copy)]
 pub enum Argument {
-    /// Argument 1, behind one path or descriptor.
+    /// Argument 1, after one path or descriptor.
     Second,
-    /// Argument 2, behind a folder's descriptor and a path.
+    /// Argument 2, after a folder's descriptor and a path.
     Third,
 }
 
@@ -25,7 +25,7 @@ impl Argument {
     }
 }
 
-/// A rule of the modelled kernel: what it does for the calls of one line of its table, and what is asked of them.
+/// A rule of the modelled kernel for the calls of one line of its table, and what is asked about them.
 #[derive(Clone, Copy)]
 pub enum CallRule {
     /// stat(2), access(2) and their like find a path. Asked: which rows are seen.

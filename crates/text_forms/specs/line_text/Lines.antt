@@ -32,6 +32,6 @@ counted_from number texts = filter (λ line. not (is_skipped line.text)) (map li
 abbrev pub lines_of : List ℕ → List Line
 lines_of text = counted_from 1 (slice_split (λ byte. byte == 10) text)
 
--- the words of a line: what stands between spaces
+-- the words of a line: the text between spaces
 abbrev pub words_of : List ℕ → List (List ℕ)
 words_of text = filter (λ word. not (length word == 0)) (slice_split (λ byte. byte == 32) text)

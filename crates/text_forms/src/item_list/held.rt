@@ -1,7 +1,8 @@
-//! Items of which a fact holds as a list, as that their names ascend.
+//! Holds items with a fact about their list, for example that their names ascend.
 //!
-//! The type of an item tells the fact, and an alias names the list: `impl Held for Row { ghost AreHeld = { AreOrdered }; }`
-//! and `pub type OrderedRows = HeldList<Row>`. Who makes such a list owes the fact, and who is lent its items has it.
+//! `impl Held for Row { ghost AreHeld = { AreOrdered }; }` states the fact for the type of an item. The alias `pub
+//! type OrderedRows = HeldList<Row>` names the list. Whoever makes such a list proves the fact, and whoever borrows
+//! its items knows it.
 
 ghost use Rattle.std.specs.Prelude.{◌≡◌, ◌≤◌, insert, length, OnOk, OnErr};
 
@@ -57,7 +58,7 @@ impl<T: Held> HeldList<T> {
 }
 
 impl<T: Held + Drop> HeldList<T> {
-    /// Puts an item at a place where the fact goes on to hold; where there is no memory they stay as they were.
+    /// Puts an item at a place where the fact goes on to hold; if memory runs out, they stay as they were.
     pub fn insert(&mut self, at: usize, item: T) -> Result<(), AllocError>
         requires in_range { at ≤ length self.old }
         requires goes_on { T.AreHeld (insert self.old at item) }

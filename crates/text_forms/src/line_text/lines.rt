@@ -54,7 +54,7 @@ pub fn read_lines(alloc: Global, text: &str) -> Result<Vec<Line<'_>>, AllocError
     counted_lines(alloc, texts.as_slice())
 }
 
-/// The words of a line, which stand between spaces.
+/// The words of a line, which are between spaces.
 pub fn words(alloc: Global, line: &str) -> Result<Vec<&str>, AllocError>
     ensures between_spaces { IfOk result (λ words. map (λ word. word.now) words.items ≡ words_of line.now) }
 {

@@ -28,7 +28,7 @@ fn is_quote(byte: u8) -> bool
     byte == b'"' || byte == b'\''
 }
 
-/// What a symbol is where this quote is open, or none, and which quote is open behind it.
+/// Returns the mark of a symbol while this quote is open, or none, and the quote that is open after it.
 #[tactic(auto, unfolding(crate::specs::Words::mark_of, crate::specs::Words::open_after))]
 pub(crate) fn mark_of(opened: Option<u8>, symbol: Symbol) -> (Mark, Option<u8>)
     ensures mark { result.0 ≡ mark_of opened symbol }

@@ -13,7 +13,7 @@ pub(crate) enum Symbol {
     Escaped(u8),
 }
 
-// the byte behind a backslash, but for `x`
+// the byte after a backslash, but for `x`
 #[tactic(auto, unfolding(crate::specs::Words::escape_of))]
 fn escape_of(letter: u8) -> Option<u8>
     ensures { result ≡ escape_of letter }
@@ -39,7 +39,7 @@ fn hex_value(digit: u8) -> Option<u8>
     }
 }
 
-/// The first symbol, and what stands behind it; none where a backslash stands before another byte, or is cut.
+/// Returns the first symbol, and the text after it; none if a backslash precedes another byte, or is cut.
 #[tactic(auto, unfolding(crate::specs::Words::symbols_of))]
 pub(crate) fn first_symbol(text: &[u8]) -> Option<(Symbol, &[u8])>
     requires { 0 < length text.now }
