@@ -1,4 +1,4 @@
--- Answers that want of memory may take the place of.
+-- Answers, unless memory runs out.
 use Rattle.std.specs.Prelude.{◌≡◌, ⊤, ℕ, List, Option, Some, Result, Ok, Err}
 use Rattle.cred_settings.specs.declared.accounts.Identity.{Identity}
 use Rattle.cred_settings.specs.declared.error.IdentityError.{IdentityError}

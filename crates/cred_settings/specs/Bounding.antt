@@ -1,4 +1,4 @@
--- systemd.exec(5), CapabilityBoundingSet=: the capabilities that a service can come to at all (capabilities(7)).
+-- systemd.exec(5), CapabilityBoundingSet=: the capabilities that a service can ever have (capabilities(7)).
 use Rattle.std.specs.Prelude.{ℕ, List, codes}
 use Rattle.dropin_merge.specs.declared.resolved.Resolved.{Resolved}
 use Rattle.dropin_merge.specs.declared.unit_values.value.FileNote.{FileNote}

@@ -24,7 +24,7 @@ with_line default set line = cond line.is_inverted (with_inverted default set li
 abbrev pub with_listed : ℕ → ℕ → Listed → ℕ
 with_listed default set one = cond (is_reset one) none (with_line default set one.line)
 
--- the set that lines come to, from the default
+-- the set that lines make, from the default
 abbrev pub caps_by : ℕ → List Listed → ℕ
 caps_by default lines = fold (with_listed default) default lines
 

@@ -14,7 +14,7 @@ abbrev pub groups_of_account : Account → List ℕ
 groups_of_account Dynamic = []
 groups_of_account (Fixed identity) = identity.groups
 
--- the groups of the words stand behind them, in order and with doubles
+-- the groups of the words come after them, in order and with doubles
 abbrev pub groups_of : Site → Account → List (List ℕ) → List ℕ
 groups_of site account words = groups_of_account account ++ filter_map (gid_meant site) words
 

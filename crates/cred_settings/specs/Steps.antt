@@ -1,4 +1,4 @@
--- What the ids come to on the way.
+-- The ids at each step of the reading.
 use Rattle.std.specs.Prelude.{ℕ, Option}
 use Rattle.site_table.specs.Table.{Site}
 use Rattle.cred_settings.specs.declared.accounts.Identity.{Identity}

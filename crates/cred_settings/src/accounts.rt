@@ -1,4 +1,4 @@
-//! Whom a service runs as.
+//! The types of the ids that a service runs with.
 ghost use Rattle.std.specs.Prelude.{◌≡◌, ◌++◌, ◌∷◌, [], OnOk, OnErr};
 
 use dropin_merge::ItemList;
@@ -16,7 +16,7 @@ pub struct Identity {
     pub groups: Gids,
 }
 
-/// Whom User= and DynamicUser= give.
+/// The account that User= and DynamicUser= give.
 #[derive(Drop)]
 pub enum Account {
     /// The dynamic uid of the site.

@@ -1,4 +1,4 @@
-//! AmbientCapabilities= (systemd.exec(5)).
+//! Reads AmbientCapabilities= (systemd.exec(5)).
 ghost use Rattle.std.specs.Prelude.{◌≡◌, IfOk};
 ghost use Rattle.cred_settings.specs.Ambient.{ambient_of, ambient_notes};
 
@@ -8,8 +8,8 @@ use dropin_merge::unit_values::Said;
 use site_table::CapSet;
 use std::alloc::{AllocError, Global};
 
-/// The capabilities that a service starts with in its ambient set, by AmbientCapabilities=; without it none. Lines are
-/// read as those of the bounding set are, and noted alike.
+/// Reads the ambient set that a service starts with, by AmbientCapabilities=; without that key it is empty. Lines are
+/// read as those of the bounding set are, with the same notes.
 pub fn ambient_set(alloc: Global, unit: &Resolved) -> Result<Said<CapSet>, AllocError>
     ensures line_by_line { IfOk result (λ said. said.what ≡ ambient_of unit.now) }
     ensures noted { IfOk result (λ said. said.notes.items ≡ ambient_notes unit.now) }

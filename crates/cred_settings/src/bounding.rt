@@ -1,4 +1,4 @@
-//! CapabilityBoundingSet= (systemd.exec(5)).
+//! Reads CapabilityBoundingSet= (systemd.exec(5)).
 ghost use Rattle.std.specs.Prelude.{◌≡◌, IfOk};
 ghost use Rattle.cred_settings.specs.Bounding.{bounding_of, bounding_notes};
 
@@ -8,14 +8,14 @@ use dropin_merge::unit_values::Said;
 use site_table::CapSet;
 use std::alloc::{AllocError, Global};
 
-/// The capabilities that a service can come to at all, by CapabilityBoundingSet=; without it all.
+/// Reads the bounding set of a service, by CapabilityBoundingSet=; without that key it has all capabilities.
 ///
-/// A plain line takes the place of a set that equals its default, and is united with any other. An inverted line is
-/// all but its names where the set equals its default, and takes its names off any other; `~` alone is all. An empty
-/// value is the empty set. Names are read in any case.
+/// A plain line replaces a set that equals its default, and is united with any other. An inverted line is all but its
+/// names if the set equals its default, and takes its names off any other. `~` alone is all, and an empty value is
+/// the empty set. Names are read in any case.
 ///
-/// Values that cannot be expanded are noted; then lines that cannot be split, which
-/// change nothing, and names that are not known, which are passed over.
+/// Notes come first for values that cannot be expanded. Then come those for lines that cannot be split, which change
+/// nothing, and for names that are not known, which are skipped.
 pub fn bounding_set(alloc: Global, unit: &Resolved) -> Result<Said<CapSet>, AllocError>
     ensures line_by_line { IfOk result (λ said. said.what ≡ bounding_of unit.now) }
     ensures noted { IfOk result (λ said. said.notes.items ≡ bounding_notes unit.now) }

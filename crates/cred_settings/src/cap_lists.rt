@@ -1,4 +1,4 @@
-//! Sets of capabilities, by lines that add to them or take off (systemd.exec(5)).
+//! Makes sets of capabilities by lines that add to them or take off (systemd.exec(5)).
 ghost use Rattle.std.specs.Prelude.{◌≡◌, ◌++◌, IfOk, OnOk, flat_map};
 ghost use Rattle.cred_settings.specs.CapLists.{with_plain, with_inverted, with_listed, caps_by, names_notes, unit_caps, unit_caps_notes};
 
@@ -8,7 +8,7 @@ use dropin_merge::{Resolved, Text};
 use site_table::CapSet;
 use std::alloc::{AllocError, Global};
 
-// What a plain line with these capabilities makes of a set.
+// Returns the set after a plain line with these capabilities.
 fn with_plain(default: CapSet, set: CapSet, named: CapSet) -> CapSet
     ensures { result ≡ with_plain default set named }
 {
@@ -19,7 +19,7 @@ fn with_plain(default: CapSet, set: CapSet, named: CapSet) -> CapSet
     }
 }
 
-// What an inverted line makes of a set.
+// Returns the set after an inverted line.
 fn with_inverted(default: CapSet, set: CapSet, words: &[Text]) -> CapSet
     ensures { result ≡ with_inverted default set words.now }
 {
@@ -30,7 +30,7 @@ fn with_inverted(default: CapSet, set: CapSet, words: &[Text]) -> CapSet
     base.minus(named_caps(words))
 }
 
-// What the set is behind one more value.
+// Returns the set after one more value.
 fn with_listed(default: CapSet, set: CapSet, one: &Listed) -> CapSet
     ensures { result ≡ with_listed default set one.now }
 {
@@ -44,7 +44,7 @@ fn with_listed(default: CapSet, set: CapSet, one: &Listed) -> CapSet
     }
 }
 
-// What the lines of such a key come to.
+// Returns the set that the lines of such a key make.
 fn caps_by(default: CapSet, lines: &[Listed]) -> CapSet
     ensures { result ≡ caps_by default lines.now }
 {
@@ -65,8 +65,8 @@ fn note_names(notes: &mut Vec<FileNote>, lines: &[Listed]) -> Result<(), AllocEr
     Ok(())
 }
 
-/// The set that the files of a unit give to a key such as CapabilityBoundingSet. Values that cannot be expanded, then
-/// those that cannot be split, and then names that are not known are noted.
+/// Returns the set that the files of a unit give to a key such as CapabilityBoundingSet. Notes come for values that
+/// cannot be expanded, then for those that cannot be split, and then for names that are not known.
 #[tactic(auto, unfolding(crate::specs::CapLists::unit_caps, crate::specs::CapLists::unit_caps_notes))]
 pub fn cap_set_of_key(
     alloc: Global,

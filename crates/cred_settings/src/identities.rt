@@ -1,4 +1,4 @@
-//! The ids that a service runs with (systemd.exec(5), User/Group Identity).
+//! Reads the ids that a service runs with (systemd.exec(5), User/Group Identity).
 ghost use Rattle.std.specs.Prelude.{◌≡◌, ◌≢◌, ◌++◌, Ok, Err, None, IfOk, IfErr, OnOk, find};
 ghost use Rattle.std.specs.List.{filter_map};
 ghost use Rattle.cred_settings.specs.declared.error.IdentityError.TheVariants.{Memory};
@@ -53,7 +53,7 @@ fn chosen_gid(alloc: Global, site: &SiteTable, word: &str) -> Result<Option<u32>
     }
 }
 
-// Puts the groups of the words behind those that are there.
+// Adds the groups of the words after those that are there.
 fn add_groups(
     alloc: Global,
     site: &SiteTable,
@@ -158,18 +158,18 @@ fn identity_words(alloc: Global, unit: &Resolved) -> Result<Said<IdentityWords>,
     Ok(Said { what, notes })
 }
 
-/// The ids that the files of a unit give by User=, Group= and SupplementaryGroups= (systemd.exec(5)); `is_dynamic` is
-/// whether DynamicUser= is on.
+/// Returns the ids that the files of a unit give by User=, Group= and SupplementaryGroups= (systemd.exec(5)).
+/// `is_dynamic` says if DynamicUser= is on.
 ///
 /// A word is the name of a user or a group of the site, else a decimal number from 0 to 4,294,967,294. Without User=
-/// a service runs as the superuser; a number stands for the first user of the site that has it, and else for itself,
-/// with itself as group. Where DynamicUser= is on, the dynamic uid of the site takes the place of no User= and of one
-/// that names nobody, and Group= has no effect beside it. Group= takes the place of the user's group, and
-/// SupplementaryGroups= adds to the user's further groups.
+/// a service runs as the superuser. A number is the first user of the site that has it, and else itself, with itself
+/// as group. With DynamicUser= the dynamic uid of the site replaces a missing User= and one that names nobody, and
+/// then Group= has no effect. Group= replaces the user's group, and SupplementaryGroups= adds to the user's further
+/// groups.
 ///
-/// `NoSuchUser` comes where User= names nobody and DynamicUser= is off. Then `NoSuchGroup` comes for the first word
-/// that names no group, of Group= and then of SupplementaryGroups=. `Memory` may come at any unit. Values that cannot
-/// be expanded, and lines that cannot be split, are noted key by key.
+/// `NoSuchUser` comes if User= names nobody and DynamicUser= is off. Then `NoSuchGroup` comes for the first word that
+/// names no group, of Group= and then of SupplementaryGroups=. `Memory` may come for any unit. Values that cannot be
+/// expanded, and lines that cannot be split, get notes key by key.
 #[tactic(auto, unfolding(crate::specs::Identities::identity_of))]
 pub fn identity_of_unit(
     alloc: Global,

@@ -4,10 +4,10 @@ ghost use Rattle.cred_settings.specs.Ids.{id_number};
 
 use dropin_merge::read_decimal;
 
-/// The greatest id. The number above stands for none in setresuid(2) and the like.
+/// The greatest id. The next number means no id in setresuid(2) and the like.
 const GREATEST_ID: u64 = 4_294_967_294;
 
-/// The id that a word is: decimal, 0 to 4,294,967,294.
+/// Reads the id of a word: decimal, from 0 to 4,294,967,294.
 pub fn read_id(word: &str) -> Option<u32>
     ensures by_its_digits { result ≡ id_number word.now }
 {

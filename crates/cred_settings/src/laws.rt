@@ -1,4 +1,4 @@
-//! Laws of users, groups and capabilities, each the contract of a function that does nothing.
+//! The laws of users, groups and capabilities. Each is the contract of a function that does nothing.
 ghost use Rattle.std.specs.Prelude.{◌≡◌, ◌≢◌, ℕ, ◌≤◌, ◌++◌, [], ◌∷◌, List, Bool, true, false, Ok, Err};
 ghost use Rattle.std.specs.List.{list_any};
 ghost use Rattle.dropin_merge.specs.declared.unit_values.listed.Listed.{Listed};
@@ -33,13 +33,13 @@ pub fn named_members()
         → has (named_caps words) number ≡ list_any (is_name_of number) words }
 {}
 
-/// A capability is in the set exactly where the last line that speaks of it takes it in.
+/// A capability is in the set exactly if the last line that speaks of it takes it in.
 pub fn each_capability()
     ensures last_line_decides { (default number : ℕ) (lines : List Listed) → number ≤ 40
         → has (caps_by default lines) number ≡ is_taken_in default number lines }
 {}
 
-/// What common writings of CapabilityBoundingSet= and AmbientCapabilities= mean.
+/// Common writings of CapabilityBoundingSet= and AmbientCapabilities= have these meanings.
 pub fn common_writings()
     // `CAP_A CAP_B` is the set of its names, whatever the default.
     ensures one_plain_line { (default : ℕ) (one : Listed) (words : List (List ℕ)) → IsLine false words one
@@ -49,7 +49,7 @@ pub fn common_writings()
     ensures one_inverted_line { (default : ℕ) (one : Listed) (word : List ℕ) (words : List (List ℕ)) → IsLine true (word ∷ words) one
         → caps_by default (one ∷ []) ≡ minus all (named_caps (word ∷ words)) }
 
-    // `~` alone is all, whatever stands before it.
+    // `~` alone is all, whatever comes before it.
     ensures tilde_alone { (default : ℕ) (before : List Listed) (one : Listed) → IsLine true [] one
         → caps_by default (before ++ one ∷ []) ≡ all }
 
@@ -61,7 +61,7 @@ pub fn common_writings()
     ensures two_ambient_lines { (one other : Listed) (words more : List (List ℕ)) → IsLine false words one → IsLine false more other
         → caps_by none (one ∷ other ∷ []) ≡ union (named_caps words) (named_caps more) }
 
-    // A plain line behind an empty value is the set of its names, whatever stands before them.
+    // A plain line after an empty value is the set of its names, whatever comes before them.
     ensures empty_value_first { (default : ℕ) (before : List Listed) (empty one : Listed) (words : List (List ℕ)) → is_reset empty ≡ true → IsLine false words one
         → caps_by default (before ++ (empty ∷ one ∷ [])) ≡ named_caps words }
 {}

@@ -1,8 +1,8 @@
-//! What the keys of a unit say of users, groups and capabilities.
+//! Reads what the keys of a unit say of users, groups and capabilities.
 //!
-//! The values that a unit gives to a key are read in their order, and what cannot be read is noted and passed over;
-//! systemd.exec(5) has the keys. It stands on `unit_values` for the values, on `site_table` for users and groups, and
-//! on `cap_sets` for the capabilities.
+//! The values that a unit gives to a key are read in their order (systemd.exec(5)). A value that cannot be read is
+//! skipped with a note. `unit_values` has the values, `site_table` the users and groups, and `cap_sets` the
+//! capabilities.
 //!
 //! `identity_of_unit(alloc, &unit, &site, false)?.what` has the ids that a service runs with.
 #![tactic(auto)]

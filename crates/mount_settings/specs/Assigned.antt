@@ -18,7 +18,7 @@ pub record Assigned : Type 0 where
   pub key : PathKey
   pub value : Value
 
--- the same key, told by its name
+-- the same key, by its name
 abbrev pub is_key : PathKey → PathKey → Bool
 is_key one other = bytes_eq (name_of one) (name_of other)
 

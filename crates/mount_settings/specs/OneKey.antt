@@ -13,6 +13,6 @@ use Rattle.mount_settings.specs.Assigned.{Assigned, is_key}
 abbrev pub values_to : PathKey → List Assigned → List Value
 values_to key assigned = map (λ one. one.value) (filter (λ one. is_key one.key key) assigned)
 
--- the mentions of the words of the values that stand behind the last empty one
+-- the mentions of the words of the values that are after the last empty one
 abbrev pub listed_by : PathKey → List Value → List Mention
 listed_by key values = filter_map (mention_of key) (flat_map (λ value. unwrap_or (split value.text) []) (in_force values))

@@ -1,4 +1,5 @@
--- Mentions that would put something in the place of the root, which is the host's (systemd.exec(5), BindPaths= and its kin).
+-- Mentions that would put something in the place of the root, which is the host's (systemd.exec(5), BindPaths=, BindReadOnlyPaths=,
+-- InaccessiblePaths= and TemporaryFileSystem=).
 use Rattle.std.specs.Prelude.{◌≡◌, ◌&&◌, ◌||◌, not, Bool, true, List, [], ◌∷◌, Option, find}
 use Rattle.std.specs.List.{list_any, list_all}
 use Rattle.path_settings.specs.abs_path.Paths.{is_root}
@@ -9,11 +10,11 @@ use Rattle.path_settings.specs.Short.{is_short}
 use Rattle.mount_settings.specs.declared.written.WrittenPath.{WrittenPath}
 use Rattle.mount_settings.specs.Assigned.{is_key}
 
--- the keys that say what stands at a path, in byte order of their names
+-- the keys that say which object is at a path, in byte order of their names
 abbrev pub root_keys : List PathKey
 root_keys = BindPaths ∷ BindReadOnlyPaths ∷ InaccessiblePaths ∷ TemporaryFileSystem ∷ []
 
--- the key mentions the root: for a bind, as the place where it stands
+-- the key mentions the root: for a bind, as the place where it is
 abbrev pub mentions_root : List WrittenPath → PathKey → Bool
 mentions_root paths key = list_any (λ path. is_key path.key key && is_root path.mention.path) paths
 

@@ -1,4 +1,4 @@
-//! The written paths, assignment by assignment.
+//! Reads the written paths, assignment by assignment.
 ghost use Rattle.std.specs.Prelude.{◌≡◌, ◌++◌, [], IfOk, OnOk};
 ghost use Rattle.std.specs.List.{cons_option};
 ghost use Rattle.mount_settings.specs.Assigned.{assigned_by};
@@ -12,7 +12,7 @@ use dropin_merge::{Assignment, Resolved, UnitName};
 use path_settings::PathKey;
 use std::alloc::{AllocError, Global};
 
-// What an assignment does to the paths so far.
+// Applies an assignment to the paths so far.
 fn add_assigned(
     alloc: Global,
     name: &UnitName,
@@ -34,12 +34,12 @@ fn add_assigned(
     }
 }
 
-/// The paths that the files of a unit write and that are in force: the words of ReadWritePaths=, ReadOnlyPaths=,
+/// Returns the paths that the files of a unit write and that are in force, in the order of their assignments,
+/// whatever the key. An empty value resets its key alone. The keys are ReadWritePaths=, ReadOnlyPaths=,
 /// InaccessiblePaths=, ExecPaths=, NoExecPaths=, BindPaths=, BindReadOnlyPaths=, TemporaryFileSystem=,
-/// StateDirectory=, RuntimeDirectory=, CacheDirectory= and LogsDirectory= (systemd.exec(5)), in the order of their
-/// assignments, whatever the key. An empty value resets its key alone.
+/// StateDirectory=, RuntimeDirectory=, CacheDirectory= and LogsDirectory= (systemd.exec(5)).
 ///
-/// Values that cannot be expanded or split and words that cannot be read are noted in this order, and stay noted where
+/// Values that cannot be expanded or split and words that cannot be read get notes in this order. The notes stay if
 /// their key is reset later.
 #[tactic(auto, unfolding(crate::specs::Written::unit_written, crate::specs::Notes::written_notes))]
 pub fn written_paths(alloc: Global, unit: &Resolved) -> Result<Said<WrittenPaths>, AllocError>

@@ -1,4 +1,5 @@
-//! Values that are a boolean or a word of a short list: those of ProtectSystem= and of ProtectHome= (systemd.exec(5)).
+//! Reads values that are a boolean or a word of a short list: those of ProtectSystem= and of ProtectHome=
+//! (systemd.exec(5)).
 ghost use Rattle.std.specs.Prelude.{◌≡◌, map};
 ghost use Rattle.mount_settings.specs.Choices.{beside, choice};
 ghost use Rattle.mount_settings.specs.Home.{home_value};
@@ -8,7 +9,7 @@ use crate::protections::{HomeProtection, SystemProtection};
 use dropin_merge::unit_values::KeyValue;
 use path_settings::read_bool;
 
-// What stands beside the first row of this word.
+// Returns the value beside the first row of this word.
 fn beside<T: Copy>(rows: &[(&str, T)], text: &str) -> Option<T>
     ensures { result ≡ beside (map (λ row. (row.0.now, row.1)) rows.now) text.now }
 {
@@ -20,7 +21,7 @@ fn beside<T: Copy>(rows: &[(&str, T)], text: &str) -> Option<T>
     None
 }
 
-/// What a text stands for: a boolean, or a word of these rows; an empty text is `off`.
+/// Returns the value of a text: a boolean, or a word of these rows. An empty text is `off`.
 pub(crate) fn read_choice<T: Copy>(text: &str, off: T, on: T, rows: &[(&str, T)]) -> Option<T>
     ensures { result ≡ choice off on (map (λ row. (row.0.now, row.1)) rows.now) text.now }
 {

@@ -16,7 +16,7 @@ pub(crate) enum Effect {
     NotExecutable,
     Hidden,
     Empty { read_only: bool },
-    /// The host's object stands there, also below an empty file system.
+    /// The host's object is there, also below an empty file system.
     Shown,
 }
 
@@ -36,7 +36,7 @@ fn kind_at(alloc: Global, effect: Effect, path: &AbsPath) -> Result<Kind, AllocE
     })
 }
 
-/// Whether the site has a row at a path.
+/// Returns whether the site has a row at a path.
 pub(crate) fn has_row(site: &SiteTable, path: &AbsPath) -> bool
     ensures { result ≡ has_row site.now path.now }
 {

@@ -1,4 +1,4 @@
-//! The mentions that protections and folder keys imply.
+//! Adds the mentions that protections and folder keys imply.
 ghost use Rattle.std.specs.Prelude.{◌≡◌, ◌++◌, filter, OnOk};
 ghost use Rattle.mount_settings.specs.Effects.{stands};
 ghost use Rattle.mount_settings.specs.Written.{of_key};

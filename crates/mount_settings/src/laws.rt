@@ -1,4 +1,4 @@
-//! Laws of written and implied paths, each the contract of a function that does nothing.
+//! The laws of written and implied paths. Each is the contract of a function that does nothing.
 
 ghost use Rattle.std.specs.Prelude.{◌≡◌, ◌+◌, ◌≤◌, true, List, length};
 ghost use Rattle.std.specs.List.{list_all};
@@ -17,14 +17,15 @@ ghost use Rattle.mount_settings.specs.Written.{of_key, unit_written};
 ghost use Rattle.mount_settings.specs.OneKey.{values_to, listed_by};
 ghost use Rattle.mount_settings.specs.Settings.{mentions_of};
 
-/// Key by key, the values that are assigned are those that `values_of_key` has, and the paths that are written are
-/// those of the words behind the key's last empty value: no other key changes what a key says.
+/// No other key changes what a key says. Its assigned values are those that `values_of_key` has. Its written paths
+/// are those of the words after its last empty value.
 pub fn each_key_by_itself()
     ensures its_own_values { (unit : Resolved) (key : PathKey) → values_to key (assigned_of unit) ≡ values_of unit (name_of key) }
     ensures its_words_in_force { (unit : Resolved) (key : PathKey) → of_key key (unit_written unit) ≡ listed_by key (values_of unit (name_of key)) }
 {}
 
-/// An implied mention is optional, its path is a row of the site, and there are at most 31 beside those of folders.
+/// An implied mention is optional, and its path is a row of the site. The mentions are at most 31 more than the
+/// written paths, those of folders among them.
 pub fn implied_mentions()
     ensures optional { (site : Site) (switches : Switches) (protections : Protections) (unit : Resolved) → list_all (λ mention. mention.optional) (implied site switches protections (unit_written unit)) ≡ true }
     ensures have_rows { (site : Site) (switches : Switches) (protections : Protections) (unit : Resolved) → list_all (stands site) (implied site switches protections (unit_written unit)) ≡ true }

@@ -1,10 +1,10 @@
-//! What the keys of a unit say of paths, as the mentions that its mounts are planned by.
+//! Reads what the keys of a unit say of paths, as the mentions by which its mounts are planned.
 //!
-//! Paths that are written stand in the order of their assignments over all files, and behind them those that the
-//! protections of the file system and the folder keys imply (systemd.exec(5), Sandboxing). It stands on `unit_values`
-//! for values, on `path_settings` for words, and on `site_table` for the rows that implied paths need.
+//! Written paths come first, in the order of their assignments over all files. After them come those that the
+//! protections of the file system and the folder keys imply (systemd.exec(5), Sandboxing). `unit_values` has the
+//! values, `path_settings` reads the words, and `site_table` has the rows that implied paths need.
 //!
-//! `written_paths(alloc, &unit)?.what` has the written ones; `mentions_root` and `mount_settings` go on from them.
+//! `written_paths(alloc, &unit)?.what` has the written paths; `mentions_root` and `mount_settings` take them.
 #![tactic(auto)]
 
 mod assigned;

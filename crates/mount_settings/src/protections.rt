@@ -1,4 +1,4 @@
-//! The keys that protect the file system, read together.
+//! Reads the keys that protect the file system, together.
 ghost use Rattle.std.specs.Prelude.{◌≡◌, IfOk};
 ghost use Rattle.mount_settings.specs.Protections.{unit_protections, protection_notes, raised, in_effect};
 
@@ -20,7 +20,7 @@ pub enum SystemProtection {
     Strict,
 }
 
-/// What a service sees of the homes of users: of `/home`, `/root` and `/run/user`.
+/// The view that a service has of the homes of users: of `/home`, `/root` and `/run/user`.
 #[derive(Clone, Copy)]
 pub enum HomeProtection {
     /// All.
@@ -33,7 +33,7 @@ pub enum HomeProtection {
     Tmpfs,
 }
 
-/// What the keys come to that protect the file system and nothing else.
+/// The values of the keys that protect the file system and nothing else.
 #[derive(Clone, Copy)]
 pub struct Protections {
     /// ProtectSystem=
@@ -48,7 +48,7 @@ pub struct Protections {
     pub protect_control_groups: bool,
 }
 
-/// What those boolean keys come to that protect the file system and decide other things too.
+/// The values of the boolean keys that protect the file system and decide other things too.
 #[derive(Clone, Copy)]
 pub struct Switches {
     /// PrivateDevices=
@@ -61,7 +61,7 @@ pub struct Switches {
     pub dynamic_user: bool,
 }
 
-/// What the files of a unit say, with the notes of each key.
+/// Reads the protections of the files of a unit, with the notes of each key.
 #[tactic(auto, unfolding(crate::specs::Protections::unit_protections, crate::specs::Protections::protection_notes))]
 pub(crate) fn read_protections(
     alloc: Global,
@@ -101,7 +101,7 @@ fn raised(home: HomeProtection) -> HomeProtection
     }
 }
 
-/// What is in effect, with or without a dynamic user.
+/// Returns the protections in effect, with or without a dynamic user.
 pub(crate) fn in_effect(dynamic_user: bool, said: Protections) -> Protections
     ensures { result ≡ in_effect dynamic_user said }
 {

@@ -1,4 +1,4 @@
-//! All mentions of a unit's settings.
+//! Collects all mentions of a unit's settings.
 ghost use Rattle.std.specs.Prelude.{◌≡◌, ◌↔◌, ◌<◌, ◌≤◌, None, not, length, IfOk, IsErrOf, IsTrue};
 ghost use Rattle.mount_settings.specs.Protections.{protection_notes};
 ghost use Rattle.mount_settings.specs.Settings.{as_written, mentions_of, protections_of};
@@ -19,12 +19,12 @@ use std::alloc::{AllocError, Global};
 /// How many written paths there are at most.
 const MOST_WRITTEN: usize = 128;
 
-/// What the settings of a unit say of paths.
+/// The mentions of a unit, and its protections.
 #[derive(Drop)]
 pub struct MountSettings {
     /// The protections that are in effect.
     pub protections: Protections,
-    /// What is written of paths, and behind it what is implied.
+    /// The written mentions, and after them the implied ones.
     pub mentions: Mentions,
 }
 
@@ -73,13 +73,13 @@ fn listed(alloc: Global, mentions: Vec<Mention>) -> Result<Mentions, AllocError>
     Ok(list)
 }
 
-/// What the settings of a unit say of paths: what is written, as `written_paths` has it, and behind it what the
+/// Returns the mentions of a unit: the written ones, as `written_paths` has them, and after them those that the
 /// protections and the folder keys imply (systemd.exec(5), Sandboxing).
 ///
-/// An implied path is passed over where the site has no row for it, and is optional otherwise. TooManyPaths where
-/// more than 128 paths are written, those of folders that the site does not have among them. What cannot be read of
-/// ProtectSystem=, ProtectHome=, PrivateTmp=, ProtectKernelTunables= and ProtectControlGroups= is noted. Each path,
-/// and each source of a bind, has at most 250 bytes. Whether a key mentions `/` is told by `mentions_root`.
+/// An implied path is skipped if the site has no row for it, and is optional otherwise. TooManyPaths comes if more
+/// than 128 paths are written, those of folders that the site does not have among them. Notes come for values of
+/// ProtectSystem=, ProtectHome=, PrivateTmp=, ProtectKernelTunables= and ProtectControlGroups= that cannot be read.
+/// Each path, and each source of a bind, has at most 250 bytes. `mentions_root` says if a key mentions `/`.
 pub fn mount_settings(
     alloc: Global,
     unit: &Resolved,

@@ -74,7 +74,7 @@ fn bring_system(
     }
 }
 
-// What ProtectHome= does at the homes.
+// Returns the effect of ProtectHome= at the homes.
 fn home_effect(home: HomeProtection) -> Option<Effect>
     ensures { result ≡ home_effect home }
 {

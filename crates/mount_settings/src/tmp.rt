@@ -1,4 +1,4 @@
-//! PrivateTmp=: whether the service has folders for temporary files of its own (systemd.exec(5)).
+//! Reads PrivateTmp=: if the service has folders for temporary files of its own (systemd.exec(5)).
 ghost use Rattle.mount_settings.specs.Tmp.{tmp_value};
 
 use crate::choices::read_choice;

@@ -1,4 +1,4 @@
-//! Paths that are written in the files of a unit, each with its key.
+//! Keeps the paths that are written in the files of a unit, each with its key.
 ghost use Rattle.std.specs.Prelude.{◌≡◌, ◌++◌, [], flat_map, OnOk};
 ghost use Rattle.std.specs.List.{cons_option};
 ghost use Rattle.mount_settings.specs.Assigned.{is_key};
@@ -26,25 +26,26 @@ impl Held for WrittenPath {
     ghost AreHeld = { AreRead };
 }
 
-/// The paths that are written in the files of a unit and are in force, in their order. Only the keys that say what stands
-/// at a path hide it, empty it or put another there, and each path, and each source of a bind, has at most 250 bytes.
+/// The paths that are written in the files of a unit and are in force, in their order. Only the keys that say which
+/// object is at a path hide it, empty it or put another there. Each path, and each source of a bind, has at most 250
+/// bytes.
 pub type WrittenPaths = HeldList<WrittenPath>;
 
-/// Whether two keys are the same.
+/// Returns whether two keys are the same.
 pub(crate) fn is_key(one: PathKey, other: PathKey) -> bool
     ensures { result ≡ is_key one other }
 {
     one.name() == other.name()
 }
 
-// Takes the paths of a key away.
+// Removes the paths of a key.
 fn forget(key: PathKey, paths: &mut Vec<WrittenPath>)
     ensures { paths.new.items ≡ without_key key paths.old.items }
 {
     paths.retain(|path| !is_key(path.key, key));
 }
 
-// Puts the path of a word behind the others, or notes the word.
+// Adds the path of a word after the others, or notes the word.
 fn add_word(
     alloc: Global,
     key: PathKey,
@@ -63,7 +64,7 @@ fn add_word(
     Ok(())
 }
 
-// Puts the paths of the words of a value behind the others.
+// Adds the paths of the words of a value after the others.
 fn add_words(
     alloc: Global,
     key: PathKey,
@@ -81,8 +82,8 @@ fn add_words(
     Ok(())
 }
 
-/// What one more value of a key does: an empty one takes the paths of the key away, and the paths of the words of any
-/// other are put behind.
+/// Applies one more value of a key: an empty one removes the paths of the key, and the paths of the words of any
+/// other are added after the others.
 pub(crate) fn add_value(
     alloc: Global,
     key: PathKey,

@@ -1,4 +1,4 @@
--- systemd.exec(5), BindPaths= and BindReadOnlyPaths=: a source and where it is to stand, split at colons.
+-- systemd.exec(5), BindPaths= and BindReadOnlyPaths=: a source and the place of the bind, split at colons.
 use Rattle.std.specs.Prelude.{ℕ, ◌==◌, ◌||◌, Bool, codes, List, [], ◌∷◌, Option, Some, None, option_and_then, if◌then◌else◌}
 use Rattle.std.specs.List.{slice_split}
 use Rattle.std.specs.Option.{option_map}
@@ -11,7 +11,7 @@ use Rattle.path_settings.specs.Marks.{is_marked, without}
 abbrev pub bind_pieces : List ℕ → List (List ℕ)
 bind_pieces text = slice_split (λ byte. byte == ascii ":") text
 
--- whether mounts below the source come too: either word may stand, and changes nothing here
+-- `rbind` and `norbind` say if mounts below the source come too; either changes nothing here
 abbrev pub is_bind_option : List ℕ → Bool
 is_bind_option option = bytes_eq option (codes "rbind") || bytes_eq option (codes "norbind")
 

@@ -1,4 +1,5 @@
--- systemd.exec(5), StateDirectory= and its kin: names of folders below a given one, which the service may write to.
+-- systemd.exec(5), StateDirectory=, RuntimeDirectory=, CacheDirectory= and LogsDirectory=: names of folders below a given one, which the
+-- service may write to.
 use Rattle.std.specs.Prelude.{ℕ, ◌==◌, ◌++◌, Bool, true, false, not, codes, List, [], ◌∷◌, Option, None, if◌then◌else◌}
 use Rattle.std.specs.Option.{option_map}
 use Rattle.std.specs.Str.{byte as ascii}

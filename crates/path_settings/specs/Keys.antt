@@ -30,7 +30,7 @@ name_of RuntimeDirectory = codes "RuntimeDirectory"
 name_of CacheDirectory = codes "CacheDirectory"
 name_of LogsDirectory = codes "LogsDirectory"
 
--- folders are implied: their mentions stand behind all written ones
+-- folders are implied: their mentions come after all written ones
 abbrev pub is_implied : PathKey → Bool
 is_implied StateDirectory = true
 is_implied RuntimeDirectory = true

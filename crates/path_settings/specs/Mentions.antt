@@ -18,19 +18,19 @@ abbrev pub is_bind : Kind → Bool
 is_bind (Bind source read_only) = true
 is_bind _ = false
 
--- the path of which a bind shows what stands there
+-- the path of the object that a bind shows
 abbrev pub source_of : Kind → Option Path
 source_of (Bind source read_only) = Some source
 source_of _ = None
 
--- these say which object stands at the path: none to be seen, an empty file system, or that of another path
+-- these say which object is at the path: none to be seen, an empty file system, or that of another path
 abbrev pub is_origin : Kind → Bool
 is_origin Hide = true
 is_origin (Tmp read_only) = true
 is_origin (Bind source read_only) = true
 is_origin _ = false
 
--- no mention says which object stands at the root
+-- no mention says which object is at the root
 abbrev pub leaves_the_root : List Mention → Bool
 leaves_the_root mentions = list_all (λ mention. not (is_root mention.path && is_origin mention.kind)) mentions
 

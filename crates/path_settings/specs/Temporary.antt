@@ -1,4 +1,4 @@
--- systemd.exec(5), TemporaryFileSystem=: where an empty file system is to stand, and behind the first colon its options.
+-- systemd.exec(5), TemporaryFileSystem=: the place of an empty file system, and after the first colon its options.
 use Rattle.std.specs.Prelude.{ℕ, ◌==◌, Bool, false, codes, List, Option}
 use Rattle.std.specs.List.{slice_split, list_any, before_first, after_first}
 use Rattle.std.specs.Option.{option_map}

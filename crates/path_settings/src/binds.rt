@@ -1,4 +1,4 @@
-//! Words of BindPaths= and BindReadOnlyPaths=.
+//! Reads words of BindPaths= and BindReadOnlyPaths=.
 
 ghost use Rattle.std.specs.Prelude.{◌≡◌, IfOk, map};
 ghost use Rattle.std.specs.Option.{option_map};
@@ -15,7 +15,7 @@ fn pieces(alloc: Global, text: &str) -> Result<Vec<&str>, AllocError>
     text.split(':').collect(alloc)
 }
 
-// Whether mounts below the source come too, which changes nothing here.
+// Returns whether the option is `rbind` or `norbind`. Either is allowed, and changes nothing here.
 fn is_bind_option(option: &str) -> bool
     ensures { result ≡ is_bind_option option.now }
 {
@@ -56,8 +56,8 @@ fn bind_between(
     }))
 }
 
-/// The mention that a word `[-]SOURCE[:DEST[:rbind or norbind]]` is: at DEST, or where none is written at SOURCE, what
-/// stands at SOURCE. None where it has another form or an end of it is no path of a setting.
+/// Reads the mention of a word `[-]SOURCE[:DEST[:rbind or norbind]]`: the object at SOURCE is shown at DEST, or at
+/// SOURCE if there is no DEST. None if the word has another form, or if one of the two is no path of a setting.
 pub fn read_bind(alloc: Global, read_only: bool, word: &str) -> Result<Option<Mention>, AllocError>
     ensures mention_or_none { IfOk result (λ mention. mention ≡ bind_mention read_only word.now) }
 {

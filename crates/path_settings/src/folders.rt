@@ -1,4 +1,4 @@
-//! Words of StateDirectory=, RuntimeDirectory=, CacheDirectory= and LogsDirectory=.
+//! Reads words of StateDirectory=, RuntimeDirectory=, CacheDirectory= and LogsDirectory=.
 
 ghost use Rattle.std.specs.Prelude.{◌≡◌, IfOk, string_bytes};
 ghost use Rattle.path_settings.specs.Folders.{is_relative, text_below, folder_mention};
@@ -23,8 +23,8 @@ fn text_below(alloc: Global, folder: &str, name: &str) -> Result<String, AllocEr
     Ok(text)
 }
 
-/// The mention that the name of a folder below another one is: the service may write there, and a missing one is
-/// passed over. None where the name is empty or begins with a slash, or the two make no path of a setting.
+/// Reads the mention of the name of a folder below another one: the service may write there, and a missing folder is
+/// skipped. None if the name is empty or begins with a slash, or if the two make no path of a setting.
 pub fn read_folder(alloc: Global, folder: &str, name: &str) -> Result<Option<Mention>, AllocError>
     ensures mention_or_none { IfOk result (λ mention. mention ≡ folder_mention folder.now name.now) }
 {

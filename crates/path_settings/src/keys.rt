@@ -1,4 +1,4 @@
-//! The keys that speak of paths, and what a word of each says.
+//! The keys that speak of paths, and the mentions that their words are.
 
 ghost use Rattle.std.specs.Prelude.{◌≡◌, IfOk, find};
 ghost use Rattle.std.specs.Str.{bytes_eq};
@@ -81,7 +81,7 @@ impl PathKey {
         }
     }
 
-    /// Whether it names folders, whose mentions stand behind all written ones.
+    /// Returns whether it names folders, whose mentions come after all written ones.
     pub fn is_implied(self) -> bool
         ensures by_its_key { result ≡ is_implied self }
     {
@@ -92,7 +92,7 @@ impl PathKey {
     }
 }
 
-/// The mention that a word of a key's list is. None where it cannot be read.
+/// Reads the mention of a word of a key's list. None if the word cannot be read.
 pub fn read_mention(alloc: Global, key: PathKey, word: &str) -> Result<Option<Mention>, AllocError>
     ensures mention_or_none { IfOk result (λ mention. mention ≡ mention_of key word.now) }
 {

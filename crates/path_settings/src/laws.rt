@@ -1,4 +1,4 @@
-//! Laws of keys and of the mentions that are read, each the contract of a function that does nothing.
+//! The laws of keys and of mentions that are read. Each is the contract of a function that does nothing.
 
 ghost use Rattle.std.specs.Prelude.{◌≡◌, ℕ, List, Some, IsTrue, find};
 ghost use Rattle.std.specs.Str.{bytes_eq};
@@ -8,7 +8,7 @@ ghost use Rattle.path_settings.specs.declared.mentions.Mention.{Mention};
 ghost use Rattle.path_settings.specs.Short.{is_short};
 ghost use Rattle.path_settings.specs.Keys.{path_keys, name_of, is_implied, mention_of};
 
-/// The keys are all of them, and each is found by its name.
+/// `ALL_PATH_KEYS` has all keys, and each is found by its name.
 pub fn keys_and_names()
     ensures all_keys { ALL_PATH_KEYS ≡ path_keys }
     ensures found_by_its_name { (key : PathKey) → find (λ other. bytes_eq (name_of other) (name_of key)) path_keys ≡ Some key }

@@ -1,4 +1,4 @@
-//! Words of ReadWritePaths=, ReadOnlyPaths=, InaccessiblePaths=, ExecPaths= and NoExecPaths=.
+//! Reads words of ReadWritePaths=, ReadOnlyPaths=, InaccessiblePaths=, ExecPaths= and NoExecPaths=.
 
 ghost use Rattle.std.specs.Prelude.{◌≡◌, IfOk};
 ghost use Rattle.path_settings.specs.Lists.{path_mention};
@@ -8,8 +8,8 @@ use crate::mentions::{Kind, Mention};
 use crate::paths::read_setting_path;
 use std::alloc::{AllocError, Global};
 
-/// The mention that a word of a list of paths is: a path, which a `-` in front makes optional. A `+` behind the `-`,
-/// or alone in front, changes nothing. None where what is left is no path of a setting.
+/// Reads the mention of a word of a list of paths: a path, which a `-` in front makes optional. A `+` after the `-`,
+/// or alone in front, changes nothing. None if the rest is no path of a setting.
 pub fn read_path(alloc: Global, kind: Kind, word: &str) -> Result<Option<Mention>, AllocError>
     ensures mention_or_none { IfOk result (λ mention. mention ≡ path_mention kind word.now) }
 {

@@ -3,7 +3,7 @@
 ghost use Rattle.std.specs.Prelude.{◌≡◌};
 ghost use Rattle.path_settings.specs.Marks.{is_marked, without};
 
-/// Whether a word begins with `-`, which makes its mention optional.
+/// Returns whether a word begins with `-`, which makes its mention optional.
 pub(crate) fn is_marked(word: &str) -> bool
     ensures { result ≡ is_marked word.now }
 {

@@ -14,7 +14,7 @@ use text_forms::item_list::ItemList;
 /// How many mentions there are at most.
 const MOST: usize = 160;
 
-/// What a mention says of its path (systemd.exec(5), Sandboxing).
+/// The effect of a mention at its path (systemd.exec(5), Sandboxing).
 #[derive(Drop)]
 pub enum Kind {
     /// Nothing may be written at it or below it.
@@ -27,44 +27,44 @@ pub enum Kind {
     NoExec,
     /// Nothing is to be seen there.
     Hide,
-    /// An empty file system stands there.
+    /// An empty file system is there.
     Tmp { read_only: bool },
-    /// What stands at another path of the host stands there too.
+    /// The object at another path of the host is also there.
     Bind { source: AbsPath, read_only: bool },
 }
 
-/// What a setting says of one path.
+/// The effect of a setting at one path.
 #[derive(Drop)]
 pub struct Mention {
     pub path: AbsPath,
     pub kind: Kind,
-    /// Whether the mention is passed over where the path, or the source of a bind, is not there.
+    /// Whether the mention is skipped if the path, or the source of a bind, does not exist.
     pub optional: bool,
 }
 
 impl Kind {
-    /// Whether it says what stands at the path, and not only how that may be used.
+    /// Returns whether it says which object is at the path, and not only how the object may be used.
     pub fn is_origin(&self) -> bool
         ensures hides_or_puts { result ≡ is_origin self.now }
     {
         matches!(self, Kind::Hide | Kind::Tmp { .. } | Kind::Bind { .. })
     }
 
-    /// Whether nothing is to be seen at the path.
+    /// Returns whether nothing is to be seen at the path.
     pub fn hides(&self) -> bool
         ensures hides { result ≡ hides self.now }
     {
         matches!(self, Kind::Hide)
     }
 
-    /// Whether an empty file system stands at the path.
+    /// Returns whether an empty file system is at the path.
     pub fn is_tmp(&self) -> bool
         ensures empties { result ≡ is_tmp self.now }
     {
         matches!(self, Kind::Tmp { .. })
     }
 
-    /// Whether what stands at another path stands there.
+    /// Returns whether the object at another path is shown there.
     pub fn is_bind(&self) -> bool
         ensures binds { result ≡ is_bind self.now }
     {
@@ -135,14 +135,14 @@ impl Model for Mentions {
     ghost invariant = { λ mentions. AreKept mentions.items };
 }
 
-// Does nothing; a path lends with its text the fact that it is normal and short.
+// Does nothing. The text of a path comes with the fact that it is normal and short.
 fn know_path(path: &AbsPath)
     ensures { IsTrue (is_path path.now) }
 {
     let _text = path.text();
 }
 
-// Does nothing but say the same of the source of a bind.
+// Does nothing, and says the same of the source of a bind.
 fn know_source(kind: &Kind)
     ensures { IsTrue (has_whole_source kind.now) }
 {
@@ -170,14 +170,14 @@ impl Mentions {
         self.items.list()
     }
 
-    /// Whether no mention hides the root, empties it or puts another object there.
+    /// Returns whether no mention hides the root, empties it or puts another object there.
     pub fn leaves_the_root(&self) -> bool
         ensures root_is_the_hosts { result ≡ leaves_the_root self.now }
     {
         self.list().iter().all(|mention| !(mention.path.is_root() && mention.kind.is_origin()))
     }
 
-    /// Puts a mention behind the others. Full where there are 160 of them; on an error they stay as they were.
+    /// Puts a mention after the others. Full if there are 160 of them. On an error they stay as they were.
     pub fn add(&mut self, mention: Mention) -> Result<(), MentionError>
         ensures adds_behind { OnOk result (self.new ≡ self.old ++ mention ∷ []) }
         ensures full_exactly_at_160 { IsErrOf result MentionError.Full ↔ (length self.old ≡ 160) }

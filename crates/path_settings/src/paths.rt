@@ -1,4 +1,4 @@
-//! The path of a setting: what `AbsPath` reads, at most 250 bytes long.
+//! Reads the path of a setting: what `AbsPath` reads, at most 250 bytes long.
 
 ghost use Rattle.std.specs.Prelude.{◌≡◌, IfOk};
 ghost use Rattle.path_settings.specs.SettingPaths.{setting_path, if_short};
@@ -15,8 +15,8 @@ fn if_short(path: AbsPath) -> Option<AbsPath>
     (path.text().len() <= LONGEST).then_some(path)
 }
 
-/// The path that a text of a setting is: absolute, without `..` and NUL, and at most 250 bytes long once it is folded.
-/// None where it is no such text; Memory may come at any text.
+/// Reads the path of a text of a setting: absolute, without `..` and NUL, and at most 250 bytes long once it is
+/// folded. None if it is no such text. Memory may come for any text.
 pub fn read_setting_path(alloc: Global, text: &str) -> Result<Option<AbsPath>, AllocError>
     ensures path_or_none { IfOk result (λ path. path ≡ setting_path text.now) }
 {

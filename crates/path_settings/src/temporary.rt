@@ -1,4 +1,4 @@
-//! Words of TemporaryFileSystem=.
+//! Reads words of TemporaryFileSystem=.
 
 ghost use Rattle.std.specs.Prelude.{◌≡◌, IfOk, ◌==◌};
 ghost use Rattle.path_settings.specs.Temporary.{asks_read_only, temporary_at, temporary_mention};
@@ -7,7 +7,7 @@ use crate::mentions::{Kind, Mention};
 use crate::paths::read_setting_path;
 use std::alloc::{AllocError, Global};
 
-// Whether one of the options between the commas is `ro`.
+// Returns whether one of the options between the commas is `ro`.
 fn asks_read_only(options: &str) -> bool
     ensures { result ≡ asks_read_only options.now }
 {
@@ -26,8 +26,8 @@ fn temporary_at(alloc: Global, path: &str, options: &str) -> Result<Option<Menti
     }))
 }
 
-/// The mention that a word `PATH[:OPTIONS]` is: an empty file system at the path, read-only where one of the options is
-/// `ro`. None where it begins with no path of a setting.
+/// Reads the mention of a word `PATH[:OPTIONS]`: an empty file system at the path, read-only if one of the options is
+/// `ro`. None if the word begins with no path of a setting.
 pub fn read_temporary(alloc: Global, word: &str) -> Result<Option<Mention>, AllocError>
     ensures mention_or_none { IfOk result (λ mention. mention ≡ temporary_mention word.now) }
 {

@@ -1,9 +1,9 @@
-//! What a service finds at a path, by the mentions of its settings.
+//! Says what a service finds at a path, by the mentions of its settings.
 //!
-//! Rules say which mentions are kept; of those the longest that leads to a path decides what stands there and how it
-//! may be used (systemd.exec(5), Sandboxing). It stands on `path_settings`; `mount_plan` makes a table of mounts of it.
+//! Rules say which mentions are kept. Of those, the longest that leads to a path decides which object is there and
+//! how it may be used (systemd.exec(5), Sandboxing). `mount_plan` makes a table of mounts of it.
 //!
-//! `view(&kept, &path).read_only` tells whether the service may not write at the path.
+//! `view(&kept, &path).read_only` is true if the service may not write at the path.
 
 pub mod laws;
 mod longest;

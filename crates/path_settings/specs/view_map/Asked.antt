@@ -14,7 +14,7 @@ place_of (on_host path) = path ∷ []
 place_of empty = []
 place_of hidden = []
 
--- what stands beneath the mentions at a path, by those that are kept above it
+-- the host's place beneath the mentions at a path, by those that are kept above it
 abbrev pub beneath_place : List Mention → Path → List Path
 beneath_place kept path = place_of (object_from (longest is_origin (above path kept)) path)
 
@@ -26,7 +26,7 @@ abbrev pub asked_on : Result (List Mention) Refusal → (List Mention → List P
 asked_on (Err refusal) go = []
 asked_on (Ok more) go = go more
 
--- what the rules ask at these paths, one after the other, behind those that were kept before
+-- what the rules ask at these paths, one after the other, after those that were kept before
 abbrev pub asked_from : Host → List Mention → List Path → List Mention → List Path
 asked_from row_at mentions [] kept = []
 asked_from row_at mentions (path ∷ paths) kept = beneath_place kept path ++ asked_on (kept_at row_at mentions kept path)

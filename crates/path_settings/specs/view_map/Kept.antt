@@ -1,6 +1,6 @@
--- Which mentions are kept, path by path in byte order, so that each path comes after those above it.
--- The rules are this project's profile of systemd.exec(5), Sandboxing. The host enters as a function `row_at` from a path
--- to whether there is an object at it, and then whether it is a directory.
+-- The mentions that are kept, path by path in byte order, so that each path comes after those above it. The rules are this project's
+-- profile of systemd.exec(5), Sandboxing. The host enters as a function `row_at`, which says if there is an object at a path, and then if
+-- it is a directory.
 use Rattle.std.specs.Prelude.{◌≡◌, ◌||◌, ◌&&◌, Bool, true, false, not, List, [], ◌∷◌, ◌++◌, map, filter, Option, Some, None, option_map}
 use Rattle.std.specs.Prelude.{option_and_then, Result, Ok, Err, if◌then◌else◌}
 use Rattle.std.specs.List.{list_any, filter_map, AllByRecursion, Contains}
@@ -54,7 +54,7 @@ beneath_by row_at hidden = beneath.Hidden
 beneath_by row_at empty = beneath.Empty
 beneath_by row_at (on_host path) = beneath_row (row_at path)
 
--- what the longest kept mention above a path that says what stands there gives at the path
+-- what the longest kept mention above a path that says which object is there gives at the path
 abbrev pub beneath_at : Host → List Mention → Path → Beneath
 beneath_at row_at kept path = beneath_by row_at (object_from (longest is_origin (above path kept)) path)
 
@@ -82,7 +82,7 @@ refusal_of mention fate.NoSource = option_map missing (source_of mention.kind)
 refusal_of mention fate.NoRow = Some (missing mention.path)
 refusal_of mention fate.WrongKind = Some (wrong_kind mention.path)
 
--- in the order of the rules: those that say what stands at the path, and then the flags
+-- in the order of the rules: those that say which object is at the path, and then the flags
 abbrev pub in_order_of_rules : List Mention → List Mention
 in_order_of_rules here = filter (λ mention. is_origin mention.kind) here ++ filter (λ mention. not (is_origin mention.kind)) here
 
@@ -108,7 +108,7 @@ abbrev pub goes_on : Result (List Mention) Refusal → (List Mention → Result 
 goes_on (Err refusal) go = Err refusal
 goes_on (Ok more) go = go more
 
--- the kept mentions of these paths, one path after the other, behind those that were kept before
+-- the kept mentions of these paths, one path after the other, after those that were kept before
 abbrev pub kept_from : Host → List Mention → List Path → List Mention → Result (List Mention) Refusal
 kept_from row_at mentions [] kept = Ok kept
 kept_from row_at mentions (path ∷ paths) kept = goes_on (kept_at row_at mentions kept path)

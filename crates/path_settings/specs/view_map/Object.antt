@@ -1,4 +1,4 @@
--- What stands at a path: the host's object at some path, nothing yet, or nothing to be seen.
+-- The object at a path: the host's object at some path, nothing yet, or nothing to be seen.
 use Rattle.std.specs.Prelude.{ℕ, List, ◌++◌, Option, Some, None}
 use Rattle.abs_path.specs.Paths.{Path}
 use Rattle.abs_path.specs.Prefix.{rest_of}
@@ -19,7 +19,7 @@ object_by (Tmp read_only) place path = empty
 object_by (Bind source read_only) place path = on_host (source ++ rest_of place path)
 object_by _ place path = on_host path
 
--- without such a mention the host itself stands there
+-- without such a mention the host's own object is there
 abbrev pub object_from : Option (ℕ × Mention) → Path → Object
 object_from None path = on_host path
 object_from (Some one) path = object_by one.1.kind one.1.path path
@@ -27,7 +27,7 @@ object_from (Some one) path = object_by one.1.kind one.1.path path
 abbrev pub object_at : List Mention → Path → Object
 object_at kept path = object_from (origin_of kept path) path
 
--- what an object shows at a path behind it
+-- what an object shows at a path further on
 abbrev pub object_behind : Object → Path → Object
 object_behind (on_host path) rest = on_host (path ++ rest)
 object_behind empty rest = empty

@@ -1,4 +1,4 @@
--- What the kept mentions rest on: two hosts that have the same there keep the same mentions.
+-- The facts of a host that decide which mentions are kept: two hosts that agree on these keep the same mentions.
 use Rattle.std.specs.Prelude.{◌≡◌, List}
 use Rattle.std.specs.List.{AllByRecursion}
 use Rattle.abs_path.specs.Paths.{Path}
@@ -14,7 +14,7 @@ AreSame row_at other paths = AllByRecursion (λ path. other path ≡ row_at path
 abbrev pub AreSameSources : Host → Host → List Mention → Type 0
 AreSameSources row_at other mentions = AllByRecursion (λ mention. source_row other mention.kind ≡ source_row row_at mention.kind) mentions
 
--- which mentions are kept rests on what stands beneath them, and on the sources of binds, alone
+-- two hosts keep the same mentions if they agree on the places beneath the kept mentions and on the sources of binds
 abbrev pub KeptRestsOnWhatIsAsked : Type 0
 KeptRestsOnWhatIsAsked = (row_at other : Host) (mentions : List Mention) → AreSameSources row_at other mentions
     → AreSame row_at other (asked_of row_at mentions)

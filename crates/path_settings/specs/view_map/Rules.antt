@@ -1,5 +1,5 @@
--- What becomes of a mention that no other at its path beats, by what the kept mentions above the path give there.
--- The rules are this project's profile of systemd.exec(5), Sandboxing.
+-- The fate of a mention that no other at its path beats, by what the kept mentions above the path give there. The rules are this
+-- project's profile of systemd.exec(5), Sandboxing.
 use Rattle.std.specs.Prelude.{Bool, true, false, Option, Some, None, if◌then◌else◌}
 use Rattle.std.specs.Bool.{beq}
 use Rattle.path_settings.specs.declared.mentions.Kind.{Kind}
@@ -51,9 +51,8 @@ seen_fate source here is_put optional (Tmp read_only) = tmp_fate here
 seen_fate source here is_put optional Hide = hide_fate here optional
 seen_fate source here is_put optional _ = flag_fate here optional is_put
 
--- below what is hidden each mention is dropped
--- `source` says whether a bind's source is a row, and then whether it is a directory;
--- `is_put` whether an empty file system or a bind is kept at the path
+-- each mention below a hidden path is dropped. `source` says if a bind's source is a row, and then if it is a directory; `is_put` if an
+-- empty file system or a bind is kept at the path
 abbrev pub fate_of : Option Bool → Beneath → Bool → Mention → Fate
 fate_of source beneath.Hidden is_put mention = fate.Dropped
 fate_of source here is_put mention = seen_fate source here is_put mention.optional mention.kind

@@ -71,7 +71,7 @@ is_read_only kept path = prevails says_read_only says_read_write (leading_to pat
 abbrev pub is_no_exec : List Mention → Path → Bool
 is_no_exec kept path = prevails says_no_exec says_exec (leading_to path kept)
 
--- what is seen at a path: which kept mention says what stands there, and how it may be used
+-- what is seen at a path: which kept mention says which object is there, and how it may be used
 abbrev pub seen_at : List Mention → Path → Seen
 seen_at kept path = record {
   origin = option_map (λ one. one.0) (origin_of kept path);

@@ -1,4 +1,4 @@
-//! The longest of the mentions that lead to a path and say one thing.
+//! Finds the longest of the mentions that lead to a path and say one thing.
 
 ghost use Rattle.std.specs.Prelude.{◌≡◌, option_map};
 ghost use Rattle.path_settings.specs.view_map.View.{leading_to, above, longest};
@@ -40,15 +40,16 @@ pub(crate) fn longest<'a>(
     best
 }
 
-/// The kept mention that says what stands at the path, with its position: the longest one at the path or above it.
+/// Returns the kept mention that says which object is at the path, with its position: the longest one at the path or
+/// above it.
 pub fn origin_at<'a>(kept: &'a [Mention], path: &AbsPath) -> Option<(usize, &'a Mention)>
     ensures longest_at_or_above { option_map shown result ≡ longest is_origin (leading_to path.now kept.now) }
 {
     longest(kept, path, Says::Origin)
 }
 
-/// The kept mention that says what would stand at the path without those at it, with its position: the longest one
-/// above the path.
+/// Returns the kept mention that says which object would be at the path without those at it, with its position: the
+/// longest one above the path.
 pub fn origin_above<'a>(kept: &'a [Mention], path: &AbsPath) -> Option<(usize, &'a Mention)>
     ensures longest_above { option_map shown result ≡ longest is_origin (above path.now kept.now) }
 {

@@ -1,4 +1,4 @@
-//! What becomes of a mention, by what the kept mentions above its path give there.
+//! Decides the fate of a mention, by what the kept mentions above its path give there.
 
 ghost use Rattle.std.specs.Prelude.{◌≡◌};
 ghost use Rattle.path_settings.specs.view_map.Rules.{unless_optional, bind_fate, tmp_fate, hide_fate, flag_fate, seen_fate, fate_of};
@@ -12,13 +12,13 @@ pub enum Beneath {
     Hidden,
     /// It lies below an empty file system.
     Empty,
-    /// It is a row of the host, or lies behind a bind at one.
+    /// It is a row of the host, or is shown by a bind of one.
     Row { is_dir: bool },
     /// It is no row.
     NoRow,
 }
 
-/// What becomes of a mention.
+/// The fate of a mention.
 #[derive(Clone, Copy, Debug, PartialEq, Eq)]
 pub enum Fate {
     Kept,
@@ -95,8 +95,8 @@ fn seen_fate(mention: &Mention, source: Option<bool>, beneath: Beneath, is_put: 
     }
 }
 
-/// What becomes of a mention that no other at its path beats: `source` says whether the source of a bind is a row, and
-/// then whether it is a directory; `is_put` whether an empty file system or a bind is kept at the path.
+/// Returns the fate of a mention that no other at its path beats. `source` says if the source of a bind is a row, and
+/// then if it is a directory. `is_put` says if an empty file system or a bind is kept at the path.
 pub fn fate_of(mention: &Mention, source: Option<bool>, beneath: Beneath, is_put: bool) -> Fate
     ensures by_the_rules { result ≡ fate_of source beneath is_put mention.now }
 {

@@ -1,4 +1,4 @@
-//! What a mention says of its path, by its kind.
+//! The statements of mentions about their paths, by their kinds.
 
 ghost use Rattle.std.specs.Prelude.{◌≡◌};
 ghost use Rattle.path_settings.specs.view_map.View.{says_read_only, says_read_write};
@@ -9,7 +9,7 @@ use crate::Kind;
 /// What a mention may say.
 #[derive(Clone, Copy)]
 pub(crate) enum Says {
-    /// Which object stands at the path.
+    /// Which object is at the path.
     Origin,
     ReadOnly,
     ReadWrite,
@@ -37,7 +37,7 @@ fn says_read_write(kind: &Kind) -> bool
     }
 }
 
-/// Whether a mention of this kind says this; an empty file system and a bind say whether they are read-only.
+/// Returns whether a mention of this kind says this; an empty file system and a bind say whether they are read-only.
 pub(crate) fn is_said(says: Says, kind: &Kind) -> bool
     ensures { result ≡ is_said says kind.now }
 {

@@ -1,4 +1,4 @@
-//! What a service sees at a path: three choices, each by the longest kept mention that leads there.
+//! Makes the view at a path: three choices, each by the longest kept mention that leads there.
 
 ghost use Rattle.std.specs.Prelude.{◌≡◌, option_map};
 ghost use Rattle.path_settings.specs.view_map.View.{leading_to, prevails, origin_of, is_read_only, is_no_exec};
@@ -12,7 +12,7 @@ use abs_path::AbsPath;
 /// What a service sees at a path.
 #[derive(Clone, Copy, Debug, PartialEq, Eq)]
 pub struct Seen {
-    /// The position of the kept mention that says what stands there, the first on a tie; None: the host itself.
+    /// The position of the kept mention that says which object is there, the first on a tie. None is the host itself.
     pub origin: Option<usize>,
     pub read_only: bool,
     pub no_exec: bool,
@@ -34,16 +34,17 @@ fn reaches_as_far(one: Option<(usize, &Mention)>, other: Option<(usize, &Mention
     }
 }
 
-// Whether one of the mentions that say the one thing and lead to the path is as long as each that denies it.
+// Returns whether one of the mentions that say the one thing and lead to the path is as long as each that denies it.
 fn prevails(kept: &[Mention], path: &AbsPath, says: Says, denies: Says) -> bool
     ensures { result ≡ prevails (is_said says) (is_said denies) (leading_to path.now kept.now) }
 {
     reaches_as_far(longest(kept, path, says), longest(kept, path, denies))
 }
 
-/// What a service sees at the path by the kept mentions: the longest that leads there says what stands there, the
-/// longest of RO and RW whether it is read-only, and the longest of EXEC and NOEXEC whether it is executable. On a tie
-/// the first, RO and NOEXEC decide; with no mention the host is read-write and executable (systemd.exec(5)).
+/// Returns the view at the path by the kept mentions (systemd.exec(5)). The longest that leads there says which
+/// object is there. The longest of RO and RW says if it is read-only, and the longest of EXEC and NOEXEC if it is
+/// executable. On a tie the first mention, RO and NOEXEC decide. Without a mention the host is read-write and
+/// executable.
 pub fn view(kept: &Mentions, path: &AbsPath) -> Seen
     ensures origin_by_longest { result.origin ≡ option_map (λ one. one.0) (origin_of kept.now path.now) }
     ensures read_only_on_a_tie { result.read_only ≡ is_read_only kept.now path.now }
