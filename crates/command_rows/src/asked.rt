@@ -1,4 +1,5 @@
-//! What printed filters answer: the text of `filter` is read back, program by program, and each is asked of the calls of a row.
+//! Asks printed filters: the text of `filter` is read back, program by program, and each is asked about the calls of
+//! a row.
 use crate::sought::push_line;
 use row_tools::{bytes_of, number, number32};
 use std::alloc::{AllocError, Global};
@@ -29,7 +30,7 @@ fn data_of(words: &str) -> CallData {
     }
 }
 
-// What the program of these instructions answers to each of the calls, a line each.
+// Appends the answers of the program of these instructions to the calls, a line each.
 fn push_answers(
     alloc: Global,
     said: &mut String,

@@ -1,14 +1,14 @@
-//! The lists of calls below the open questions of a report, each put through `replay`.
+//! Replays the lists of calls below the open questions of a report.
 use crate::rows::Rows;
 use crate::runs::run_over;
 use crate::sought::push_line;
 use host_io::are_files;
 use std::alloc::{AllocError, Global};
 
-/// Where the script of a list lies.
+/// The path of the script of a list.
 const SCRIPT: &str = "list";
 
-// Whether a replay has so many calls, and each of them is done.
+// Returns whether a replay has so many calls, and each of them is done.
 fn are_done(replay: &str, count: usize) -> bool {
     replay.lines().filter(|line| line.contains(" -> ")).count() == count
         && replay
@@ -50,7 +50,8 @@ fn push_list(
     said.push_str(replay.as_str())
 }
 
-/// The report on the unit of a row, list by list: which of them is not done when it is replayed, and how many are.
+/// Returns the report on the unit of a row, list by list: which of them is not done when it is replayed, and how many
+/// are.
 pub fn circle(alloc: Global, rows: &Rows) -> Result<String, AllocError> {
     let unit = match rows.words.first() {
         Some(word) => word.as_str(),

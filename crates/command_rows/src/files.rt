@@ -1,4 +1,4 @@
-//! The files that rows make, from a short notation.
+//! Makes files for rows, from a short notation.
 use row_tools::number;
 use std::alloc::{AllocError, Global};
 
@@ -21,7 +21,7 @@ impl Files {
         self.cut(alloc, "", 0)
     }
 
-    /// Copies of the files, that of this path cut off behind so many bytes.
+    /// Copies of the files, that of this path cut off after so many bytes.
     pub fn cut(
         &self,
         alloc: Global,
@@ -41,7 +41,7 @@ impl Files {
         Ok(files)
     }
 
-    /// How many bytes the file of this path has.
+    /// Returns the number of bytes of the file of this path.
     pub fn length(&self, path: &str) -> usize {
         for file in &self.list {
             if file.0.as_str() == path {
@@ -51,11 +51,14 @@ impl Files {
         0
     }
 
-    /// Follows a line: `file PATH` begins a file, which is empty; `|TEXT` adds a line to the newest file, `>TEXT` a text, `nul` a
-    /// zero byte, `many N` so many letters, and `times N TEXT` so many lines, each `#` in it the number of the line, from 1.
-    /// `comment N` and `blanks N` fill it with `#` and with spaces until it has N bytes. `more PATH` goes on with a file. `files N
-    /// PATH TEXT` makes so many files of one line, each `#` in their paths the number of the file. `no-file PATH` takes a file
-    /// away, and `no-files FRONT` those whose paths begin so. Any other line changes nothing.
+    /// Follows a line. Any line but these changes nothing:
+    /// - `file PATH` begins a file, which is empty, and `more PATH` goes on with one.
+    /// - `|TEXT` adds a line to the newest file, `>TEXT` a text, `nul` a zero byte, and `many N` so many letters.
+    /// - `times N TEXT` adds so many lines, and replaces each `#` by the number of the line, from 1.
+    /// - `comment N` and `blanks N` fill the file with `#` and with spaces until it has N bytes.
+    /// - `files N PATH TEXT` makes so many files of one line, and replaces each `#` in their paths by the number of
+    ///   the file.
+    /// - `no-file PATH` removes a file, and `no-files FRONT` those whose paths begin so.
     pub fn follow(&mut self, alloc: Global, line: &str) -> Result<(), AllocError> {
         if let Some(text) = line.strip_prefix('|') {
             self.add(text.as_bytes())?;

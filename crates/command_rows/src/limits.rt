@@ -1,15 +1,20 @@
-//! Rows of what a run is exposed to: reads and writes that fail, inputs at their limits, and texts that are cut off.
+//! Runs rows with the limits and faults of runs: reads and writes that fail, inputs at their limits, and texts that
+//! are cut off.
 //!
-//! They make files, as those of whole runs do, which further rows keep, and ask of them. `comment N` and `blanks N` fill a file
-//! with `#` and with spaces until it has N bytes. `files N PATH TEXT` makes so many files of one line, each `#` in their paths the
-//! number of the file; `no-files FRONT` takes away those whose paths begin so.
+//! Lines make files, as those of whole runs do, which further rows keep. `comment N` and `blanks N` fill a file with
+//! `#` and with spaces until it has N bytes. `files N PATH TEXT` makes so many files of one line, and replaces each
+//! `#` in their paths by the number of the file. `no-files FRONT` removes those whose paths begin so.
 //!
-//! A row is printed, and below it what came out. `run WORD ..` prints the status and the text of a run of these words, and
-//! `last N WORD ..` how many lines it has and the last of them. `reads N WORD ..` has each of the calls 1 to N of the shelf fail in
-//! turn, and `puts TAKE N WORD ..` each of the puts to a sink that takes so many bytes at once: of each K is told the status, and
-//! how much of the text of a run without faults was taken. `prefixes PATH WORD ..` runs the words over each prefix of the file,
-//! by its length in bytes, and tells the status and the line, or of several lines the last. Neighbours that come out alike are
-//! told together.
+//! A row is printed, and its result below it:
+//! - `run WORD ..` prints the status and the text of a run of these words.
+//! - `last N WORD ..` prints the number of its lines and the last of them.
+//! - `reads N WORD ..` lets each of the calls 1 to N of the shelf fail in turn. It prints the status for each, and
+//!   how much of the text of a run without faults was taken.
+//! - `puts TAKE N WORD ..` does the same with the puts to a sink that takes so many bytes at once.
+//! - `prefixes PATH WORD ..` runs the words over each prefix of the file, by its length in bytes. It prints the
+//!   status and the line, or of several lines the last.
+//!
+//! Neighbours with the same result are printed together.
 
 mod spans;
 

@@ -1,16 +1,23 @@
-//! Rows of whole runs over files in memory: what is printed, and how it ends.
+//! Runs rows of whole runs over files in memory, and prints their output and their status.
 //!
-//! A line `part NAME` of the standard input begins the rows of a part, and prints nothing: `limits` has what a run is exposed to, and
-//! `runs` what follows here, a line each step. `file PATH` begins a file, which further rows keep; `|TEXT` adds a line
-//! to it, `>TEXT` a text, `nul` a zero byte, `many N` so many letters and `times N TEXT` so many lines; `more PATH` goes on with
-//! a file, and `no-file PATH` takes it away. `word WORD` adds a word, `take N` says how much the sink takes at once, `fail-read N`
-//! and `fail-put N` which call fails. `wish yes` and `wish no` hand in a wish that always answers so; without any the wish of the
-//! program is handed in. `run` runs these words, prints them with the status and what was taken, and begins the next row. `ask NUMBER
-//! WORD ..` asks the filters that are printed of a call, `i386` before the number of one of that architecture: they are read back, and
-//! what each answers is told in their place. `seek LINE` seeks a line in what is printed: in the place of the text it is told
-//! whether the text has it, with the lines that are set in below it, or lacks it; `seek FRONT*` counts the lines that begin so.
-//! `circle` judges the unit of the first word, and replays the list of calls below each open question; it tells how many lists
-//! are done whole, and which are not. A line that begins with `#` says what the next rows show.
+//! A line `part NAME` of the standard input begins the rows of a part, and prints nothing. The part `limits` has the
+//! limits and faults of runs. The part `runs` has the following lines, each a step:
+//!
+//! | Line | Step |
+//! |---|---|
+//! | `file PATH` | begins a file, which further rows keep |
+//! | `\|TEXT`, `>TEXT`, `nul`, `many N`, `times N TEXT` | adds a line, a text, a zero byte, so many letters, so many lines to it |
+//! | `more PATH`, `no-file PATH` | goes on with a file, removes it |
+//! | `word WORD` | adds a word |
+//! | `take N` | sets how much the sink takes at once |
+//! | `fail-read N`, `fail-put N` | sets which call fails |
+//! | `wish yes`, `wish no` | hands in a wish that always answers so, in place of the program's wish |
+//! | `run` | runs these words, prints them with the status and the output, and begins the next row |
+//! | `ask NUMBER WORD ..` | asks the printed filters about a call, which are read back; their answers replace them. `i386` before the number is that architecture |
+//! | `seek LINE` | says, in place of the output, if it has the line, with the indented lines below, or lacks it |
+//! | `seek FRONT*` | counts the lines that begin so |
+//! | `circle` | judges the unit of the first word, replays the list of calls below each open question, and says how many lists are done whole and which are not |
+//! | `# ..` | says what the next rows show |
 #![tactic(auto)]
 
 mod asked;

@@ -14,7 +14,7 @@ const TAKE: u64 = 7;
 #[derive(Drop)]
 pub struct Rows {
     pub files: Files,
-    /// The words behind the program's name.
+    /// The words after the program's name.
     pub words: Vec<String>,
     /// What fails, and how much the sink takes at once.
     pub faults: Faults,

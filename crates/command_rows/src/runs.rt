@@ -1,4 +1,4 @@
-//! A run over files in memory, with faults or without.
+//! Runs the program over files in memory, with faults or without.
 use host_io::{MemShelf, MemSink, are_files};
 use row_tools::said;
 use std::alloc::{AllocError, Global};
@@ -6,7 +6,7 @@ use top_call::{
     CustomTest, Facts, Question, StoredWish, VerdictRow, Wish, ambient_count, run, writable_paths,
 };
 
-/// What fails in a run, how much the sink takes at once, and what wishes answer.
+/// The faults of a run, the bytes that the sink takes at once, and the answers of wishes.
 #[derive(Drop)]
 pub struct Faults {
     /// The calls of the shelf that fail, from 1.
@@ -31,7 +31,7 @@ impl Faults {
     }
 }
 
-/// What a run printed, and its status.
+/// The output of a run, and its status.
 #[derive(Drop)]
 pub struct Printed {
     pub code: u8,
@@ -56,7 +56,7 @@ pub fn run_over(
     Ok(Printed { code, text })
 }
 
-// Whether some file can be executed by the verdicts.
+// Returns whether some file can be executed by the verdicts.
 fn can_execute(rows: &[VerdictRow]) -> bool {
     for row in rows {
         if let Question::Path(Wish::Exec, _) = row.question {

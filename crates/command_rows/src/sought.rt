@@ -1,14 +1,14 @@
-//! Which lines a report has, for reports that are too long for a row.
+//! Looks up lines in reports that are too long for a row.
 use std::alloc::{AllocError, Global};
 
-/// Puts a line behind a text, with a front.
+/// Appends a line to a text, with a front.
 pub fn push_line(text: &mut String, front: &str, line: &str) -> Result<(), AllocError> {
     text.push_str(front)?;
     text.push_str(line)?;
     text.push('\n')
 }
 
-// Whether the text has the line, and what is set in below it.
+// Appends whether the text has the line, and the indented lines below it.
 fn push_sought(said: &mut String, text: &str, sought: &str) -> Result<(), AllocError> {
     let mut has = false;
     let mut below = false;
@@ -29,14 +29,14 @@ fn push_sought(said: &mut String, text: &str, sought: &str) -> Result<(), AllocE
     Ok(())
 }
 
-// How many lines begin so.
+// Appends the number of lines that begin so.
 fn push_count(alloc: Global, said: &mut String, text: &str, front: &str) -> Result<(), AllocError> {
     let count = text.lines().filter(|line| line.starts_with(front)).count();
     said.push_str(format!(in alloc; "{count} times {front}*\n")?.as_str())
 }
 
-/// Of each of these lines, that the text has it, above the lines that are set in below it, or that it lacks it; of one that ends
-/// in `*` how many lines begin with what stands before that.
+/// Returns for each of these lines that the text has it, above the indented lines below it, or that the text lacks
+/// it. For a line that ends in `*` it returns the number of lines that begin with the text before the `*`.
 pub fn sought(alloc: Global, text: &str, lines: &[String]) -> Result<String, AllocError> {
     let mut said = String::new(alloc);
     for line in lines {

@@ -1,11 +1,11 @@
-//! A whole run over the files of a row.
+//! Runs the whole program over the files of a row.
 use crate::asked::answers;
 use crate::rows::Rows;
 use crate::runs::run_over;
 use crate::sought::sought;
 use std::alloc::{AllocError, Global};
 
-/// Runs a row: its words and the status, and then what the sink took.
+/// Runs a row, and returns its words and the status, and then the bytes that the sink took.
 pub fn run_row(alloc: Global, rows: &Rows) -> Result<String, AllocError> {
     let files = rows.files.copied(alloc)?;
     let mut words = Vec::new(alloc);
@@ -16,8 +16,8 @@ pub fn run_row(alloc: Global, rows: &Rows) -> Result<String, AllocError> {
     said(alloc, rows, printed.code, printed.text.as_str())
 }
 
-// The words and the status, and below them the text, with a sign where it does not end with a line feed; of filters that are
-// asked what they answer, and of a text whose lines are sought which of them it has.
+// Returns the words and the status, and below them the text, with a sign if it does not end with a line feed. If
+// filters are asked, their answers replace the text; if lines are sought, it says which of them the text has.
 fn said(alloc: Global, rows: &Rows, code: u8, taken: &str) -> Result<String, AllocError> {
     let mut text = String::from_str(alloc, "run")?;
     for word in &rows.words {

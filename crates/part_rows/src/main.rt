@@ -1,8 +1,8 @@
-//! Rows over what commands are made of: real folders, readers that refuse a text, programs, and settings of a unit.
+//! Runs rows over the parts of commands: real folders, readers that refuse a text, programs, and settings of a unit.
 //!
-//! A line that begins with `#` says what the next rows show, and is printed. A line that begins with two spaces is of a text, which
-//! a row `calls` takes as calls.txt and a row `site` as site.toml. Each other line is a call with its words, parted by bars; it is
-//! printed with what came out.
+//! A line that begins with `#` says what the next rows show, and is printed. A line that begins with two spaces
+//! belongs to a text, which a row `calls` takes as calls.txt and a row `site` as site.toml. Each other line is a call
+//! with its words, separated by bars, and is printed with its answer.
 #![tactic(auto)]
 
 mod escapes;

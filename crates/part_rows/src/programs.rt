@@ -1,10 +1,10 @@
-//! Programs of seccomp(2) as bytes in hex, stacks of them, and why they are refused.
+//! Makes programs of seccomp(2) from bytes in hex, and stacks of them, and tells why they are refused.
 use exec_settings::linux_numbers::actions::ALLOW;
 use filter_check::{Action, CallRules, Program, ProgramError, RuleSet, Stack, can_compile, check};
 use row_tools::{bytes_of, number, said};
 use std::alloc::{AllocError, Global};
 
-/// Why a program is refused, by the reader or where it is compared with rules that end the process at every call.
+/// Tells why a program is refused, by the reader or in the comparison with rules that end the process at every call.
 pub fn answer(alloc: Global, row: &[&str]) -> Result<String, AllocError> {
     match row {
         ["read", words] => read(alloc, program_of(alloc, words)),
@@ -14,7 +14,7 @@ pub fn answer(alloc: Global, row: &[&str]) -> Result<String, AllocError> {
     }
 }
 
-/// What the call of a row on a stack answers.
+/// Returns the answer to the call of a row on a stack.
 pub fn of_stack(alloc: Global, stack: &mut Stack, row: &[&str]) -> Result<String, AllocError> {
     match row {
         ["new"] => {
@@ -42,7 +42,7 @@ fn answering(alloc: Global, count: u64) -> Result<Program, ProgramError> {
     Program::read(alloc, bytes.as_slice())
 }
 
-// How long a program is that was read.
+// Returns the length of a program that was read.
 fn read(alloc: Global, read: Result<Program, ProgramError>) -> Result<String, AllocError> {
     match &read {
         Ok(program) => format!(in alloc; "{} instructions", program.insns().len()),

@@ -1,4 +1,4 @@
-//! Readers, and why they refuse the text of a row.
+//! Calls readers, and tells why they refuse the text of a row.
 use crate::escapes::bytes_of;
 use abs_path::{AbsPath, PathError};
 use exec_settings::{UnitName, expand, read_calls, read_site, read_unit, words};
@@ -6,7 +6,7 @@ use mount_plan::{Kind, Mention, MentionError, Mentions};
 use row_tools::{long_path, number, said, text_of};
 use std::alloc::{AllocError, Global};
 
-/// What the call of a row answers: why a text is refused, or that it is read.
+/// Returns the answer to the call of a row: why a text is refused, or that it is read.
 pub fn answer(alloc: Global, row: &[&str]) -> Result<String, AllocError> {
     match row {
         ["form", "words", text] => split(alloc, text_of(alloc, text)?.as_str()),
@@ -38,7 +38,7 @@ fn fill(alloc: Global, mentions: &mut Mentions, count: u64) -> Result<(), Mentio
     Ok(())
 }
 
-// How many there are once so many were added.
+// Returns the number of mentions after so many were added.
 fn many(alloc: Global, count: u64) -> Result<String, AllocError> {
     let mut mentions = Mentions::new(alloc);
     match &fill(alloc, &mut mentions, count) {
@@ -47,7 +47,7 @@ fn many(alloc: Global, count: u64) -> Result<String, AllocError> {
     }
 }
 
-// What the call of a row on paths answers.
+// Returns the answer to the call of a row on paths.
 fn of_path(alloc: Global, row: &[&str]) -> Result<String, AllocError> {
     match row {
         ["root"] => parts(alloc, &AbsPath::root(alloc)),
@@ -94,7 +94,7 @@ fn long_ones(alloc: Global, count: u64, rest: u64) -> Result<(AbsPath, AbsPath),
     Ok((one, AbsPath::read(alloc, long_path(alloc, rest)?.as_str())?))
 }
 
-// How many bytes the front has with a path behind it.
+// Returns the number of bytes of the front with a path after it.
 fn behind(alloc: Global, front: &AbsPath, path: &AbsPath) -> Result<String, AllocError> {
     match AbsPath::root(alloc).rest(path) {
         Some(rest) => match &front.join(alloc, rest) {
@@ -137,7 +137,7 @@ fn crowded(alloc: Global, count: u64, rest: &str) -> Result<String, AllocError> 
     unit(alloc, text.as_slice())
 }
 
-// What the call of a row on tables answers.
+// Returns the answer to the call of a row on tables.
 fn of_table(alloc: Global, row: &[&str]) -> Result<String, AllocError> {
     match row {
         ["calls", "alone", text] => calls(alloc, text_of(alloc, text)?.as_str()),

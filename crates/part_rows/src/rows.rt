@@ -7,7 +7,7 @@ use std::alloc::{AllocError, Global};
 use std::io;
 use std::rt::Files;
 
-/// What rows have put together: shelves and sinks, and what is not made to one.
+/// The values that rows have put together: shelves and sinks, and all others.
 #[derive(Drop)]
 pub struct Rows<R: Files + Print + AllocGlobal + Clone + Drop> {
     shelves: shelves::Rows<R>,
@@ -61,7 +61,7 @@ impl Parts {
         }
     }
 
-    // What the call of a row answers that is made to no shelf and no sink.
+    // Returns the answer to the call of a row that is made to no shelf and no sink.
     fn answer(&mut self, alloc: Global, words: &[&str]) -> Result<String, AllocError> {
         match words {
             ["calls"] => self.texts.take_calls(alloc),

@@ -1,4 +1,4 @@
-//! Rows over shelves and sinks, those of the real folder and the standard output among them.
+//! Runs rows over shelves and sinks, those of the real folder and the standard output among them.
 //!
 //! `data` has the folder that they begin with.
 
@@ -15,7 +15,7 @@ use std::os::fd::AsRawFd;
 use std::os::unix::fs::symlink;
 use std::rt::Files;
 
-/// What the calls of rows are made to.
+/// The shelves and sinks of rows.
 #[derive(Drop)]
 pub struct Rows<R: Files + Print + AllocGlobal + Clone + Drop> {
     rt: R,
@@ -54,7 +54,7 @@ impl<R: Files + Print + AllocGlobal + Clone + Drop> Rows<R> {
         symlink(&self.rt, target.as_str(), path)
     }
 
-    /// What the call of a row answers.
+    /// Returns the answer to the call of a row.
     pub fn answer(&mut self, alloc: Global, words: &[&str]) -> Result<String, AllocError> {
         match words {
             ["folder", rest @ ..] => answers::of_shelf(&mut self.folder, alloc, rest),

@@ -1,4 +1,4 @@
-//! The files in force of a unit.
+//! Resolves the files in force of a unit.
 ghost use Rattle.std.specs.Prelude.{◌≡◌, None};
 
 use crate::escapes::bytes_of;
@@ -24,7 +24,7 @@ pub fn hold(alloc: Global, files: &mut UnitFiles, row: &[&str]) -> Result<String
     }
 }
 
-/// What a unit resolves to over these files.
+/// Returns the unit that a name resolves to over these files.
 pub fn answer(
     alloc: Global,
     files: &[(String, Vec<u8>)],
@@ -40,7 +40,7 @@ pub fn answer(
     }
 }
 
-// Puts a file behind the others.
+// Adds a file after the others.
 fn file(
     alloc: Global,
     files: &mut UnitFiles,
@@ -114,7 +114,7 @@ fn shown(alloc: Global, unit: &Resolved) -> Result<String, AllocError> {
     Ok(text)
 }
 
-// What it resolves to over a shelf; where it is refused, with the path of the file for which it is.
+// Returns the unit that a name resolves to over a shelf, or the refusal with the path of its file.
 fn resolved_over<S: Shelf>(alloc: Global, shelf: &mut S, name: &str) -> Result<String, AllocError> {
     match &resolve(alloc, shelf, name) {
         Ok(unit) => shown(alloc, unit),
@@ -126,7 +126,7 @@ fn resolved_over<S: Shelf>(alloc: Global, shelf: &mut S, name: &str) -> Result<S
     }
 }
 
-// What a unit resolves to over these files, where the call of a number fails.
+// Returns the unit that a name resolves to over these files, if the call of a number fails.
 fn resolved(
     alloc: Global,
     files: &[(String, Vec<u8>)],

@@ -1,4 +1,4 @@
-//! Texts that the lines of a program of rows hold.
+//! Holds texts of the lines of a program of rows.
 use std::alloc::{AllocError, Global};
 
 /// A text of lines that begin with two spaces, until a row takes it.
@@ -15,7 +15,7 @@ impl HeldText {
         }
     }
 
-    /// Puts a line that begins with two spaces behind the text, without them; says whether it is one.
+    /// Appends a line that begins with two spaces, without them, and says if the line is one.
     pub fn holds(&mut self, line: &str) -> Result<bool, AllocError> {
         match line.strip_prefix("  ") {
             Some(text) => {

@@ -1,6 +1,6 @@
-//! Inputs of rows: a unit, a table of calls and a site, read from the texts of a table of rows.
+//! Reads inputs of rows: a unit, a table of calls and a site, from the texts of a table of rows.
 //!
-//! A unit is web.service with files of which the rows give the lines of the section of the service.
+//! A unit is web.service with files. The rows give the lines of their sections of the service.
 use crate::held::HeldText;
 use crate::wording::{said, text_of};
 use call_table::{CallTable, read_calls};
@@ -16,13 +16,13 @@ pub struct Inputs {
     pub site: Box<SiteTable>,
 }
 
-/// The table of calls of a text, where it is none that is refused.
+/// Returns the table of calls of a text, unless it is refused.
 pub fn calls_of(alloc: Global, text: &str) -> Option<Box<CallTable>> {
     let calls = read_calls(alloc, text.as_bytes()).ok()?;
     Box::new(alloc, calls).ok()
 }
 
-/// The site of a text, where it is none that is refused.
+/// Returns the site of a text, unless it is refused.
 pub fn site_of(alloc: Global, text: &str) -> Option<Box<SiteTable>> {
     let site = read_site(alloc, text.as_bytes()).ok()?;
     Box::new(alloc, site).ok()
@@ -52,7 +52,7 @@ fn unit_of(alloc: Global, files: &[&str]) -> Option<Box<Resolved>> {
     Box::new(alloc, Resolved { name, files }).ok()
 }
 
-/// What is read from these texts, where none is refused.
+/// Reads these texts, if none is refused.
 pub fn inputs_of(alloc: Global, calls: &str, site: &str, files: &[&str]) -> Option<Inputs> {
     let calls = calls_of(alloc, calls)?;
     let site = site_of(alloc, site)?;
@@ -90,7 +90,7 @@ impl Texts {
         said(alloc, "held")
     }
 
-    /// What is read from these texts and from these files of a unit, where none is refused.
+    /// Reads these texts and these files of a unit, if none is refused.
     pub fn inputs(&self, alloc: Global, files: &[&str]) -> Option<Inputs> {
         inputs_of(alloc, self.calls.as_str(), self.site.as_str(), files)
     }

@@ -1,10 +1,11 @@
-//! What programs of rows share: their lines and parts, the words of a row, and inputs read from texts.
+//! Tools of programs of rows: their lines and parts, the words of a row, and inputs read from texts.
 //!
-//! `follow_lines(&rt, &mut parts)` is the `main` of a program of rows, which is a `Follow`; where it has parts, a line `part NAME`
-//! begins one (`part_of`), and prints nothing. A `HeldText` is a text that its lines hold. The words of a row are parted by bars;
-//! `text_of` reads the escapes of a word, and `bytes_of` bytes in hex. `inputs_of(alloc, calls, site, &["User=web"])` reads a
-//! unit, a table of calls and a site, and `Texts` are the texts of tables that rows have given so far. It rests on `hex` and on
-//! the readers `call_table`, `site_table` and `unit_grammar`.
+//! `follow_lines(&rt, &mut parts)` is the `main` of a program of rows, which is a `Follow`. If it has parts, a line
+//! `part NAME` begins one (`part_of`), and prints nothing. A `HeldText` is a text that its lines hold.
+//!
+//! Bars separate the words of a row. `text_of` reads the escapes of a word, and `bytes_of` bytes in hex.
+//! `inputs_of(alloc, calls, site, &["User=web"])` reads a unit, a table of calls and a site, and `Texts` are the
+//! texts of tables that rows have given so far.
 #![tactic(auto)]
 
 mod held;

@@ -1,15 +1,15 @@
-//! The lines of a program of rows, and what is printed of them.
+//! Follows the lines of a program of rows, and prints the answers.
 use std::alloc::Global;
 use std::io;
 
-/// What is printed of a line.
+/// The output for a line.
 #[derive(Drop)]
 pub enum Shown {
     /// Nothing.
     Nothing,
     /// The line.
     Line,
-    /// The line, and behind it what came out.
+    /// The line, and the answer after it.
     Answer(String),
     /// This text in place of the line.
     Text(String),
@@ -21,12 +21,12 @@ pub trait Follow {
     fn follow(&mut self, alloc: Global, line: &str) -> io::Result<Shown>;
 }
 
-/// The part that a line `part NAME` begins.
+/// Returns the part that a line `part NAME` begins.
 pub fn part_of(line: &str) -> Option<&str> {
     line.strip_prefix("part ")
 }
 
-/// Follows each line of the standard input, and prints what comes of it.
+/// Follows each line of the standard input, and prints the answers.
 pub fn follow_lines<R: Input + Print + AllocGlobal, F: Follow>(
     rt: &R,
     rows: &mut F,
@@ -37,7 +37,7 @@ pub fn follow_lines<R: Input + Print + AllocGlobal, F: Follow>(
     Ok(())
 }
 
-/// Follows a line, and prints what comes of it; a line that begins with `#` is a comment, and printed.
+/// Follows a line, and prints the answer. A line that begins with `#` is a comment, and printed.
 pub fn follow_line<R: Print + AllocGlobal, F: Follow>(
     rt: &R,
     rows: &mut F,

@@ -1,13 +1,13 @@
-//! The words of a row, and what they stand for.
+//! Reads the words of a row.
 use hex::decode;
 use std::alloc::{AllocError, Global};
 
-/// The words of a row, which bars part.
+/// Returns the words of a row, between its bars.
 pub fn words(alloc: Global, row: &str) -> Result<Vec<&str>, AllocError> {
     row.split('|').collect(alloc)
 }
 
-/// The text that a word stands for: `\n`, `\r`, `\t`, `\0` and `\\` mean what they do in Rust, `\d` is DEL, and before
+/// Returns the text of a word: `\n`, `\r`, `\t`, `\0` and `\\` mean what they do in Rust, `\d` is DEL, and before
 /// another character a backslash is left out.
 pub fn text_of(alloc: Global, word: &str) -> Result<String, AllocError> {
     let mut text = String::new(alloc);
@@ -25,7 +25,7 @@ pub fn text_of(alloc: Global, word: &str) -> Result<String, AllocError> {
     Ok(text)
 }
 
-/// The bytes of words in hex, with spaces between; a word that is none in hex has none.
+/// Returns the bytes of words in hex, with spaces between. A word that is not in hex has none.
 pub fn bytes_of(alloc: Global, words: &str) -> Result<Vec<u8>, AllocError> {
     let mut bytes = Vec::new(alloc);
     for word in words.split(' ') {
@@ -56,7 +56,7 @@ pub fn long_path(alloc: Global, count: u64) -> Result<String, AllocError> {
     Ok(text)
 }
 
-/// The number of a word in decimal, or in hex behind `0x`, or 0.
+/// Returns the number of a word in decimal, or in hex after `0x`, or 0.
 pub fn number(word: &str) -> u64 {
     match word.strip_prefix("0x") {
         Some(digits) => u64::from_str_radix(digits, 16).unwrap_or(0),

@@ -1,4 +1,4 @@
--- What the calls.txt of the sample is read as: the table that its lines spell.
+-- The table of the sample's calls.txt, as its lines spell it.
 use Rattle.std.specs.Prelude.{ℕ, codes, Some, None, List, [], ◌∷◌}
 use Rattle.launcher.specs.linux_numbers.Capabilities.{cap_sys_module, cap_sys_rawio, cap_sys_admin, cap_sys_time, cap_syslog}
 use Rattle.launcher.specs.call_table.Table.{Table}

@@ -1,4 +1,4 @@
--- What the inputs of a sample have, in the words of those that launch and judge.
+-- Facts of the inputs of a sample, in the words of the crates that launch and judge.
 use Rattle.std.specs.Prelude.{◌≡◌, ℕ, ◌<◌, codes, false, List, [], ◌∷◌, None, Some}
 use Rattle.launcher.specs.abs_path.Paths.{Path}
 use Rattle.launcher.specs.cap_sets.Sets.{none}

@@ -1,4 +1,4 @@
--- The inputs of a sample: what its texts are read as, by the readers of all inputs.
+-- The inputs of a sample, as the readers of all inputs read its texts.
 use Rattle.std.specs.Prelude.{◌≡◌, ℕ, List, [], ◌∷◌, Some, Ok}
 use Rattle.launcher.specs.call_table.Reading.{table_of}
 use Rattle.launcher.specs.call_table.Table as calls

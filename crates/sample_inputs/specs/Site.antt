@@ -1,5 +1,5 @@
--- The site.toml of a sample, as the tree that its text is read as: sixteen folders of sixty-four files and executables each, of which
--- the number of the sample says which is which.
+-- The site.toml of a sample, as the tree that its text is read as: sixteen folders of sixty-four files and executables each. The number
+-- of the sample says which of them are executables.
 use Rattle.std.specs.Prelude.{ℕ, zero, suc, ◌+◌, ◌*◌, ◌%◌, ◌==◌, pos, codes, List, [], ◌∷◌, ◌++◌, map, flat_map, cond}
 use Rattle.std.specs.Fmt.{decimal}
 use Rattle.toml.specs.Data.{Data, string, integer, array, table, Members, no_members, member}
@@ -48,7 +48,7 @@ numbered_row i path =
     cond (i % 24 == 0) (setuid_row path 0)
     (cond (i % 3 == 0) (exe_row path) (file_row path))
 
--- the objects of all folders are numbered one behind the other, from the number of the sample on
+-- the objects of all folders are numbered one after the other, from the number of the sample on
 abbrev pub object_row : ℕ → ℕ → ℕ → Data
 object_row n k j = numbered_row (64 * k + j + n) (object_path k j)
 

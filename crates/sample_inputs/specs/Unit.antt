@@ -55,7 +55,7 @@ line_of setting = setting.key ++ codes "=" ++ setting.value
 unfoldable pub unit_text : ℕ → List ℕ
 unit_text n = text_of_lines (codes "[Service]" ∷ map line_of (unit_settings n))
 
--- what they are read as: an assignment of each line behind the header's, and nothing to note
+-- what they are read as: an assignment of each line after the header's, and nothing to note
 abbrev pub assignments_from : ℕ → List Setting → List Assignment
 assignments_from line [] = []
 assignments_from line (setting ∷ settings) = record { section = codes "Service"; key = setting.key; value = setting.value; line = line } ∷

@@ -59,7 +59,7 @@ family AF_NETLINK 16
 family AF_PACKET 17 CAP_NET_RAW
 ";
 
-// A text that is read as a table is refused for want of memory alone.
+// A text that is a table is refused only if memory runs out.
 fn of_memory(_error: CallsError) -> AllocError
     requires { _error ≡ Memory }
 {

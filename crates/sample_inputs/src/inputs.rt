@@ -24,7 +24,8 @@ pub struct SampleInputs {
 
 /// Makes the inputs of the sample of a number below 1,000.
 ///
-/// Texts of the unit, of the calls and of the site are made and read; each is accepted, and the error is want of memory alone.
+/// The texts of the unit, of the calls and of the site are made and read, and each is accepted. The call fails only
+/// if memory runs out.
 pub fn made(alloc: Global, n: u32) -> Result<SampleInputs, AllocError>
     requires below { n ≤ 999 }
     ensures reads_the_texts { IfOk result (λ inputs. IsSample n inputs.unit.value inputs.calls.value inputs.site.value) }

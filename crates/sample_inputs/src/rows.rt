@@ -1,4 +1,4 @@
-//! The rows of a site, as tables of TOML.
+//! Makes the rows of a site, as tables of TOML.
 
 ghost use Rattle.std.specs.Prelude.{◌≡◌, ◌+◌, ◌*◌, ◌≤◌, ◌<◌, ◌++◌, ◌∷◌, [], IfOk, OnOk, map, string_bytes, pos};
 ghost use Rattle.toml.specs.Data.{table};
@@ -9,7 +9,7 @@ ghost use Rattle.sample_inputs.specs.Site.{folder_rows, numbered_row, numbers_fr
 use std::alloc::{AllocError, Global};
 use toml::{Table, Value};
 
-/// How many objects a folder has.
+/// The number of objects of a folder.
 const OBJECTS: u32 = 64;
 
 /// Puts a value into a table.
@@ -70,7 +70,7 @@ fn object_row(alloc: Global, n: u32, folder: u32, object: u32) -> Result<Value, 
     numbered_row(alloc, OBJECTS * folder + object + n, path.as_str())
 }
 
-/// Puts the row of a folder and those of its objects behind other rows.
+/// Puts the row of a folder and those of its objects after other rows.
 pub fn push_folder(
     alloc: Global,
     rows: &mut Vec<Value>,

@@ -1,4 +1,4 @@
-//! The site of a sample.
+//! Makes the site of a sample.
 
 ghost use Rattle.std.specs.Prelude.{◌≡◌, ◌≤◌, ◌<◌, IfOk, map, string_bytes, Some};
 ghost use Rattle.launcher.specs.site_table.declared.error.SiteError.TheVariants.{Memory};
@@ -15,7 +15,7 @@ use launcher::{SiteError, SiteTable, read_site};
 use std::alloc::{AllocError, Global};
 use toml::{Table, Value};
 
-/// How many folders a site has.
+/// The number of folders of a site.
 pub const FOLDERS: u32 = 16;
 
 // The rows.
@@ -92,7 +92,7 @@ fn site_tree(alloc: Global, n: u32) -> Result<Table, AllocError>
     Ok(site)
 }
 
-// A tree without dates is printed, but for want of memory.
+// A tree without dates is printed, unless memory runs out.
 fn printing_memory(_error: toml::ser::Error) -> AllocError
     requires { _error ≡ OutOfMemory }
 {
@@ -111,7 +111,7 @@ fn site_text(alloc: Global, n: u32) -> Result<String, AllocError>
     }
 }
 
-// A text that is read as a site is refused for want of memory alone.
+// A text that is a site is refused only if memory runs out.
 fn of_memory(_error: SiteError) -> AllocError
     requires { _error ≡ Memory }
 {

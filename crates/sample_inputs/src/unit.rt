@@ -19,7 +19,7 @@ const NAME: &str = "sample.service";
 /// The file that it is read from.
 const PATH: &str = "etc/systemd/system/sample.service";
 
-// Puts a setting behind a text, as a line.
+// Appends a setting to a text, as a line.
 fn push_setting(text: &mut String, key: &str, value: &str) -> Result<(), AllocError>
     ensures { OnOk result (string_bytes text.new ≡ string_bytes text.old ++ text_of_lines (line_of (setting key.now value.now) ∷ [])) }
 {
@@ -29,7 +29,7 @@ fn push_setting(text: &mut String, key: &str, value: &str) -> Result<(), AllocEr
     text.push_str("\n")
 }
 
-// What the unit says of a folder, by its turn (systemd.exec(5), ReadOnlyPaths=).
+// Returns the key that the unit gives a folder, by its turn (systemd.exec(5), ReadOnlyPaths=).
 fn folder_key(turn: u32) -> Option<&'static str>
     ensures { option_copied result ≡ folder_key turn }
 {
@@ -41,7 +41,7 @@ fn folder_key(turn: u32) -> Option<&'static str>
     }
 }
 
-// Puts behind a text what the unit says of a folder.
+// Appends the line of the unit for a folder.
 fn push_folder(alloc: Global, text: &mut String, n: u32, folder: u32) -> Result<(), AllocError>
     requires number { n ≤ 999 }
     requires folder { folder < 16 }
@@ -53,7 +53,7 @@ fn push_folder(alloc: Global, text: &mut String, n: u32, folder: u32) -> Result<
     }
 }
 
-// Puts behind a text what the unit says of privileges.
+// Appends the line of the unit for privileges.
 fn push_privileges(text: &mut String, n: u32) -> Result<(), AllocError>
     ensures { OnOk result (string_bytes text.new ≡ string_bytes text.old ++ text_of_lines (map line_of (privilege_settings n))) }
 {
@@ -79,14 +79,14 @@ fn unit_text(alloc: Global, n: u32) -> Result<String, AllocError>
     Ok(text)
 }
 
-// A text that is read as a unit is refused for want of memory alone.
+// A text that is a unit is refused only if memory runs out.
 fn of_memory(_error: UnitError) -> AllocError
     requires { _error ≡ NoRoom }
 {
     AllocError
 }
 
-// What the unit says.
+// Returns the text of the unit as it is read.
 fn said(alloc: Global, n: u32) -> Result<UnitText, AllocError>
     requires { n ≤ 999 }
     ensures { IfOk result (λ said. said ≡ unit_said n) }
@@ -98,7 +98,7 @@ fn said(alloc: Global, n: u32) -> Result<UnitText, AllocError>
     }
 }
 
-// A text that is a name is refused for want of memory alone.
+// A text that is a name is refused only if memory runs out.
 fn name_of_memory(_error: NameError) -> AllocError
     requires { _error ≡ Memory }
 {

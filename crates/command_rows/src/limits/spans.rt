@@ -1,4 +1,4 @@
-//! What came out by number, neighbours that came out alike together.
+//! Joins neighbouring numbers with the same result.
 use std::alloc::{AllocError, Global};
 
 /// Lines of spans, and the span that is not ended yet.
@@ -21,7 +21,7 @@ impl Spans {
         }
     }
 
-    /// What came out of the next number.
+    /// Adds the result of the next number.
     pub fn add(&mut self, alloc: Global, number: u64, answer: &str) -> Result<(), AllocError> {
         if self.answer.as_str() != answer {
             self.end(alloc)?;

@@ -1,9 +1,9 @@
-//! What shelves and sinks answer, in words.
+//! Answers of shelves and sinks, in words.
 use host_io::{MemSink, Shelf, Sink, write_whole};
 use row_tools::{number, said};
 use std::alloc::{AllocError, Global};
 
-/// What a shelf answers to the call of a row.
+/// Returns the answer of a shelf to the call of a row.
 pub fn of_shelf<S: Shelf>(
     shelf: &mut S,
     alloc: Global,
@@ -22,7 +22,7 @@ pub fn of_shelf<S: Shelf>(
     }
 }
 
-/// What a sink answers to the call of a row.
+/// Returns the answer of a sink to the call of a row.
 pub fn of_sink<K: Sink>(sink: &mut K, alloc: Global, words: &[&str]) -> Result<String, AllocError> {
     match words {
         ["put", text] => match sink.put(text.as_bytes()) {
@@ -37,7 +37,7 @@ pub fn of_sink<K: Sink>(sink: &mut K, alloc: Global, words: &[&str]) -> Result<S
     }
 }
 
-/// What a sink in memory answers to the call of a row.
+/// Returns the answer of a sink in memory to the call of a row.
 pub fn of_memory(
     sink: &mut Option<MemSink>,
     alloc: Global,

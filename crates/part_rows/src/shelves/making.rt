@@ -1,4 +1,4 @@
-//! What rows make in the real folder.
+//! Makes files for rows in the real folder.
 use row_tools::number;
 use std::os::unix::fs::{PermissionsExt, symlink};
 use std::rt::Files;

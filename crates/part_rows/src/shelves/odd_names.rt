@@ -95,7 +95,7 @@ impl<R: Files> Files for OddNames<R> {
     }
 }
 
-/// What the current folder answers to the call of a row where its folders have such a name.
+/// Returns the answer of the current folder to the call of a row, if its folders have such a name.
 pub fn of_shelf<R: Files + AllocGlobal + Clone + Drop>(
     rt: &R,
     words: &[&str],

@@ -1,4 +1,4 @@
--- What the unit of a sample says of paths (systemd.exec(5), Paths).
+-- The mentions of a sample's unit (systemd.exec(5), Paths).
 use Rattle.std.specs.Prelude.{ℕ, ◌+◌, ◌%◌, ◌==◌, false, cond, List, [], ◌∷◌, flat_map}
 use Rattle.launcher.specs.abs_path.Paths.{Path}
 use Rattle.launcher.specs.path_settings.declared.mentions.Kind.{Kind}

@@ -29,7 +29,7 @@ pub record FindsItsProgram (site : Site) (table : List MountStep) : Type 0 where
   pub entry : entry_of table program ≡ Some whole_host
   pub found : finds (row_at site.rows) table program ≡ row (plain_exe program)
 
--- so on the table of what is kept, which is the plan
+-- a sample finds its program on the table of the kept mentions, which is the plan
 abbrev pub ProgramsAreFound : Type 0
 ProgramsAreFound = (n : ℕ) (unit : Resolved) (site : Site) (kept : List Mention) (table : List MountStep) → SaysSample n unit
     → HasSampleRows site

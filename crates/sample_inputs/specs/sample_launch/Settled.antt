@@ -1,5 +1,5 @@
--- What the settings of a sample are (systemd.exec(5)): a user of its own, all capabilities in the bounding set and none ambient, no
--- filter, and what its unit says of paths.
+-- The settings of a sample (systemd.exec(5)): a user of its own, all capabilities in the bounding set and none ambient, no filter, and
+-- the mentions of its unit.
 use Rattle.std.specs.Prelude.{◌≡◌, ℕ, ◌%◌, ◌==◌, [], None}
 use Rattle.launcher.specs.call_table.Table.{Table}
 use Rattle.launcher.specs.cap_sets.Sets.{all, none}
