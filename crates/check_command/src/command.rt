@@ -13,10 +13,10 @@ use host_io::Shelf;
 use std::alloc::Global;
 use unit_inputs::command_answers::Stop;
 
-/// Prepares `check`, the name of a unit, the name of a filter and the path of a file: reads the unit, calls.txt, site.toml and the
-/// file, finds the first refusal of them and of the settings, and compares the program of the file with the filter of that name,
-/// `NAME` for the native ABI and `NAME@ABI` for the ABI of that name; a filter that is not on is refused, and so is a program
-/// that is not of the form or has more than 16,384 paths.
+/// Prepares `check`, the name of a unit, the name of a filter and the path of a file. It reads the unit, calls.txt,
+/// site.toml and the file, and finds the first refusal of them and of the settings. Then it compares the program of
+/// the file with the filter of that name: `NAME` for the native ABI, and `NAME@ABI` for the ABI of that name. A
+/// filter that is not on is refused, and so is a program that is not of the form or has more than 16,384 paths.
 pub fn prepare<S: Shelf>(
     alloc: Global,
     shelf: &mut S,

@@ -1,10 +1,10 @@
-//! The command `check`: whether a filter of another maker decides every call as a filter of a unit does, as text.
+//! Runs the command `check`: tests if a filter of another maker decides every call as a filter of a unit does.
 //!
-//! The settings of the unit are taken from its inputs, and the program of a file is compared with the rules of the filter that is
-//! named, over all call data. It stands on `unit_inputs` for the settings, on `filter_lines` for the file, and on
-//! `filter_check` for the comparison.
+//! The settings come from the inputs of the unit. The program of a file is compared, over all call data, with the
+//! rules of the filter that the words name. `unit_inputs` gives the settings, `filter_lines` reads the file, and
+//! `filter_check` compares.
 //!
-//! `prepare(alloc, &mut shelf, "web.service", "calls", "f.txt")?` has the outcome, and `print` puts its line.
+//! `prepare(alloc, &mut shelf, "web.service", "calls", "f.txt")?` has the outcome, and `print` writes its line.
 #![tactic(auto)]
 
 mod command;

@@ -18,8 +18,8 @@ use Rattle.effect_command.specs.Lines.{effect_text, with_line}
 use Rattle.effect_command.specs.Longer.{dropin_in, with_dropin}
 use Rattle.effect_command.specs.Refusals.{effect_refusals}
 
--- the launch of the unit is refused; or that of the unit with the drop-in, which stands behind the word `with`; or both are
--- launched, and exactly what changes from the first service to the second is told, with the counts
+-- the launch of the unit is refused; or that of the unit with the drop-in is, which follows the word `with`; or both are launched. Then
+-- the text has exactly the changes from the first service to the second, with the counts
 abbrev pub TellsBoth : calls.Table → Site → UnitLaunch → UnitLaunch → Ending → List ℕ → Type 0
 TellsBoth table site (Refused refusal) second ending text = (ending ≡ LaunchRefused) × (text ≡ refusal_line refusal)
 TellsBoth table site (Launched before) (Refused refusal) ending text = (ending ≡ LaunchRefused) × (text ≡ with_line (refusal_line refusal))

@@ -13,9 +13,9 @@ use host_io::Shelf;
 use judge_command::{ReadyText, Stop, read_inputs};
 use std::alloc::Global;
 
-/// Prepares `effect`, the name of a unit and the path of a drop-in: reads the unit, calls.txt, site.toml and the drop-in, finds the
-/// first refusal of them and of the settings and paths of the unit, as it is and with the drop-in, launches both, and tells what
-/// changes.
+/// Prepares `effect`, the name of a unit and the path of a drop-in. It reads the unit, calls.txt, site.toml and the
+/// drop-in. It finds the first refusal of them and of the settings and paths of the unit, as it is and with the
+/// drop-in. Then it launches both, and gives the changes.
 pub fn prepare<S: Shelf>(
     alloc: Global,
     shelf: &mut S,

@@ -1,10 +1,11 @@
-//! The command `effect`: what a drop-in would open or close for a unit, as text.
+//! Runs the command `effect`, which prints what a drop-in would open or close for a unit.
 //!
-//! The unit is launched in the modelled kernel as it is, and once more with the drop-in behind its files; then each question
-//! whose verdict the two do not share is told, each folder that is blind in one alone, and how many there are. It stands on
-//! `started_units` for the launches, on `judge_command` for the questions and on `verdict_changes` for what changes.
+//! The unit is launched in the modelled kernel as it is, and once more with the drop-in after its files. The text has
+//! each question whose verdicts differ, each folder that only one of the two services is blind to, and the counts.
+//! The crate uses `started_units` for the launches, `judge_command` for the questions and `verdict_changes` for the
+//! changes.
 //!
-//! `prepare(alloc, &mut shelf, "web.service", "more.conf")?` has the text, and `print` puts it.
+//! `prepare(alloc, &mut shelf, "web.service", "more.conf")?` has the text, and `print` writes it.
 #![tactic(auto)]
 
 mod answering;

@@ -1,9 +1,9 @@
-//! The command `filter`: the compiled filters of a unit, as text.
+//! Runs the command `filter`, which prints the compiled filters of a unit.
 //!
-//! The settings are taken from the files, and each filter that is on is compiled; then the programs are printed, or the
-//! line of the first refusal. It stands on `unit_inputs`, and on `launcher` for the programs.
+//! The settings come from the files, and each filter that is on is compiled. The text is the programs, or the line of
+//! the first refusal. The crate uses `unit_inputs`, and `launcher` for the programs.
 //!
-//! `prepare(alloc, &mut shelf, "web.service")?` has the programs, and `print` puts their lines.
+//! `prepare(alloc, &mut shelf, "web.service")?` has the programs, and `print` writes their lines.
 #![tactic(auto)]
 
 mod command;

@@ -14,8 +14,8 @@ use host_io::Shelf;
 use score_command::{CustomTest, Stop, Stored};
 use std::alloc::Global;
 
-/// Prepares `fleet` and the path of a policy: names the units, reads calls.txt, site.toml and the policy, finds the first refusal
-/// of them, and scores the units one by one in byte order of their names.
+/// Prepares `fleet` and the path of a policy. It names the units, reads calls.txt, site.toml and the policy, and
+/// finds the first refusal of these. Then it scores the units one by one in byte order of their names.
 ///
 /// A host of more than 1,024 units is refused, and a policy that weighs nothing, before a unit is read. A unit that is refused is
 /// a row like the others.

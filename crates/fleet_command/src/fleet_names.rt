@@ -1,8 +1,8 @@
-//! The names of all units of a host.
+//! Lists the names of all units of a host.
 //!
-//! They are the names of services among those of the files that lie directly in the folders of units, each once, in byte order.
-//! It stands on a `host_io` shelf for the folders, on `unit_names` for what is a name, and on `dropin_merge`, whose contracts say
-//! where the folders are.
+//! They are the names of services among the names of the files directly in the folders of units, each once, in byte
+//! order. The crate uses a `host_io` shelf for the folders, `unit_names` for names, and `dropin_merge`, whose
+//! contracts say where the folders are.
 //!
 //! `fleet_names(alloc, &mut shelf)?` has `a.service` before `web.service`.
 

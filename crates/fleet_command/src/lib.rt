@@ -1,4 +1,4 @@
-//! The command `fleet`: all units of a host by their exposure, as text.
+//! Runs the command `fleet`, which prints all units of a host by their exposure.
 //!
 //! [`fleet_names`] lists the units; then the tables and the policy are read, and [`fleet_report`] scores each unit by itself. A
 //! refused unit is a line of the text and refuses nothing. The crate uses `unit_inputs` and `score_command` for the tables, the

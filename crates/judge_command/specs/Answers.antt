@@ -23,8 +23,8 @@ abbrev pub is_denied : Answer → Bool
 is_denied (Denied question) = true
 is_denied (Open question list) = false
 
--- denied where no list of calls of the service and its descendants reaches the question; open where the list shows it, so that
--- it is not denied, and process 1 makes each call of the list, but for one behind a clone(2) that makes a user namespace
+-- denied only if no list of calls of the service and its descendants reaches the question. Open only if the list shows it, so that it is
+-- not denied. Process 1 makes each call of the list, except for one after a clone(2) that makes a user namespace
 abbrev pub IsTrueAnswer : World → Answer → Type 0
 IsTrueAnswer world (Denied question) = IsDenied world question
 IsTrueAnswer world (Open question list) = Shows world question list × AreMadeByService world.calls list × (IsDenied world question → ⊥)

@@ -32,10 +32,10 @@ fn answer_prepared<K: Sink>(alloc: Global, unit: &str, prepared: &Prepared, out:
     }
 }
 
-/// Does `judge` for the name of a unit: reads the unit, calls.txt and site.toml, finds the first refusal of them, of the settings
-/// and of the paths that they mention, launches the service, asks every question, and prints the answer to each as it is found:
-/// denied where no list of calls reaches it, and otherwise open, above a list that does. A launch that is refused prints its
-/// line in their place.
+/// Runs `judge` for the name of a unit. It reads the unit, calls.txt and site.toml, and finds the first refusal of
+/// them, of the settings and of the paths that they mention. It launches the service, asks every question, and prints
+/// each answer as it is found: denied if no list of calls reaches the question, and otherwise open, above a list that
+/// does.
 pub fn answer<S: Shelf, K: Sink>(alloc: Global, shelf: &mut S, unit: &str, out: &mut K) -> Ending
     ensures runs { IsRun (laws_over (S.told shelf.old) (judge_laws unit.now)) result
         (record { shelf_before = S.faults shelf.old; shelf_after = S.faults shelf.new; sink = record { faults_before = K.faults out.old; faults_after = K.faults out.new; taken_before = K.taken out.old; taken_after = K.taken out.new } }) }

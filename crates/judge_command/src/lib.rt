@@ -1,10 +1,12 @@
-//! The command `judge`: what the sandbox of a unit lets its service do, as text.
+//! Runs the command `judge`, which prints what the sandbox of a unit lets its service do.
 //!
-//! The command takes the settings of the unit, plans its mounts, and launches it in the modelled kernel. It then asks every
-//! question and prints each answer as it is found, with calls below what is open. [`verdict_changes`] compares two such services.
+//! The command reads the settings of the unit, plans its mounts, and launches it in the modelled kernel. It then asks
+//! every question and prints each answer as it is found, with calls below an open question. [`verdict_changes`]
+//! compares two such services.
 //!
-//! `answer(alloc, &mut shelf, "web.service", &mut out)` does it, and says how it ended. The crate uses `asked_service` and
-//! `open_calls` for what is asked and found, `report_text` for the lines, and `plan_command` for the plan.
+//! `answer(alloc, &mut shelf, "web.service", &mut out)` runs the command, and says how it ended. The crate uses
+//! `asked_service` and `open_calls` for questions and answers, `report_text` for the lines, and `plan_command` for
+//! the plan.
 #![tactic(auto)]
 
 mod answers;

@@ -4,7 +4,7 @@ ghost use Rattle.judge_command.specs.ByRule.{AnswersAreTrue, BlindFoldersAreName
 use asked_service::{blindness, openness};
 use open_calls::chosen_calls::choices;
 
-/// What is answered of a launched service is true, and the folders that are named are those that are blind.
+/// The answers about a launched service are true, and the named folders are those that it is blind to.
 pub fn truths()
     ensures answers { AnswersAreTrue }
     ensures folders { BlindFoldersAreNamed }

@@ -1,10 +1,11 @@
-//! What changes from one launched service to another: the questions whose verdicts the two do not share, and the folders that are
-//! blind in one alone.
+//! Finds what changes from one launched service to another: the questions whose verdicts differ, and the folders that
+//! only one of the two is blind to.
 //!
-//! It stands on `judge_command` for what a service is asked, on `judge` and `open_calls` for what is found, and on the laws of
-//! `judge_command` for why that is true.
+//! The module uses `judge_command` for the questions, `judge` and `open_calls` for the answers, and the laws of
+//! `judge_command`, which say why these are true.
 //!
-//! `verdict_change(&before, &after, &service, &question)?` is `Closed` where the question was open before and is denied after.
+//! `verdict_change(&before, &after, &service, &question)?` is `Closed` if the question was open before and is denied
+//! after.
 
 mod asking;
 mod looking;

@@ -10,8 +10,8 @@ use Rattle.mount_plan.specs.Plan.{table_of}
 use Rattle.unit_inputs.specs.command_answers.Stops.{or_line, refusal_in}
 use Rattle.plan_command.specs.Refusals.{plan_line}
 
--- a table is the plan of mentions: of those that the rules keep, it is their table, and each path belongs to an entry that has
--- what the view by the kept mentions has there; its places are the root and paths of the mentions; and a launch can take it
+-- a table is the plan of mentions. It is the table of those that the rules keep, and each path belongs to an entry that has what the view
+-- by the kept mentions has there. Its places are the root and paths of the mentions, and a launch can take it
 pub record IsPlan (row_at : Host) (mentions : List Mention) (table : List MountStep) : Type 0 where
   pub kept : List Mention
   pub keeps : kept_of row_at mentions ≡ Ok kept

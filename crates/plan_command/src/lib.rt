@@ -1,9 +1,9 @@
-//! The command `plan`: the mounts of a unit, as text.
+//! Runs the command `plan`, which prints the mounts of a unit.
 //!
-//! The settings of the unit are taken from its inputs, and the mounts that give the service its view are planned; then the
-//! plan is printed, or the line of the first refusal. It stands on `unit_inputs` and `mount_plan`.
+//! The settings come from the inputs of the unit, and the mounts that give the service its view are planned. The text
+//! is the plan, or the line of the first refusal. The crate uses `unit_inputs` and `mount_plan`.
 //!
-//! `prepare(alloc, &mut shelf, "web.service")?` has the mounts, and `print` puts their lines.
+//! `prepare(alloc, &mut shelf, "web.service")?` has the mounts, and `print` writes their lines.
 #![tactic(auto)]
 
 mod command;

@@ -28,10 +28,10 @@ use Rattle.replay_command.specs.Prepared.{replay_refusals}
 use Rattle.replay_command.specs.Scripts.{script_in}
 use Rattle.replay_command.specs.Texts.{ending_behind, replay_text}
 
--- With any programs that match the filters, its own among them, the launch takes as many steps, and the replies are the same, up
--- to the first call of seccomp(2) that answers with one list alone that there is no room (ENOMEM). That answer comes wherever
--- the programs that the service pushed itself pass the limit, and never where they do not pass it together with the most that
--- the programs of the launch may take.
+-- With any programs that match the filters, its own among them, the launch takes the same number of steps. The replies are the same up to
+-- the first call of seccomp(2) that answers with one list alone that there is no room (ENOMEM). That answer comes wherever the programs
+-- that the service pushed itself pass the limit. It never comes where they do not pass it together with the most that the programs of the
+-- launch may take.
 abbrev pub RepliesAlike : calls.Table → Site → Settings → List MountStep → List Call → UnitLaunch → Type 0
 RepliesAlike table site settings plan script (Launched service) =
     (programs : List (List ℕ)) (codes : List (List Insn)) → AreOthers settings programs codes
@@ -39,8 +39,8 @@ RepliesAlike table site settings plan script (Launched service) =
     other script) × HasRoomByBounds settings codes
 RepliesAlike table site settings plan script (Refused refusal) = Unit {0}
 
--- the replay of a script: by the inputs of the unit, its settings and the plan of its mounts the unit is launched; then the
--- script, as the table of calls reads it, is run from the launched world on, and each call is told with its reply
+-- the replay of a script. By the inputs of the unit, its settings and the plan of its mounts the unit is launched. Then the script, as
+-- the table of calls reads it, is run from the launched world on, and each call is printed with its reply
 pub record PrintsReplay (files : Files) (unit path : List ℕ) (ending : Ending) (text : List ℕ) : Type 0 where
   pub inputs : Inputs
   pub inputs_are : inputs_of files unit ≡ Some inputs

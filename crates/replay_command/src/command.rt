@@ -26,9 +26,9 @@ fn answer_prepared<K: Sink>(alloc: Global, prepared: &Prepared, out: &mut K) -> 
     }
 }
 
-/// Does `replay` for the name of a unit and the path of a script: reads the unit, calls.txt, site.toml and the script, finds
-/// the first refusal of them, of the settings and of the paths that they mention, launches the service, and makes the calls of
-/// the script in its world, each with a line. A launch that is refused prints its line alone.
+/// Runs `replay` for the name of a unit and the path of a script. It reads the unit, calls.txt, site.toml and the
+/// script, and finds the first refusal of them, of the settings and of the paths that they mention. It launches the
+/// service, and makes the calls of the script in its world, each with a line.
 pub fn answer<S: Shelf, K: Sink>(
     alloc: Global,
     shelf: &mut S,

@@ -1,11 +1,13 @@
-//! The command `replay`: what the sandbox of a unit answers to the calls of a script, as text.
+//! Runs the command `replay`, which prints the answers of a unit's sandbox to the calls of a script.
 //!
-//! The settings of the unit are taken from its inputs, its mounts are planned, and it is launched in the modelled kernel; then
-//! the calls of the script are made in its world, and the line of each is printed as it is made. It stands on `unit_launch`
-//! for the launch, whose world makes each call by the kernel's step, on `script_text` for scripts and for calls as they are printed, and
-//! on `plan_command` for the plan. A call that the sandbox refuses is answered with its errno and the next is made.
+//! The settings come from the inputs of the unit, its mounts are planned, and it is launched in the modelled kernel.
+//! Then the calls of the script are made in its world, and the line of each is printed as it is made. A refused call
+//! is answered with its errno, and the next is made.
 //!
-//! `answer(alloc, &mut shelf, "web.service", "calls.script", &mut out)` does it, and says how it ended.
+//! The crate uses `unit_launch` for the launch, whose world makes each call by the kernel's step, `script_text` for
+//! scripts and printed calls, and `plan_command` for the plan.
+//!
+//! `answer(alloc, &mut shelf, "web.service", "calls.script", &mut out)` runs the command, and says how it ended.
 #![tactic(auto)]
 
 mod command;

@@ -46,13 +46,14 @@ fn make_calls<K: Sink>(
     Ok(())
 }
 
-/// Makes the calls of a script in the world of a launched service, and prints a line for each as it is made: the call as
-/// `print_call` gives it with this table of calls, and its reply, `ok` with a value, `errno` with an error number, or `killed`.
+/// Makes the calls of a script in the world of a launched service, and prints a line for each as it is made. The line
+/// has the call, as `print_call` gives it with this table of calls, and its reply: `ok` with a value, `errno` with an
+/// error number, or `killed`.
 ///
-/// The replies are those of the run of the script from the service's world on, and that run's world is left. A reply that
-/// refuses or kills is a reply like others: the next call is made. `Failed` comes only where the sink's count of faults rose.
-/// At an error a front of the text was taken, and the calls that were made are those whose lines were taken whole, in order,
-/// and at most one more, of whose line a front was taken or nothing. All else of the service stays as it was.
+/// The replies are those of the run of the script from the service's world on, and that run's world is left. After a
+/// refused call, and after one that kills, the next call is made. `Failed` comes only if the sink's count of faults
+/// rose. At an error a prefix of the text was taken. The calls whose lines were taken whole were made, in order, and
+/// at most one more, whose line was taken in part or not at all. All else of the service stays as it was.
 pub fn replay<K: Sink>(
     alloc: Global,
     launched: &mut Launched,

@@ -15,9 +15,11 @@ use std::io;
 use std::process::ExitCode;
 use top_call::{CustomTest, Facts, StoredWish, VerdictRow, ambient_count, writable_paths};
 
-/// Runs the arguments over a shelf and a sink, with the tests that a score may ask beside the settings: `AmbientCount`, how many
-/// ambient capabilities the service has, of 41 at most; and `WritablePaths`, how many words of ReadWritePaths= and BindPaths= are
-/// in force, of 128 at most; and with the wish for a tightened unit: `OpenExec`, that some file can be executed.
+/// Runs the arguments over a shelf and a sink, with two tests that a score may ask beside the settings and the wish
+/// for a tightened unit.
+/// - `AmbientCount` is the number of ambient capabilities that the service has, of 41 at most.
+/// - `WritablePaths` is the number of words of ReadWritePaths= and BindPaths= in force, of 128 at most.
+/// - The wish `OpenExec` is that some file can be executed.
 pub fn run_with_tests<S: Shelf, K: Sink>(
     alloc: Global,
     arguments: &io::Result<Vec<String>>,

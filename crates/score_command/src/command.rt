@@ -31,8 +31,9 @@ fn facts_of(alloc: Global, prepared: &Prepared) -> Result<Facts, AllocError>
     )
 }
 
-/// Prepares `score`, the name of a unit and the path of a policy: reads the unit, calls.txt, site.toml and the policy, finds
-/// the first refusal of them and of the settings, and weighs the service; a policy that weighs nothing is refused.
+/// Prepares `score`, the name of a unit and the path of a policy. It reads the unit, calls.txt, site.toml and the
+/// policy, finds the first refusal of them and of the settings, and weighs the service. A policy that weighs nothing
+/// is refused.
 ///
 /// The threshold is in hundredths. The tests are the stored ones, which decide what the settings' table of tests does not.
 pub fn prepare<S: Shelf>(

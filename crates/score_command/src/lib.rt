@@ -1,10 +1,11 @@
-//! The command `score`: the exposure of a unit by a policy, as text.
+//! Runs the command `score`, which prints the exposure of a unit by a policy.
 //!
-//! The settings of the unit are taken from its inputs and give facts; by them and the stored tests that are handed in, the
-//! policy weighs the service, a line for each of its tests. It stands on `unit_inputs` for the settings, on `service_facts`
-//! for facts, on `policy_file` and `exposure_score` for the weighing, and on `report_text` for the lines.
+//! The settings come from the inputs of the unit and give facts. By these and by the stored tests that are handed in,
+//! the policy weighs the service, with a line for each of its tests. The crate uses `unit_inputs` for the settings,
+//! `service_facts` for facts, `policy_file` and `exposure_score` for the weighing, and `report_text` for the lines.
 //!
-//! `prepare(alloc, &mut shelf, "web.service", "policy.json", 57, &tests)?` has the score, and `print` puts its lines.
+//! `prepare(alloc, &mut shelf, "web.service", "policy.json", 57, &tests)?` has the score, and `print` writes its
+//! lines.
 #![tactic(auto)]
 
 mod command;

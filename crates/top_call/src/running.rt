@@ -115,8 +115,8 @@ fn answer<S: Shelf, K: Sink>(
 /// that a tightened unit has to grant. The status says how it ended: with 0, 1, 2, 3, 7 and 8 a whole text was printed, with 4
 /// nothing, and with 5 and 6 a prefix of one.
 ///
-/// Over files that the shelf tells, exactly the calls of what is asked are made, in their order, up to the first that is refused or
-/// fails, and each answer is judged before the next call.
+/// Over files that the shelf tells, exactly the calls of the command are made, in their order, up to the first that
+/// is refused or fails. Each answer is judged before the next call.
 pub fn run<S: Shelf, K: Sink>(
     alloc: Global,
     words: &[&str],

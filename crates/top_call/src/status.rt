@@ -5,8 +5,16 @@ ghost use Rattle.derive_command.specs.unit_inputs.command_answers.Endings.{code_
 use plan_command::Ending;
 use std::marker::Model;
 
-/// The status of a run: 0 done, 1 an exposure above the threshold, 2 no command, 3 a refused input, 4 a failed read, 5 a
-/// failed write, 6 want of memory, 7 a refused launch, 8 filters that differ.
+/// The status of a run:
+/// - 0: done;
+/// - 1: an exposure above the threshold;
+/// - 2: no command;
+/// - 3: a refused input;
+/// - 4: a failed read;
+/// - 5: a failed write;
+/// - 6: memory ran out;
+/// - 7: a refused launch;
+/// - 8: filters that differ.
 #[derive(Clone, Copy)]
 pub struct Status {
     pub code: u8,

@@ -51,8 +51,9 @@ fn ordered_rows(mut rows: Vec<FleetRow>) -> Vec<FleetRow>
     rows
 }
 
-/// The rows of the units of these names, by a policy and the tests that are handed in: those that are scored first, the greater
-/// exposure first, and equal ones and the others by name in byte order.
+/// Returns the rows of the units of these names, by a policy and the tests that are handed in. The scored ones come
+/// first, those of greater exposure before the others. Units of equal exposure, and the units that are not scored,
+/// are in byte order of their names.
 ///
 /// A unit is read as `dropin_merge` resolves it, and let go before the next. It is scored exactly where it is resolved and its
 /// settings are accepted; else its row has the refusal. What its row may be rests on no files of other units.

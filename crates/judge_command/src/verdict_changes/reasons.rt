@@ -4,7 +4,7 @@ ghost use Rattle.judge_command.specs.verdict_changes.ByRule.{ChangesAreTrue};
 use crate::truths;
 use asked_service::blindness;
 
-/// What is found to change from one launched service to another changes, and nothing else does.
+/// The changes from one launched service to another are exactly those that are found.
 pub fn changes_are_true()
     ensures exactly_what_changes { ChangesAreTrue }
 {
