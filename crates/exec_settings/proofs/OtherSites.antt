@@ -1,12 +1,14 @@
--- Settings ask a site for accounts and for implied paths alone.
+-- Refusals and settings ask a site for accounts and for implied paths alone.
 use Rattle.std.proofs.Common.{◌≡◌, ◌∙◌, ℕ, zero, suc, length, ltb, arith, Bool, true, false, cond, List, [], ◌∷◌, ◌++◌, Option, Some, None}
 use Rattle.std.proofs.Common.{refl, ap, sym}
-use Rattle.std.specs.Prelude.{find, position, is_some, option_map, slice_get, filter}
+use Rattle.std.specs.Prelude.{find, position, is_some, option_map, slice_get, filter, Result}
 use Rattle.std.specs.List.{AllByRecursion, position_or_len}
 use Rattle.std.proofs.lemmas.Bool.Decides.{nat_tests}
 use Rattle.std.proofs.lemmas.List.Folds.{find_at}
 use Rattle.mount_settings.specs.abs_path.Prefix.{is_same}
 use Rattle.cred_settings.specs.Identities.{identity_of}
+use Rattle.cred_settings.specs.declared.accounts.Identity.{Identity}
+use Rattle.cred_settings.specs.declared.error.IdentityError.{IdentityError}
 use Rattle.cred_settings.specs.dropin_merge.declared.resolved.Resolved.{Resolved}
 use Rattle.mount_settings.specs.Effects.{stands}
 use Rattle.mount_settings.specs.Implied.{implied}
@@ -16,8 +18,9 @@ use Rattle.mount_settings.specs.path_settings.declared.mentions.Mention.{Mention
 use Rattle.cred_settings.specs.site_table.declared.row.Row.{Row}
 use Rattle.cred_settings.specs.site_table.Table.{Site, site_with, kind_at}
 use Rattle.exec_settings.specs.Dynamic.{is_dynamic}
-use Rattle.exec_settings.specs.Mounts.{unit_mentions}
-use Rattle.exec_settings.specs.OtherSites.{AreSameFor, implied_by, SettingsRestOnFew}
+use Rattle.exec_settings.specs.Mounts.{paths_refusal, unit_mentions}
+use Rattle.exec_settings.specs.OtherSites.{AreSameFor, implied_by, RefusalRestsOnFew, SettingsRestOnFew}
+use Rattle.exec_settings.specs.Refusals.{command_refusal, first_reason, group_refusal, identity_reason, identity_refusal, refusal_of}
 
 -- tests that agree on each leave the same
 filter_agrees : (p q : Mention → Bool) (mentions : List Mention) → AllByRecursion (λ mention. p mention ≡ q mention) mentions
@@ -78,6 +81,12 @@ ids_same unit site other agree =
     (is_dynamic unit)) agree.users
     ∙ ap (λ (groups : _). identity_of unit (site_with site.dynamic_uid other.user_namespaces other.rows site.users groups)
     (is_dynamic unit)) agree.groups
+
+pub refusal_rests : RefusalRestsOnFew
+unfolding refusal_of identity_refusal
+refusal_rests unit table site other same =
+    ap (λ (ids : Result Identity IdentityError). first_reason
+    (command_refusal unit ∷ identity_reason ids ∷ group_refusal unit table ∷ paths_refusal unit ∷ [])) (ids_same unit site other same)
 
 pub settings_rest : SettingsRestOnFew
 settings_rest unit table site other made same own = record {

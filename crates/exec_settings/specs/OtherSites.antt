@@ -1,4 +1,4 @@
--- What of a site the settings of a unit rest on.
+-- The few facts of a site that decide about a unit: whether it is refused, and what its settings are.
 use Rattle.std.specs.Prelude.{◌≡◌, List}
 use Rattle.std.specs.List.{AllByRecursion}
 use Rattle.filter_settings.specs.call_table.Table.{Table}
@@ -10,6 +10,7 @@ use Rattle.mount_settings.specs.path_settings.declared.mentions.Mention.{Mention
 use Rattle.cred_settings.specs.site_table.Table.{Site, kind_at}
 use Rattle.exec_settings.specs.AreSettings.{AreSettings}
 use Rattle.exec_settings.specs.Mounts.{unit_switches}
+use Rattle.exec_settings.specs.Refusals.{refusal_of}
 use Rattle.exec_settings.specs.declared.service.Settings.{Settings}
 
 -- the paths that keys in force imply, whether or not a site has them (systemd.exec(5), Sandboxing)
@@ -27,3 +28,8 @@ pub record AreSameFor (unit : Resolved) (site other : Site) : Type 0 where
 abbrev pub SettingsRestOnFew : Type 0
 SettingsRestOnFew = (unit : Resolved) (table : Table) (site other : Site) (made : Settings) → AreSameFor unit site other
     → AreSettings unit table site made → AreSettings unit table other made
+
+-- and refuse it for the same reason, or not at all
+abbrev pub RefusalRestsOnFew : Type 0
+RefusalRestsOnFew = (unit : Resolved) (table : Table) (site other : Site) → AreSameFor unit site other
+    → refusal_of unit table other ≡ refusal_of unit table site

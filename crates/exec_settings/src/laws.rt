@@ -1,7 +1,7 @@
 //! Laws of the settings, each the contract of a function that does nothing.
 ghost use Rattle.std.specs.Prelude.{◌≡◌, true};
 ghost use Rattle.exec_settings.specs.Bare.{CommandAloneIsBare};
-ghost use Rattle.exec_settings.specs.OtherSites.{SettingsRestOnFew};
+ghost use Rattle.exec_settings.specs.OtherSites.{RefusalRestsOnFew, SettingsRestOnFew};
 ghost use Rattle.exec_settings.specs.Sections.{OtherSectionsChangeNothing};
 ghost use Rattle.exec_settings.specs.Keys.{ascend_strictly, has_path_keys};
 
@@ -26,7 +26,9 @@ pub fn other_sections()
     ensures no_change { OtherSectionsChangeNothing }
 {}
 
-/// The settings of a unit rest on few of a site: on its ids and accounts, and on whether it has the paths that keys in force imply.
+/// Few facts of a site decide about a unit: its ids and accounts, and the kind of its row at each path that a key in force implies.
+/// Two sites that agree on these refuse the unit for the same reason, or give it the same settings.
 pub fn few_of_a_site()
     ensures rest_on_few { SettingsRestOnFew }
+    ensures refusal_rests_on_few { RefusalRestsOnFew }
 {}
