@@ -1,4 +1,5 @@
 pub mod Sites
+pub mod NoneBelow
 pub mod Runs
 pub mod LaunchIsBlind
 pub mod ShownNothing

@@ -1,15 +1,26 @@
 -- What a service is blind to, it cannot tell: its settings, its plan, its launch and its replies are the same.
-use Rattle.std.proofs.Common.{◌≡◌, ◌∙◌, true, List, ap, sym, subst}
-use Rattle.std.specs.Prelude.{nat_le, length}
+use Rattle.std.proofs.Common.{◌≡◌, ◌∙◌, ◌⊎◌, ℕ, true, List, [], ◌∷◌, None, inl, inr, ap, sym, subst}
+use Rattle.std.specs.Prelude.{nat_le, length, Result}
 use Rattle.std.specs.List.{AllByRecursion}
 use Rattle.std.proofs.lemmas.Bool.{and_parts}
-use Rattle.ceilings.specs.abs_path.Paths.{text_of, is_normal}
+use Rattle.ceilings.specs.abs_path.Paths.{Path, text_of, is_normal}
+use Rattle.ceilings.specs.call_table.Table as calls
+use Rattle.ceilings.specs.cred_settings.declared.accounts.Identity.{Identity}
+use Rattle.ceilings.specs.cred_settings.declared.error.IdentityError.{IdentityError}
+use Rattle.ceilings.specs.dropin_merge.declared.resolved.Resolved.{Resolved}
+use Rattle.ceilings.specs.exec_settings.AreSettings.{AreSettings}
+use Rattle.ceilings.specs.exec_settings.Mounts.{paths_refusal}
+use Rattle.ceilings.specs.exec_settings.Refusals.{command_refusal, first_reason, group_refusal, identity_reason, identity_refusal, refusal_of}
+use Rattle.ceilings.specs.exec_settings.declared.service.Settings.{Settings}
 use Rattle.ceilings.proofs.OfExecSettings.OtherSites.{settings_rest}
 use Rattle.ceilings.specs.kern_mounts.Split.{Table}
-use Rattle.ceilings.specs.kernel_laws.Blind.{IsSmall}
+use Rattle.ceilings.specs.kernel_laws.Blind.{IsFolder, IsSmall}
+use Rattle.ceilings.specs.kernel_laws.Denied.{IsBlind}
 use Rattle.ceilings.specs.kernel_laws.Launched.{Launch}
+use Rattle.ceilings.specs.kernel_model.Runs.{replies}
+use Rattle.ceilings.specs.kernel_model.World.{World}
 use Rattle.ceilings.specs.launcher.Answers.{wanted_of}
-use Rattle.ceilings.specs.launcher.Launch.{Wanted}
+use Rattle.ceilings.specs.launcher.Launch.{Launched, Wanted}
 use Rattle.ceilings.specs.launcher.Launches.{Leaves}
 use Rattle.ceilings.proofs.OfLauncher.Conditions.{settings_can_be_launched}
 use Rattle.ceilings.proofs.OfLauncher.LaunchWorld.{launch_leaves}
@@ -21,9 +32,11 @@ use Rattle.ceilings.specs.path_settings.declared.mentions.Mention.{Mention}
 use Rattle.ceilings.specs.site_table.Table.{Site}
 use Rattle.ceilings.specs.path_settings.view_map.Resting.{AreSameSources}
 use Rattle.ceilings.proofs.OfPathSettings.ViewMapLists.{all_from_test, all_weaker}
-use Rattle.judge.specs.Alike.{BlindToOthers}
-use Rattle.judge.specs.Sites.{AgreeOutside}
+use Rattle.judge.specs.Alike.{BlindToOthers, IsAlike, IsServiceOf}
+use Rattle.judge.specs.Sites.{AgreeForUnit, AgreeOutside}
+use Rattle.judge.specs.Worlds.{with_site}
 use Rattle.judge.proofs.LaunchIsBlind.{has_plan, launch_is_blind}
+use Rattle.judge.proofs.NoneBelow.{folder_or_same}
 use Rattle.judge.proofs.Runs.{replies_are_blind}
 use Rattle.judge.proofs.ShownNothing.{blind_is_shown_nothing}
 use Rattle.judge.proofs.Sites.{same_hosts}
@@ -35,24 +48,67 @@ kept_normal mentions kept =
     (and_parts (is_path mention.path) (has_whole_source mention.kind) whole).0).0)
     (all_from_test is_whole mentions kept.whole)
 
+-- ---- the same facts of the site decide about the unit
+accepted_there : (unit : Resolved) (table : calls.Table) (site other : Site) (made : Settings) → AreSettings unit table site made
+    → AreSettings unit table other made → refusal_of unit table site ≡ None → refusal_of unit table other ≡ None
+unfolding refusal_of identity_refusal
+accepted_there unit table site other made here there accepted =
+    ap (λ (ids : Result Identity IdentityError). first_reason
+    (command_refusal unit ∷ identity_reason ids ∷ group_refusal unit table ∷ paths_refusal unit ∷ [])) (there.runs_as ∙ sym here.runs_as)
+    ∙ accepted
+
+-- ---- a folder of a site
+module _ (folder : Path) (unit : Resolved) (table : calls.Table) (site other : Site) (made : Settings) (plan : Table)
+    (programs : List (List ℕ)) (last : World) (steps : ℕ)
+    (s : IsServiceOf unit table site made plan programs last steps) where
+
+  leaves : Leaves table site (wanted_of made programs) plan last
+  leaves = (launch_leaves table site (wanted_of made programs) plan last steps s.whole s.mounts
+      (settings_can_be_launched unit table site made s.is_site s.settings).uid s.launches).0
+
+  at_site : last.site ≡ site
+  at_site = ap (λ (launch : Launch). launch.site) leaves.is
+
+  module _ (blind : IsBlind last folder) (agree : AgreeForUnit folder unit site other) where
+    outside : IsFolder folder → IsAlike unit table other made plan programs last steps
+    outside fit =
+        let wanted : Wanted = wanted_of made programs in
+        let can = settings_can_be_launched unit table site made s.is_site s.settings in
+        let has = has_plan leaves in
+        let small : IsSmall plan = record { few = s.mounts.few; places = s.mounts.places_are_short } in
+        let nothing : ShowsNothingOf plan folder = subst (λ (t : Table). ShowsNothingOf t folder) has.own (blind_is_shown_nothing folder last 1 has.process has.lives (subst IsSmall (sym has.own) small) fit blind) in
+        let sources : AreSameSources (host_of site) (host_of other) made.mentions = subst (λ (mentions : List Mention). AreSameSources (host_of site) (host_of other) mentions) (sym s.settings.mentions_written_and_implied) agree.sources in
+        let planned = plan_is_blind folder (host_of site) (host_of other) made.mentions s.planned.0 (kept_normal made.mentions s.mentions) s.planned.1 sources (same_hosts folder site other agree.outside)
+        (subst (λ (t : Table). ShowsNothingOf t folder) s.planned.2 nothing) in
+        let there : AreSettings unit table other made = settings_rest unit table site other made
+        (record { dynamic_uid = agree.outside.dynamic_uid; users = agree.outside.users; groups = agree.outside.groups; implied = agree.implied }) s.settings in
+        record {
+          accepted = accepted_there unit table site other made s.settings there s.accepted;
+          settings = there;
+          planned = (s.planned.0, planned.0, s.planned.2 ∙ sym planned.1);
+          launches = launch_is_blind folder table site other wanted plan last steps s.whole s.mounts can.uid s.program agree.outside blind
+              s.launches;
+          replies = λ calls fits. (replies_are_blind folder other last calls
+              (subst (λ (s : Site). AgreeOutside folder s other) (sym at_site) agree.outside) blind fits).replies;
+        }
+
+  -- ---- the same site
+  itself : IsAlike unit table site made plan programs last steps
+  itself =
+      let same : with_site site last ≡ last = ap (λ (s : Site). with_site s last) (sym at_site) in
+      record {
+        accepted = s.accepted;
+        settings = s.settings;
+        planned = s.planned;
+        launches = s.launches ∙ ap (λ (world : World). Launched world steps) (sym same);
+        replies = λ calls fits. ap (λ (world : World). replies world calls) same;
+      }
+
 pub blind_to_others : BlindToOthers
-blind_to_others folder unit table site other made plan programs last steps s fit blind agree =
-    let wanted : Wanted = wanted_of made programs in
-    let can = settings_can_be_launched unit table site made s.is_site s.settings in
-    let leaves : Leaves table site wanted plan last = (launch_leaves table site wanted plan last steps s.whole s.mounts can.uid s.launches).0 in
-    let has = has_plan leaves in
-    let at_site : last.site ≡ site = ap (λ (launch : Launch). launch.site) leaves.is in
-    let small : IsSmall plan = record { few = s.mounts.few; places = s.mounts.places_are_short } in
-    let nothing : ShowsNothingOf plan folder = subst (λ (t : Table). ShowsNothingOf t folder) has.own (blind_is_shown_nothing folder last 1 has.process has.lives (subst IsSmall (sym has.own) small) fit blind) in
-    let sources : AreSameSources (host_of site) (host_of other) made.mentions = subst (λ (mentions : List Mention). AreSameSources (host_of site) (host_of other) mentions) (sym s.settings.mentions_written_and_implied) agree.sources in
-    let planned = plan_is_blind folder (host_of site) (host_of other) made.mentions s.planned.0 (kept_normal made.mentions s.mentions) s.planned.1 sources (same_hosts folder site other agree.outside)
-    (subst (λ (t : Table). ShowsNothingOf t folder) s.planned.2 nothing) in
-    record {
-      settings = settings_rest unit table site other made
-          (record { dynamic_uid = agree.outside.dynamic_uid; users = agree.outside.users; groups = agree.outside.groups; implied = agree.implied }) s.settings;
-      planned = (s.planned.0, planned.0, s.planned.2 ∙ sym planned.1);
-      launches = launch_is_blind folder table site other wanted plan last steps s.whole s.mounts can.uid s.program agree.outside blind
-          s.launches;
-      replies = λ calls fits. (replies_are_blind folder other last calls
-          (subst (λ (s : Site). AgreeOutside folder s other) (sym at_site) agree.outside) blind fits).replies;
-    }
+blind_to_others folder unit table site other made plan programs last steps s is_other blind agree =
+    by (folder_or_same folder site other s.is_site is_other agree.outside)
+  where
+    by : IsFolder folder ⊎ (other ≡ site) → IsAlike unit table other made plan programs last steps
+    by (inl fit) = outside folder unit table site other made plan programs last steps s blind agree fit
+    by (inr same) = subst (λ (there : Site). IsAlike unit table there made plan programs last steps) (sym same)
+        (itself folder unit table site other made plan programs last steps s)

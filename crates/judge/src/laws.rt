@@ -1,21 +1,24 @@
-//! Laws of two sites, each the contract of a function that does nothing: what lies below a folder that a service is blind to, the
-//! service cannot tell. Sites that agree elsewhere give it the same settings, the same plan, the same launch and the same replies.
+//! The laws of two sites: a service cannot find out what lies below a folder that it is blind to.
+//!
+//! Each is the contract of a function that does nothing.
 
 ghost use Rattle.judge.specs.Alike.{BlindToOthers};
 ghost use Rattle.judge.specs.Worlds.{RepliesAreBlind, LaunchIsBlind, BlindIsShownNothing};
 
-/// In a world that is blind to a folder no call asks the site for anything below it, and neither does the launch of that world; and
-/// no process of it is shown the folder.
+/// What lies below a folder changes nothing for a world that is blind to it. On every site that agrees outside the folder each list
+/// of calls has the same replies and leads to the same world except for the site. A launch that leaves such a world leaves it
+/// there too, after as many steps. No path of a process of that world, whose mount table has the size of a plan, shows the folder or
+/// a place below it.
 pub fn worlds_are_blind()
     ensures replies { RepliesAreBlind }
     ensures launches { LaunchIsBlind }
     ensures shown_nothing { BlindIsShownNothing }
 {}
 
-/// What lies below a folder that a launched service is blind to, the service cannot tell, whichever programs its filters are. On every
-/// other site that agrees outside the folder, and at the paths that the unit implies and the sources of its binds, the unit has the
-/// same settings and the same plan, its launch with the same programs leaves the same world but for the site, and every list of calls
-/// has the same replies.
+/// A launched service cannot tell its site from another that agrees outside a folder to which the service is blind. The two sites also
+/// agree at the paths that the unit implies and at the sources of its binds. Then neither the unit nor its plan is refused on the
+/// other site, and both settings and plan are the same. Its launch with the same programs, whichever they are, leaves the same
+/// world except for the site. Every list of calls has the same replies.
 pub fn sites_are_alike()
     ensures blind { BlindToOthers }
 {}

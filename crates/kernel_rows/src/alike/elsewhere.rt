@@ -1,8 +1,9 @@
 //! A service on the other site of a pair, by the law of two sites.
-ghost use Rattle.std.specs.Prelude.{◌≡◌, true, [], Ok, Some, IfOk};
+ghost use Rattle.std.specs.Prelude.{◌≡◌, true, [], None, Ok, Some, IfOk};
 ghost use Rattle.kernel_rows.specs.Elsewhere.{AreSameThere, IsBlindThere, IsSameThere};
 ghost use Rattle.asked_service.specs.ceilings.Own.{IsCeilingOf};
 ghost use Rattle.asked_service.specs.exec_settings.AreSettings.{AreSettings};
+ghost use Rattle.asked_service.specs.exec_settings.Refusals.{refusal_of};
 ghost use Rattle.asked_service.specs.kern_mounts.Launch.{CanBeMounted};
 ghost use Rattle.asked_service.specs.kernel_laws.Denied.{IsBlind};
 ghost use Rattle.asked_service.specs.kernel_laws.Launched.{launch_of};
@@ -28,10 +29,10 @@ fn know_alike(
     programs: &[FilterProgram],
     folder: &AbsPath,
 )
+    requires accepted { refusal_of asked.now.unit.now asked.now.calls.now asked.now.site.now ≡ None }
     requires settings { AreSettings asked.now.unit.now asked.now.calls.now asked.now.site.now settings.now }
     requires plan { Plans (host_of asked.now.site.now) settings.now.mentions (Ok plan.now) }
     requires mounts { CanBeMounted (host_of asked.now.site.now) plan.now }
-    requires folder { kind_at asked.now.site.now.rows folder.now ≡ Some Dir }
     ensures whichever_programs { AreSameThere asked.now settings.now plan.now (given_bytes programs.now) folder.now }
 {
     let _mentions = settings.mentions.list();
@@ -56,6 +57,7 @@ fn is_blind_at(
     top: &Ceiling,
     folder: &AbsPath,
 ) -> bool
+    requires accepted { refusal_of asked.now.unit.now asked.now.calls.now asked.now.site.now ≡ None }
     requires settings { AreSettings asked.now.unit.now asked.now.calls.now asked.now.site.now settings.now }
     requires plan { Plans (host_of asked.now.site.now) settings.now.mentions (Ok plan.now) }
     requires mounts { CanBeMounted (host_of asked.now.site.now) plan.now }
@@ -81,6 +83,7 @@ pub fn is_blind_there(
     plan: &[MountStep],
     service: &Launched<'_>,
 ) -> Result<bool, AllocError>
+    requires accepted { refusal_of asked.now.unit.now asked.now.calls.now asked.now.site.now ≡ None }
     requires settings { AreSettings asked.now.unit.now asked.now.calls.now asked.now.site.now settings.now }
     requires plan { Plans (host_of asked.now.site.now) settings.now.mentions (Ok plan.now) }
     requires mounts { CanBeMounted (host_of asked.now.site.now) plan.now }

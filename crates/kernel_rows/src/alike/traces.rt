@@ -1,6 +1,7 @@
 //! What a unit comes to on a site: its launch and the replies to calls.
-ghost use Rattle.std.specs.Prelude.{Ok};
+ghost use Rattle.std.specs.Prelude.{◌≡◌, None, Ok};
 ghost use Rattle.asked_service.specs.exec_settings.AreSettings.{AreSettings};
+ghost use Rattle.asked_service.specs.exec_settings.Refusals.{refusal_of};
 ghost use Rattle.asked_service.specs.kern_mounts.Launch.{CanBeMounted};
 ghost use Rattle.asked_service.specs.mount_plan.Answers.{Plans};
 ghost use Rattle.asked_service.specs.mount_plan.Host.{host_of};
@@ -43,7 +44,8 @@ pub fn trace_of(alloc: Global, asked: &Asked<'_>) -> Result<Trace, AllocError> {
 }
 
 fn planned(alloc: Global, asked: &Asked<'_>, settings: &Settings) -> Result<Trace, AllocError>
-    requires { AreSettings asked.now.unit.now asked.now.calls.now asked.now.site.now settings.now }
+    requires accepted { refusal_of asked.now.unit.now asked.now.calls.now asked.now.site.now ≡ None }
+    requires settings { AreSettings asked.now.unit.now asked.now.calls.now asked.now.site.now settings.now }
 {
     match &plan(alloc, &settings.mentions, asked.site) {
         Ok(steps) => launched(alloc, asked, settings, steps.list()),
@@ -57,6 +59,7 @@ fn launched(
     settings: &Settings,
     plan: &[MountStep],
 ) -> Result<Trace, AllocError>
+    requires accepted { refusal_of asked.now.unit.now asked.now.calls.now asked.now.site.now ≡ None }
     requires settings { AreSettings asked.now.unit.now asked.now.calls.now asked.now.site.now settings.now }
     requires plan { Plans (host_of asked.now.site.now) settings.now.mentions (Ok plan.now) }
     requires mounts { CanBeMounted (host_of asked.now.site.now) plan.now }
@@ -74,6 +77,7 @@ fn told(
     plan: &[MountStep],
     service: Launched<'_>,
 ) -> Result<Trace, AllocError>
+    requires accepted { refusal_of asked.now.unit.now asked.now.calls.now asked.now.site.now ≡ None }
     requires settings { AreSettings asked.now.unit.now asked.now.calls.now asked.now.site.now settings.now }
     requires plan { Plans (host_of asked.now.site.now) settings.now.mentions (Ok plan.now) }
     requires mounts { CanBeMounted (host_of asked.now.site.now) plan.now }
