@@ -1,4 +1,4 @@
--- What it is to be the settings of a unit.
+-- The settings of a unit.
 use Rattle.std.specs.Prelude.{◌≡◌, ◌≤◌, Ok, Some, List, map, IsTrue}
 use Rattle.std.specs.List.{All}
 use Rattle.filter_settings.specs.bpf_code.declared.machine.CallData.{CallData}
@@ -24,14 +24,13 @@ use Rattle.exec_settings.specs.Notes.{all_notes}
 use Rattle.exec_settings.specs.Order.{AreInOrder}
 use Rattle.exec_settings.specs.Settings.{unit_bounding, unit_new_privileges, unit_program}
 
--- the rules of a filter for an ABI do to every call what the settings say by names and words
+-- the rules of a filter for an ABI take on every call the action that the settings say by names and words
 abbrev pub HasWantedRules : FilterSettings → Table → Filter → Type 0
 HasWantedRules settings table one = (input : CallData) → case_action one.rules input ≡ wanted_action one.name settings table one.abi input
 
--- exactly the programs of the filters that are on, in the order in which they are installed; each can be compiled, all fit into one stack
--- of
--- programs, at most eight cases stand for a call or one whole value of one argument for each, and what is refused ends the
--- process or answers an error number
+-- exactly the filters that are on, in the order in which they are installed. Each can be compiled, and all programs fit into one stack.
+-- At most eight cases stand for a call, or each of them for one whole value of one argument. A refused call ends the process or answers
+-- an error number
 pub record AreFilters (settings : FilterSettings) (table : Table) (filters : List Filter) : Type 0 where
   pub exactly_those_on : map place_of filters ≡ installed settings table
   pub do_as_wanted : All (HasWantedRules settings table) filters

@@ -20,8 +20,8 @@ pub record HasCommandAlone (unit : Resolved) : Type 0 where
   pub alone : service_assignments unit ≡ (place, assignment) ∷ []
   pub command : assignment.key ≡ codes "ExecStart"
 
--- the superuser without further groups, whose bounding set has all capabilities; none is ambient, no filter is on, and
--- nothing is said of paths; what is noted is what the grammar of unit files notes
+-- the superuser without further groups, whose bounding set has all capabilities. None is ambient, no filter is on, and no path is
+-- mentioned. The notes are those of the grammar of unit files
 pub record AreBare (unit : Resolved) (made : Settings) : Type 0 where
   pub uid : made.uid ≡ 0
   pub gid : made.gid ≡ 0

@@ -73,7 +73,7 @@ launched_of values = slice_get (commands_of values) 0
 abbrev pub is_unread : Value → Bool
 is_unread value = not (length value.text == 0) && not (is_command value)
 
--- a command behind another one is not judged
+-- a command after another one is not judged
 abbrev pub later_causes : List Value × Value → List NoteCause
 later_causes place = cond (list_any is_command place.0 && is_command place.1) (Unjudged ∷ []) []
 

@@ -33,7 +33,7 @@ with_dynamic_user dynamic said = record {
   second_abi_refused = said.second_abi_refused;
 }
 
--- what the keys of the filters come to
+-- the settings of the filters, by their keys
 unfoldable pub unit_filters : Resolved → Table → FilterSettings
 unit_filters unit table = with_dynamic_user (is_dynamic unit) (settings_of unit table)
 

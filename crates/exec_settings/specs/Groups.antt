@@ -1,4 +1,4 @@
--- Groups of calls that settings rest on, and that the table of calls is to have (systemd.exec(5), SystemCallFilter=).
+-- Groups of calls that settings need and that the table of calls must have (systemd.exec(5), SystemCallFilter=).
 use Rattle.std.specs.Prelude.{ℕ, not, is_some, Bool, true, false, cond, codes, Option, List, [], ◌∷◌, ◌++◌, find}
 use Rattle.std.specs.Option.{option_map_or}
 use Rattle.filter_settings.specs.call_table.Table.{Table}
@@ -19,7 +19,7 @@ begins_with_default calls = option_map_or (λ list. is_allowing list.mode) calls
 abbrev pub only_if : Bool → List ℕ → List (List ℕ)
 only_if on name = cond on (name ∷ []) []
 
--- the groups that the settings rest on, in the order in which they are looked for
+-- the groups that the settings need, in the order in which they are looked for
 abbrev pub needed_groups : FilterSettings → List (List ℕ)
 needed_groups settings =
     only_if (begins_with_default settings.calls) (codes "default") ++ only_if settings.private_devices (codes "raw-io")

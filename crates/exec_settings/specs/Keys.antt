@@ -70,7 +70,7 @@ ascend [] = true
 ascend (name ∷ []) = true
 ascend (name ∷ next ∷ names) = is_lt (slice_cmp nat_cmp name next) && ascend (next ∷ names)
 
--- so none stands twice, and the first that a unit uses is the first in byte order
+-- so none occurs twice, and the first that a unit uses is the first in byte order
 unfoldable pub ascend_strictly : Bool
 ascend_strictly = ascend (map (λ row. row.0) keys)
 

@@ -1,4 +1,4 @@
--- What a unit says of paths, and how many of them it may write (systemd.exec(5), Paths, Sandboxing).
+-- The mentions of a unit, and the limit of the paths that it may write (systemd.exec(5), Paths, Sandboxing).
 use Rattle.std.specs.Prelude.{nat_lt, cond, Bool, List, length, Option, Some, None, codes}
 use Rattle.cred_settings.specs.dropin_merge.declared.resolved.Resolved.{Resolved}
 use Rattle.filter_settings.specs.declared.filter_rules.settings.FilterSettings.{FilterSettings}
@@ -29,7 +29,7 @@ unit_switches unit = record {
   dynamic_user = is_dynamic unit;
 }
 
--- all mentions: the written ones, and behind them those that are implied
+-- all mentions: the written ones, and after them those that are implied
 unfoldable pub unit_mentions : Resolved → Site → List Mention
 unit_mentions unit site = mentions_of site (unit_switches unit) (protections_of unit (unit_switches unit)) (unit_written unit)
 

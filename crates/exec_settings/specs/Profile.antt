@@ -1,4 +1,4 @@
--- What is outside of what is judged: a unit that asks for it is refused (systemd.exec(5), Paths, Capabilities, Sandboxing).
+-- Keys outside of the model: a unit that asks for their effect is refused (systemd.exec(5), Paths, Capabilities, Sandboxing).
 use Rattle.std.specs.Prelude.{ℕ, not, Bool, true, false, cond, Option, Some, None, List, [], ◌∷◌, find, unwrap_or}
 use Rattle.std.specs.List.{filter_map}
 use Rattle.std.specs.Option.{option_map}
@@ -38,8 +38,8 @@ abbrev pub is_relative : Program → Bool
 is_relative (Absolute path) = false
 is_relative Relative = true
 
--- whether a unit with this command uses a key of this meaning where it may not: one that says what stands at a path may
--- not say it of the root, a program is an absolute path, and some keys have no place here at all
+-- a unit with this command uses a key of this meaning where it may not. A key that says which object is at a path may not say it of the
+-- root, a program is an absolute path, and some keys may not be used at all
 abbrev pub is_outside_by : Resolved → Command → List ℕ → Meaning → Bool
 is_outside_by unit command key (means.Place name) = mentions_root (unit_written unit) name
 is_outside_by unit command key means.Command = is_relative command.program

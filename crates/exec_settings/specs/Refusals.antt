@@ -1,4 +1,4 @@
--- Why a unit has no settings, the first of all reasons.
+-- The reason why a unit has no settings: the first of all reasons.
 use Rattle.std.specs.Prelude.{◌≡◌, cond, Option, Some, None, option_and_then, List, [], ◌∷◌, Result, Ok, Err}
 use Rattle.std.specs.Option.{option_map}
 use Rattle.filter_settings.specs.call_table.Table.{Table}
@@ -51,7 +51,7 @@ identity_reason (Err ids.Memory) = None
 unfoldable pub identity_refusal : Resolved → Site → Option SettingsError
 identity_refusal unit site = identity_reason (identity_of unit site (is_dynamic unit))
 
--- the first group of calls that its filters rest on and that the table lacks
+-- the first group of calls that its filters need and that the table lacks
 unfoldable pub group_refusal : Resolved → Table → Option SettingsError
 group_refusal unit table = option_map MissingGroup (missing_group table (unit_filters unit table))
 
@@ -60,7 +60,7 @@ unfoldable pub refusal_of : Resolved → Table → Site → Option SettingsError
 refusal_of unit table site =
     first_reason (command_refusal unit ∷ identity_refusal unit site ∷ group_refusal unit table ∷ paths_refusal unit ∷ [])
 
--- an error is this reason; want of memory has none
+-- an error is this reason; it has none if memory ran out
 abbrev pub IsReason : Option SettingsError → SettingsError → Type 0
 IsReason reason Memory = Unit {0}
 IsReason reason NoCommand = reason ≡ Some NoCommand
@@ -71,7 +71,7 @@ IsReason reason (NoSuchUser word) = reason ≡ Some (NoSuchUser word)
 IsReason reason (NoSuchGroup word) = reason ≡ Some (NoSuchGroup word)
 IsReason reason (MissingGroup name) = reason ≡ Some (MissingGroup name)
 
--- an answer comes exactly where there is no reason, and each error is the first reason
+-- an answer comes only if there is no reason, and each error is the first reason, unless memory ran out
 abbrev pub RefusesFirst : {X : Type 0} → Option SettingsError → Result X SettingsError → Type 0
 RefusesFirst reason (Ok made) = reason ≡ None
 RefusesFirst reason (Err error) = IsReason reason error

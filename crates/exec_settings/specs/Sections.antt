@@ -1,4 +1,4 @@
--- What stands in other sections than that of the service.
+-- Other sections than that of the service.
 use Rattle.std.specs.Prelude.{◌≡◌, ◌↔◌}
 use Rattle.cred_settings.specs.dropin_merge.declared.resolved.Resolved.{Resolved}
 use Rattle.cred_settings.specs.dropin_merge.unit_values.Assignments.{service_alone}

@@ -1,4 +1,4 @@
--- What the settings of a unit are.
+-- The parts of the settings of a unit.
 use Rattle.std.specs.Prelude.{ℕ, ◌==◌, not, Bool, Option, Some, None, option_and_then, length}
 use Rattle.mount_settings.specs.abs_path.Paths.{Path}
 use Rattle.cred_settings.specs.Ambient.{ambient_of}

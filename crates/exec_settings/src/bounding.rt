@@ -15,36 +15,37 @@ fn only_if(on: bool, set: CapSet) -> CapSet
     if on { set } else { CapSet::empty() }
 }
 
-// What ProtectClock= takes.
+// The capabilities that ProtectClock= takes.
 fn clock_caps() -> CapSet
     ensures { result ≡ clock_caps }
 {
     CapSet::empty().with(CAP_SYS_TIME).with(CAP_WAKE_ALARM)
 }
 
-// What PrivateDevices= takes.
+// The capabilities that PrivateDevices= takes.
 fn device_caps() -> CapSet
     ensures { result ≡ device_caps }
 {
     CapSet::empty().with(CAP_MKNOD).with(CAP_SYS_RAWIO)
 }
 
-// What ProtectKernelModules= takes.
+// The capability that ProtectKernelModules= takes.
 fn module_caps() -> CapSet
     ensures { result ≡ module_caps }
 {
     CapSet::empty().with(CAP_SYS_MODULE)
 }
 
-// What ProtectKernelLogs= takes.
+// The capability that ProtectKernelLogs= takes.
 fn log_caps() -> CapSet
     ensures { result ≡ log_caps }
 {
     CapSet::empty().with(CAP_SYSLOG)
 }
 
-/// The capabilities that the settings take from a bounding set: ProtectClock= takes CAP_SYS_TIME and CAP_WAKE_ALARM,
-/// PrivateDevices= CAP_MKNOD and CAP_SYS_RAWIO, ProtectKernelModules= CAP_SYS_MODULE, ProtectKernelLogs= CAP_SYSLOG.
+/// Returns the capabilities that the settings take from a bounding set. ProtectClock= takes CAP_SYS_TIME and
+/// CAP_WAKE_ALARM, PrivateDevices= CAP_MKNOD and CAP_SYS_RAWIO, ProtectKernelModules= CAP_SYS_MODULE, and
+/// ProtectKernelLogs= CAP_SYSLOG.
 #[tactic(auto, unfolding(crate::specs::Bounding::taken_caps))]
 pub fn taken_caps(settings: &FilterSettings) -> CapSet
     ensures by_the_settings { result ≡ taken_caps settings.now }

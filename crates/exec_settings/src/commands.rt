@@ -1,6 +1,6 @@
-//! The commands of a service (systemd.service(5), ExecStart=).
+//! Reads the commands of a service (systemd.service(5), ExecStart=).
 //!
-//! A value is read by its first word alone: the prefixes, and the path of the program behind them.
+//! Only the first word of a value is read: the prefixes, and the path of the program after them.
 ghost use Rattle.std.specs.Prelude.{◌≡◌, ◌++◌, ◌∷◌, ◌||◌, ◌&&◌, [], cond, slice_get, IfOk, OnOk};
 ghost use Rattle.std.specs.List.{cons_option, filter_map, list_any, prefix_len};
 ghost use Rattle.cred_settings.specs.unit_grammar.declared.notes.NoteCause.TheVariants.{Unjudged};
@@ -25,12 +25,12 @@ pub enum Program {
     Relative,
 }
 
-/// What the first word of a command says.
+/// The first word of a command.
 #[derive(Drop)]
 pub struct Command {
     /// Whether `+` or `!` is among its prefixes.
     pub is_privileged: bool,
-    /// What stands behind the prefixes.
+    /// The text after the prefixes.
     pub program: Program,
 }
 
@@ -46,28 +46,28 @@ fn is_prefix(byte: u8) -> bool
     byte == b'-' || byte == b':' || byte == b'@' || keeps_privileges(byte)
 }
 
-// How many prefixes a word begins with.
+// Returns the number of prefixes that a word begins with.
 fn count_prefixes(word: &[u8]) -> usize
     ensures { result ≡ prefix_len is_prefix word.now }
 {
     word.iter().take_while(|byte| is_prefix(**byte)).count()
 }
 
-// Whether one of these prefixes keeps privileges.
+// Returns whether one of these prefixes keeps privileges.
 fn keep_privileges(prefixes: &[u8]) -> bool
     ensures { result ≡ list_any keeps_privileges prefixes.now }
 {
     prefixes.iter().any(|byte| keeps_privileges(*byte))
 }
 
-// What stands behind the prefixes of a word.
+// Returns the text after the prefixes of a word.
 fn behind_prefixes(word: &str) -> &str
     ensures { result.now ≡ behind_prefixes word.now }
 {
     &word[count_prefixes(word.as_bytes())..]
 }
 
-// Whether a prefix of the word keeps privileges.
+// Returns whether a prefix of the word keeps privileges.
 fn is_privileged(word: &str) -> bool
     ensures { result ≡ list_any keeps_privileges (prefixes_of word.now) }
 {
@@ -121,14 +121,14 @@ fn read_command(alloc: Global, text: &str) -> Result<Option<Command>, AllocError
     }
 }
 
-// Whether a value is a command.
+// Returns whether a value is a command.
 fn is_command(alloc: Global, value: &Value) -> Result<bool, AllocError>
     ensures { IfOk result (λ is. is ≡ is_command value.now) }
 {
     Ok(read_command(alloc, value.text.as_str())?.is_some())
 }
 
-// Whether a value says something that is no command.
+// Returns whether a value is not empty and no command.
 fn is_unread(alloc: Global, value: &Value) -> Result<bool, AllocError>
     ensures { IfOk result (λ is. is ≡ is_unread value.now) }
 {
@@ -158,7 +158,7 @@ fn note_unread(alloc: Global, values: &[Value], notes: &mut Vec<FileNote>) -> Re
     Ok(())
 }
 
-// Notes a value that is a command, where another one was seen. Tells whether one is seen now.
+// Notes a value that is a command, if another one was seen. Returns whether one is seen now.
 fn note_if_later(
     alloc: Global,
     seen: bool,
@@ -177,7 +177,7 @@ fn note_if_later(
     Ok(true)
 }
 
-// Notes the commands among these values behind the first.
+// Notes the commands among these values after the first.
 fn note_later(alloc: Global, values: &[Value], notes: &mut Vec<FileNote>) -> Result<(), AllocError>
     ensures { OnOk result (notes.new.items ≡ notes.old.items ++ noted later_causes values.now) }
 {
@@ -201,8 +201,9 @@ fn first_command(alloc: Global, values: &[Value]) -> Result<Option<Command>, All
     Ok(None)
 }
 
-/// The command that a unit launches: the first of ExecStart= that is in force. Values that cannot be expanded, then
-/// those that cannot be read, and then commands in force behind the first are noted behind the notes that are there.
+/// Returns the command that a unit launches: the first of ExecStart= that is in force. It adds notes after those that
+/// are there: for values that cannot be expanded, then for those that cannot be read, and then for commands in force
+/// after the first.
 #[tactic(auto, unfolding(crate::specs::Commands::unit_command, crate::specs::Commands::unit_command_notes))]
 pub fn launched_command(
     alloc: Global,

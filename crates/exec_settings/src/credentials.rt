@@ -1,4 +1,4 @@
-//! Users, groups and capabilities of a unit, or why they are refused.
+//! Reads users, groups and capabilities of a unit, or gives the reason why they are refused.
 ghost use Rattle.std.specs.Prelude.{◌≡◌, ◌++◌, Ok, IfOk, OnOk};
 ghost use Rattle.cred_settings.specs.Ambient.{ambient_of};
 ghost use Rattle.cred_settings.specs.Bounding.{bounding_of};
@@ -15,7 +15,7 @@ use cred_settings::{
 };
 use std::alloc::Global;
 
-/// What the keys of users, groups and capabilities say.
+/// The values of the keys of users, groups and capabilities.
 #[derive(Drop)]
 pub struct Credentials {
     pub identity: Identity,
@@ -49,7 +49,7 @@ fn read_identity(
     }
 }
 
-/// What the keys of users, groups and capabilities say, with their notes behind those that are there.
+/// Reads the keys of users, groups and capabilities, and adds their notes after those that are there.
 #[tactic(auto, unfolding(crate::specs::Notes::credential_notes, crate::specs::Refusals::identity_refusal))]
 pub fn read_credentials(
     alloc: Global,

@@ -1,4 +1,4 @@
-//! What a dynamic user brings (systemd.exec(5), DynamicUser=).
+//! Reads DynamicUser=, and applies what it implies (systemd.exec(5)).
 ghost use Rattle.std.specs.Prelude.{◌≡◌, ◌++◌, IfOk, OnOk};
 ghost use Rattle.exec_settings.specs.Dynamic.{dynamic_notes, is_dynamic, with_dynamic_user};
 
@@ -6,8 +6,8 @@ use cred_settings::{FileNote, Resolved, flag_of_key};
 use filter_settings::filter_rules::FilterSettings;
 use std::alloc::{AllocError, Global};
 
-/// Whether DynamicUser= is on. Values that cannot be expanded, and then those that cannot be read, are noted behind the
-/// notes that are there.
+/// Reads whether DynamicUser= is on. It adds notes after those that are there: for values that cannot be expanded,
+/// and then for those that cannot be read.
 #[tactic(auto, unfolding(crate::specs::Dynamic::is_dynamic, crate::specs::Dynamic::dynamic_notes))]
 pub fn is_dynamic(
     alloc: Global,
@@ -20,7 +20,7 @@ pub fn is_dynamic(
     flag_of_key(alloc, unit, "DynamicUser")?.noted_in(notes)
 }
 
-/// What the keys of the filters come to: with a dynamic user RestrictSUIDSGID= is on, whatever it says itself.
+/// Returns the settings of the filters. With a dynamic user RestrictSUIDSGID= is on, whatever it says itself.
 pub fn with_dynamic_user(is_dynamic: bool, said: FilterSettings) -> FilterSettings
     ensures as_the_user_implies { result ≡ with_dynamic_user is_dynamic said }
 {

@@ -6,8 +6,8 @@ use cred_settings::Text;
 use std::alloc::AllocError;
 use thiserror::Error;
 
-/// Why a unit has no settings. Where several reasons stand together the first in this order is told; want of memory
-/// may come at any unit.
+/// Why a unit has no settings. Of several reasons the first in this order is reported. Memory may run out at any
+/// unit.
 #[derive(Debug, Drop, Error)]
 pub enum SettingsError {
     /// No command of ExecStart= is in force.
@@ -25,7 +25,7 @@ pub enum SettingsError {
     /// Group= or SupplementaryGroups= names no group: the first such word.
     #[error("no group {}", .0.as_str())]
     NoSuchGroup(Text),
-    /// The table of calls lacks a group that a setting rests on.
+    /// The table of calls lacks a group that a setting needs.
     #[error("the table has no group @{}", .0.as_str())]
     MissingGroup(Text),
     /// More than 128 paths are written, those of folders, binds and temporary file systems among them.

@@ -1,4 +1,4 @@
-//! What the keys of the filters of system calls bring, or the group of calls that they lack.
+//! Reads the keys of the filters of system calls, or gives the group of calls that the table lacks.
 ghost use Rattle.std.specs.Prelude.{◌≡◌, ◌++◌, IfOk, OnOk};
 ghost use Rattle.filter_settings.specs.filter_rules.Known.{HasKnownFamilies};
 ghost use Rattle.filter_settings.specs.filter_rules.Refusing.{AreRefusing};
@@ -19,7 +19,7 @@ use filter_settings::{CallTable, filter_settings};
 use mount_settings::Switches;
 use std::alloc::Global;
 
-/// What the keys of the filters bring.
+/// The filters, and what else their keys imply.
 #[derive(Drop)]
 pub struct Restrictions {
     /// The filters that are on, in the order in which they are installed.
@@ -42,7 +42,7 @@ fn switches_of(is_dynamic: bool, filters: &FilterSettings) -> Switches
     }
 }
 
-// What the keys of the filters come to.
+// Returns the settings of the filters.
 #[tactic(auto, unfolding(crate::specs::Dynamic::unit_filters, crate::specs::Refusals::group_refusal))]
 fn found_filters(
     alloc: Global,
@@ -66,8 +66,8 @@ fn found_filters(
     }
 }
 
-/// What the keys of the filters bring, with their notes behind those that are there; `is_dynamic` is whether
-/// DynamicUser= is on.
+/// Reads the keys of the filters, and adds their notes after those that are there. `is_dynamic` says if DynamicUser=
+/// is on.
 pub fn read_filters(
     alloc: Global,
     unit: &Resolved,

@@ -1,4 +1,4 @@
-//! Groups of calls that settings rest on (systemd.exec(5), SystemCallFilter=).
+//! Finds the groups of calls that settings need and the table lacks (systemd.exec(5), SystemCallFilter=).
 ghost use Rattle.std.specs.Prelude.{◌≡◌};
 ghost use Rattle.std.specs.Option.{option_copied};
 ghost use Rattle.exec_settings.specs.Groups.{begins_with_default, is_missing, missing_group};
@@ -6,7 +6,7 @@ ghost use Rattle.exec_settings.specs.Groups.{begins_with_default, is_missing, mi
 use filter_settings::CallTable;
 use filter_settings::filter_rules::{CallList, FilterSettings, Mode};
 
-// Whether the list begins with `@default`, as one that allows does.
+// Returns whether the list begins with `@default`, as one that allows does.
 fn begins_with_default(calls: &Option<CallList>) -> bool
     ensures { result ≡ begins_with_default calls.now }
 {
@@ -22,8 +22,8 @@ fn is_missing(table: &CallTable, name: &str) -> bool
     table.members(name).is_none()
 }
 
-/// The first group that the settings rest on and that the table lacks, looked for in the order `default` for a list
-/// that allows, `raw-io` for PrivateDevices=, `module` for ProtectKernelModules=, `clock` for ProtectClock=.
+/// Returns the first group that the settings need and that the table lacks. The order is `default` for a list that
+/// allows, `raw-io` for PrivateDevices=, `module` for ProtectKernelModules=, `clock` for ProtectClock=.
 #[tactic(auto, unfolding(crate::specs::Groups::missing_group))]
 pub fn missing_group(table: &CallTable, settings: &FilterSettings) -> Option<&'static str>
     ensures first_that_is_missing { option_copied result ≡ missing_group table.now settings.now }

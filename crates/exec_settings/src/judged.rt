@@ -1,4 +1,4 @@
-//! Keys of the service that are not judged, and are noted.
+//! Notes keys of the service that are not judged.
 ghost use Rattle.std.specs.Prelude.{◌≡◌, ◌++◌, [], OnOk};
 ghost use Rattle.std.specs.List.{cons_option, list_any};
 ghost use Rattle.std.specs.Str.{bytes_eq};
@@ -15,7 +15,7 @@ fn is_named(rows: &[(&str, Meaning)], key: &str) -> bool
     rows.iter().any(|row| row.0 == key)
 }
 
-/// Whether a key is a setting here, or refuses the unit.
+/// Returns whether a key is a setting here, or refuses the unit.
 pub fn is_judged(key: &str) -> bool
     ensures by_the_keys { result ≡ is_judged key.now }
 {
@@ -39,7 +39,7 @@ fn note_if_unjudged(
     Ok(())
 }
 
-/// Notes the assignments to keys that are not judged, behind the notes that are there.
+/// Notes the assignments to keys that are not judged, after the notes that are there.
 #[tactic(auto, unfolding(crate::specs::Judged::unjudged_notes))]
 pub fn note_unjudged(unit: &Resolved, notes: &mut Vec<FileNote>) -> Result<(), AllocError>
     ensures notes_each { OnOk result (notes.new.items ≡ notes.old.items ++ unjudged_notes unit.now) }

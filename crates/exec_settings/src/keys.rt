@@ -5,7 +5,7 @@ ghost use Rattle.exec_settings.specs.Keys.{keys};
 use Meaning::{Command, Credentials, Filter, Path, Place, Protection, Refused};
 use mount_settings::PathKey;
 
-/// What a key means here (systemd.exec(5), systemd.service(5)).
+/// The meaning of a key here (systemd.exec(5), systemd.service(5)).
 #[derive(Clone, Copy)]
 pub enum Meaning {
     /// It says what is launched. A program that is no absolute path refuses the unit.
@@ -18,13 +18,13 @@ pub enum Meaning {
     Protection,
     /// It speaks of paths.
     Path,
-    /// It says what stands at a path. `/` there refuses the unit.
+    /// It says which object is at a path. `/` there refuses the unit.
     Place(PathKey),
     /// A unit that asks for it is refused.
     Refused,
 }
 
-/// The keys with what they mean, in byte order. Every other key of `[Service]` is noted, and passed over.
+/// Returns the keys with their meanings, in byte order. Every other key of `[Service]` is skipped with a note.
 #[tactic(auto, unfolding(crate::specs::Keys::keys))]
 pub fn keys() -> &'static [(&'static str, Meaning)]
     ensures all_that_are_judged { map (λ row. (row.0.now, row.1)) result.now ≡ keys }

@@ -1,12 +1,14 @@
-//! The settings of a service by the files of its unit.
+//! Reads the settings of a service from the files of its unit.
 //!
-//! Every key that bears on the sandbox is read (systemd.exec(5), systemd.service(5)); what cannot be read, and keys that
-//! are not judged, are noted, and a unit that asks for what is outside of the model is refused with the first reason. It
-//! stands on `filter_settings` and `filter_rules` for the filters of system calls, on `cred_settings` for users, groups and
-//! capabilities, on `mount_settings` for paths, and on `unit_values` for the values of keys.
+//! Every key that bears on the sandbox is read (systemd.exec(5), systemd.service(5)). Values that cannot be read, and
+//! keys that are not judged, get notes. A unit that asks for something outside of the model is refused with the first
+//! reason.
 //!
-//! `settings(alloc, &unit, &calls, &site)?` has the program, the ids, the capabilities, the filters with their
-//! rules, the mentions of paths, and the notes.
+//! `filter_settings` reads the filters of system calls, `cred_settings` users, groups and capabilities, and
+//! `mount_settings` paths.
+//!
+//! `settings(alloc, &unit, &calls, &site)?` has the program, the ids, the capabilities, the filters with their rules,
+//! the mentions of paths, and the notes.
 #![tactic(auto)]
 
 mod bounding;

@@ -1,4 +1,4 @@
-//! The mentions of a unit, or that it writes too many paths.
+//! Reads the mentions of a unit, or refuses a unit that writes too many paths.
 ghost use Rattle.std.specs.Prelude.{◌≡◌, ◌++◌, None, IfOk, OnOk, IsTrue};
 ghost use Rattle.mount_settings.specs.Protections.{protection_notes};
 ghost use Rattle.mount_settings.specs.Roots.{root_key};
@@ -13,8 +13,8 @@ use cred_settings::{FileNote, Resolved, SiteTable};
 use mount_settings::{Mentions, MountSettingsError, Switches, WrittenPaths, mount_settings};
 use std::alloc::Global;
 
-/// The mentions of a unit with these written paths, and what is noted of the keys that protect the file system behind
-/// the notes that are there.
+/// Returns the mentions of a unit with these written paths. It adds the notes on the keys that protect the file
+/// system after those that are there.
 #[tactic(auto, unfolding(crate::specs::Mounts::unit_mentions))]
 pub fn read_mentions(
     alloc: Global,

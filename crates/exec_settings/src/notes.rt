@@ -1,4 +1,4 @@
-//! The notes on the text of a unit, and the order of all notes.
+//! Collects the notes on the text of a unit, and puts all notes in order.
 ghost use Rattle.std.specs.Prelude.{◌≡◌, ◌++◌, IsPermutation, IfOk, OnOk};
 ghost use Rattle.std.specs.List.Sorted.{IsSortedByKey, IsStableByKey};
 ghost use Rattle.exec_settings.specs.Notes.{grammar_notes, grammar_notes_in, text_notes};
@@ -25,7 +25,7 @@ fn add_notes_in(number: usize, file: &UnitFile, notes: &mut Vec<FileNote>) -> Re
     Ok(())
 }
 
-// Puts what the grammar notes of the files of a unit behind the notes that are there.
+// Adds the notes of the grammar on the files of a unit.
 #[tactic(auto, unfolding(crate::specs::Notes::grammar_notes))]
 fn add_grammar_notes(unit: &Resolved, notes: &mut Vec<FileNote>) -> Result<(), AllocError>
     ensures adds_each { OnOk result (notes.new.items ≡ notes.old.items ++ grammar_notes unit.now) }
@@ -37,7 +37,7 @@ fn add_grammar_notes(unit: &Resolved, notes: &mut Vec<FileNote>) -> Result<(), A
     Ok(())
 }
 
-/// What is noted of the text of a unit: by the grammar, and of keys that are not judged.
+/// Returns the notes on the text of a unit: those of the grammar, and those on keys that are not judged.
 #[tactic(auto, unfolding(crate::specs::Notes::text_notes))]
 pub fn text_notes(alloc: Global, unit: &Resolved) -> Result<Vec<FileNote>, AllocError>
     ensures of_the_unit { IfOk result (λ notes. notes.items ≡ text_notes unit.now) }
@@ -48,7 +48,7 @@ pub fn text_notes(alloc: Global, unit: &Resolved) -> Result<Vec<FileNote>, Alloc
     Ok(notes)
 }
 
-/// Puts notes in the order of files and lines; those of one line stay as they stand.
+/// Puts notes in the order of files and lines. Those of one line keep their order.
 pub fn put_in_order(notes: &mut Vec<FileNote>) -> Result<(), AllocError>
     ensures the_same { IsPermutation notes.old.items notes.new.items }
     ensures by_files_and_lines { OnOk result (IsSortedByKey place_of place_cmp notes.new.items) }

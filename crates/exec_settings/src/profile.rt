@@ -1,4 +1,4 @@
-//! What is outside of what is judged (systemd.exec(5), Paths, Capabilities, Sandboxing).
+//! Finds keys that ask for something outside of the model (systemd.exec(5), Paths, Capabilities, Sandboxing).
 ghost use Rattle.std.specs.Prelude.{◌≡◌, find, map, unwrap_or};
 ghost use Rattle.std.specs.Option.{option_map};
 ghost use Rattle.mount_settings.specs.Written.{unit_written};
@@ -9,14 +9,14 @@ use crate::keys::{Meaning, keys};
 use cred_settings::{Assignment, Resolved, read_bool, service_assignments};
 use mount_settings::{WrittenPaths, mentions_root};
 
-// Whether a text asks for what a key is for: an empty one and a false boolean do not.
+// Returns whether a text asks for the effect of its key: an empty one and a false boolean do not.
 fn asks(text: &str) -> bool
     ensures { result ≡ asks text.now }
 {
     !text.is_empty() && read_bool(text) != Some(false)
 }
 
-// What the last assignment to the key asks, with one more assignment.
+// Returns whether the last assignment to the key asks for its effect, with one more assignment.
 fn asked_behind(asked: bool, key: &str, assignment: &Assignment) -> bool
     ensures { result ≡ unwrap_or (asked_by key.now assignment.now) asked }
 {
@@ -27,7 +27,7 @@ fn asked_behind(asked: bool, key: &str, assignment: &Assignment) -> bool
     }
 }
 
-// Whether the last assignment of the key asks for what it is for.
+// Returns whether the last assignment of the key asks for its effect.
 fn is_asked(unit: &Resolved, key: &str) -> bool
     ensures { result ≡ is_asked unit.now key.now }
 {
@@ -47,7 +47,7 @@ fn is_relative(program: &Program) -> bool
     }
 }
 
-// Whether the unit, whose command this is and which writes these paths, uses a key of this meaning where it may not.
+// Returns whether the unit with this command and these written paths uses a key of this meaning where it may not.
 fn is_outside(
     unit: &Resolved,
     paths: &WrittenPaths,
@@ -83,8 +83,8 @@ fn first_outside(
     None
 }
 
-/// The first key in byte order that is outside of what is judged and that a unit uses, whose command this is and which
-/// writes these paths.
+/// Returns the first key in byte order by which a unit with this command and these written paths asks for something
+/// outside of the model.
 #[tactic(auto, unfolding(crate::specs::Profile::outside_key))]
 pub fn outside_key(unit: &Resolved, paths: &WrittenPaths, command: &Command) -> Option<&'static str>
     requires of_the_unit { paths.now ≡ unit_written unit.now }

@@ -1,4 +1,4 @@
-//! The program that a unit launches, or why none is launched.
+//! Finds the program that a unit launches, or the reason why none is launched.
 ghost use Rattle.std.specs.Prelude.{◌≡◌, ◌++◌, Some, None, IfOk, OnOk, option_map};
 ghost use Rattle.mount_settings.specs.Roots.{root_key};
 ghost use Rattle.mount_settings.specs.Written.{unit_written};
@@ -37,8 +37,8 @@ fn program_of(
     }
 }
 
-/// The program of the command that a unit launches, which writes these paths. What cannot be read, and later commands,
-/// are noted behind the notes that are there.
+/// Returns the program of the command that a unit with these written paths launches. It adds notes on values that
+/// cannot be read, and on later commands, after those that are there.
 pub fn launched_program(
     alloc: Global,
     unit: &Resolved,

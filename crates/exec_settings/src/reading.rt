@@ -1,4 +1,4 @@
-//! The settings of a unit, read whole.
+//! Reads the settings of a unit.
 ghost use Rattle.std.specs.Prelude.{IfOk};
 ghost use Rattle.exec_settings.specs.AreSettings.{AreSettings};
 ghost use Rattle.exec_settings.specs.Refusals.{RefusesFirst, refusal_of};
@@ -15,11 +15,13 @@ use filter_settings::CallTable;
 use mount_settings::written_paths;
 use std::alloc::Global;
 
-/// The settings of a unit, where it launches a program and all its settings can be judged.
+/// Reads the settings of a unit, or gives the first reason why there are none: the unit launches no program, or asks
+/// for something that cannot be judged.
 ///
-/// Calls, groups and families are looked up in the table of calls; users, groups of users, and the rows that implied
-/// paths need, in the site. The settings are those that the keys say: the first command in force with what it runs as,
-/// the filters that are on with their rules, the mentions with none of the root's place, and all notes in order.
+/// The table of calls has the calls, groups and families; the site has the users, the groups of users, and the rows
+/// that implied paths need. The keys give the settings. These are the first command in force with its user and
+/// capabilities, and the filters that are on with their rules. With them come the mentions, none of which replaces
+/// the root, and all notes in order.
 pub fn settings(
     alloc: Global,
     unit: &Resolved,

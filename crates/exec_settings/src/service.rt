@@ -1,4 +1,4 @@
-//! What the settings of a unit are.
+//! The type of the settings of a unit.
 use abs_path::AbsPath;
 use cred_settings::{CapSet, FileNote, Gids};
 use filter_settings::filter_rules::Filter;
@@ -23,8 +23,8 @@ pub struct Settings {
     pub no_new_privs: bool,
     /// The filters of system calls that are on, in the order in which they are installed.
     pub filters: Vec<Filter>,
-    /// What is written of paths, and behind it what is implied.
+    /// The written mentions, and after them the implied ones.
     pub mentions: Mentions,
-    /// What was passed over, in the order of files and lines.
+    /// The notes, in the order of files and lines.
     pub notes: Vec<FileNote>,
 }
