@@ -61,7 +61,6 @@ accepted_there unit table site other made here there accepted =
 module _ (folder : Path) (unit : Resolved) (table : calls.Table) (site other : Site) (made : Settings) (plan : Table)
     (programs : List (List ℕ)) (last : World) (steps : ℕ)
     (s : IsServiceOf unit table site made plan programs last steps) where
-
   leaves : Leaves table site (wanted_of made programs) plan last
   leaves = (launch_leaves table site (wanted_of made programs) plan last steps s.whole s.mounts
       (settings_can_be_launched unit table site made s.is_site s.settings).uid s.launches).0

@@ -37,8 +37,9 @@ pub record IsServiceOf (unit : Resolved) (table : calls.Table) (site : Site) (ma
   pub mounts : CanBeMounted (host_of site) plan
   pub launches : launch_with table site made plan programs ≡ Launched last steps
 
--- on the other site the unit is not refused either and has the same settings; their plan is not refused either and is the same. The launch
--- with the same programs takes as many steps and leaves the same world except for the site, and every list of calls has the same replies
+-- on the other site the unit is not refused either and has the same settings; their plan is not refused either and is the same. The
+-- launch with the same programs takes the same number of steps and leaves the same world except for the site, and every list of calls has
+-- the same replies
 pub record IsAlike (unit : Resolved) (table : calls.Table) (other : Site) (made : Settings) (plan : Table) (programs : List (List ℕ)) (last : World) (steps : ℕ) : Type 0 where
   pub accepted : refusal_of unit table other ≡ None
   pub settings : AreSettings unit table other made

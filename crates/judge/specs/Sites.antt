@@ -1,4 +1,4 @@
--- Sites that agree but below a folder.
+-- Sites that agree outside a folder.
 use Rattle.std.specs.Prelude.{◌≡◌, not, List, filter}
 use Rattle.std.specs.List.{AllByRecursion}
 use Rattle.ceilings.specs.abs_path.Paths.{Path}
@@ -15,7 +15,7 @@ use Rattle.ceilings.specs.path_settings.view_map.Resting.{AreSameSources}
 abbrev pub rows_outside : Path → List Row → List Row
 rows_outside folder rows = filter (λ row. not (is_below row.path folder)) rows
 
--- the same ids and accounts, as many user namespaces, and the same rows but below the folder
+-- the same ids and accounts, as many user namespaces, and the same rows except strictly below the folder
 pub record AgreeOutside (folder : Path) (site other : Site) : Type 0 where
   pub dynamic_uid : other.dynamic_uid ≡ site.dynamic_uid
   pub spaces : other.user_namespaces ≡ site.user_namespaces
@@ -23,8 +23,8 @@ pub record AgreeOutside (folder : Path) (site other : Site) : Type 0 where
   pub groups : other.groups ≡ site.groups
   pub rows : rows_outside folder other.rows ≡ rows_outside folder site.rows
 
--- and for a unit: each path that a key in force implies is a row of one kind in both or a row of neither, and so is the source of
--- each bind
+-- sites that agree outside a folder for a unit. Each path that a key in force implies is a row of one kind in both or a row of neither.
+-- The source of each bind, written or implied, is a directory in both, a row of another kind in both, or a row of neither
 pub record AgreeForUnit (folder : Path) (unit : Resolved) (site other : Site) : Type 0 where
   pub outside : AgreeOutside folder site other
   pub implied : AllByRecursion (λ mention. kind_at other.rows mention.path ≡ kind_at site.rows mention.path) (implied_by unit)

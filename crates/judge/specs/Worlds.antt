@@ -1,4 +1,4 @@
--- Worlds on sites that agree but below a folder, and launches on them.
+-- Worlds on sites that agree outside a folder, and launches on them.
 use Rattle.std.specs.Prelude.{◌≡◌, ℕ, ◌<◌, List, Some}
 use Rattle.ceilings.specs.abs_path.Paths.{Path}
 use Rattle.ceilings.specs.call_table.Facts.{IsWhole}
@@ -23,24 +23,25 @@ use Rattle.judge.specs.Sites.{AgreeOutside}
 abbrev pub with_site : Site → World → World
 with_site site world = record world { site = site }
 
--- the calls have the same replies there, and lead to the same world but for the site
+-- the calls have the same replies there, and lead to the same world except for the site
 pub record IsSameRun (world : World) (other : Site) (calls : List Call) : Type 0 where
   pub replies : replies (with_site other world) calls ≡ replies world calls
   pub runs : run (with_site other world) calls ≡ with_site other (run world calls)
 
--- in a world that is blind to the folder what lies below it changes no reply
+-- what lies below a folder changes no reply in a world that is blind to the folder
 abbrev pub RepliesAreBlind : Type 0
 RepliesAreBlind = (folder : Path) (other : Site) (world : World) (calls : List Call)
     → AgreeOutside folder world.site other → IsBlind world folder → AreCalls calls → IsSameRun world other calls
 
--- and a launch that leaves such a world leaves it there too
+-- a launch that leaves such a world leaves it there too, after the same number of steps
 abbrev pub LaunchIsBlind : Type 0
 LaunchIsBlind = (folder : Path) (table : calls.Table) (site other : Site) (wanted : Wanted) (plan : Table) (last : World) (steps : ℕ)
     → IsWhole table → CanBeMounted (host_of site) plan → wanted.uid < no_id → IsPath wanted.program
     → AgreeOutside folder site other → IsBlind last folder → launch table site wanted plan ≡ Launched last steps
     → launch table other wanted plan ≡ Launched (with_site other last) steps
 
--- a process of such a world, with a table of the size of a plan, is shown neither the folder nor what lies below it
+-- a living process of a blind world, whose mount table has at most the size of a plan, is shown neither the folder nor what lies below
+-- it; the folder's path is one that a row may have
 abbrev pub BlindIsShownNothing : Type 0
 BlindIsShownNothing = (folder : Path) (world : World) (pid : ℕ) (process : Process)
     → living_of world pid ≡ Some process → IsSmall (table_of world process.namespace) → IsFolder folder → IsBlind world folder

@@ -1,4 +1,4 @@
-//! Whether a service can see anything of what lies below a folder.
+//! Tests if a service can see anything of what lies below a folder.
 
 ghost use Rattle.std.specs.Prelude.{◌≡◌, ◌+◌, ◌<◌, ◌≤◌, ◌&&◌, ◌++◌, true, false, drop, length, Some};
 ghost use Rattle.ceilings.specs.abs_path.Paths.{parts_of};
@@ -18,7 +18,8 @@ use abs_path::AbsPath;
 use ceilings::{Ceiling, Launched, MountStep, MountTable, What, is_covered, launched_table};
 use questions::{Power, World};
 
-// Whether no entry behind this number covers the path that the front and the rest make, or what covers it can be taken away.
+// Returns whether no entry after this number covers the path that the front and the rest make, or what covers it can
+// be taken away.
 fn is_clear(table: &MountTable, at: usize, front: &AbsPath, rest: &str, uncover: bool) -> bool
     requires few { length table.now ≤ mount_max }
     requires in_range { at < length table.now }
@@ -28,7 +29,8 @@ fn is_clear(table: &MountTable, at: usize, front: &AbsPath, rest: &str, uncover:
     uncover || !is_covered(table, at + 1, front, rest)
 }
 
-// Whether an entry of this number and place whose source is the folder or leads to it shows what lies below the folder.
+// Returns whether an entry of this number and place shows what lies below the folder, by a source that is the folder
+// or leads to it.
 fn shows_folder(
     table: &MountTable,
     at: usize,
@@ -48,8 +50,8 @@ fn shows_folder(
     }
 }
 
-// Whether the entry, which has this number, shows what lies below the folder: its source lies there itself, or is the folder or leads
-// to it.
+// Returns whether the entry, which has this number, shows what lies below the folder. Its source lies there itself,
+// or is the folder or leads to it.
 fn shows_below(
     table: &MountTable,
     at: usize,
@@ -71,7 +73,7 @@ fn shows_below(
     }
 }
 
-// Whether some entry of the table does.
+// Returns whether some entry of the table shows what lies below the folder.
 fn exposes(table: &MountTable, folder: &AbsPath, uncover: bool) -> bool
     ensures { result ≡ exposes uncover folder.now (steps_of table.now) }
 {
@@ -83,7 +85,8 @@ fn exposes(table: &MountTable, folder: &AbsPath, uncover: bool) -> bool
     false
 }
 
-// By the mounts of the launch, and by how far the service can change them.
+// Returns whether the service is blind to the folder, by the mounts of the launch and by how far the service can
+// change them.
 fn is_blind(world: &World<'_>, ceiling: &Ceiling, folder: &AbsPath) -> bool
     requires launched { IsLaunchedWorld world.now }
     requires its_own_ceiling { IsCeilingOf (launch_of world.now) ceiling.now }
@@ -97,13 +100,14 @@ fn is_blind(world: &World<'_>, ceiling: &Ceiling, folder: &AbsPath) -> bool
     }
 }
 
-/// Whether a launched service is blind to what lies below a folder of its site: in no world that any calls of its processes lead to,
-/// in any order and of however many processes, has a path that a call can name its place on the host strictly below the folder, in
-/// the mount table of a living process. Nothing need be there. Where the service is not blind, some list of calls, each of which is
-/// done, leads to such a path.
+/// Returns whether a launched service is blind to a folder of its site. If it is, no list of calls of its processes,
+/// in any order and of however many processes, leads to a world with a path that shows a place strictly below the
+/// folder. The path is one that a call can name, in the mount table of a living process. The place need not be a row
+/// of the site. If the service of a unit's settings is not blind, some list of calls, each of which is done, leads to
+/// such a path.
 ///
-/// What the launched mounts show decides where the service can change none of them; where it can take them away, umount2(2), what
-/// each of them shows; and where it can mount, mount(2), it sees everything. It takes no memory.
+/// A service that can change no mounts sees what the launched mounts show. One that can take mounts away, umount2(2),
+/// sees what each of them shows. One that can mount, mount(2), sees everything. The call takes no memory.
 pub fn blind(launched: &Launched<'_>, ceiling: &Ceiling, folder: &AbsPath) -> bool
     requires launched { IsLaunchedWorld launched.now.world }
     requires its_own_ceiling { IsCeilingOf (launch_of launched.now.world) ceiling.now }

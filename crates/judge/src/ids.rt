@@ -1,4 +1,4 @@
-//! Which ids can be had.
+//! Tests which ids can be had.
 
 ghost use Rattle.std.specs.Prelude.{◌≡◌};
 ghost use Rattle.ceilings.specs.kernel_laws.Bound.{ceiling};
@@ -7,14 +7,14 @@ ghost use Rattle.ceilings.specs.Own.{IsCeilingOf};
 
 use ceilings::Ceiling;
 
-// Whether a process can have the effective uid.
+// Returns whether a process can have the effective uid.
 pub(crate) fn is_uid_open(top: &Ceiling, id: u32) -> bool
     ensures { (launch : Launch) → IsCeilingOf launch top.now → result ≡ (ceiling launch).uid id }
 {
     top.any_uid || top.uids.contains(id)
 }
 
-// Whether a process can have the gid, effective or among its groups.
+// Returns whether a process can have the gid, effective or among its groups.
 pub(crate) fn is_gid_open(top: &Ceiling, id: u32) -> bool
     ensures { (launch : Launch) → IsCeilingOf launch top.now → result ≡ (ceiling launch).gid id }
 {

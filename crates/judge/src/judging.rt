@@ -1,4 +1,4 @@
-//! The verdict, by whether the question is open.
+//! Gives the verdict, by whether the question is open.
 
 ghost use Rattle.std.specs.Prelude.{◌≡◌, ◌↔◌, true, Contains};
 ghost use Rattle.ceilings.specs.kernel_laws.Bound.{is_open};
@@ -12,10 +12,12 @@ use crate::open::is_open;
 use ceilings::{Ceiling, Launched};
 use questions::{Question, Verdict};
 
-/// The verdict on a question of the list, for a launched service and its own ceiling. It is denied where no process of any
-/// run of calls, in any order and of however many processes, ever does or has what is asked: over forks, programs that are
-/// executed, mounts, changes of ids and filters of the service's own. It is open where some list of calls, each of which is
-/// done, shows it. It takes no memory.
+/// Returns the verdict on a question of the list, for a launched service and its own ceiling.
+///
+/// It is denied only if no process of any run of calls ever does or has what is asked. The calls may come in any
+/// order and from however many processes. They may fork, execute programs, mount, change ids and install filters.
+/// After a launch of a unit's settings it is open only if some list of calls, each of which is done, shows the
+/// question. The call takes no memory.
 pub fn verdict(launched: &Launched<'_>, ceiling: &Ceiling, question: &Question) -> Verdict
     requires launched { IsLaunchedWorld launched.now.world }
     requires its_own_ceiling { IsCeilingOf (launch_of launched.now.world) ceiling.now }

@@ -1,10 +1,11 @@
-//! What a launched service can never do and never see: the verdict on each question that is asked of it, and whether it is blind to
-//! what lies below a folder, which it then cannot tell (`laws`).
+//! Gives the verdict on each question about a launched service, and says which folders the service is blind to.
 //!
-//! A question is denied or open, by the ceiling of the launched world and by the calls that its filters let through; what is
-//! denied is reached by no list of calls, of however many processes. It rests on `ceilings` for what processes can have, on
-//! `reach_paths` for what their paths can find, and on `questions` for what is asked.
-//! `verdict(&launched, &ceiling(alloc, &launched)?, &Question::MapWx)` is open where mmap(2) passes. It takes no memory.
+//! A question is denied or open. The ceiling of the launched world and the calls that its filters let through decide.
+//! No list of calls reaches a denied question, of however many processes. A service cannot find out what lies below a
+//! folder that it is blind to ([`laws`]).
+//!
+//! `verdict(&launched, &ceiling(alloc, &launched)?, &Question::MapWx)` is open if mmap(2) passes. A verdict takes no
+//! memory. The crate uses `ceilings`, `reach_paths` and `questions`.
 #![tactic(auto)]
 
 mod blindness;

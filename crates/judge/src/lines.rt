@@ -1,4 +1,4 @@
-//! Which calls of the table can be made, sockets of which families, and namespaces of which types.
+//! Tests which calls of the table can be made, sockets of which families, and namespaces of which types.
 
 ghost use Rattle.std.specs.Prelude.{◌≡◌, ◌&&◌, slice_get, Some};
 ghost use Rattle.std.specs.List.{list_any};
@@ -14,7 +14,7 @@ ghost use Rattle.ceilings.specs.Own.{IsCeilingOf};
 use ceilings::{CAP_SYS_ADMIN, CallLine, Ceiling, can_make_user, is_known, plain_line_at};
 use questions::{CallKind, NamespaceType, World};
 
-// Whether the capability, if one is asked for, can become effective.
+// Returns whether the capability, if one is asked for, can become effective.
 fn can_have_cap(top: &Ceiling, cap: Option<u8>) -> bool
     ensures { (launch : Launch) → IsCeilingOf launch top.now → result ≡ can_have_cap (ceiling launch) cap }
 {
@@ -24,14 +24,14 @@ fn can_have_cap(top: &Ceiling, cap: Option<u8>) -> bool
     }
 }
 
-// Whether the capability of a plain call can become effective.
+// Returns whether the capability of a plain call can become effective.
 fn can_have_for(top: &Ceiling, line: &CallLine) -> bool
     ensures { (launch : Launch) → IsCeilingOf launch top.now → result ≡ can_have_for (ceiling launch) (rule_of line.now) }
 {
     is_known(line.name.as_str()) || can_have_cap(top, line.cap)
 }
 
-// Whether a plain call of the name of this line passes, which stands at this position.
+// Returns whether a plain call passes that has the name of this line, which is at this position.
 #[tactic(auto, using(ceilings::proofs::AllCalls::any_is_found, ceilings::proofs::AllCalls::lent_is))]
 fn is_called(world: &World<'_>, at: usize, line: &CallLine) -> bool
     requires { slice_get (every_call (launch_of world.now).calls) at ≡ Some line.now }
@@ -41,7 +41,7 @@ fn is_called(world: &World<'_>, at: usize, line: &CallLine) -> bool
     plain_line_at(world, at, line).is_some()
 }
 
-// Whether some call passes that asks for the kind, by the rules that the ceiling keeps.
+// Returns whether some call passes that asks for the kind, by the rules that the ceiling keeps.
 pub(crate) fn passes(world: &World<'_>, top: &Ceiling, kind: CallKind) -> bool
     requires { IsCeilingOf (launch_of world.now) top.now }
     ensures { result ≡ lets (launch_of world.now) kind }
@@ -49,7 +49,7 @@ pub(crate) fn passes(world: &World<'_>, top: &Ceiling, kind: CallKind) -> bool
     top.rules.let_through(world, kind)
 }
 
-// Whether a user namespace can be made.
+// Returns whether a user namespace can be made.
 pub(crate) fn makes_user(world: &World<'_>, top: &Ceiling) -> bool
     requires { IsCeilingOf (launch_of world.now) top.now }
     ensures { result ≡ can_make_user (launch_of world.now) }
@@ -57,7 +57,7 @@ pub(crate) fn makes_user(world: &World<'_>, top: &Ceiling) -> bool
     can_make_user(world, &top.rules)
 }
 
-// Whether the call of this number in the table is plain, passes by some ABI, and has its capability.
+// Returns whether the call of this number in the table is plain, passes by some ABI, and has its capability.
 pub(crate) fn is_call_open(world: &World<'_>, top: &Ceiling, at: usize) -> bool
     requires { IsCeilingOf (launch_of world.now) top.now }
     ensures { let launch = launch_of world.now in result ≡ open_at launch (power_of launch) (ceiling launch) (Call at) }
@@ -68,7 +68,7 @@ pub(crate) fn is_call_open(world: &World<'_>, top: &Ceiling, at: usize) -> bool
     }
 }
 
-// Whether a socket of the family of this number in the table can be made, socket(2), socketcall(2).
+// Returns whether a socket of the family of this number in the table can be made, socket(2), socketcall(2).
 pub(crate) fn is_socket_open(world: &World<'_>, top: &Ceiling, at: usize) -> bool
     requires { IsCeilingOf (launch_of world.now) top.now }
     ensures { let launch = launch_of world.now in result ≡ open_at launch (power_of launch) (ceiling launch) (Socket at) }
@@ -81,7 +81,8 @@ pub(crate) fn is_socket_open(world: &World<'_>, top: &Ceiling, at: usize) -> boo
     }
 }
 
-// Whether a namespace of the type can be made, clone(2), unshare(2): one of users by itself, and every other one also in it.
+// Returns whether a namespace of the type can be made, clone(2), unshare(2). One of users is made by itself, and
+// every other one also in it.
 pub(crate) fn is_namespace_open(world: &World<'_>, top: &Ceiling, kind: NamespaceType) -> bool
     requires { IsCeilingOf (launch_of world.now) top.now }
     ensures { let launch = launch_of world.now in

@@ -1,4 +1,4 @@
-//! Which questions are open.
+//! Tests which questions are open.
 
 ghost use Rattle.std.specs.Prelude.{◌≡◌};
 ghost use Rattle.ceilings.specs.kernel_laws.Bound.{is_open};
@@ -11,7 +11,8 @@ use crate::rows::is_path_open;
 use ceilings::Ceiling;
 use questions::{CallKind, Question, World};
 
-// Whether the question is open, by the ceiling of the launched world and the calls that its filters let through.
+// Returns whether the question is open, by the ceiling of the launched world and the calls that its filters let
+// through.
 pub(crate) fn is_open(world: &World<'_>, ceiling: &Ceiling, question: &Question) -> bool
     requires launched { IsLaunchedWorld world.now }
     requires its_own_ceiling { IsCeilingOf (launch_of world.now) ceiling.now }

@@ -1,4 +1,4 @@
-//! Which rows of the site can be seen, read, written and executed.
+//! Tests which rows of the site can be seen, read, written and executed.
 
 ghost use Rattle.std.specs.Prelude.{◌≡◌, ◌&&◌, not, option_copied, slice_get};
 ghost use Rattle.ceilings.specs.kernel_laws.Bound.{can_reach, ceiling, is_barred, is_mounting, is_to_exec, open_at, power_of};
@@ -11,8 +11,9 @@ use crate::lines::makes_user;
 use ceilings::{Ceiling, Row, RowLeads, is_barred, reach_by};
 use questions::{Power, Wish, World};
 
-// Whether execve refuses the row by its marks on every table that the power makes, and in every user namespace: only mount(2) makes
-// a mount on which they are not looked at, MS_NOSUID, and in a newer user namespace the bounding set is full.
+// Returns whether the wish is to execute a barred row, the power does not mount, and no user namespace can be made.
+// Then execve refuses the row by its marks: it does not look at them only on a mount with MS_NOSUID, which mount(2)
+// makes, and the bounding set is full only in a newer user namespace.
 fn is_refused(world: &World<'_>, top: &Ceiling, wish: Wish, row: &Row) -> bool
     requires launched { IsLaunchedWorld world.now }
     requires its_own_ceiling { IsCeilingOf (launch_of world.now) top.now }
@@ -27,8 +28,8 @@ fn is_refused(world: &World<'_>, top: &Ceiling, wish: Wish, row: &Row) -> bool
     }
 }
 
-// Whether a call on paths passes for the wish, some table that the power makes shows the row, to which these entries lead, and execve
-// does not refuse it.
+// Returns whether a call on paths passes for the wish, some table of the power shows the row, to which these entries
+// lead, and execve does not refuse the row.
 fn can_reach(world: &World<'_>, top: &Ceiling, wish: Wish, leads: RowLeads, row: &Row) -> bool
     requires launched { IsLaunchedWorld world.now }
     requires its_own_ceiling { IsCeilingOf (launch_of world.now) top.now }
@@ -47,7 +48,7 @@ fn listed_row<'a>(world: &'a World<'_>, at: usize) -> Option<&'a Row>
     world.site_table().rows().get(at)
 }
 
-/// Whether what is wished of the row of this number is open.
+/// Returns whether the wish for the row of this number is open.
 pub(crate) fn is_path_open(world: &World<'_>, top: &Ceiling, wish: Wish, at: usize) -> bool
     requires launched { IsLaunchedWorld world.now }
     requires its_own_ceiling { IsCeilingOf (launch_of world.now) top.now }

@@ -21,7 +21,7 @@ ghost use Rattle.judge.specs.Sites.{AgreeForUnit};
 use abs_path::AbsPath;
 use ceilings::{CallTable, FilterProgram, Resolved, SiteTable};
 
-// What holds of every site is known once a part of it is read.
+// Says what holds of both sites: the calls that lend a part of a site ensure it.
 fn know_sites(site: &SiteTable, other: &SiteTable)
     ensures site { IsSite site.now }
     ensures other { IsSite other.now }
@@ -32,10 +32,10 @@ fn know_sites(site: &SiteTable, other: &SiteTable)
 
 /// States that a service cannot tell two sites apart which differ only below a folder that it is blind to.
 ///
-/// On the first site neither the unit nor its plan is refused, the launch with these programs ends in a service, and no list of
-/// calls shows that service a place strictly below the folder. Then the other site refuses neither the unit nor its plan. Settings
-/// and plan are the same, and so are the replies to every list of calls. The launch with the same programs takes as many steps and
-/// leaves the same world except for the site.
+/// On the first site neither the unit nor its plan is refused, the launch with these programs ends in a service, and
+/// no list of calls shows that service a place strictly below the folder. Then the other site refuses neither the
+/// unit nor its plan. Settings and plan are the same, and so are the replies to every list of calls. The launch with
+/// the same programs takes the same number of steps and leaves the same world except for the site.
 ///
 /// The two sites have the same ids, accounts and count of user namespaces, and the same rows except strictly below the folder. They
 /// agree in two more things. At each path that a key in force implies (systemd.exec(5), Sandboxing), both have a row of one kind or
