@@ -1,4 +1,4 @@
--- What the law of two sites says of a service that a unit comes to on one of them.
+-- The law of two sites for the service of a unit on one of them.
 use Rattle.std.specs.Prelude.{◌≡◌, ℕ, List, []}
 use Rattle.asked_service.specs.abs_path.Paths.{Path, text_of}
 use Rattle.asked_service.specs.exec_settings.declared.service.Settings.{Settings}

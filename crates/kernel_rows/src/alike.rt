@@ -1,9 +1,11 @@
-//! Rows over pairs of sites that differ below a folder alone, and what a service launched on either is told.
+//! Runs rows over pairs of sites that differ below a folder alone, and compares a service on both.
 //!
-//! Lines that begin with two spaces are a text; `calls` takes it as calls.txt, `site` as site.toml, and `other` as more rows behind
-//! those of the site, which make the other site. A row `pair|FOLDER|LINES|CALL|CALL ..` launches the unit with these lines in its
-//! section of the service, where `\n` ends a line, on both sites, and makes the calls: it says whether settings, plan, launch and
-//! replies are the same, and for each site whether the service is blind to the folder, and the replies.
+//! Lines that begin with two spaces are a text. `calls` takes it as calls.txt, `site` as site.toml, and `other` as
+//! more rows after those of the site, which make the other site.
+//!
+//! A row `pair|FOLDER|LINES|CALL|CALL ..` launches a unit on both sites and makes the calls. LINES are the lines of
+//! its section of the service, and `\n` ends a line. The answer says if the launch and the replies are the same, and
+//! for each site if the service is blind to the folder, with its replies.
 
 mod asked;
 mod elsewhere;

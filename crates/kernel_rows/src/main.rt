@@ -1,8 +1,11 @@
-//! Rows over the modelled kernel: whole worlds, tables of many mounts, and what a service that is blind to a folder is told.
+//! Runs rows over the modelled kernel: whole worlds, tables of many mounts, and pairs of sites that differ below a
+//! folder.
 //!
-//! A line `part NAME` of the standard input begins the rows of a part, and prints nothing; a line that begins with `#` says what
-//! the next rows show, and is printed. `worlds` has blocks of calls, each block on a world of its own, all over the first tables that
-//! the lines hold; `mounts` tables of mounts; `alike` pairs of sites that differ below a folder alone.
+//! A line `part NAME` of the standard input begins the rows of a part, and prints nothing. A line that begins with
+//! `#` says what the next rows show, and is printed. The parts are these:
+//! - `worlds` has blocks of calls, each on a world of its own, all over the first tables that the lines hold.
+//! - `mounts` has tables of mounts.
+//! - `alike` has pairs of sites that differ below a folder alone.
 #![tactic(auto)]
 
 mod alike;

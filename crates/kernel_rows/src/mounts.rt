@@ -1,6 +1,6 @@
 //! Rows over tables of many mounts.
 //!
-//! Each row is a call with its words, parted by bars; it is printed with what came out.
+//! Each row is a call with its words, separated by bars, and is printed with its answer.
 use abs_path::{AbsPath, PathError};
 use asked_service::{Flags, MountStep, MountTable, What};
 use row_tools::{Follow, Shown, number, said, words};
@@ -98,7 +98,7 @@ fn push_by_turns(
     length(alloc, table)
 }
 
-// Pushes empty mounts at the front with each of these numbers behind it, and says what comes of it.
+// Pushes empty mounts at the front with each of these numbers after it, and says what comes of it.
 fn push_numbered(
     alloc: Global,
     table: &mut MountTable,
@@ -115,7 +115,7 @@ fn push_numbered(
     length(alloc, table)
 }
 
-// The paths of the front with each of these numbers behind it.
+// The paths of the front with each of these numbers after it.
 fn numbered_paths(
     alloc: Global,
     front: &str,
@@ -133,7 +133,7 @@ fn numbered_paths(
     Ok(paths)
 }
 
-// Whether each of the paths belongs to entry 0, asked in so many rounds.
+// Asks if each of the paths belongs to entry 0, in so many rounds.
 fn resolve_rounds(
     alloc: Global,
     table: &MountTable,

@@ -3,7 +3,7 @@ use asked_service::Reply;
 use row_tools::said;
 use std::alloc::{AllocError, Global};
 
-/// What the kernel answers to a call.
+/// Returns the kernel's answer to a call.
 pub fn reply_text(alloc: Global, reply: Reply) -> Result<String, AllocError> {
     match reply {
         Reply::Done(value) => format!(in alloc; "ok {value}"),

@@ -1,8 +1,8 @@
-//! Rows over the whole kernel: blocks of calls, each block on a world of its own.
+//! Runs rows over the whole kernel: blocks of calls, each block on a world of its own.
 //!
-//! Lines that begin with two spaces are texts, which the lines `calls` and `site` take as calls.txt and as site.toml. A line
-//! `world` and what it shows starts a fresh world; each later line is a call as a script has it, or `repeat N` before one, which is
-//! printed with what came out of the last.
+//! Lines that begin with two spaces are texts, which the lines `calls` and `site` take as calls.txt and as site.toml.
+//! A line `world`, with a text that says what follows, starts a fresh world. Each later line is a call as a script
+//! has it, or `repeat N` before one. It is printed with the answer to the last call.
 
 mod tables;
 

@@ -1,8 +1,8 @@
-//! What is asked of a unit on a pair of sites.
+//! The question about a unit on a pair of sites.
 use asked_service::{Call, CallTable, Resolved, SiteTable};
 
-/// A unit with the tables that it is launched over, the other site of the pair, the folder that is asked for, and the calls that are
-/// made.
+/// A unit with the tables of its launch, the other site of the pair, the folder of the question, and the calls that
+/// are made.
 #[derive(Drop)]
 pub struct Asked<'a> {
     pub unit: &'a Resolved,

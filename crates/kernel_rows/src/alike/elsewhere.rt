@@ -1,4 +1,4 @@
-//! A service on the other site of a pair, by the law of two sites.
+//! Compares a service with itself on the other site of a pair, by the law of two sites.
 ghost use Rattle.std.specs.Prelude.{◌≡◌, true, [], None, Ok, Some, IfOk};
 ghost use Rattle.kernel_rows.specs.Elsewhere.{AreSameThere, IsBlindThere, IsSameThere};
 ghost use Rattle.asked_service.specs.ceilings.Own.{IsCeilingOf};
@@ -21,7 +21,7 @@ use asked_service::{
 };
 use std::alloc::{AllocError, Global};
 
-// The law at these settings and their plan, which meet what it asks, and at any programs. It does nothing.
+// States the law at these settings and their plan, which meet its premises, and at any programs. It does nothing.
 fn know_alike(
     asked: &Asked<'_>,
     settings: &Settings,
@@ -47,8 +47,9 @@ fn know_alike(
     );
 }
 
-// Whether the service is blind to the folder; where it is, it is the same on the other site. So is one that is launched without
-// any filter, whose programs match those of the settings nowhere: the law is called at programs that nothing is known of.
+// Returns whether the service is blind to the folder. If it is, it is the same on the other site. So is one that is
+// launched without any filter, whose programs match no filter of the settings: the law is called at programs that
+// nothing is known of.
 fn is_blind_at(
     asked: &Asked<'_>,
     settings: &Settings,
@@ -74,8 +75,9 @@ fn is_blind_at(
     blind(service, top, folder)
 }
 
-/// Whether the folder that is asked for is one of the site that the service is blind to. Then the service is the same on the other
-/// site: what `settings`, `plan` and `launch_unit` ensure of it meets each premise of the law of two sites.
+/// Returns whether the folder of the question is a folder of the site that the service is blind to. Then the service
+/// is the same on the other site: what `settings`, `plan` and `launch_unit` ensure of it meets each premise of the
+/// law of two sites.
 pub fn is_blind_there(
     alloc: Global,
     asked: &Asked<'_>,

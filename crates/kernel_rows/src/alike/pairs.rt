@@ -1,11 +1,11 @@
-//! Pairs of sites, and whether a service can tell them apart.
+//! Compares a service on both sites of a pair.
 use crate::alike::asked::Asked;
 use crate::alike::traces::{Trace, trace_of};
 use asked_service::read_script;
 use row_tools::{inputs_of, said, site_of};
 use std::alloc::{AllocError, Global};
 
-/// What the service comes to on both sites of a pair.
+/// The results of a service on both sites of a pair.
 #[derive(Drop)]
 struct Pair {
     one: Trace,
@@ -65,7 +65,7 @@ fn push_trace(text: &mut String, name: &str, trace: &Trace) -> Result<(), AllocE
     text.push_str(trace.replies.as_str())
 }
 
-/// Whether the service is told the same on both sites, and what it is told.
+/// Tells if launch and replies are the same on both sites, and the replies on each.
 pub fn pair_line(alloc: Global, texts: &PairTexts<'_>) -> Result<String, AllocError> {
     match &pair_of(alloc, texts)? {
         Some(pair) => {

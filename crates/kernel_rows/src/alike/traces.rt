@@ -1,4 +1,4 @@
-//! What a unit comes to on a site: its launch and the replies to calls.
+//! Launches a unit on a site and makes its calls.
 ghost use Rattle.std.specs.Prelude.{◌≡◌, None, Ok};
 ghost use Rattle.asked_service.specs.exec_settings.AreSettings.{AreSettings};
 ghost use Rattle.asked_service.specs.exec_settings.Refusals.{refusal_of};
@@ -15,7 +15,7 @@ use asked_service::{Call, Launched, MountStep, Settings, World, plan, settings};
 use row_tools::said;
 use std::alloc::{AllocError, Global};
 
-/// What a unit comes to, as text, and whether the launched service is blind to the folder that is asked for.
+/// The result of a unit on a site, as text, and whether the launched service is blind to the folder of the question.
 #[derive(Drop)]
 pub struct Trace {
     /// Why there is no service, or in how many steps it is launched.
@@ -35,7 +35,7 @@ impl Trace {
     }
 }
 
-/// What the unit comes to on the site, and the replies to the calls.
+/// Launches the unit on the site, and makes the calls.
 pub fn trace_of(alloc: Global, asked: &Asked<'_>) -> Result<Trace, AllocError> {
     match &settings(alloc, asked.unit, asked.calls, asked.site) {
         Ok(settings) => planned(alloc, asked, settings),
@@ -94,7 +94,7 @@ fn told(
     })
 }
 
-// The replies to calls that are made one behind the other, with commas between them.
+// The replies to calls that are made one after the other, with commas between them.
 fn replies(alloc: Global, world: &mut World, script: &[Call]) -> Result<String, AllocError> {
     let mut text = String::new(alloc);
     for call in script {

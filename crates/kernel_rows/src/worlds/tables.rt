@@ -1,4 +1,4 @@
-//! The tables that every world is told.
+//! Reads the tables of every world.
 use asked_service::{CallTable, SiteTable};
 use row_tools::{HeldText, calls_of, site_of};
 use std::alloc::{AllocError, Global};
