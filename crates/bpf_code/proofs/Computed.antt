@@ -1,11 +1,11 @@
 -- The function that gives the program of bytes gives what is accepted.
-use Rattle.std.proofs.Common.{◌≡◌, ℕ, zero, suc, ◌+◌, ◌%◌, ◌<◌, ◌≤◌, Bool, true, false, cond, eqb, List, [], ◌∷◌, length, Option, Some}
+use Rattle.std.proofs.Common.{◌≡◌, ℕ, zero, suc, ◌+◌, ◌%◌, ◌<◌, ◌≤◌, Bool, true, false, cond, List, [], ◌∷◌, length, Option, Some}
 use Rattle.std.proofs.Common.{None, refl, sym, ap, ◌∙◌, subst, arith, inl, inr}
-use Rattle.std.specs.Prelude.{◌⊎◌, ◌==◌, ◌&&◌, ◌||◌, not, nat_le, slice_get}
+use Rattle.std.specs.Prelude.{◌==◌, ◌&&◌, not, nat_le, slice_get}
 use Rattle.std.specs.Option.{option_map_or, is_none}
-use Rattle.std.proofs.lemmas.Bool.{eqb-true, leb-true, le-leb}
-use Rattle.std.proofs.lemmas.Bool.Decides.{eqb_tells}
+use Rattle.std.proofs.lemmas.Bool.{eqb-true, leb-true, le-leb, or_left, or_right, and_parts, or_cases, not-true, and_from, not_from_false}
 use Rattle.std.proofs.lemmas.Option.{slice_get_within}
+use Rattle.std.proofs.lemmas.Bool.{eq-eqb}
 use Rattle.bpf_code.specs.declared.machine.Insn.{Insn}
 use Rattle.bpf_code.specs.declared.program.Fault.{Fault}
 use Rattle.bpf_code.specs.declared.ops.Op.{Op}
@@ -18,35 +18,6 @@ use Rattle.bpf_code.specs.ProgramOf.{any_below, leads_to, passes_to, reaches, is
 use Rattle.bpf_code.proofs.FirstFaults.{lt_or_same}
 use Rattle.bpf_code.proofs.Marks.{follows_later}
 
--- tests
-pub both_of : (a b : Bool) → (a && b) ≡ true → (a ≡ true) × (b ≡ true)
-both_of true b e = (refl, e)
-both_of false b e = cc
-
-of_both : (a b : Bool) → a ≡ true → b ≡ true → (a && b) ≡ true
-of_both true b e f = f
-of_both false b e f = cc
-
-either_of : (a b : Bool) → (a || b) ≡ true → (a ≡ true) ⊎ (b ≡ true)
-either_of true b e = inl refl
-either_of false b e = inr e
-
-of_left : (a b : Bool) → a ≡ true → (a || b) ≡ true
-of_left true b e = refl
-of_left false b e = cc
-
-of_right : (a b : Bool) → b ≡ true → (a || b) ≡ true
-of_right true b e = refl
-of_right false b e = e
-
-not_of : (a : Bool) → not a ≡ true → a ≡ false
-not_of true e = cc
-not_of false e = refl
-
-of_not : (a : Bool) → a ≡ false → not a ≡ true
-of_not true e = cc
-of_not false e = refl
-
 of_none : (a : Bool) → (a ≡ true → ⊥) → not a ≡ true
 of_none true h = absurd (h refl)
 of_none false h = refl
@@ -55,14 +26,11 @@ no_both : (a : Bool) → a ≡ true → a ≡ false → ⊥
 no_both true e f = cc
 no_both false e f = cc
 
-of_same : (a b : ℕ) → a ≡ b → eqb a b ≡ true
-of_same a b e = elim (eqb_tells a b) [ inl same ↦ same.0 | inr other ↦ absurd (other.1 e) ]
-
 -- one number below
 any_found : (n : ℕ) (test : ℕ → Bool) → any_below n test ≡ true → (k : ℕ) × (k < n) × (test k ≡ true)
 any_found zero test e = cc
 any_found (suc n) test e =
-    elim (either_of (test n) (any_below n test) e) [
+    elim (or_cases (test n) (any_below n test) e) [
       | inl here ↦ (n, omega arith, here)
       | inr below ↦ (let found = any_found n test below in let lt : found.0 < suc n = omega (arith, found.1) in (found.0, lt, found.2))
     ]
@@ -71,25 +39,25 @@ any_here : (n : ℕ) (test : ℕ → Bool) (k : ℕ) → k < n → test k ≡ tr
 any_here zero test k lt e = absurd (omega arith)
 any_here (suc n) test k lt e =
     elim (lt_or_same k n (omega arith)) [
-      | inl below ↦ of_right (test n) (any_below n test) (any_here n test k below e)
-      | inr same ↦ of_left (test n) (any_below n test) (subst (λ i. test i ≡ true) same e)
+      | inl below ↦ or_right (test n) (any_below n test) (any_here n test k below e)
+      | inr same ↦ or_left (test n) (any_below n test) (subst (λ i. test i ≡ true) same e)
     ]
 
 -- one step
 follows_of : (op : Option Op) (insn : Insn) (at to : ℕ) → leads_to op insn at to ≡ true → Follows op insn at to
 follows_of (Some Jump) insn at to e = eqb-true to (at + 1 + insn.k) e
 follows_of (Some (JumpIf t o)) insn at to e =
-    elim (either_of (to == at + 1 + insn.jt) (to == at + 1 + insn.jf) e)
+    elim (or_cases (to == at + 1 + insn.jt) (to == at + 1 + insn.jf) e)
     [ inl h ↦ inl (eqb-true to (at + 1 + insn.jt) h) | inr h ↦ inr (eqb-true to (at + 1 + insn.jf) h) ]
 follows_of op insn at to e = eqb-true to (at + 1) e
 
 of_follows : (op : Option Op) (insn : Insn) (at to : ℕ) → Follows op insn at to → leads_to op insn at to ≡ true
-of_follows (Some Jump) insn at to h = of_same to (at + 1 + insn.k) h
-of_follows (Some (JumpIf t o)) insn at to (inl h) = of_left (to == at + 1 + insn.jt) (to == at + 1 + insn.jf)
-    (of_same to (at + 1 + insn.jt) h)
-of_follows (Some (JumpIf t o)) insn at to (inr h) = of_right (to == at + 1 + insn.jt) (to == at + 1 + insn.jf)
-    (of_same to (at + 1 + insn.jf) h)
-of_follows op insn at to h = of_same to (at + 1) h
+of_follows (Some Jump) insn at to h = eq-eqb to (at + 1 + insn.k) h
+of_follows (Some (JumpIf t o)) insn at to (inl h) = or_left (to == at + 1 + insn.jt) (to == at + 1 + insn.jf)
+    (eq-eqb to (at + 1 + insn.jt) h)
+of_follows (Some (JumpIf t o)) insn at to (inr h) = or_right (to == at + 1 + insn.jt) (to == at + 1 + insn.jf)
+    (eq-eqb to (at + 1 + insn.jf) h)
+of_follows op insn at to h = eq-eqb to (at + 1) h
 
 -- a test of what stands at a place
 found_of : (o : Option Insn) (test : Insn → Bool) → option_map_or test o false ≡ true → (insn : Insn) × (o ≡ Some insn) × (test insn ≡ true)
@@ -103,16 +71,16 @@ module _ (code : List Insn) (word : ℕ) where
   path_of : (steps to : ℕ) → reaches code word steps to ≡ true → ReachesUnstored code word to
   path_of zero to e = subst (ReachesUnstored code word) (sym (eqb-true to 0 e)) at_start
   path_of (suc steps) to e =
-      elim (either_of (to == 0) (any_below to (λ at. reaches code word steps at && passes_to code word at to)) e) [
+      elim (or_cases (to == 0) (any_below to (λ at. reaches code word steps at && passes_to code word at to)) e) [
         | inl start ↦ subst (ReachesUnstored code word) (sym (eqb-true to 0 start)) at_start
         | inr later ↦
             let found = any_found to (λ at. reaches code word steps at && passes_to code word at to) later in
             let at : ℕ = found.0 in
-            let parts = both_of (reaches code word steps at) (passes_to code word at to) found.2 in
+            let parts = and_parts (reaches code word steps at) (passes_to code word at to) found.2 in
             let step = found_of (slice_get code at) (λ insn. not (stores (op_of insn.code) insn word) && leads_to (op_of insn.code) insn at to) parts.1 in
             let insn : Insn = step.0 in
-            let tests = both_of (not (stores (op_of insn.code) insn word)) (leads_to (op_of insn.code) insn at to) step.2 in
-            goes at to insn (path_of steps at parts.0) step.1 (not_of (stores (op_of insn.code) insn word) tests.0)
+            let tests = and_parts (not (stores (op_of insn.code) insn word)) (leads_to (op_of insn.code) insn at to) step.2 in
+            goes at to insn (path_of steps at parts.0) step.1 (not-true (stores (op_of insn.code) insn word) tests.0)
             (follows_of (op_of insn.code) insn at to tests.1)
       ]
 
@@ -126,23 +94,23 @@ module _ (code : List Insn) (word : ℕ) where
       let before : reaches code word steps at ≡ true = of_path at path steps (omega arith) in
       let step : passes_to code word at to ≡ true =
       of_found (slice_get code at) (λ insn. not (stores (op_of insn.code) insn word) && leads_to (op_of insn.code) insn at to) insn found
-      (of_both (not (stores (op_of insn.code) insn word)) (leads_to (op_of insn.code) insn at to) (of_not (stores (op_of insn.code) insn word) keeps) (of_follows (op_of insn.code) insn at to follows)) in
-      of_right (to == 0) (any_below to (λ at. reaches code word steps at && passes_to code word at to))
+      (and_from (not (stores (op_of insn.code) insn word)) (leads_to (op_of insn.code) insn at to) (not_from_false (stores (op_of insn.code) insn word) keeps) (of_follows (op_of insn.code) insn at to follows)) in
+      or_right (to == 0) (any_below to (λ at. reaches code word steps at && passes_to code word at to))
       (any_here to (λ at. reaches code word steps at && passes_to code word at to) at later
-      (of_both (reaches code word steps at) (passes_to code word at to) before step))
+      (and_from (reaches code word steps at) (passes_to code word at to) before step))
 
 unstored_of : (code : List Insn) (at : ℕ) → is_unstored_load code at ≡ true → LoadsUnstored code at
 unstored_of code at e =
     let found = found_of (slice_get code at) (λ insn. is_scratch_load (op_of insn.code) && reaches code insn.k at at) e in
     let insn : Insn = found.0 in
-    let parts = both_of (is_scratch_load (op_of insn.code)) (reaches code insn.k at at) found.2 in
+    let parts = and_parts (is_scratch_load (op_of insn.code)) (reaches code insn.k at at) found.2 in
     record { insn = insn; found = found.1; loads = parts.0; reached = path_of code insn.k at at parts.1 }
 
 of_unstored : (code : List Insn) (at : ℕ) (insn : Insn) → slice_get code at ≡ Some insn → is_scratch_load (op_of insn.code) ≡ true
     → ReachesUnstored code insn.k at → is_unstored_load code at ≡ true
 of_unstored code at insn found loads path =
     of_found (slice_get code at) (λ insn. is_scratch_load (op_of insn.code) && reaches code insn.k at at) insn found
-    (of_both (is_scratch_load (op_of insn.code)) (reaches code insn.k at at) loads (of_path code insn.k at path at (omega arith)))
+    (and_from (is_scratch_load (op_of insn.code)) (reaches code insn.k at at) loads (of_path code insn.k at path at (omega arith)))
 
 none_of : (o : Option Fault) → is_none o ≡ true → o ≡ None
 none_of None e = refl
@@ -150,17 +118,17 @@ none_of (Some fault) e = cc
 
 fine_of : (code : List Insn) → are_fine code ≡ true → AreFine code
 fine_of [] e = tt
-fine_of (insn ∷ code) e = let parts = both_of (is_none (fault_of insn (length code))) (are_fine code) e in (none_of _ parts.0, fine_of code parts.1)
+fine_of (insn ∷ code) e = let parts = and_parts (is_none (fault_of insn (length code))) (are_fine code) e in (none_of _ parts.0, fine_of code parts.1)
 
 of_fine : (code : List Insn) → AreFine code → are_fine code ≡ true
 of_fine [] h = refl
-of_fine (insn ∷ code) h = of_both (is_none (fault_of insn (length code))) (are_fine code) (ap is_none h.0) (of_fine code h.1)
+of_fine (insn ∷ code) h = and_from (is_none (fault_of insn (length code))) (are_fine code) (ap is_none h.0) (of_fine code h.1)
 
 pub accepted_of : (code : List Insn) → is_accepted code ≡ true → IsAccepted code
 accepted_of code e =
-    let parts = both_of (nat_le (length code) 4096 && are_fine code) (ends_in_return code && not (any_below (length code) (is_unstored_load code))) e in
-    let front = both_of (nat_le (length code) 4096) (are_fine code) parts.0 in
-    let back = both_of (ends_in_return code) (not (any_below (length code) (is_unstored_load code))) parts.1 in
+    let parts = and_parts (nat_le (length code) 4096 && are_fine code) (ends_in_return code && not (any_below (length code) (is_unstored_load code))) e in
+    let front = and_parts (nat_le (length code) 4096) (are_fine code) parts.0 in
+    let back = and_parts (ends_in_return code) (not (any_below (length code) (is_unstored_load code))) parts.1 in
     record {
       short = leb-true (length code) 4096 front.0;
       fine = fine_of code front.1;
@@ -168,7 +136,7 @@ accepted_of code e =
       stored = λ at insn found loads path. no_both (any_below (length code) (is_unstored_load code))
           (any_here (length code) (is_unstored_load code) at (slice_get_within code at insn found)
           (of_unstored code at insn found loads path))
-          (not_of (any_below (length code) (is_unstored_load code)) back.1);
+          (not-true (any_below (length code) (is_unstored_load code)) back.1);
     }
 
 none_unstored : (code : List Insn) → NoUnstored code → any_below (length code) (is_unstored_load code) ≡ true → ⊥
@@ -179,23 +147,23 @@ none_unstored code stored e =
 
 of_accepted : (code : List Insn) → IsAccepted code → is_accepted code ≡ true
 of_accepted code a =
-    of_both (nat_le (length code) 4096 && are_fine code) (ends_in_return code && not (any_below (length code) (is_unstored_load code)))
-    (of_both (nat_le (length code) 4096) (are_fine code) (le-leb (length code) 4096 a.short) (of_fine code a.fine))
-    (of_both (ends_in_return code) (not (any_below (length code) (is_unstored_load code))) a.ends
+    and_from (nat_le (length code) 4096 && are_fine code) (ends_in_return code && not (any_below (length code) (is_unstored_load code)))
+    (and_from (nat_le (length code) 4096) (are_fine code) (le-leb (length code) 4096 a.short) (of_fine code a.fine))
+    (and_from (ends_in_return code) (not (any_below (length code) (is_unstored_load code))) a.ends
     (of_none (any_below (length code) (is_unstored_load code)) (none_unstored code a.stored)))
 
 -- bytes that are a program give it
 pub program_of-accepts : (bytes : List ℕ) (program : List Insn) → Accepts bytes program → program_of bytes ≡ Some program
 program_of-accepts bytes program a =
     let test : (length bytes % 8 == 0 && is_accepted (insns_of bytes)) ≡ true =
-    of_both (length bytes % 8 == 0) (is_accepted (insns_of bytes)) (of_same (length bytes % 8) 0 a.whole) (of_accepted (insns_of bytes) (subst IsAccepted a.insns a.accepted)) in
+    and_from (length bytes % 8 == 0) (is_accepted (insns_of bytes)) (eq-eqb (length bytes % 8) 0 a.whole) (of_accepted (insns_of bytes) (subst IsAccepted a.insns a.accepted)) in
     ap (λ b. cond b (Some (insns_of bytes)) None) test ∙ ap Some (sym a.insns)
 
 by_test : (bytes : List ℕ) (b : Bool) → (length bytes % 8 == 0 && is_accepted (insns_of bytes)) ≡ b
     → ((program : List Insn) → Accepts bytes program → ⊥) → cond b (Some (insns_of bytes)) None ≡ None
 by_test bytes false e h = refl
 by_test bytes true e h =
-    let parts = both_of (length bytes % 8 == 0) (is_accepted (insns_of bytes)) e in
+    let parts = and_parts (length bytes % 8 == 0) (is_accepted (insns_of bytes)) e in
     absurd (h (insns_of bytes)
     (record { whole = eqb-true (length bytes % 8) 0 parts.0; insns = refl; accepted = accepted_of (insns_of bytes) parts.1 }))
 

@@ -1,8 +1,9 @@
 -- A run of an accepted program stays inside it.
 use Rattle.std.proofs.Common.{◌≡◌, ℕ, zero, suc, ◌+◌, ◌<◌, Bool, true, false, cond, List, [], ◌∷◌, length, drop, Option, Some, None, refl}
 use Rattle.std.proofs.Common.{sym, ap, ◌∙◌, subst, arith}
-use Rattle.std.specs.Prelude.{nat_lt, ◌&&◌, ◌==◌}
+use Rattle.std.specs.Prelude.{nat_lt, ◌==◌}
 use borrow.Author.Tests.{ltb-true}
+use Rattle.std.proofs.lemmas.Bool.{and_parts}
 use Rattle.bpf_code.specs.declared.machine.Insn.{Insn}
 use Rattle.bpf_code.specs.declared.machine.CallData.{CallData}
 use Rattle.bpf_code.specs.declared.machine.Regs.{Regs}
@@ -23,10 +24,6 @@ use Rattle.bpf_code.specs.Accepted.{unless, op_fault, fault_by, fault_of, AreFin
 pub unless_none : (b : Bool) (f : Fault) → unless b f ≡ None → b ≡ true
 unless_none true f e = refl
 unless_none false f e = cc
-
-both_true : (a b : Bool) → (a && b) ≡ true → (a ≡ true) × (b ≡ true)
-both_true true b e = (refl, e)
-both_true false b e = cc
 
 -- an effect skips fewer than so many instructions
 abbrev pub SkipsBelow : ℕ → Effect × Regs → Type 0
@@ -61,7 +58,7 @@ skips_below Neg insn left regs input e r h = h
 skips_below MoveToX insn left regs input e r h = h
 skips_below MoveToA insn left regs input e r h = h
 skips_below Jump insn left regs input e r h = ltb-true _ _ (unless_none (nat_lt insn.k left) _ e)
-skips_below (JumpIf t o) insn left regs input e r h = let t = both_true (nat_lt insn.jt left) (nat_lt insn.jf left) (unless_none _ _ e) in test_skips _ _ _ left (ltb-true _ _ t.0) (ltb-true _ _ t.1)
+skips_below (JumpIf t o) insn left regs input e r h = let t = and_parts (nat_lt insn.jt left) (nat_lt insn.jf left) (unless_none _ _ e) in test_skips _ _ _ left (ltb-true _ _ t.0) (ltb-true _ _ t.1)
 skips_below (Return source.Number) insn left regs input e r h = cc
 skips_below (Return source.A) insn left regs input e r h = cc
 

@@ -3,7 +3,7 @@ use Rattle.std.proofs.Common.{◌≡◌, ℕ, ◌%◌, Bool, true, false, cond, 
 use Rattle.std.proofs.Common.{inl, inr}
 use Rattle.std.specs.Prelude.{◌==◌, ◌&&◌, ◌≤ℤ◌, ◌<ℤ◌, ℤ, slice_get}
 use Rattle.std.specs.List.{AllByRecursion}
-use Rattle.std.proofs.lemmas.Bool.{cases_lt, eqb-true}
+use Rattle.std.proofs.lemmas.Bool.{cases_lt, eqb-true, and_parts}
 use Rattle.std.proofs.lemmas.Int.{ints}
 use Rattle.bpf_code.specs.declared.machine.Insn.{Insn}
 use Rattle.bpf_code.specs.declared.machine.CallData.{CallData}
@@ -15,7 +15,7 @@ use Rattle.bpf_code.specs.ProgramOf.{is_accepted}
 use Rattle.bpf_code.specs.Stack.{answer_of, answers_of, deciding, stronger_of, decision_of, decision_by, IsDeciding, AnswerEach, DecidedBy}
 use Rattle.bpf_code.specs.Stack.{Decides}
 use Rattle.bpf_code.specs.Tied.{AcceptsByFunction, DecidesByFunction}
-use Rattle.bpf_code.proofs.Computed.{both_of, accepted_of, program_of-accepts}
+use Rattle.bpf_code.proofs.Computed.{accepted_of, program_of-accepts}
 use Rattle.bpf_code.proofs.Runs.{accepted_answers}
 use Rattle.bpf_code.proofs.Stacks.{answer_is, decides, computed_decides, some_same}
 
@@ -28,7 +28,7 @@ accepts_by : (bytes : List ℕ) (program : List Insn) (b : Bool) → (length byt
     → cond b (Some (insns_of bytes)) None ≡ Some program → Accepts bytes program
 accepts_by bytes program false e h = cc
 accepts_by bytes program true e h =
-    let parts = both_of (length bytes % 8 == 0) (is_accepted (insns_of bytes)) e in
+    let parts = and_parts (length bytes % 8 == 0) (is_accepted (insns_of bytes)) e in
     let same : program ≡ insns_of bytes = same_program (insns_of bytes) program h in
     record { whole = eqb-true (length bytes % 8) 0 parts.0; insns = same; accepted = subst IsAccepted (sym same) (accepted_of (insns_of bytes) parts.1) }
 

@@ -1,16 +1,13 @@
 -- A search among all calls of a table goes over those of the native ABI, then over those of the other.
 use Rattle.std.proofs.Common.{◌≡◌, ℕ, Bool, true, false, cond, List, [], ◌∷◌, Option, Some, None, refl, ap, ◌∙◌, sym, length, ◌≤◌, Bor}
-use Rattle.std.specs.Prelude.{find, is_some, option_copied, slice_get, ◌||◌}
+use Rattle.std.specs.Prelude.{find, is_some, option_copied, ◌||◌}
 use Rattle.std.specs.List.{list_any}
-use Rattle.std.specs.Option.{option_map_or, option_or, option_to_list}
+use Rattle.std.specs.Option.{option_map_or, option_or}
 use Rattle.std.proofs.lemmas.List.Folds.{find-append}
 use Rattle.std.proofs.lemmas.Option.{slice_get_past}
 use Rattle.kernel_ways.specs.call_table.Table.{Abi, Table, abis, arch_of, calls_in, every_call, second_calls}
 use Rattle.kernel_ways.specs.call_table.declared.listed.CallLine.{CallLine}
-
-second_are : (second : Option Abi) → second_calls second ≡ option_map_or (λ found. found.calls) (slice_get (option_to_list second) 0) []
-second_are None = refl
-second_are (Some second) = refl
+use Rattle.kernel_ways.proofs.OfCallTable.AllCalls.{second_are}
 
 -- of all calls it finds what it finds first
 pub found_in_all : (p : CallLine → Bool) (table : Table) → find p (every_call table)

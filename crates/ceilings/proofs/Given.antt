@@ -1,8 +1,8 @@
 -- The ids that are listed row by row are those that some row gives.
-use Rattle.std.proofs.Common.{◌≡◌, ℕ, Bool, true, false, List, [], ◌∷◌, Option, Some, None, arith, refl, cond, ap, ◌∙◌, map, eqb}
+use Rattle.std.proofs.Common.{◌≡◌, ℕ, Bool, true, false, List, [], ◌∷◌, Option, Some, None, refl, cond, ap, ◌∙◌, map, eqb}
 use Rattle.std.specs.Prelude.{not, ◌&&◌, ◌||◌}
 use Rattle.std.specs.List.{list_any}
-use Rattle.std.proofs.lemmas.Bool.Decides.{nat_tests}
+use Rattle.std.proofs.lemmas.Cmp.{nat_eq_equiv}
 use Rattle.std.proofs.lemmas.List.Folds.{list_any-append}
 use Rattle.kernel_ways.specs.site_table.declared.row.Row.{Row}
 use Rattle.kernel_ways.specs.kernel_laws.Bound.{is_owner, can_run, owned_by, grouped_by, power_of}
@@ -17,14 +17,11 @@ use Rattle.kernel_ways.specs.Spared.{power_using, uids_of, gids_of}
 abbrev pub has_id : ℕ → List ℕ → Bool
 has_id id ids = list_any (λ own. eqb id own) ids
 
-pub eqb_comm : (a b : ℕ) → eqb a b ≡ eqb b a
-eqb_comm a b = grind (arith, nat_tests)
-
 -- what one row gives before the others
 given_first : (id : ℕ) (b : Bool) (owner : Option ℕ) (others : List (Option ℕ))
     → has_id id (some_ids (cond b owner None ∷ others)) ≡ ((b && is_owner id owner) || has_id id (some_ids others))
 given_first id true None others = refl
-given_first id true (Some owner) others = ap (λ b. b || has_id id (some_ids others)) (eqb_comm id owner)
+given_first id true (Some owner) others = ap (λ b. b || has_id id (some_ids others)) (nat_eq_equiv.symm id owner)
 given_first id false owner others = refl
 
 module _ (launch : Launch) (power : Power) (id : ℕ) where

@@ -3,8 +3,9 @@ use Rattle.std.proofs.Common.{◌≡◌, ◌≤◌, ◌<◌, ◌∙◌, inl, inr
 use Rattle.std.proofs.Common.{ap, sym, ◌+◌, ◌-◌, length, drop, map, get_or, arith, eqb, append_assoc}
 use Rattle.std.specs.Prelude.{slice_get, not, ◌||◌, ◌&&◌}
 use Rattle.std.specs.List.{list_any}
-use Rattle.std.proofs.lemmas.Bool.{or_from, cases_lt}
+use Rattle.std.proofs.lemmas.Bool.{or_from, cases_lt, eq-eqb, not-false}
 use Rattle.std.proofs.lemmas.Bool.Decides.{nat_tests}
+use mathlib.Core.Bool.{and-false}
 use Rattle.kernel_ways.specs.abs_path.Paths.{Path}
 use Rattle.kernel_ways.specs.abs_path.Prefix.{is_prefix, is_same, rest_of}
 use Rattle.kernel_ways.proofs.OfAbsPath.Prefixes.{prefix_and_rest, same_path}
@@ -56,13 +57,6 @@ less a b h = grind (arith, nat_tests)
 more : (a b : ℕ) → b < a → eqb a b ≡ false
 more a b h = grind (arith, nat_tests)
 
-equal : (a b : ℕ) → a ≡ b → eqb a b ≡ true
-equal a b h = grind (arith, nat_tests)
-
-was_not : (b : Bool) → not b ≡ false → b ≡ true
-was_not true e = refl
-was_not false e = cc
-
 -- ---- an entry that shows the host's own place shows the row exactly where the row's own path belongs to it
 module _ (table : Table) (row : Path) (own at : ℕ) (entry : MountStep) (belongs : Belongs table row own) (is : slice_get table at ≡ Some entry) where
   abbrev shown_at : Path → Bool
@@ -101,7 +95,7 @@ module _ (table : Table) (row : Path) (own at : ℕ) (entry : MountStep) (belong
     | inl low ↦ less at own low ∙ before low
     | inr high ↦ elim (cases_lt own at) [
       | inl later ↦ more at own later ∙ behind later
-      | inr not_later ↦ (let same : at ≡ own = omega arith in equal at own same ∙ here same)
+      | inr not_later ↦ (let same : at ≡ own = omega arith in eq-eqb at own same ∙ here same)
     ]
   ]
 
@@ -109,14 +103,10 @@ module _ (table : Table) (row : Path) (own at : ℕ) (entry : MountStep) (belong
       → eqb at own ≡ shows_row false entry (drop (at + 1) table) row entry.what
   shows_own source host unmoved =
       let still : not (is_same source entry.place) ≡ false = ap (is_elsewhere entry.place) (sym host) ∙ unmoved in
-      let same : entry.place ≡ source = sym (same_path source entry.place (was_not _ still)) in
+      let same : entry.place ≡ source = sym (same_path source entry.place (not-false _ still)) in
       by_number ∙ ap shown_at same ∙ ap (shows_row false entry (drop (at + 1) table) row) (sym host)
 
 -- ---- the search for one wish and another
-and_no : (x : Bool) → (x && false) ≡ false
-and_no true = refl
-and_no false = refl
-
 reached_behind : (uncover : Bool) (row : Path) (wish : Wish) (table : Table) (n m : ℕ) → reach_from uncover row wish table n ≡ Some m
     → n ≤ m
 reached_behind uncover row wish [] n m e = cc
@@ -134,7 +124,7 @@ module _ (row : Path) (wish : Wish) where
       → reach_from false row wish (entry ∷ table) n ≡ reach_from false row wish table (n + 1)
   passed entry table n off =
       ap (λ b. cond (fits wish entry.flags && b) (Some n) (reach_from false row wish table (n + 1))) off
-      ∙ ap (λ b. cond b (Some n) (reach_from false row wish table (n + 1))) (and_no (fits wish entry.flags))
+      ∙ ap (λ b. cond b (Some n) (reach_from false row wish table (n + 1))) (and-false (fits wish entry.flags))
 
   -- a row that may not be seen may be nothing else
   unseen_from : (table : Table) (n : ℕ) → reach_from false row ToSee table n ≡ None → reach_from false row wish table n ≡ None

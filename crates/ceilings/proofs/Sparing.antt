@@ -1,9 +1,7 @@
 -- The ids of a ceiling are those that are had without a use of the capability.
-use Rattle.std.proofs.Common.{◌≡◌, ℕ, true, false, List, ap, arith, ◌∙◌, sym, eqb}
-use Rattle.std.specs.Cmp.{IsEquivalence}
+use Rattle.std.proofs.Common.{◌≡◌, ℕ, true, false, List, ◌∙◌, sym}
 use Rattle.std.specs.Prelude.{Contains}
-use Rattle.std.proofs.lemmas.Bool.{eqb-true}
-use Rattle.std.proofs.lemmas.Bool.Decides.{nat_tests}
+use Rattle.std.proofs.lemmas.Cmp.{nat_eq_equiv}
 use Rattle.std.proofs.lemmas.Map.Views.{list_any-from_Contains}
 use Rattle.kernel_ways.specs.kernel_laws.declared.question_types.kind.CallKind.TheVariants.{TakesUid, TakesGid}
 use Rattle.kernel_ways.specs.kernel_laws.declared.question_types.question.Question.TheVariants.{Uid, Gid}
@@ -15,13 +13,10 @@ use Rattle.kernel_ways.proofs.SparedLaws.{ids_are_bounded}
 use Rattle.kernel_ways.proofs.SparedWays.{ids_are_reached}
 use Rattle.ceilings.specs.Sparing.{AreHadSparing}
 use Rattle.ceilings.proofs.Bounded.{not_listed}
-use Rattle.ceilings.proofs.Given.{eqb_comm, has_id}
-
-equivalent : IsEquivalence eqb
-equivalent = record { refl = λ x. grind (arith, nat_tests); symm = eqb_comm; congr = λ x y z e. ap (λ w. eqb w z) (eqb-true x y e) }
+use Rattle.ceilings.proofs.Given.{has_id}
 
 listed : (id : ℕ) (ids : List ℕ) → Contains ids id → has_id id ids ≡ true
-listed id ids h = list_any-from_Contains equivalent id ids h
+listed id ids h = list_any-from_Contains nat_eq_equiv id ids h
 
 module _ (world : World) (served : IsServedWorld world) (ids : List ℕ) where
   pub uids_spared : ((id : ℕ) → has_id id ids ≡ uids_of (launch_of world) id)

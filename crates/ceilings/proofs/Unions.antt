@@ -3,18 +3,11 @@ use Rattle.std.proofs.Common.{◌≡◌, ◌<◌, ◌≤◌, ℕ, suc, Bool, tru
 use Rattle.std.proofs.Common.{add-one}
 use Rattle.std.specs.Prelude.{◌||◌}
 use Rattle.std.proofs.lemmas.List.{drop_all}
+use mathlib.Core.Bool.{or_assoc, or-false}
 use Rattle.kernel_ways.specs.cap_sets.Sets.{has, none, union}
 use Rattle.kernel_ways.proofs.OfCapSets.Members.{has_none, has_union, same_sets}
 use Rattle.kernel_ways.specs.site_table.declared.row.Row.{Row}
 use Rattle.kernel_ways.specs.kernel_laws.Bound.{gathered, when}
-
-or_assoc : (x y z : Bool) → ((x || y) || z) ≡ (x || (y || z))
-or_assoc true y z = refl
-or_assoc false y z = refl
-
-or_nothing : (x : Bool) → (x || false) ≡ x
-or_nothing true = refl
-or_nothing false = refl
 
 pub union_assoc : (a b c : ℕ) → union (union a b) c ≡ union a (union b c)
 union_assoc a b c = same_sets _ _ (λ n.
@@ -22,7 +15,7 @@ union_assoc a b c = same_sets _ _ (λ n.
     ∙ sym (has_union a (union b c) n ∙ ap (λ w. has a n || w) (has_union b c n)))
 
 pub union_none : (a : ℕ) → union a none ≡ a
-union_none a = same_sets _ _ (λ n. has_union a none n ∙ ap (λ w. has a n || w) (has_none n) ∙ or_nothing (has a n))
+union_none a = same_sets _ _ (λ n. has_union a none n ∙ ap (λ w. has a n || w) (has_none n) ∙ or-false (has a n))
 
 -- what is gathered from here on is this row's and what is gathered behind it
 pub gathered_here : (f : Row → ℕ) (rows : List Row) (at : ℕ) (row : Row) → at < length rows → row ≡ get_or rows at row

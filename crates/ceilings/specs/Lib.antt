@@ -4,6 +4,7 @@ pub mod Ruled
 pub mod Owners
 pub mod Own
 pub mod Sparing
+pub mod Bounds
 pub mod kernel_ways
 pub use Rattle.kernel_ways.specs.abs_path as abs_path
 pub use Rattle.kernel_ways.specs.bpf_code as bpf_code

@@ -1,17 +1,14 @@
 //! Makes the ceiling of a launched service.
 
-ghost use Rattle.std.specs.Prelude.{◌≡◌, ℕ, ◌≤◌, ◌&&◌, true, false, Contains, IfOk};
+ghost use Rattle.std.specs.Prelude.{◌≡◌, ◌&&◌, IfOk};
 ghost use Rattle.kernel_ways.specs.linux_numbers.Capabilities.{cap_sys_admin};
 ghost use Rattle.kernel_ways.specs.cap_sets.Sets.{has};
 ghost use Rattle.kernel_ways.specs.kernel_laws.Bound.{power_by};
-ghost use Rattle.kernel_ways.specs.kernel_laws.Denied.{IsDenied};
-ghost use Rattle.kernel_ways.specs.kernel_laws.declared.question_types.kind.CallKind.TheVariants.{ChangesMounts, RemovesMounts, TakesUid, TakesGid};
-ghost use Rattle.kernel_ways.specs.kernel_laws.declared.question_types.question.Question.TheVariants.{Cap, Uid, Gid};
+ghost use Rattle.kernel_ways.specs.kernel_laws.declared.question_types.kind.CallKind.TheVariants.{ChangesMounts, RemovesMounts};
 ghost use Rattle.kernel_ways.specs.kernel_laws.Launched.{IsLaunchedWorld, launch_of, lets};
-ghost use Rattle.kernel_ways.specs.Laws.{IsServedWorld, IsShown};
-ghost use Rattle.kernel_ways.specs.site_table.Ids.{greatest_id};
+ghost use Rattle.kernel_ways.specs.Laws.{IsServedWorld};
+ghost use Rattle.ceilings.specs.Bounds.{DeniesMore, IsAllHad};
 ghost use Rattle.ceilings.specs.Own.{IsCeilingOf};
-ghost use Rattle.ceilings.specs.Sparing.{AreHadSparing};
 
 use crate::bounds::Ceiling;
 use crate::gains::caps_by;
@@ -52,28 +49,9 @@ pub fn ceiling(alloc: Global, launched: &Launched<'_>) -> Result<Ceiling, AllocE
         top.power
         ≡ power_by (has top.effective cap_sys_admin) (lets launch ChangesMounts) (lets launch RemovesMounts)) }
 
-    // In no world of any run does a living process have more.
-    ensures other_capabilities_are_denied { IfOk result (λ top. (number : ℕ)
-        → has top.effective number ≡ false → IsDenied launched.now.world (Cap number)) }
-    ensures other_uids_are_denied { IfOk result (λ top. (id : ℕ)
-        → top.any_uid ≡ false → ¬ Contains top.uids id → IsDenied launched.now.world (Uid id)) }
-    ensures other_gids_are_denied { IfOk result (λ top. (id : ℕ)
-        → top.any_gid ≡ false → ¬ Contains top.gids id → IsDenied launched.now.world (Gid id)) }
-
-    // Some list of calls, each of them done, has all of it.
-    ensures each_capability_is_had { IfOk result (λ top. IsServedWorld launched.now.world → (number : ℕ)
-        → has top.effective number ≡ true → IsShown launched.now.world (Cap number)) }
-    ensures every_uid_is_had { IfOk result (λ top. IsServedWorld launched.now.world → (id : ℕ)
-        → top.any_uid ≡ true → id ≤ greatest_id → IsShown launched.now.world (Uid id)) }
-    ensures every_gid_is_had { IfOk result (λ top. IsServedWorld launched.now.world → (id : ℕ)
-        → top.any_gid ≡ true → id ≤ greatest_id → IsShown launched.now.world (Gid id)) }
-
-    // Exactly these uids can be had without a use of CAP_SETUID, even if CAP_SETGID is used where a call passes that
-    // takes a gid; the gids likewise.
-    ensures uids_are_had_without_setuid { IfOk result (λ top. IsServedWorld launched.now.world
-        → AreHadSparing false (lets (launch_of launched.now.world) TakesGid) launched.now.world Uid top.uids) }
-    ensures gids_are_had_without_setgid { IfOk result (λ top. IsServedWorld launched.now.world
-        → AreHadSparing (lets (launch_of launched.now.world) TakesUid) false launched.now.world Gid top.gids) }
+    // In no world of any run does a living process have more, and all of it is had by some list of calls, each of which is done.
+    ensures more_is_denied { IfOk result (DeniesMore launched.now.world) }
+    ensures all_is_had { IfOk result (λ top. IsServedWorld launched.now.world → IsAllHad launched.now.world top) }
 {
     let world = &launched.world;
     let rules = LineRules::of(alloc, world)?;

@@ -14,7 +14,7 @@ use Rattle.mount_plan.specs.Host.{host_of}
 abbrev pub AreShortRows : Host → Type 0
 AreShortRows row_at = (path : Path) (is_dir : Bool) → row_at path ≡ Some is_dir → length (tail_of path) ≤ 512
 
-tail_in_text : (path : Path) → length (tail_of path) ≤ length (text_of path)
+pub tail_in_text : (path : Path) → length (tail_of path) ≤ length (text_of path)
 tail_in_text [] = omega arith
 tail_in_text (part ∷ path) = omega arith
 

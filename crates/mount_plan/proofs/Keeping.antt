@@ -1,9 +1,10 @@
 -- How the steps of the code add up to what is kept.
-use Rattle.std.proofs.Common.{◌≡◌, ℕ, suc, ◌+◌, ◌<◌, Bool, true, List, [], ◌∷◌, ◌++◌, map, filter, length, get_or, drop, drop-cons, add-one}
+use Rattle.std.proofs.Common.{◌≡◌, ℕ, ◌+◌, ◌<◌, Bool, true, List, [], ◌∷◌, ◌++◌, map, filter, length, get_or, drop}
 use Rattle.std.proofs.Common.{Some, None, Result, Ok, Err, refl, sym, ap, ◌∙◌, Bor}
 use Rattle.std.specs.Prelude.{◌||◌, not}
 use Rattle.std.specs.List.{list_any, filter_map, enumerate_from}
 use Rattle.std.proofs.lemmas.Bool.{and_parts}
+use Rattle.std.proofs.lemmas.List.{drop_more}
 use Rattle.std.proofs.lemmas.List.Elements.{filter_map-append}
 use Rattle.path_settings.specs.abs_path.Paths.{Path}
 use Rattle.path_settings.specs.abs_path.Prefix.{is_prefix, is_same, is_below}
@@ -132,5 +133,4 @@ from_goes row_at mentions old new path paths h = ap (λ r. goes_on r (λ more. k
 
 pub drop_item : (paths : List Path) (i : ℕ) (path : Path) → i < length paths → path ≡ get_or paths i path
     → drop i paths ≡ path ∷ drop (i + 1) paths
-drop_item paths i path lt e = drop-cons paths i path lt ∙ ap (λ p. p ∷ drop (suc i) paths) (sym e)
-    ∙ ap (λ n. path ∷ drop n paths) (sym (add-one i))
+drop_item paths i path lt e = drop_more paths i path lt ∙ ap (λ p. p ∷ drop (i + 1) paths) (sym e)

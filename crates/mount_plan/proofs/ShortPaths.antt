@@ -4,7 +4,7 @@ use Rattle.std.proofs.Common.{◌≡◌, ◌⊎◌, inl, inr, ℕ, ◌<◌, ◌�
 use Rattle.std.proofs.Common.{Some, None, Ok, refl, sym, ap, ◌∙◌, subst, append-nil, length-append, arith}
 use Rattle.std.specs.Prelude.{◌&&◌, ◌||◌, not, nat_le}
 use Rattle.std.specs.List.{AllByRecursion, Contains, list_any, enumerate_from}
-use Rattle.std.proofs.lemmas.Bool.{false≢true, false_from_ne_true, and_parts, and_from}
+use Rattle.std.proofs.lemmas.Bool.{false≢true, false_from_ne_true, and_parts, and_from, leb-true}
 use Rattle.std.proofs.lemmas.Bool.Decides.{nat_tests}
 use Rattle.std.proofs.lemmas.List.Elements.{recursion_from_All, All-from_recursion, All-contains, All-contains_itself}
 use Rattle.path_settings.specs.abs_path.Paths.{Path, tail_of, text_of, is_normal}
@@ -28,7 +28,7 @@ use Rattle.path_settings.proofs.Deciding.{origin_is, longest_covers}
 use Rattle.path_settings.proofs.KeptLaws.{kept_among_Ok, kept_is, keeps_by_rules, each_kept}
 use Rattle.mount_plan.specs.Plan.{places_of}
 use Rattle.mount_plan.specs.Short.{HasShortHost, HaveShortHosts}
-use Rattle.mount_plan.proofs.Hosts.{AreShortRows}
+use Rattle.mount_plan.proofs.Hosts.{AreShortRows, tail_in_text}
 use Rattle.mount_plan.proofs.PlanLaws.{AreNormal, LeaveTheRoot, paths_of, root_on_host}
 use Rattle.mount_plan.proofs.FindsProc.{IsKeptAtAll}
 
@@ -214,15 +214,9 @@ bound_row row_at mentions kept mention one source read_only keeps among e over k
     ]
 
 short_path : (path : Path) → is_path path ≡ true → length (tail_of path) ≤ 512
-short_path path h = omega
-    (arith, in_text path, at_most (length (text_of path)) (and_parts (is_normal path) (nat_le (length (text_of path)) 512) h).1)
-  where
-    in_text : (path : Path) → length (tail_of path) ≤ length (text_of path)
-    in_text [] = omega arith
-    in_text (part ∷ path) = omega arith
-
-    at_most : (n : ℕ) → nat_le n 512 ≡ true → n ≤ 512
-    at_most n h = grind (arith, nat_tests)
+short_path path h =
+    let short = leb-true (length (text_of path)) 512 (and_parts (is_normal path) (nat_le (length (text_of path)) 512) h).1 in
+    omega (arith, tail_in_text path, short)
 
 rest_of_itself : (path : Path) → rest_of path path ≡ []
 rest_of_itself [] = refl

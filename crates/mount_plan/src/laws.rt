@@ -1,6 +1,13 @@
 //! Laws of plans, each the contract of a function that does nothing.
 
+ghost use Rattle.mount_plan.specs.Form.{PlansHaveForm};
 ghost use Rattle.mount_plan.specs.Resting.{PlanIsBlind, PlanRestsOnItsPlaces};
+
+/// Says what holds of every plan, whatever the length of its paths is: the first mount is the host's root, the places ascend, no mount
+/// takes privileges from programs, what is hidden has no flags, and /proc is found as a directory or is the place of a hidden one.
+pub fn plans_have_a_form()
+    ensures of_every_plan { PlansHaveForm }
+{}
 
 /// What a plan shows of a host it rests on: on what stands beneath its places alone. So a host that differs below a folder that
 /// the plan does not show, and not at the sources of binds, has the same plan.

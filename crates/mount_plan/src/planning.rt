@@ -1,12 +1,11 @@
 //! The plan of a service's mounts, and that it shows what the view has.
 
-ghost use Rattle.std.specs.Prelude.{◌≡◌, ◌≤◌, ◌+◌, true, length, map, IfOk, IsTrue};
-ghost use Rattle.std.specs.List.{list_all, AllByRecursion};
-ghost use Rattle.path_settings.specs.abs_path.ByteOrder.{AreAscending};
+ghost use Rattle.std.specs.Prelude.{◌≡◌, true, IfOk, IsTrue};
+ghost use Rattle.std.specs.List.{list_all};
 ghost use Rattle.path_settings.specs.Short.{AreShort};
 ghost use Rattle.path_settings.specs.Mentions.{leaves_the_root, is_whole};
 ghost use Rattle.path_settings.specs.view_map.Kept.{kept_of, KeepsByRules};
-ghost use Rattle.kern_mounts.specs.Launch.{CanBeMounted, BeginsAtRoot, IsNotNoSuid, IsPlainIfHidden, FindsProc};
+ghost use Rattle.kern_mounts.specs.Launch.{CanBeMounted};
 ghost use Rattle.mount_plan.specs.Host.{host_of};
 ghost use Rattle.mount_plan.specs.Plan.{places_of, table_of};
 ghost use Rattle.mount_plan.specs.AsView.{FindsAsView};
@@ -74,15 +73,9 @@ pub fn plan(alloc: Global, mentions: &Mentions, site: &SiteTable) -> Result<Moun
     ensures finds_as_view { IfOk result (λ table.
         IfOk (kept_of (host_of site.now) mentions.now) (λ kept. FindsAsView kept table)) }
 
-    // The form of a table that a launch takes.
-    ensures can_be_mounted { AreShort mentions.now → IfOk result (CanBeMounted (host_of site.now)) }
-    ensures begins_at_root { IfOk result BeginsAtRoot }
-    ensures places_ascend { IfOk result (λ table. AreAscending (map (λ step. step.place) table)) }
+    // A launch takes it where the paths are short; the law `plans_have_a_form` says what holds whatever their length.
     ensures places_are_mentioned { IfOk result (HasPlacesOf mentions.now) }
-    ensures one_more_than_mentions { IfOk result (λ table. length table ≤ length mentions.now + 1) }
-    ensures none_is_no_suid { IfOk result (AllByRecursion IsNotNoSuid) }
-    ensures hidden_without_flags { IfOk result (AllByRecursion IsPlainIfHidden) }
-    ensures finds_proc { IfOk result (FindsProc (host_of site.now)) }
+    ensures can_be_mounted { AreShort mentions.now → IfOk result (CanBeMounted (host_of site.now)) }
 {
     let _rows = site.rows();
     plan_of(alloc, site, mentions.list())

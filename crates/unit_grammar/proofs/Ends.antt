@@ -1,26 +1,19 @@
 -- What stands behind a first byte, and before a last.
 use Rattle.std.proofs.Common.{◌≡◌, ◌≢◌, ℕ, true, false, cond, eqb, Option, Some, None, List, [], ◌∷◌, ◌++◌, reverse, refl, sym, ap, ◌∙◌}
-use Rattle.std.proofs.Common.{arith}
 use Rattle.std.specs.Option.{option_map, MatchOption}
-use Rattle.std.proofs.lemmas.Bool.Decides.{nat_tests}
 use Rattle.std.proofs.lemmas.List.{reverse-append, reverse-reverse}
+use Rattle.std.proofs.lemmas.Bool.{eq-eqb, eqb-true}
 use Rattle.unit_grammar.specs.Kinds.{behind, before}
 use denote.Ref.{Bor}
 
-same_number : (x y : ℕ) → eqb x y ≡ true → x ≡ y
-same_number x y e = grind (arith, nat_tests)
-
-same_byte : (x y : ℕ) → x ≡ y → eqb x y ≡ true
-same_byte x y e = grind (arith, nat_tests)
-
 pub behind_some : (byte : ℕ) (bs rest : List ℕ) → bs ≡ byte ∷ rest → behind byte bs ≡ Some rest
-behind_some byte bs rest e = ap (behind byte) e ∙ ap (λ b. cond b (Some rest) None) (same_byte byte byte refl)
+behind_some byte bs rest e = ap (behind byte) e ∙ ap (λ b. cond b (Some rest) None) (eq-eqb byte byte refl)
 
 pub behind_none : (byte : ℕ) (bs : List ℕ) → ((rest : List ℕ) → bs ≢ byte ∷ rest) → behind byte bs ≡ None
 behind_none byte [] h = refl
 behind_none byte (b ∷ bs) h =
     elim (eqb b byte) as (λ v. eqb b byte ≡ v → cond v (Some bs) None ≡ None)
-    [ true ↦ λ e. absurd (h bs (ap (λ x. x ∷ bs) (same_number b byte e))) | false ↦ λ e. refl ] refl
+    [ true ↦ λ e. absurd (h bs (ap (λ x. x ∷ bs) (eqb-true b byte e))) | false ↦ λ e. refl ] refl
 
 pub behind_known : (byte : ℕ) (bs : List ℕ) (r : Option (Bor (List ℕ)))
     → MatchOption r ((rest : List ℕ) → bs ≢ byte ∷ rest) (λ x. bs ≡ byte ∷ x.now) → option_map (λ x. x.now) r ≡ behind byte bs

@@ -8,6 +8,7 @@
 
 mod joined;
 mod kinds;
+pub mod laws;
 mod notes;
 mod reader;
 mod spaces;

@@ -1,15 +1,12 @@
 // Reads a unit, line by line.
 //
 // Each joined line is read as soon as it is whole; `kinds` gives its kind.
-ghost use Rattle.std.specs.Prelude.{◌≡◌, ◌≢◌, ◌↔◌, ◌+◌, ◌∷◌, [], ℕ, List, IfOk, IfErr, Ok, Err, None};
+ghost use Rattle.std.specs.Prelude.{◌≡◌, ◌≢◌, ◌+◌, ◌∷◌, [], ℕ, List, IfOk, IfErr, Ok, Err, None};
 ghost use Rattle.std.specs.Option.{option_map};
 ghost use Rattle.unit_grammar.specs.declared.joined.Line.{Line};
 ghost use Rattle.unit_grammar.specs.declared.unit.UnitError.TheVariants.{Memory};
 ghost use Rattle.unit_grammar.specs.Lines.{joined_lines, parts_from};
-ghost use Rattle.unit_grammar.specs.Stretches.{Joins};
-ghost use Rattle.unit_grammar.specs.Spaces.{trim};
-ghost use Rattle.unit_grammar.specs.Kinds.{Kind as LineKind, kind_of, cut_at};
-ghost use Rattle.unit_grammar.specs.Meaning.{Means};
+ghost use Rattle.unit_grammar.specs.Kinds.{cut_at};
 ghost use Rattle.unit_grammar.specs.Reading.{unit_of, unit_of_lines};
 ghost use Rattle.unit_grammar.specs.Progress.{IsUnlessMemory, HasRead, Takes, AddsNote, AddsAssignment, StandsBefore, Passes};
 
@@ -204,10 +201,6 @@ fn read_bytes(alloc: Global, bytes: &[u8]) -> Result<UnitText, UnitError>
 pub fn read_unit(alloc: Global, bytes: &[u8]) -> Result<UnitText, UnitError>
     ensures reads_the_unit { IfOk result (λ unit. unit_of bytes.now ≡ Ok unit) }
     ensures first_fault { IfErr result (λ error. error ≢ Memory → unit_of bytes.now ≡ Err error) }
-    // Joining: the joined lines are these stretches of the file.
-    ensures joining_is_by_stretches { (lines : List Line) → (joined_lines bytes.now ≡ lines) ↔ Joins bytes.now lines }
-    // The meaning of a joined line is that of the text between the white space at its ends.
-    ensures kinds_are_meanings { (line : List ℕ) (kind : LineKind) → (kind_of line ≡ kind) ↔ Means (trim line) kind }
 {
     read_bytes(alloc, bytes)
 }

@@ -1,9 +1,10 @@
 -- What an answer says of the text that is wanted.
-use Rattle.std.proofs.Common.{◌≡◌, ℕ, Bool, true, false, cond, Option, Some, None, Result, Ok, Err, List, refl, sym, ap, ◌∙◌}
+use Rattle.std.proofs.Common.{◌≡◌, ℕ, cond, Option, Some, None, Result, Ok, Err, List, sym, ap, ◌∙◌}
 use Rattle.std.specs.Prelude.{String, string_bytes, IfOk}
 use Rattle.std.specs.declared.alloc.Global.{Global}
 use Rattle.std.specs.Str.{IsUtf8, is_utf8}
 use Rattle.std.proofs.lemmas.Str.{IsUtf8-from_is_utf8, is_utf8-from_IsUtf8}
+use Rattle.std.proofs.lemmas.Bool.{false_from_ne_true}
 use Rattle.unit_names.specs.Expansion.{if_text}
 use Rattle.unit_names.specs.Taking.{GivesText}
 use Rattle.unit_names.specs.declared.expansion.ExpandError.{ExpandError}
@@ -24,9 +25,5 @@ refuses_then wanted (Err Memory) h e = cc
 pub text_of_utf8 : (bytes text : List ℕ) → IsUtf8 text → text ≡ bytes → if_text bytes ≡ Some text
 text_of_utf8 bytes text utf8 e = ap if_text (sym e) ∙ ap (λ b. cond b (Some text) None) (is_utf8-from_IsUtf8 text utf8)
 
-never_true : (b : Bool) → (b ≡ true → ⊥) → b ≡ false
-never_true true h = absurd (h refl)
-never_true false h = refl
-
 pub text_of_other : (bytes : List ℕ) → (IsUtf8 bytes → ⊥) → if_text bytes ≡ None
-text_of_other bytes h = ap (λ b. cond b (Some bytes) None) (never_true (is_utf8 bytes) (λ e. h (IsUtf8-from_is_utf8 bytes e)))
+text_of_other bytes h = ap (λ b. cond b (Some bytes) None) (false_from_ne_true (is_utf8 bytes) (λ e. h (IsUtf8-from_is_utf8 bytes e)))

@@ -1,12 +1,11 @@
 // Expands the specifiers of a value.
 //
 // The pieces of a value are taken one by one; `specifier` gives the text of each.
-ghost use Rattle.std.specs.Prelude.{◌≡◌, ◌↔◌, ◌∷◌, List, ℕ, IfOk, Some, None};
+ghost use Rattle.std.specs.Prelude.{◌≡◌, ◌∷◌, IfOk, Some, None};
 ghost use Rattle.std.specs.String.{string_bytes};
 ghost use Rattle.unit_names.specs.Specifiers.{percent, meaning};
-ghost use Rattle.unit_names.specs.Unescaping.{unescaped, Unescapes};
 ghost use Rattle.unit_names.specs.Taking.{AddsMeaning, TakesPiece, GivesBytes, GivesText};
-ghost use Rattle.unit_names.specs.Expansion.{expansion, short_bytes, if_text, Expands};
+ghost use Rattle.unit_names.specs.Expansion.{expansion, short_bytes, if_text};
 ghost use Rattle.unit_names.specs.declared.expansion.ExpandError.TheVariants.{Specifier as NotExpanded, Memory};
 
 use crate::name::UnitName;
@@ -127,10 +126,6 @@ fn expanded(alloc: Global, name: &UnitName, value: &str) -> Result<String, Expan
 pub fn expand(alloc: Global, name: &UnitName, value: &str) -> Result<String, ExpandError>
     ensures expands_the_value { IfOk result (λ text. expansion name.now value.now ≡ Some (string_bytes text)) }
     ensures refuses_the_value { result ≡ Err NotExpanded → expansion name.now value.now ≡ None }
-    // Expanding: the pieces of the value, and the text that they make together.
-    ensures expanding_is_by_pieces { (text : List ℕ) → (expansion name.now value.now ≡ Some text) ↔ Expands name.now value.now text }
-    // Unescaping: the pieces of the text, and the byte of each.
-    ensures unescaping_is_by_pieces { (text plain : List ℕ) → (unescaped text ≡ Some plain) ↔ Unescapes text plain }
 {
     expanded(alloc, name, value)
 }

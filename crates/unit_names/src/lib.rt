@@ -9,6 +9,7 @@
 mod cutting;
 mod expansion;
 mod folders;
+pub mod laws;
 mod name;
 mod specifier;
 mod unescape;

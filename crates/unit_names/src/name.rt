@@ -1,10 +1,10 @@
 // A unit name that has been read.
 //
 // Contracts see it as its prefix and its instance; the parts come from `cutting`.
-ghost use Rattle.std.specs.Prelude.{◌≡◌, ◌↔◌, IfOk, Some, None, true};
+ghost use Rattle.std.specs.Prelude.{◌≡◌, IfOk, Some, None, true};
 ghost use Rattle.std.specs.Option.{option_copied, option_map};
 ghost use Rattle.std.specs.String.{string_bytes};
-ghost use Rattle.unit_names.specs.Names.{Name, Names, text_of, stem_of, template_of, is_unit_name};
+ghost use Rattle.unit_names.specs.Names.{Names, text_of, stem_of, template_of, is_unit_name};
 ghost use Rattle.unit_names.specs.Cutting.{name_of, borrowed_name};
 ghost use Rattle.unit_names.specs.declared.name.NameError.TheVariants.{BadName};
 
@@ -53,8 +53,6 @@ impl UnitName {
     pub fn read(alloc: Global, text: &str) -> Result<UnitName, NameError>
         ensures reads_the_name { IfOk result (λ name. name_of text.now ≡ Some name) }
         ensures bad_name { result ≡ Err BadName → name_of text.now ≡ None }
-        // What reading means: the text is spelled so, and the parts are allowed.
-        ensures reading_is_spelling { (name : Name) → (name_of text.now ≡ Some name) ↔ Names text.now name }
     {
         match name_parts(text) {
             Some(parts) => UnitName::with_parts(alloc, text, parts).or(Err(NameError::Memory)),

@@ -43,43 +43,25 @@ returns-clause-power_is_by_what_can_be_had c =
     own.power ∙ power_once launch ∙ ap (λ caps. power_by (has caps cap_sys_admin) (lets launch ChangesMounts) (lets launch RemovesMounts))
     (sym own.effective)
 
-pub returns-clause-other_capabilities_are_denied : goal.returns-clause-other_capabilities_are_denied
-returns-clause-other_capabilities_are_denied c =
+pub returns-clause-more_is_denied : goal.returns-clause-more_is_denied
+returns-clause-more_is_denied c =
     let own = returns-clause-is_its_own c in
-    cap_denied c.args.launched.now.world c.requires c.caps_by-effective.result own.effective
+    let world = c.args.launched.now.world in
+    record {
+      capabilities = cap_denied world c.requires c.caps_by-effective.result own.effective;
+      uids = uid_denied world c.requires c.can_take_any.result c.in_ok-uids.field-0 own.any_uid own.uids;
+      gids = gid_denied world c.requires c.can_take_any-2.result c.in_ok-gids.field-0 own.any_gid own.gids;
+    }
 
-pub returns-clause-other_uids_are_denied : goal.returns-clause-other_uids_are_denied
-returns-clause-other_uids_are_denied c =
+pub returns-clause-all_is_had : goal.returns-clause-all_is_had
+returns-clause-all_is_had c = λ served.
     let own = returns-clause-is_its_own c in
-    uid_denied c.args.launched.now.world c.requires c.can_take_any.result c.in_ok-uids.field-0 own.any_uid own.uids
-
-pub returns-clause-other_gids_are_denied : goal.returns-clause-other_gids_are_denied
-returns-clause-other_gids_are_denied c =
-    let own = returns-clause-is_its_own c in
-    gid_denied c.args.launched.now.world c.requires c.can_take_any-2.result c.in_ok-gids.field-0 own.any_gid own.gids
-
-pub returns-clause-each_capability_is_had : goal.returns-clause-each_capability_is_had
-returns-clause-each_capability_is_had c =
-    let own = returns-clause-is_its_own c in
-    λ served number e. (ceiling_is_exact c.args.launched.now.world served).held number
-    (ap (λ caps. has caps number) (sym own.effective) ∙ e)
-
-pub returns-clause-every_uid_is_had : goal.returns-clause-every_uid_is_had
-returns-clause-every_uid_is_had c =
-    let own = returns-clause-is_its_own c in
-    λ served id e small. (ceiling_is_exact c.args.launched.now.world served).any_uid (sym own.any_uid ∙ e) id small
-
-pub returns-clause-every_gid_is_had : goal.returns-clause-every_gid_is_had
-returns-clause-every_gid_is_had c =
-    let own = returns-clause-is_its_own c in
-    λ served id e small. (ceiling_is_exact c.args.launched.now.world served).any_gid (sym own.any_gid ∙ e) id small
-
-pub returns-clause-uids_are_had_without_setuid : goal.returns-clause-uids_are_had_without_setuid
-returns-clause-uids_are_had_without_setuid c =
-    let own = returns-clause-is_its_own c in
-    λ served. uids_spared c.args.launched.now.world served c.in_ok-uids.field-0 own.uids
-
-pub returns-clause-gids_are_had_without_setgid : goal.returns-clause-gids_are_had_without_setgid
-returns-clause-gids_are_had_without_setgid c =
-    let own = returns-clause-is_its_own c in
-    λ served. gids_spared c.args.launched.now.world served c.in_ok-gids.field-0 own.gids
+    let world = c.args.launched.now.world in
+    let exact = ceiling_is_exact world served in
+    record {
+      capabilities = λ number e. exact.held number (ap (λ caps. has caps number) (sym own.effective) ∙ e);
+      any_uid = λ id e small. exact.any_uid (sym own.any_uid ∙ e) id small;
+      any_gid = λ id e small. exact.any_gid (sym own.any_gid ∙ e) id small;
+      listed_uids = uids_spared world served c.in_ok-uids.field-0 own.uids;
+      listed_gids = gids_spared world served c.in_ok-gids.field-0 own.gids;
+    }

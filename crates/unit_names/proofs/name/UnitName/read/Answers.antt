@@ -5,9 +5,3 @@ use Rattle.unit_names.proofs.name.UnitName.read.Goals as goal
 
 pub with_parts-requires : goal.with_parts-requires
 with_parts-requires c = (reading c.args.text.now (borrowed_name c.in-Some.parts)).0 (sym c.in-Some.ensures.of_a_name)
-
-pub returns-in-Some-clause-reading_is_spelling : goal.returns-in-Some-clause-reading_is_spelling
-returns-in-Some-clause-reading_is_spelling c = reading c.args.text.now
-
-pub returns-in-None-clause-reading_is_spelling : goal.returns-in-None-clause-reading_is_spelling
-returns-in-None-clause-reading_is_spelling c = reading c.args.text.now
