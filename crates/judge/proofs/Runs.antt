@@ -16,8 +16,8 @@ use Rattle.ceilings.specs.site_table.Table.{Site, row_at}
 use Rattle.ceilings.specs.kern_mounts.Entry.{entry_of}
 use Rattle.ceilings.specs.kern_mounts.Finds.{Found, finds, found_at, found_by, row_or_nothing, host_place, host_place_by}
 use Rattle.ceilings.specs.kern_mounts.Mounts.{Mounts, steps_of}
-use Rattle.ceilings.specs.kern_mounts.MountsPush.{mounts_after_push}
-use Rattle.ceilings.specs.kern_mounts.MountsRemount.{mounts_after_remount}
+use Rattle.ceilings.specs.kern_mounts.Push.{after_push}
+use Rattle.ceilings.specs.kern_mounts.Remount.{after_remount}
 use Rattle.ceilings.specs.kern_mounts.Split.{Table}
 use Rattle.ceilings.specs.kern_mounts.declared.step.What.{What}
 use Rattle.ceilings.specs.kern_mounts.declared.step.What.TheVariants.{Host, Empty, Hidden}
@@ -26,7 +26,7 @@ use Rattle.ceilings.specs.kernel_model.kern_files.Bits.{has_some, has_all}
 use Rattle.ceilings.specs.kernel_model.kern_files.Executing.{exec_answer_in}
 use Rattle.ceilings.specs.kernel_model.kern_files.Looking.{flags_at, see_answer, write_answer, open_answer}
 use Rattle.ceilings.specs.kernel_model.kern_files.MountCall.{ms_bind, ms_rec, ms_remount, ms_remount_bind, target_kind, or_found, hidden_at}
-use Rattle.ceilings.specs.kernel_model.kern_files.MountCall.{kind_found, flags_of, has_other_kind}
+use Rattle.ceilings.specs.kernel_model.kern_files.MountCall.{kind_found, flags_of, has_other_kind, after_mount, mount_onto, bind_found}
 use Rattle.ceilings.specs.kernel_model.kernel_calls.Calls.{FitsPayload, IsPath}
 use Rattle.ceilings.specs.kernel_model.kernel_calls.Doing as d
 use Rattle.ceilings.specs.kernel_model.kernel_calls.Doing.{Doing, doing_by, known_doing, asked_if, asked_by, asked_of, bare, by_path}
@@ -45,7 +45,6 @@ use Rattle.ceilings.specs.kernel_model.Step.{most_processes, most_namespaces, st
 use Rattle.ceilings.specs.kernel_model.Step.{moved_in, has_user_left, decision_of}
 use Rattle.ceilings.specs.kernel_model.World.{World, living_of, mounts_of, table_of, with_process, with_copy, with_child, moved_to, host_of}
 use Rattle.ceilings.specs.kernel_model.World.{caller_of, with_user, entered_by, owner_of, is_newer}
-use Rattle.ceilings.specs.kernel_model.kern_files.MountsCall.{mounts_after_mount, mounts_onto, mounts_bind_found}
 use Rattle.ceilings.specs.kernel_model.declared.process.Process.{Process}
 use Rattle.ceilings.specs.kernel_model.declared.reply.Reply.{Reply}
 use Rattle.ceilings.specs.kernel_model.declared.reply.Reply.TheVariants as w
@@ -71,24 +70,24 @@ module _ (site other : Site) where
   PayloadSame table (pay.Code bytes) = Unit {0}
 
   mount_same : (mounts : Mounts) (source target : Path) (flags : ℕ) → FindsSame (steps_of mounts) source
-      → FindsSame (steps_of mounts) target → mounts_after_mount (row_at other.rows) mounts source target flags
-      ≡ mounts_after_mount (row_at site.rows) mounts source target flags
+      → FindsSame (steps_of mounts) target → after_mount (row_at other.rows) mounts source target flags
+      ≡ after_mount (row_at site.rows) mounts source target flags
   mount_same mounts source target flags same same' =
       ap (λ (r : Result Mounts ℕ). cond (has_other_kind flags) (Err einval)
-      (cond (has_all ms_remount_bind flags) (mounts_after_remount mounts target (flags_of flags))
+      (cond (has_all ms_remount_bind flags) (after_remount mounts target (flags_of flags))
       (cond (has_some ms_remount flags) (Err einval) (cond (is_root target) (Err ebusy) r))))
-      (ap (λ (found : Found Row). mounts_onto (row_at other.rows) mounts source target flags
+      (ap (λ (found : Found Row). mount_onto (row_at other.rows) mounts source target flags
       (or_found (hidden_at target (entry_of (steps_of mounts) target)) (kind_found found))) same'
       ∙ onto (target_kind (row_at site.rows) (steps_of mounts) target))
     where
-      onto : (r : Result Bool ℕ) → mounts_onto (row_at other.rows) mounts source target flags r
-          ≡ mounts_onto (row_at site.rows) mounts source target flags r
+      onto : (r : Result Bool ℕ) → mount_onto (row_at other.rows) mounts source target flags r
+          ≡ mount_onto (row_at site.rows) mounts source target flags r
       onto (Err errno) = refl
       onto (Ok directory) =
           ap (λ (found : Found Row). cond (has_some ms_bind flags)
-          (mounts_bind_found mounts source target (has_some ms_rec flags) directory (kind_found found))
+          (bind_found mounts source target (has_some ms_rec flags) directory (kind_found found))
           (cond (not directory) (Err enotdir)
-          (mounts_after_push mounts (record { place = target; what = Empty; flags = flags_of flags })))) same
+          (after_push mounts (record { place = target; what = Empty; flags = flags_of flags })))) same
 
   -- ---- a step
   abbrev pub sited : Reply × World → Reply × World
@@ -263,7 +262,7 @@ module _ (site other : Site) where
     mount_here flags source target s t =
         ap (λ (r : Result Mounts ℕ). with_own (eqb (owner_of world process.namespace) process.user)
         (with_admin process.creds (table_effect r))) (mount_same (mounts_of world process.namespace) source target flags s t
-        ∙ ap (λ (own : Site). mounts_after_mount (row_at own.rows) (mounts_of world process.namespace) source target flags)
+        ∙ ap (λ (own : Site). after_mount (row_at own.rows) (mounts_of world process.namespace) source target flags)
         (sym at_site))
 
     known_goes : (own : CallRule) (args : List ℕ) (payload : Payload) → PayloadSame table payload → Goes (known_doing own args payload)

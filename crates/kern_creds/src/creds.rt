@@ -122,14 +122,14 @@ impl Creds {
         self.ambient
     }
 
-    /// Whether execve can give no new privileges, PR_GET_NO_NEW_PRIVS of prctl(2).
+    /// Tells whether execve can give no new privileges, PR_GET_NO_NEW_PRIVS of prctl(2).
     pub fn no_new_privs(&self) -> bool
         ensures as_held { result ≡ self.now.no_new_privs }
     {
         self.no_new_privs
     }
 
-    /// Whether the permitted set stays when the last uid 0 goes, PR_GET_KEEPCAPS of prctl(2).
+    /// Tells whether the permitted set stays when the last uid 0 goes, PR_GET_KEEPCAPS of prctl(2).
     pub fn keepcaps(&self) -> bool
         ensures as_held { result ≡ self.now.keepcaps }
     {

@@ -14,7 +14,7 @@ use cap_sets::CapSet;
 use cap_sets::linux_numbers::errnos::EPERM;
 
 impl FileCreds {
-    // Whether there is a set-id bit that can count, or a capability.
+    // Tells whether there is a set-id bit that can count, or a capability.
     fn is_privileged(&self, newer: bool) -> bool
         ensures { result ≡ is_privileged_in newer self.now }
     {

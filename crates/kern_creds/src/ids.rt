@@ -35,7 +35,7 @@ impl Ids {
         }
     }
 
-    // Whether one of them is 0.
+    // Tells whether one of them is 0.
     pub(crate) fn has_root(&self) -> bool
         ensures { result ≡ has_root self.now }
     {
@@ -48,7 +48,7 @@ impl Ids {
         id == NO_ID || (id == self.real || id == self.effective || id == self.saved)
     }
 
-    // Whether each of the three new ids is -1 or one of these.
+    // Tells whether each of the three new ids is -1 or one of these.
     pub(crate) fn may_take_all(&self, real: u32, effective: u32, saved: u32) -> bool
         ensures { result ≡ may_take_all self.now real effective saved }
     {

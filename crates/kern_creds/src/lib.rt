@@ -1,7 +1,7 @@
 //! Credentials of processes in a modelled Linux kernel, and the calls that change them (credentials(7), capabilities(7)).
 //!
-//! Each call is its rule in the manual, and either changes the credentials or answers an errno and changes nothing.
-//! The crate rests on `linux_numbers` and `cap_sets`; `Creds::start(alloc).setuid(33)` leaves a process that has no capability.
+//! Each call follows its rule in the manual. It changes the credentials, or answers an errno and changes nothing.
+//! `Creds::start(alloc).setuid(33)` leaves a process that has no capability.
 #![tactic(auto)]
 
 mod creds;

@@ -1,5 +1,5 @@
 -- A recursive bind shows below its target what the table showed below its source.
-use Rattle.std.proofs.Common.{◌≡◌, ℕ, Bool, true, false, cond, [], ◌∷◌, ◌++◌, Option, Some, None, option_map, Ok, refl, sym, ap, ◌∙◌}
+use Rattle.std.proofs.Common.{◌≡◌, ℕ, Bool, true, false, cond, [], ◌∷◌, ◌++◌, Option, Some, None, option_map, refl, sym, ap, ◌∙◌}
 use Rattle.std.proofs.Common.{append_assoc, append-nil}
 use Rattle.std.specs.Option.{option_and_then}
 use Rattle.abs_path.specs.Paths.{Path}
@@ -12,11 +12,11 @@ use Rattle.kern_mounts.specs.declared.step.MountStep.{MountStep}
 use Rattle.kern_mounts.specs.Entry.{leads_to, entry_of}
 use Rattle.kern_mounts.specs.Finds.{empty_directory, nothing, row_or_nothing, host_place_by, host_place, found_by, found_at, finds}
 use Rattle.kern_mounts.specs.Split.{Table, is_below}
-use Rattle.kern_mounts.specs.Bind.{moved, copies, object_at, bound_entry, after_bind}
+use Rattle.kern_mounts.specs.Bind.{moved, object_at, bound_entry}
 use Rattle.kern_mounts.proofs.Entries.{entry_is, entry_leads}
 use Rattle.kern_mounts.proofs.Paths.{behind, front_same, stands_below, below_leads, leads_on}
 use Rattle.kern_mounts.proofs.Splits.{None_have, of_split}
-use Rattle.kern_mounts.proofs.Showing.{or_else, entry_behind, IsBound, bind_made, copied_entry}
+use Rattle.kern_mounts.proofs.Showing.{or_else, entry_behind, copied_entries, IsBound, copied_entry}
 
 -- the entries of a path below the source and of the path at the same place below the target: the source's entry and the new
 -- one, or an entry below the source and its copy
@@ -34,13 +34,10 @@ below_source source rest later entry none e =
     stands_below source rest entry.place (entry_leads later (source ++ rest) entry e)
     (entry_is (λ (s : MountStep). leads_to source s ≡ false) later (source ++ rest) entry none e)
 
-pub carries : (table next : Table) (source target rest : Path) → after_bind table source target true ≡ Ok next
+pub carries : (table next : Table) (source target rest : Path) → IsBound table next source target true
     → Carries table next source target rest
-carries table next source target rest e = by (entry_of b.split.later (source ++ rest)) refl
+carries table next source target rest b = by (entry_of b.split.later (source ++ rest)) refl
   where
-    b : IsBound table next source target true
-    b = bind_made table next source target true e
-
     before : entry_of table (source ++ rest) ≡ or_else (entry_of b.split.later (source ++ rest)) (Some b.split.entry)
     before = ap (λ t. entry_of t (source ++ rest)) b.is.whole
         ∙ entry_behind b.split.earlier b.split.entry b.split.later (source ++ rest) (leads_on b.split.entry.place source rest b.is.has)
@@ -49,7 +46,7 @@ carries table next source target rest e = by (entry_of b.split.later (source ++ 
         (Some (bound_entry source target b.split.entry))
     after =
         ap (λ t. entry_of t (target ++ rest)) b.made
-        ∙ entry_behind table (bound_entry source target b.split.entry) (copies true source target b.split.later) (target ++ rest)
+        ∙ entry_behind table (bound_entry source target b.split.entry) (copied_entries true source target b.split.later) (target ++ rest)
         (prefix-append target rest)
         ∙ ap (λ o. or_else o (Some (bound_entry source target b.split.entry))) (copied_entry source target rest b.split.later b.is.last)
 
@@ -102,7 +99,7 @@ copied_place (Hidden directory) place source target rest leads = refl
 abbrev place_by : Path → Option MountStep → Option Path
 place_by path o = option_and_then (λ step. host_place_by step.what step.place path) o
 
-pub same_host_place : (table next : Table) (source target rest : Path) → after_bind table source target true ≡ Ok next
+pub same_host_place : (table next : Table) (source target rest : Path) → IsBound table next source target true
     → host_place next (target ++ rest) ≡ host_place table (source ++ rest)
 same_host_place table next source target rest e = by (carries table next source target rest e)
   where
@@ -114,7 +111,7 @@ same_host_place table next source target rest e = by (carries table next source 
         ap (place_by (target ++ rest)) after ∙ copied_place entry.what entry.place source target rest (below_leads source entry below)
         ∙ sym (ap (place_by (source ++ rest)) before)
 
-pub same_flags : (table next : Table) (source target rest : Path) → after_bind table source target true ≡ Ok next
+pub same_flags : (table next : Table) (source target rest : Path) → IsBound table next source target true
     → option_map (λ step. step.flags) (entry_of next (target ++ rest)) ≡ option_map (λ step. step.flags) (entry_of table (source ++ rest))
 same_flags table next source target rest e = by (carries table next source target rest e)
   where
@@ -164,7 +161,7 @@ copied_found rows Empty place source target rest leads =
 copied_found rows (Hidden directory) place source target rest leads = refl
 
 pub same_finds : {Row : Type 0} (rows : Path → Option Row) (table next : Table) (source target rest : Path)
-    → after_bind table source target true ≡ Ok next → IsFound rows table source
+    → IsBound table next source target true → IsFound rows table source
     → finds rows next (target ++ rest) ≡ finds rows table (source ++ rest)
 same_finds rows table next source target rest e found = by (carries table next source target rest e)
   where

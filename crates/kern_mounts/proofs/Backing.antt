@@ -17,8 +17,8 @@ use Rattle.kern_mounts.proofs.Paths.{behind, below_leads, stands_below as place_
 use Rattle.kern_mounts.specs.declared.step.Mount.{Mount}
 use Rattle.kern_mounts.specs.Mounts.{Mounts, leads, stands_below, plain}
 use Rattle.kern_mounts.specs.Keeping.{AreAmong}
-use Rattle.kern_mounts.specs.MountsRemount.{with_flags}
-use Rattle.kern_mounts.specs.MountsBind.{moved_mount, copied_mounts, bound_mount, is_locked_below}
+use Rattle.kern_mounts.specs.Remount.{with_flags}
+use Rattle.kern_mounts.specs.Bind.{moved_mount, copies, bound_mount, is_locked_below}
 use Rattle.kern_mounts.specs.Copying.{locked_copy}
 use Rattle.kern_mounts.specs.Backing.{Shows, Widens, is_covered, IsBacked, AreBacked, AreShown}
 use Rattle.kern_mounts.proofs.Keeping.{among_itself}
@@ -91,12 +91,12 @@ backed_flags shows (first ∷ earlier) mount later flags kept h = (
 -- ---- binds
 -- a copy of a mount below the source
 backed_copy : (shows : Shows) (source target : Path) (mount : Mount) (later : Mounts) → stands_below source mount ≡ true
-    → IsBacked shows mount later → IsBacked shows (moved_mount source target mount) (copied_mounts true source target later)
+    → IsBacked shows mount later → IsBacked shows (moved_mount source target mount) (copies true source target later)
 backed_copy shows source target mount later below h = record {
   keeps = h.keeps;
   shown = λ host more is clear. h.shown host more is
       (not_more (is_covered mount.step.place (mount.step.place ++ more) later)
-      (is_covered (target ++ rest) ((target ++ rest) ++ more) (copied_mounts true source target later))
+      (is_covered (target ++ rest) ((target ++ rest) ++ more) (copies true source target later))
       (covered_copies source target mount.step.place (mount.step.place ++ more) (target ++ rest) ((target ++ rest) ++ more) later
       (record { rest = rest; old = own; new = refl })
       (record { rest = rest ++ more; old = ap (λ (p : Path). p ++ more) own ∙ append_assoc source rest more; new = append_assoc target rest more }))
@@ -110,11 +110,11 @@ backed_copy shows source target mount later below h = record {
     own = behind source mount.step.place (below_leads source mount.step below)
 
 pub backed_copies : (shows : Shows) (source target : Path) (later : Mounts) → AreBacked shows later
-    → AreBacked shows (copied_mounts true source target later)
+    → AreBacked shows (copies true source target later)
 backed_copies shows source target [] h = tt
 backed_copies shows source target (mount ∷ later) h = by (stands_below source mount) refl (backed_copies shows source target later h.1)
   where
-    by : (b : Bool) → stands_below source mount ≡ b → AreBacked shows (copied_mounts true source target later)
+    by : (b : Bool) → stands_below source mount ≡ b → AreBacked shows (copies true source target later)
         → AreBacked shows (map (moved_mount source target)
         (cond b (mount ∷ filter (stands_below source) later) (filter (stands_below source) later)))
     by true below more = (backed_copy shows source target mount later below h.0, more)
@@ -148,7 +148,7 @@ backed_bound shows source target mount later now here none copied h =
 
 -- a recursive bind copies what covers
 pub copied_behind : (source target : Path) (later : Mounts) (more : Path) → is_covered source (source ++ more) later ≡ true
-    → is_covered target (target ++ more) (copied_mounts true source target later) ≡ true
+    → is_covered target (target ++ more) (copies true source target later) ≡ true
 copied_behind source target later more h =
     covered_copies source target source (source ++ more) target (target ++ more) later
     (record { rest = []; old = sym (append-nil source); new = sym (append-nil target) }) (record { rest = more; old = refl; new = refl }) h

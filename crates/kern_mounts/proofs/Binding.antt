@@ -6,16 +6,16 @@ use Rattle.std.specs.List.{list_any}
 use Rattle.std.proofs.lemmas.List.{length-map, length-take, take_all, drop_all}
 use Rattle.std.proofs.lemmas.List.Sums.{length-filter}
 use Rattle.abs_path.specs.Paths.{Path}
-use Rattle.abs_path.specs.Prefix.{is_prefix}
+use Rattle.abs_path.specs.Prefix.{is_prefix, rest_of}
 use Rattle.linux_numbers.specs.Errnos.{einval, enametoolong, enospc}
 use Rattle.linux_numbers.specs.Limits.{mount_max}
 use Rattle.kern_mounts.specs.declared.step.Mount.{Mount}
 use Rattle.kern_mounts.specs.Entry.{Belongs}
-use Rattle.kern_mounts.specs.Bind.{moved, is_too_long, goes_too_far, can_show, can_show_at, can_bind}
+use Rattle.kern_mounts.specs.Bind.{is_long, goes_too_far, can_show, can_show_at, can_bind}
 use Rattle.kern_mounts.specs.Mounts.{Mounts, steps_of, leads, stands_below}
-use Rattle.kern_mounts.specs.MountsPush.{mounts_grown}
-use Rattle.kern_mounts.specs.MountsBind.{moved_mount, copied_mounts, bound_mount, is_locked_below, is_placed_too_long, mounts_bound}
-use Rattle.kern_mounts.specs.MountsBind.{mounts_after_bind}
+use Rattle.kern_mounts.specs.Push.{grown}
+use Rattle.kern_mounts.specs.Bind.{moved_mount, copies, bound_mount, is_locked_below, is_too_long, bound}
+use Rattle.kern_mounts.specs.Bind.{after_bind}
 use Rattle.kern_mounts.specs.Pushed.{HasBound}
 use Rattle.kern_mounts.proofs.Splits.{about, split_some}
 use Rattle.kern_mounts.proofs.Mounts.{in_range, mount_by_number, mount_entry}
@@ -46,24 +46,24 @@ shown mounts later source recursive at mount h can =
     (mount_entry source mounts (about mounts at mount) (mount_by_number mounts source at mount h.belongs h.entry_is))) ∙ can
 
 copied_among : (source target : Path) (recursive : Bool) (behind later : Mounts) → later ≡ cond recursive behind []
-    → copied_mounts recursive source target behind ≡ copied_mounts true source target later
-copied_among source target true behind later e = ap (copied_mounts true source target) (sym e)
-copied_among source target false behind later e = ap (copied_mounts true source target) (sym e)
+    → copies recursive source target behind ≡ copies true source target later
+copied_among source target true behind later e = ap (copies true source target) (sym e)
+copied_among source target false behind later e = ap (copies true source target) (sym e)
 
 any_moved : (source target : Path) (later : Mounts) → list_any (λ mount. goes_too_far source target mount.step) later
-    ≡ list_any is_placed_too_long (copied_mounts true source target later)
+    ≡ list_any is_too_long (copies true source target later)
 any_moved source target [] = refl
 any_moved source target (mount ∷ later) = by (stands_below source mount) (any_moved source target later)
   where
     by : (b : Bool) → list_any (λ mount. goes_too_far source target mount.step) later
-        ≡ list_any is_placed_too_long (copied_mounts true source target later)
-        → ((b && is_too_long (moved source target mount.step)) || list_any (λ mount. goes_too_far source target mount.step) later)
-        ≡ list_any is_placed_too_long
+        ≡ list_any is_too_long (copies true source target later)
+        → ((b && is_long (target ++ rest_of source mount.step.place)) || list_any (λ mount. goes_too_far source target mount.step) later)
+        ≡ list_any is_too_long
         (map (moved_mount source target) (cond b (mount ∷ filter (stands_below source) later) (filter (stands_below source) later)))
-    by true e = ap (λ b. is_too_long (moved source target mount.step) || b) e
+    by true e = ap (λ b. is_long (target ++ rest_of source mount.step.place) || b) e
     by false e = e
 
-count_copies : (source target : Path) (later : Mounts) → length (copied_mounts true source target later)
+count_copies : (source target : Path) (later : Mounts) → length (copies true source target later)
     ≡ count_by (stands_below source) later
 count_copies source target later = length-map (filter (stands_below source) later) (moved_mount source target)
     ∙ length-filter (stands_below source) later
@@ -71,14 +71,14 @@ count_copies source target later = length-map (filter (stands_below source) late
 -- the rule, with the copies in hand
 abbrev pub bound_with : Mounts → Mount → Mounts → Bool → Result Mounts ℕ
 bound_with mounts first more uncovers = cond uncovers (Err einval)
-    (cond (list_any is_placed_too_long more) (Err enametoolong) (mounts_grown mounts (first ∷ more)))
+    (cond (list_any is_too_long more) (Err enametoolong) (grown mounts (first ∷ more)))
 
 bind_by : (mounts later : Mounts) (source target : Path) (recursive : Bool) (at : ℕ) (mount : Mount)
     → Binds mounts later source recursive at mount →
-    mounts_after_bind mounts source target recursive ≡ bound_with mounts (bound_mount source target mount)
-    (copied_mounts true source target later) (not recursive && list_any (is_locked_below source) (drop (at + 1) mounts))
+    after_bind mounts source target recursive ≡ bound_with mounts (bound_mount source target mount)
+    (copies true source target later) (not recursive && list_any (is_locked_below source) (drop (at + 1) mounts))
 bind_by mounts later source target recursive at mount h =
-    ap (mounts_bound mounts source target recursive) (mount_by_number mounts source at mount h.belongs h.entry_is)
+    ap (bound mounts source target recursive) (mount_by_number mounts source at mount h.belongs h.entry_is)
     ∙ ap (λ more. bound_with mounts (bound_mount source target mount) more
     (not recursive && list_any (is_locked_below source) (drop (at + 1) mounts)))
     (copied_among source target recursive (drop (at + 1) mounts) later h.later_is)
@@ -89,30 +89,30 @@ uncovers mounts source recursive at = not recursive && list_any (is_locked_below
 
 pub bind_uncovers : (mounts later : Mounts) (source target : Path) (recursive : Bool) (at : ℕ) (mount : Mount)
     → Binds mounts later source recursive at mount →
-    uncovers mounts source recursive at ≡ true → mounts_after_bind mounts source target recursive ≡ Err einval
+    uncovers mounts source recursive at ≡ true → after_bind mounts source target recursive ≡ Err einval
 bind_uncovers mounts later source target recursive at mount h some =
     bind_by mounts later source target recursive at mount h ∙ ap
-    (bound_with mounts (bound_mount source target mount) (copied_mounts true source target later)) some
+    (bound_with mounts (bound_mount source target mount) (copies true source target later)) some
 
 pub bind_long : (mounts later : Mounts) (source target : Path) (recursive : Bool) (at : ℕ) (mount : Mount)
     → Binds mounts later source recursive at mount →
     uncovers mounts source recursive at ≡ false → list_any (λ mount. goes_too_far source target mount.step) later ≡ true
-    → mounts_after_bind mounts source target recursive ≡ Err enametoolong
+    → after_bind mounts source target recursive ≡ Err enametoolong
 bind_long mounts later source target recursive at mount h none long =
     bind_by mounts later source target recursive at mount h ∙ ap
-    (bound_with mounts (bound_mount source target mount) (copied_mounts true source target later)) none
-    ∙ ap (λ b. cond b (Err enametoolong) (mounts_grown mounts (bound_mount source target mount ∷ copied_mounts true source target later)))
+    (bound_with mounts (bound_mount source target mount) (copies true source target later)) none
+    ∙ ap (λ b. cond b (Err enametoolong) (grown mounts (bound_mount source target mount ∷ copies true source target later)))
     (sym (any_moved source target later) ∙ long)
 
 bind_short : (mounts later : Mounts) (source target : Path) (recursive : Bool) (at : ℕ) (mount : Mount)
     → Binds mounts later source recursive at mount →
     uncovers mounts source recursive at ≡ false → list_any (λ mount. goes_too_far source target mount.step) later ≡ false
-    → mounts_after_bind mounts source target recursive ≡ mounts_grown mounts
-    (bound_mount source target mount ∷ copied_mounts true source target later)
+    → after_bind mounts source target recursive ≡ grown mounts
+    (bound_mount source target mount ∷ copies true source target later)
 bind_short mounts later source target recursive at mount h none short =
     bind_by mounts later source target recursive at mount h ∙ ap
-    (bound_with mounts (bound_mount source target mount) (copied_mounts true source target later)) none
-    ∙ ap (λ b. cond b (Err enametoolong) (mounts_grown mounts (bound_mount source target mount ∷ copied_mounts true source target later)))
+    (bound_with mounts (bound_mount source target mount) (copies true source target later)) none
+    ∙ ap (λ b. cond b (Err enametoolong) (grown mounts (bound_mount source target mount ∷ copies true source target later)))
     (sym (any_moved source target later) ∙ short)
 
 less : (a b : ℕ) → a < b → nat_lt a b ≡ true
@@ -125,23 +125,23 @@ pub bind_full : (mounts later : Mounts) (source target : Path) (recursive : Bool
     → Binds mounts later source recursive at mount →
     uncovers mounts source recursive at ≡ false → list_any (λ mount. goes_too_far source target mount.step) later ≡ false
     → count ≡ count_by (stands_below source) later → mount_max < length mounts + (1 + count)
-    → mounts_after_bind mounts source target recursive ≡ Err enospc
+    → after_bind mounts source target recursive ≡ Err enospc
 bind_full mounts later source target recursive at mount count h none short e many =
-    let all : length mounts + length (bound_mount source target mount ∷ copied_mounts true source target later) ≡ length mounts + (1 + count) = let n = count_copies source target later in omega (arith, n, e) in
+    let all : length mounts + length (bound_mount source target mount ∷ copies true source target later) ≡ length mounts + (1 + count) = let n = count_copies source target later in omega (arith, n, e) in
     bind_short mounts later source target recursive at mount h none short
-    ∙ ap (λ b. cond b (Err enospc) (Ok (mounts ++ bound_mount source target mount ∷ copied_mounts true source target later)))
+    ∙ ap (λ b. cond b (Err enospc) (Ok (mounts ++ bound_mount source target mount ∷ copies true source target later)))
     (ap (nat_lt mount_max) all ∙ less mount_max (length mounts + (1 + count)) many)
 
 pub bind_done : (mounts later : Mounts) (source target : Path) (recursive : Bool) (at : ℕ) (mount : Mount) (count : ℕ)
     → Binds mounts later source recursive at mount →
     uncovers mounts source recursive at ≡ false → list_any (λ mount. goes_too_far source target mount.step) later ≡ false
     → count ≡ count_by (stands_below source) later → length mounts + (1 + count) ≤ mount_max →
-    mounts_after_bind mounts source target recursive
-    ≡ Ok (mounts ++ bound_mount source target mount ∷ copied_mounts true source target later)
+    after_bind mounts source target recursive
+    ≡ Ok (mounts ++ bound_mount source target mount ∷ copies true source target later)
 bind_done mounts later source target recursive at mount count h none short e few =
-    let all : length mounts + length (bound_mount source target mount ∷ copied_mounts true source target later) ≡ length mounts + (1 + count) = let n = count_copies source target later in omega (arith, n, e) in
+    let all : length mounts + length (bound_mount source target mount ∷ copies true source target later) ≡ length mounts + (1 + count) = let n = count_copies source target later in omega (arith, n, e) in
     bind_short mounts later source target recursive at mount h none short
-    ∙ ap (λ b. cond b (Err enospc) (Ok (mounts ++ bound_mount source target mount ∷ copied_mounts true source target later)))
+    ∙ ap (λ b. cond b (Err enospc) (Ok (mounts ++ bound_mount source target mount ∷ copies true source target later)))
     (ap (nat_lt mount_max) all ∙ not_less mount_max (length mounts + (1 + count)) few)
 
 -- the source belongs to the mount
@@ -154,11 +154,11 @@ source_leads mounts later source recursive at mount h =
 pub bind_made : (mounts new : Mounts) (source target : Path) (recursive : Bool) (at end : ℕ) → Belongs (steps_of mounts) source at
     → uncovers mounts source recursive at ≡ false → end ≡ cond recursive (length mounts) (at + 1) →
     HasBound mounts new at (drop (at + 1) (take end mounts)) source target → length new ≤ mount_max
-    → mounts_after_bind mounts source target recursive ≡ Ok new
+    → after_bind mounts source target recursive ≡ Ok new
 bind_made mounts new source target recursive at end belongs none is h few =
     let here = stands mounts at (in_range mounts source at belongs) in
     let later = drop (at + 1) (take end mounts) in
-    let more = bound_mount source target here.0 ∷ copied_mounts true source target later in
+    let more = bound_mount source target here.0 ∷ copies true source target later in
     let binds : Binds mounts later source recursive at here.0 = record { belongs = belongs; entry_is = here.1; later_is = up_to_the_end mounts recursive at end is } in
     let made : new ≡ mounts ++ more = h.behind here.0 here.1 in
     let room : length mounts + length more ≤ mount_max = let sum = length-append mounts more in let size = ap length made in omega (arith, sum, size, few) in

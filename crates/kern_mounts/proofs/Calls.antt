@@ -14,10 +14,10 @@ use Rattle.kern_mounts.specs.Mounts.{Mounts, leads, stands_at, stands_below, pla
 use Rattle.kern_mounts.specs.Keeping.{lacks}
 use Rattle.kern_mounts.specs.Split.{SplitOf}
 use Rattle.kern_mounts.specs.MountAt.{mount_at}
-use Rattle.kern_mounts.specs.MountsUmount.{mounts_unmounted, mounts_after_umount}
-use Rattle.kern_mounts.specs.MountsRemount.{with_flags, mounts_remounted, mounts_after_remount}
-use Rattle.kern_mounts.specs.MountsPush.{mounts_grown, mounts_after_push}
-use Rattle.kern_mounts.specs.MountsBind.{copied_mounts, bound_mount, is_locked_below, is_placed_too_long, mounts_bound, mounts_after_bind}
+use Rattle.kern_mounts.specs.Umount.{unmounted, after_umount}
+use Rattle.kern_mounts.specs.Remount.{with_flags, remounted, after_remount}
+use Rattle.kern_mounts.specs.Push.{grown, after_push}
+use Rattle.kern_mounts.specs.Bind.{copies, bound_mount, is_locked_below, is_too_long, bound, after_bind}
 use Rattle.kern_mounts.specs.Backing.{Shows, Widens, AreBacked}
 use Rattle.kern_mounts.specs.Changes.{Changes, still, then_bind, then_empty, then_remount, then_umount, then_locked}
 use Rattle.kern_mounts.proofs.Splits.{IsSplit, split_some}
@@ -31,20 +31,22 @@ whole_backed shows path mounts split s h = let P : Mounts → Type 0 = AreBacked
 
 -- ---- umount2
 -- what a call that is done removes: a mount that is not locked, and the later ones below it
-pub record Removes (path : Path) (mounts next : Mounts) : Type 0 where
+pub record Umounts (path : Path) (mounts next : Mounts) : Type 0 where
   pub split : SplitOf Mount
   pub found : mount_at path mounts ≡ Some split
   pub at_place : stands_at path split.entry ≡ true
   pub free : split.entry.locked ≡ false
   pub made : split.earlier ++ filter (λ mount. not (stands_below path mount)) split.later ≡ next
+  pub below_root : is_root path ≡ false
 
-pub removes : (mounts next : Mounts) (path : Path) (detach : Bool) → mounts_after_umount mounts path detach ≡ Ok next
-    → Removes path mounts next
-removes mounts next path detach e = below_root (is_root path) e
+pub umounts : (mounts next : Mounts) (path : Path) (detach : Bool) → after_umount mounts path detach ≡ Ok next
+    → Umounts path mounts next
+umounts mounts next path detach e = below_root (is_root path) refl e
   where
-    by : (o : Option (SplitOf Mount)) → mount_at path mounts ≡ o → mounts_unmounted path detach o ≡ Ok next → Removes path mounts next
-    by None s f = cc
-    by (Some split) s f = by_at (stands_at path split.entry) split.entry.locked
+    by : (o : Option (SplitOf Mount)) → is_root path ≡ false → mount_at path mounts ≡ o → unmounted path detach o ≡ Ok next
+        → Umounts path mounts next
+    by None low s f = cc
+    by (Some split) low s f = by_at (stands_at path split.entry) split.entry.locked
         (not detach && list_any (stands_below path) split.later) refl refl f
       where
         left : Mounts
@@ -53,26 +55,26 @@ removes mounts next path detach e = below_root (is_root path) e
         by_at : (a l b : Bool) → stands_at path split.entry ≡ a → split.entry.locked ≡ l
             → cond {A = Result Mounts ℕ} (not a) (Err einval)
             (cond {A = Result Mounts ℕ} l (Err einval) (cond {A = Result Mounts ℕ} b (Err ebusy) (Ok left))) ≡ Ok next
-            → Removes path mounts next
+            → Umounts path mounts next
         by_at false l b p q f = cc
         by_at true true b p q f = cc
         by_at true false true p q f = cc
-        by_at true false false p q f = record { split = split; found = s; at_place = p; free = q; made = cc }
+        by_at true false false p q f = record { split = split; found = s; at_place = p; free = q; made = cc; below_root = low }
 
-    below_root : (b : Bool) → cond {A = Result Mounts ℕ} b (Err einval) (mounts_unmounted path detach (mount_at path mounts)) ≡ Ok next
-        → Removes path mounts next
-    below_root true f = cc
-    below_root false f = by (mount_at path mounts) refl f
+    below_root : (b : Bool) → is_root path ≡ b
+        → cond {A = Result Mounts ℕ} b (Err einval) (unmounted path detach (mount_at path mounts)) ≡ Ok next → Umounts path mounts next
+    below_root true low f = cc
+    below_root false low f = by (mount_at path mounts) low refl f
 
 pub umount_backed : (shows : Shows) (mounts next : Mounts) (path : Path) (detach : Bool) → AreBacked shows mounts
-    → mounts_after_umount mounts path detach ≡ Ok next → AreBacked shows next
+    → after_umount mounts path detach ≡ Ok next → AreBacked shows next
 umount_backed shows mounts next path detach h e =
     let P : Mounts → Type 0 = AreBacked shows in
     subst P r.made (backed_front shows r.split.earlier r.split.entry r.split.later _ r.free all
     (backed_left shows path r.split.later is.last (backed_behind shows r.split.earlier (r.split.entry ∷ r.split.later) all).1))
   where
-    r : Removes path mounts next
-    r = removes mounts next path detach e
+    r : Umounts path mounts next
+    r = umounts mounts next path detach e
 
     is : IsSplit (leads path) mounts r.split
     is = split_some (leads path) mounts r.split r.found
@@ -88,11 +90,11 @@ pub record Remounts (place : Path) (flags : Flags) (mounts next : Mounts) : Type
   pub kept : lacks split.entry.kept flags ≡ false
   pub made : split.earlier ++ with_flags split.entry flags ∷ split.later ≡ next
 
-pub remounts : (mounts next : Mounts) (place : Path) (flags : Flags) → mounts_after_remount mounts place flags ≡ Ok next
+pub remounts : (mounts next : Mounts) (place : Path) (flags : Flags) → after_remount mounts place flags ≡ Ok next
     → Remounts place flags mounts next
 remounts mounts next place flags e = by (mount_at place mounts) refl e
   where
-    by : (o : Option (SplitOf Mount)) → mount_at place mounts ≡ o → mounts_remounted place flags o ≡ Ok next
+    by : (o : Option (SplitOf Mount)) → mount_at place mounts ≡ o → remounted place flags o ≡ Ok next
         → Remounts place flags mounts next
     by None s f = cc
     by (Some split) s f = by_at (stands_at place split.entry) (lacks split.entry.kept flags) refl refl f
@@ -108,7 +110,7 @@ remounts mounts next place flags e = by (mount_at place mounts) refl e
         by_at true false p q f = record { split = split; found = s; at_place = p; kept = q; made = cc }
 
 pub remount_backed : (shows : Shows) (mounts next : Mounts) (place : Path) (flags : Flags) → AreBacked shows mounts
-    → mounts_after_remount mounts place flags ≡ Ok next → AreBacked shows next
+    → after_remount mounts place flags ≡ Ok next → AreBacked shows next
 remount_backed shows mounts next place flags h e =
     let P : Mounts → Type 0 = AreBacked shows in
     let r = remounts mounts next place flags e in
@@ -116,7 +118,7 @@ remount_backed shows mounts next place flags h e =
     (whole_backed shows place mounts r.split r.found h))
 
 -- ---- mounts that are added
-pub grown_is : (mounts more next : Mounts) → mounts_grown mounts more ≡ Ok next → mounts ++ more ≡ next
+pub grown_is : (mounts more next : Mounts) → grown mounts more ≡ Ok next → mounts ++ more ≡ next
 grown_is mounts more next e = by (nat_lt mount_max (length mounts + length more)) e
   where
     by : (b : Bool) → cond {A = Result Mounts ℕ} b (Err enospc) (Ok (mounts ++ more)) ≡ Ok next → mounts ++ more ≡ next
@@ -124,7 +126,7 @@ grown_is mounts more next e = by (nat_lt mount_max (length mounts + length more)
     by false f = cc
 
 pub grown_backed : (shows : Shows) (mounts more next : Mounts) → AreBacked shows mounts → AreBacked shows more
-    → mounts_grown mounts more ≡ Ok next → AreBacked shows next
+    → grown mounts more ≡ Ok next → AreBacked shows next
 grown_backed shows mounts more next h g e = let P : Mounts → Type 0 = AreBacked shows in subst P (grown_is mounts more next e) (backed_append shows mounts more h g)
 
 -- an empty file system shows nothing of the host
@@ -133,7 +135,7 @@ empty_alone : (shows : Shows) (target : Path) (flags : Flags)
 empty_alone shows target flags = (record { keeps = refl; shown = λ source rest host clear. let never : ⊥ = cc in absurd never }, tt)
 
 pub empty_backed : (shows : Shows) (mounts next : Mounts) (target : Path) (flags : Flags) → AreBacked shows mounts
-    → mounts_after_push mounts (record { place = target; what = Empty; flags = flags }) ≡ Ok next → AreBacked shows next
+    → after_push mounts (record { place = target; what = Empty; flags = flags }) ≡ Ok next → AreBacked shows next
 empty_backed shows mounts next target flags h e = grown_backed shows mounts
     (plain (record { place = target; what = Empty; flags = flags }) ∷ []) next h (empty_alone shows target flags) e
 
@@ -142,20 +144,20 @@ pub record Binds (source target : Path) (recursive : Bool) (mounts next : Mounts
   pub split : SplitOf Mount
   pub found : mount_at source mounts ≡ Some split
   pub allowed : (not recursive && list_any (is_locked_below source) split.later) ≡ false
-  pub made : mounts_grown mounts (bound_mount source target split.entry ∷ copied_mounts recursive source target split.later) ≡ Ok next
+  pub made : grown mounts (bound_mount source target split.entry ∷ copies recursive source target split.later) ≡ Ok next
 
-pub binds : (mounts next : Mounts) (source target : Path) (recursive : Bool) → mounts_after_bind mounts source target recursive ≡ Ok next
+pub binds : (mounts next : Mounts) (source target : Path) (recursive : Bool) → after_bind mounts source target recursive ≡ Ok next
     → Binds source target recursive mounts next
 binds mounts next source target recursive e = by (mount_at source mounts) refl e
   where
-    by : (o : Option (SplitOf Mount)) → mount_at source mounts ≡ o → mounts_bound mounts source target recursive o ≡ Ok next
+    by : (o : Option (SplitOf Mount)) → mount_at source mounts ≡ o → bound mounts source target recursive o ≡ Ok next
         → Binds source target recursive mounts next
     by None s f = cc
     by (Some split) s f = by_at (not recursive && list_any (is_locked_below source) split.later)
-        (list_any is_placed_too_long (copied_mounts recursive source target split.later)) refl f
+        (list_any is_too_long (copies recursive source target split.later)) refl f
       where
         now : Result Mounts ℕ
-        now = mounts_grown mounts (bound_mount source target split.entry ∷ copied_mounts recursive source target split.later)
+        now = grown mounts (bound_mount source target split.entry ∷ copies recursive source target split.later)
 
         by_at : (a b : Bool) → (not recursive && list_any (is_locked_below source) split.later) ≡ a
             → cond {A = Result Mounts ℕ} a (Err einval) (cond {A = Result Mounts ℕ} b (Err enametoolong) now) ≡ Ok next
@@ -165,15 +167,15 @@ binds mounts next source target recursive e = by (mount_at source mounts) refl e
         by_at false false p f = record { split = split; found = s; allowed = p; made = f }
 
 pub bind_backed : (shows : Shows) (mounts next : Mounts) (source target : Path) (recursive : Bool) → AreBacked shows mounts
-    → mounts_after_bind mounts source target recursive ≡ Ok next → AreBacked shows next
+    → after_bind mounts source target recursive ≡ Ok next → AreBacked shows next
 bind_backed shows mounts next source target recursive h e = by recursive (binds mounts next source target recursive e)
   where
     by : (recursive : Bool) → Binds source target recursive mounts next → AreBacked shows next
     by true b =
         let is = split_some (leads source) mounts b.split b.found in
         let own = backed_behind shows b.split.earlier (b.split.entry ∷ b.split.later) (whole_backed shows source mounts b.split b.found h) in
-        grown_backed shows mounts (bound_mount source target b.split.entry ∷ copied_mounts true source target b.split.later) next h
-        (backed_bound shows source target b.split.entry b.split.later (copied_mounts true source target b.split.later) is.has is.last (copied_behind source target b.split.later) own.0, backed_copies shows source target b.split.later own.1)
+        grown_backed shows mounts (bound_mount source target b.split.entry ∷ copies true source target b.split.later) next h
+        (backed_bound shows source target b.split.entry b.split.later (copies true source target b.split.later) is.has is.last (copied_behind source target b.split.later) own.0, backed_copies shows source target b.split.later own.1)
         b.made
     by false b =
         let is = split_some (leads source) mounts b.split b.found in

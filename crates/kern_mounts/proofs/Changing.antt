@@ -11,8 +11,8 @@ use Rattle.kern_mounts.specs.Entry.{Belongs}
 use Rattle.kern_mounts.specs.Table.{StartsAtRoot}
 use Rattle.kern_mounts.specs.Keeping.{lacks}
 use Rattle.kern_mounts.specs.Mounts.{Mounts, steps_of, stands_at, stands_below}
-use Rattle.kern_mounts.specs.MountsUmount.{mounts_unmounted, mounts_after_umount}
-use Rattle.kern_mounts.specs.MountsRemount.{with_flags, with_root_flags, mounts_remounted, mounts_after_remount}
+use Rattle.kern_mounts.specs.Umount.{unmounted, after_umount}
+use Rattle.kern_mounts.specs.Remount.{with_flags, with_root_flags, remounted, after_remount}
 use Rattle.kern_mounts.proofs.Splits.{about}
 use Rattle.kern_mounts.proofs.Mounts.{in_range, mount_by_number}
 use Rattle.kern_mounts.proofs.Writing.{written}
@@ -28,42 +28,42 @@ mount_stands : (mounts items : Mounts) (path : Path) (at : ℕ) (mount : Mount) 
 mount_stands mounts items path at mount h = h.entry_is ∙ ap (λ (t : Mounts). get_or t at mount) h.view
 
 remount_by : (mounts items : Mounts) (path : Path) (flags : Flags) (at : ℕ) (mount : Mount) → Stands mounts items path at mount
-    → mounts_after_remount mounts path flags ≡ mounts_remounted path flags (Some (about mounts at mount))
-remount_by mounts items path flags at mount h = ap (mounts_remounted path flags)
+    → after_remount mounts path flags ≡ remounted path flags (Some (about mounts at mount))
+remount_by mounts items path flags at mount h = ap (remounted path flags)
     (mount_by_number mounts path at mount h.belongs (mount_stands mounts items path at mount h))
 
 pub remount_refused : (mounts items : Mounts) (path : Path) (flags : Flags) (at : ℕ) (mount : Mount) → Stands mounts items path at mount
-    → stands_at path mount ≡ false → mounts_after_remount mounts path flags ≡ Err einval
+    → stands_at path mount ≡ false → after_remount mounts path flags ≡ Err einval
 remount_refused mounts items path flags at mount h other = remount_by mounts items path flags at mount h ∙ rw other refl
 
 pub remount_kept : (mounts items : Mounts) (path : Path) (flags : Flags) (at : ℕ) (mount : Mount) → Stands mounts items path at mount
-    → stands_at path mount ≡ true → lacks mount.kept flags ≡ true → mounts_after_remount mounts path flags ≡ Err eperm
+    → stands_at path mount ≡ true → lacks mount.kept flags ≡ true → after_remount mounts path flags ≡ Err eperm
 remount_kept mounts items path flags at mount h own kept = remount_by mounts items path flags at mount h ∙ rw (own, kept) refl
 
 pub remount_done : (mounts items : Mounts) (path : Path) (flags : Flags) (at : ℕ) (mount : Mount) → Stands mounts items path at mount
     → stands_at path mount ≡ true → lacks mount.kept flags ≡ false →
-    mounts_after_remount mounts path flags ≡ Ok (set items at (with_flags mount flags))
+    after_remount mounts path flags ≡ Ok (set items at (with_flags mount flags))
 remount_done mounts items path flags at mount h own free =
     remount_by mounts items path flags at mount h ∙ rw (own, free) refl
     ∙ ap Ok (sym (written mounts at (with_flags mount flags) (in_range mounts path at h.belongs)))
     ∙ ap (λ (t : Mounts). Ok (set t at (with_flags mount flags))) (sym h.view)
 
 umount_by : (mounts items : Mounts) (path : Path) (detach : Bool) (at : ℕ) (mount : Mount) → Stands mounts items path at mount
-    → is_root path ≡ false → mounts_after_umount mounts path detach ≡ mounts_unmounted path detach (Some (about mounts at mount))
+    → is_root path ≡ false → after_umount mounts path detach ≡ unmounted path detach (Some (about mounts at mount))
 umount_by mounts items path detach at mount h below = rw below
-    (ap (mounts_unmounted path detach) (mount_by_number mounts path at mount h.belongs (mount_stands mounts items path at mount h)))
+    (ap (unmounted path detach) (mount_by_number mounts path at mount h.belongs (mount_stands mounts items path at mount h)))
 
 pub umount_elsewhere : (mounts items : Mounts) (path : Path) (detach : Bool) (at : ℕ) (mount : Mount) → Stands mounts items path at mount
-    → is_root path ≡ false → stands_at path mount ≡ false → mounts_after_umount mounts path detach ≡ Err einval
+    → is_root path ≡ false → stands_at path mount ≡ false → after_umount mounts path detach ≡ Err einval
 umount_elsewhere mounts items path detach at mount h below other = umount_by mounts items path detach at mount h below ∙ rw other refl
 
 pub umount_locked : (mounts items : Mounts) (path : Path) (detach : Bool) (at : ℕ) (mount : Mount) → Stands mounts items path at mount
-    → is_root path ≡ false → stands_at path mount ≡ true → mount.locked ≡ true → mounts_after_umount mounts path detach ≡ Err einval
+    → is_root path ≡ false → stands_at path mount ≡ true → mount.locked ≡ true → after_umount mounts path detach ≡ Err einval
 umount_locked mounts items path detach at mount h below own lock = umount_by mounts items path detach at mount h below ∙ rw (own, lock) refl
 
 pub umount_busy : (mounts items : Mounts) (path : Path) (at : ℕ) (mount : Mount) → Stands mounts items path at mount
     → is_root path ≡ false → stands_at path mount ≡ true → mount.locked ≡ false →
-    list_any (stands_below path) (drop (at + 1) items) ≡ true → mounts_after_umount mounts path false ≡ Err ebusy
+    list_any (stands_below path) (drop (at + 1) items) ≡ true → after_umount mounts path false ≡ Err ebusy
 umount_busy mounts items path at mount h below own free some =
     let there : list_any (stands_below path) (drop (at + 1) mounts) ≡ true = ap (λ (t : Mounts). list_any (stands_below path) (drop (at + 1) t)) (sym h.view) ∙ some in
     umount_by mounts items path false at mount h below ∙ rw (own, free, there) refl
@@ -71,7 +71,7 @@ umount_busy mounts items path at mount h below own free some =
 pub umount_done : (mounts items : Mounts) (path : Path) (detach : Bool) (at : ℕ) (mount : Mount) → Stands mounts items path at mount
     → is_root path ≡ false → stands_at path mount ≡ true → mount.locked ≡ false →
     (not detach && list_any (stands_below path) (drop (at + 1) items)) ≡ false
-    → mounts_after_umount mounts path detach
+    → after_umount mounts path detach
     ≡ Ok (take at items ++ filter (λ other. not (stands_below path other)) (drop (at + 1) items))
 umount_done mounts items path detach at mount h below own free none =
     let none_there : (not detach && list_any (stands_below path) (drop (at + 1) mounts)) ≡ false = ap (λ (t : Mounts). not detach && list_any (stands_below path) (drop (at + 1) t)) (sym h.view) ∙ none in

@@ -8,7 +8,7 @@ use Rattle.abs_path.proofs.Prefixes.{prefix-append, prefix_trans, prefix_antisym
 use Rattle.kern_mounts.proofs.Paths.{behind, below_leads, front_leads, front_same}
 use Rattle.kern_mounts.specs.declared.step.Mount.{Mount}
 use Rattle.kern_mounts.specs.Mounts.{Mounts, leads, stands_below}
-use Rattle.kern_mounts.specs.MountsBind.{moved_mount, copied_mounts}
+use Rattle.kern_mounts.specs.Bind.{moved_mount, copies}
 use Rattle.kern_mounts.specs.Backing.{is_covered}
 use Rattle.kern_mounts.proofs.Covering.{more_covered, later_covers}
 
@@ -64,13 +64,13 @@ moved_below source target place path to_place to_path mount p q below h =
 -- what covers a path below the source covers the same path below the target, when it is copied
 pub covered_copies : (source target place path to_place to_path : Path) (later : Mounts) → IsMoved source target place to_place
     → IsMoved source target path to_path
-    → is_covered place path later ≡ true → is_covered to_place to_path (copied_mounts true source target later) ≡ true
+    → is_covered place path later ≡ true → is_covered to_place to_path (copies true source target later) ≡ true
 covered_copies source target place path to_place to_path [] p q h = h
 covered_copies source target place path to_place to_path (mount ∷ later) p q h =
     by (stands_below source mount) refl h (covered_copies source target place path to_place to_path later p q)
   where
     now : Mounts
-    now = copied_mounts true source target later
+    now = copies true source target later
 
     elsewhere : stands_below source mount ≡ false → (stands_below place mount && leads path mount) ≡ false
     elsewhere not_below = false_from_ne_true _ (λ both. false≢true (sym not_below ∙

@@ -4,7 +4,6 @@ mod Mounting
 pub mod Paths
 pub mod Splits
 pub mod Mounts
-pub mod Steps
 pub mod Unmounting
 pub mod Writing
 pub mod Changing

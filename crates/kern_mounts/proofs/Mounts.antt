@@ -1,6 +1,7 @@
 -- Mounts and their entries, by number and about a path.
 use Rattle.std.proofs.Common.{◌≡◌, ◌<◌, ℕ, zero, suc, Bool, true, false, [], ◌∷◌, ◌++◌, Option, Some, None, length, get_or, take, drop}
 use Rattle.std.proofs.Common.{filter, refl, ap, ◌∙◌, sym, arith, add-one, cond}
+use Rattle.std.specs.Prelude.{not}
 use Rattle.std.proofs.lemmas.List.{map-append, length-map, get_or-map, take-map}
 use Rattle.std.proofs.lemmas.List.Elements.{recursion_from_All}
 use Rattle.abs_path.specs.Paths.{Path}
@@ -8,10 +9,10 @@ use Rattle.kern_mounts.specs.declared.step.Mount.{Mount}
 use Rattle.kern_mounts.specs.declared.step.MountStep.{MountStep}
 use Rattle.kern_mounts.specs.Entry.{Belongs, leads_to, entry_of}
 use Rattle.kern_mounts.specs.Split as table
-use Rattle.kern_mounts.specs.Split.{SplitOf, split_or, split_last}
+use Rattle.kern_mounts.specs.Split.{SplitOf, split_or, split_last, is_below}
 use Rattle.kern_mounts.specs.MountAt.{mount_at}
 use Rattle.kern_mounts.specs.Copying.{locked_copy}
-use Rattle.kern_mounts.specs.Mounts.{Mounts, steps_of, leads}
+use Rattle.kern_mounts.specs.Mounts.{Mounts, steps_of, leads, stands_below}
 use Rattle.kern_mounts.proofs.Entries.{behind_first}
 use Rattle.kern_mounts.proofs.Splits.{None_have, split_is, of_split, cut, about}
 
@@ -34,6 +35,13 @@ steps_filter p (mount ∷ mounts) = by (p mount.step) (steps_filter p mounts)
         ≡ cond b (mount.step ∷ filter p (steps_of mounts)) (filter p (steps_of mounts))
     by true more = ap (λ (t : table.Table). mount.step ∷ t) more
     by false more = more
+
+-- what is left of mounts where those below a path go
+pub left_steps : (path : Path) (split : SplitOf Mount) → steps_of
+    (split.earlier ++ filter (λ mount. not (stands_below path mount)) split.later)
+    ≡ steps_of split.earlier ++ filter (λ step. not (is_below path step)) (steps_of split.later)
+left_steps path split = steps_append split.earlier (filter (λ mount. not (stands_below path mount)) split.later)
+    ∙ ap (λ (t : table.Table). steps_of split.earlier ++ t) (steps_filter (λ step. not (is_below path step)) split.later)
 
 pub in_range : (mounts : Mounts) (path : Path) (at : ℕ) → Belongs (steps_of mounts) path at → at < length mounts
 in_range mounts path at h = let long = steps_long mounts in omega (arith, h.in_range, long)

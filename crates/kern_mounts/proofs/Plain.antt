@@ -1,34 +1,27 @@
--- Mounts that are not locked and keep nothing: each call answers as of the entries alone, and leaves such.
+-- Mounts that are not locked and keep nothing: each call leaves such, and what some calls make of a table of such.
 use Rattle.std.proofs.Common.{◌≡◌, ℕ, ◌+◌, Bool, true, false, cond, [], ◌∷◌, ◌++◌, refl, sym, ap, ◌∙◌, filter, map, Option, Some, None}
-use Rattle.std.proofs.Common.{Result, Ok, Err, length, subst}
+use Rattle.std.proofs.Common.{Ok, Err, Result, length, subst}
 use Rattle.std.specs.Prelude.{◌&&◌, ◌||◌, not, nat_lt}
 use Rattle.std.specs.List.{list_any}
+use Rattle.std.proofs.lemmas.List.{map-append, length-map}
 use Rattle.abs_path.specs.Paths.{Path, is_root}
-use Rattle.linux_numbers.specs.Errnos.{ebusy, einval, eperm, enametoolong, enospc}
+use Rattle.abs_path.proofs.Prefixes.{prefix_itself, same_itself}
+use Rattle.linux_numbers.specs.Errnos.{einval, enospc}
 use Rattle.linux_numbers.specs.Limits.{mount_max}
 use Rattle.kern_mounts.specs.declared.step.Flags.{Flags}
 use Rattle.kern_mounts.specs.declared.step.Mount.{Mount}
 use Rattle.kern_mounts.specs.declared.step.MountStep.{MountStep}
-use Rattle.kern_mounts.specs.Split as table
-use Rattle.kern_mounts.specs.Split.{SplitOf, Table, is_below}
-use Rattle.kern_mounts.specs.Umount.{unmounted, after_umount}
-use Rattle.kern_mounts.specs.Remount.{remounted, after_remount}
+use Rattle.kern_mounts.specs.Entry.{leads_to}
+use Rattle.kern_mounts.specs.Split.{SplitOf, Split, Table, split_at, is_at, is_below}
+use Rattle.kern_mounts.specs.Umount.{after_umount}
+use Rattle.kern_mounts.specs.Remount.{with_flags, remounted, after_remount}
 use Rattle.kern_mounts.specs.Push.{grown, after_push}
-use Rattle.kern_mounts.specs.Bind.{is_too_long, bound_entry, bound, after_bind}
-use Rattle.kern_mounts.specs.Keeping.{lacks}
+use Rattle.kern_mounts.specs.Bind.{moved_mount, copies, bound_entry, bound_mount, is_locked_below, bound, after_bind}
 use Rattle.kern_mounts.specs.MountAt.{mount_at}
 use Rattle.kern_mounts.specs.Mounts.{Mounts, steps_of, leads, stands_at, stands_below, plain, IsPlain, ArePlain}
-use Rattle.kern_mounts.specs.MountsUmount.{mounts_unmounted, mounts_after_umount}
-use Rattle.kern_mounts.specs.MountsRemount.{with_flags, mounts_remounted, mounts_after_remount}
-use Rattle.kern_mounts.specs.MountsPush.{mounts_grown, mounts_after_push}
-use Rattle.kern_mounts.specs.MountsBind.{moved_mount, copied_mounts, bound_mount, is_locked_below, is_placed_too_long, mounts_bound}
-use Rattle.kern_mounts.specs.MountsBind.{mounts_after_bind}
-use Rattle.kern_mounts.proofs.Mounts.{steps_append, steps_long, steps_split, split_steps}
-use Rattle.kern_mounts.proofs.Splits.{split_some}
-use Rattle.kern_mounts.specs.Answer.{steps_answer, plain_answer}
 use Rattle.kern_mounts.specs.Table.{no_flags}
-use Rattle.kern_mounts.proofs.Steps.{any_steps, left_steps, copied_steps}
-use Rattle.kern_mounts.proofs.Calls.{removes, remounts, binds, grown_is}
+use Rattle.kern_mounts.proofs.Splits.{None_have, split_some, split_is}
+use Rattle.kern_mounts.proofs.Calls.{umounts, remounts, binds, grown_is}
 
 -- ---- lists
 all_front : (earlier later : Mounts) → ArePlain (earlier ++ later) → ArePlain earlier
@@ -67,153 +60,34 @@ parts path mounts split s h =
     let own = all_behind split.earlier (split.entry ∷ split.later) all in
     record { earlier = all_front split.earlier (split.entry ∷ split.later) all; entry = own.0; later = own.1 }
 
--- ---- umount2
-pub umount_alike : (mounts : Mounts) (path : Path) (detach : Bool) → ArePlain mounts
-    → steps_answer (mounts_after_umount mounts path detach) ≡ after_umount (steps_of mounts) path detach
-umount_alike mounts path detach h = by_root (is_root path)
-  where
-    by : (o : Option (SplitOf Mount)) → mount_at path mounts ≡ o
-        → steps_answer (mounts_unmounted path detach o) ≡ unmounted path detach (steps_split o)
-    by None s = refl
-    by (Some split) s =
-        by_at (stands_at path split.entry) split.entry.locked (not detach && list_any (stands_below path) split.later)
-        (not detach && list_any (is_below path) (steps_of split.later))
-        (parts path mounts split s h).entry.0 (ap (λ b. not detach && b) (any_steps (is_below path) split.later))
-      where
-        left : Mounts
-        left = split.earlier ++ filter (λ mount. not (stands_below path mount)) split.later
-
-        by_at : (a l b c : Bool) → l ≡ false → b ≡ c → steps_answer
-            (cond {A = Result Mounts ℕ} (not a) (Err einval)
-            (cond {A = Result Mounts ℕ} l (Err einval) (cond {A = Result Mounts ℕ} b (Err ebusy) (Ok left))))
-            ≡ cond {A = Result Table ℕ} (not a) (Err einval)
-            (cond {A = Result Table ℕ} c (Err ebusy)
-            (Ok (steps_of split.earlier ++ filter (λ step. not (is_below path step)) (steps_of split.later))))
-        by_at false l b c f g = refl
-        by_at true true b c f g = cc
-        by_at true false true true f g = refl
-        by_at true false false false f g = ap Ok (left_steps path split)
-        by_at true false true false f g = cc
-        by_at true false false true f g = cc
-
-    by_root : (b : Bool) → steps_answer (cond {A = Result Mounts ℕ} b (Err einval) (mounts_unmounted path detach (mount_at path mounts)))
-        ≡ cond {A = Result Table ℕ} b (Err einval) (unmounted path detach (table.split_at path (steps_of mounts)))
-    by_root true = refl
-    by_root false = by (mount_at path mounts) refl ∙ ap (unmounted path detach) (sym (split_steps path mounts))
-
-pub umount_plain : (mounts next : Mounts) (path : Path) (detach : Bool) → ArePlain mounts
-    → mounts_after_umount mounts path detach ≡ Ok next → ArePlain next
+-- ---- what calls leave
+pub umount_plain : (mounts next : Mounts) (path : Path) (detach : Bool) → ArePlain mounts → after_umount mounts path detach ≡ Ok next
+    → ArePlain next
 umount_plain mounts next path detach h e =
-    let r = removes mounts next path detach e in
+    let r = umounts mounts next path detach e in
     let p = parts path mounts r.split r.found h in
     subst ArePlain r.made (all_both r.split.earlier _ p.earlier (all_filter (λ mount. not (stands_below path mount)) r.split.later p.later))
 
--- ---- remount
-nothing_lacks : (flags : Flags) (mount : Mount) → IsPlain mount → lacks mount.kept flags ≡ false
-nothing_lacks flags mount h = ap (λ (kept : Flags). lacks kept flags) h.1
-
-pub remount_alike : (mounts : Mounts) (place : Path) (flags : Flags) → ArePlain mounts
-    → steps_answer (mounts_after_remount mounts place flags) ≡ after_remount (steps_of mounts) place flags
-remount_alike mounts place flags h = by (mount_at place mounts) refl ∙ ap (remounted place flags) (sym (split_steps place mounts))
-  where
-    by : (o : Option (SplitOf Mount)) → mount_at place mounts ≡ o
-        → steps_answer (mounts_remounted place flags o) ≡ remounted place flags (steps_split o)
-    by None s = refl
-    by (Some split) s = by_at (stands_at place split.entry) (lacks split.entry.kept flags)
-        (nothing_lacks flags split.entry (parts place mounts split s h).entry)
-      where
-        now : Mounts
-        now = split.earlier ++ with_flags split.entry flags ∷ split.later
-
-        by_at : (a b : Bool) → b ≡ false
-            → steps_answer (cond {A = Result Mounts ℕ} a (cond {A = Result Mounts ℕ} b (Err eperm) (Ok now)) (Err einval))
-            ≡ cond {A = Result Table ℕ} a
-            (Ok (steps_of split.earlier ++ record split.entry.step { flags = flags } ∷ steps_of split.later)) (Err einval)
-        by_at false b f = refl
-        by_at true true f = cc
-        by_at true false f = ap Ok (steps_append split.earlier (with_flags split.entry flags ∷ split.later))
-
-pub remount_plain : (mounts next : Mounts) (place : Path) (flags : Flags) → ArePlain mounts
-    → mounts_after_remount mounts place flags ≡ Ok next → ArePlain next
+pub remount_plain : (mounts next : Mounts) (place : Path) (flags : Flags) → ArePlain mounts → after_remount mounts place flags ≡ Ok next
+    → ArePlain next
 remount_plain mounts next place flags h e =
     let r = remounts mounts next place flags e in
     let p = parts place mounts r.split r.found h in
     subst ArePlain r.made (all_both r.split.earlier (with_flags r.split.entry flags ∷ r.split.later) p.earlier (p.entry, p.later))
 
--- ---- mounts that are added
-grown_alike : (mounts more : Mounts) → steps_answer (mounts_grown mounts more) ≡ grown (steps_of mounts) (steps_of more)
-grown_alike mounts more =
-    by (nat_lt mount_max (length mounts + length more))
-    ∙ ap (λ n. cond {A = Result Table ℕ} (nat_lt mount_max n) (Err enospc) (Ok (steps_of mounts ++ steps_of more)))
-    (sym (ap (λ n. n + length (steps_of more)) (steps_long mounts) ∙ ap (λ n. length mounts + n) (steps_long more)))
-  where
-    by : (b : Bool) → steps_answer (cond {A = Result Mounts ℕ} b (Err enospc) (Ok (mounts ++ more)))
-        ≡ cond {A = Result Table ℕ} b (Err enospc) (Ok (steps_of mounts ++ steps_of more))
-    by true = refl
-    by false = ap Ok (steps_append mounts more)
-
-pub push_alike : (mounts : Mounts) (step : MountStep) → steps_answer (mounts_after_push mounts step) ≡ after_push (steps_of mounts) step
-push_alike mounts step = grown_alike mounts (plain step ∷ [])
-
-pub push_plain : (mounts next : Mounts) (step : MountStep) → ArePlain mounts → mounts_after_push mounts step ≡ Ok next → ArePlain next
+pub push_plain : (mounts next : Mounts) (step : MountStep) → ArePlain mounts → after_push mounts step ≡ Ok next → ArePlain next
 push_plain mounts next step h e = subst ArePlain (grown_is mounts (plain step ∷ []) next e)
     (all_both mounts (plain step ∷ []) h ((refl, refl), tt))
 
--- ---- binds
-none_locked : (source : Path) (mounts : Mounts) → ArePlain mounts → list_any (is_locked_below source) mounts ≡ false
-none_locked source [] h = refl
-none_locked source (mount ∷ mounts) h = by mount.locked (stands_below source mount) h.0.0 (none_locked source mounts h.1)
-  where
-    by : (l b : Bool) → l ≡ false → list_any (is_locked_below source) mounts ≡ false
-        → ((l && b) || list_any (is_locked_below source) mounts) ≡ false
-    by false b e more = more
-    by true b e more = cc
-
-pub bind_alike : (mounts : Mounts) (source target : Path) (recursive : Bool) → ArePlain mounts
-    → steps_answer (mounts_after_bind mounts source target recursive) ≡ after_bind (steps_of mounts) source target recursive
-bind_alike mounts source target recursive h = by (mount_at source mounts) refl
-    ∙ ap (bound (steps_of mounts) source target recursive) (sym (split_steps source mounts))
-  where
-    by : (o : Option (SplitOf Mount)) → mount_at source mounts ≡ o
-        → steps_answer (mounts_bound mounts source target recursive o) ≡ bound (steps_of mounts) source target recursive (steps_split o)
-    by None s = refl
-    by (Some split) s =
-        by_at (not recursive && list_any (is_locked_below source) split.later) (list_any is_placed_too_long more)
-        (list_any is_too_long (steps_of more))
-        (none (not recursive) (list_any (is_locked_below source) split.later)
-        (none_locked source split.later (parts source mounts split s h).later)) (any_steps is_too_long more)
-        ∙ ap (λ (t : Table). cond {A = Result Table ℕ} (list_any is_too_long t) (Err enametoolong)
-        (grown (steps_of mounts) (bound_entry source target split.entry.step ∷ t))) (copied_steps recursive source target split.later)
-      where
-        more : Mounts
-        more = copied_mounts recursive source target split.later
-
-        none : (a b : Bool) → b ≡ false → (a && b) ≡ false
-        none true b e = e
-        none false b e = refl
-
-        by_at : (a b c : Bool) → a ≡ false → b ≡ c → steps_answer
-            (cond {A = Result Mounts ℕ} a (Err einval)
-            (cond {A = Result Mounts ℕ} b (Err enametoolong) (mounts_grown mounts (bound_mount source target split.entry ∷ more))))
-            ≡ cond {A = Result Table ℕ} c (Err enametoolong)
-            (grown (steps_of mounts) (bound_entry source target split.entry.step ∷ steps_of more))
-        by_at true b c f g = cc
-        by_at false true true f g = refl
-        by_at false false false f g = grown_alike mounts (bound_mount source target split.entry ∷ more)
-        by_at false true false f g = cc
-        by_at false false true f g = cc
-
 pub bind_plain : (mounts next : Mounts) (source target : Path) (recursive : Bool) → ArePlain mounts
-    → mounts_after_bind mounts source target recursive ≡ Ok next → ArePlain next
+    → after_bind mounts source target recursive ≡ Ok next → ArePlain next
 bind_plain mounts next source target recursive h e =
     let b = binds mounts next source target recursive e in
     let p = parts source mounts b.split b.found h in
-    subst ArePlain (grown_is mounts (bound_mount source target b.split.entry ∷ copied_mounts recursive source target b.split.later) next
-    b.made)
-    (all_both mounts (bound_mount source target b.split.entry ∷ copied_mounts recursive source target b.split.later) h
-    ((refl, p.entry.1), copied recursive b.split.later p.later))
+    let more : Mounts = bound_mount source target b.split.entry ∷ copies recursive source target b.split.later in
+    subst ArePlain (grown_is mounts more next b.made) (all_both mounts more h ((refl, p.entry.1), copied recursive b.split.later p.later))
   where
-    copied : (recursive : Bool) (later : Mounts) → ArePlain later → ArePlain (copied_mounts recursive source target later)
+    copied : (recursive : Bool) (later : Mounts) → ArePlain later → ArePlain (copies recursive source target later)
     copied true later g = all_moved source target (filter (stands_below source) later) (all_filter (stands_below source) later g)
     copied false later g = tt
 
@@ -237,37 +111,66 @@ plain_again [] h = refl
 plain_again (mount ∷ mounts) h = ap (λ (m : Mount). m ∷ map plain (steps_of mounts)) (made_again mount h.0)
     ∙ ap (λ (t : Mounts). mount ∷ t) (plain_again mounts h.1)
 
--- a rule that answers alike and leaves plain mounts is the rule on entries
-pub by_entries : (answer : Result Mounts ℕ) (other : Result Table ℕ) → steps_answer answer ≡ other
-    → ((next : Mounts) → answer ≡ Ok next → ArePlain next) → answer ≡ plain_answer other
-by_entries (Ok next) other e left = ap Ok (sym (plain_again next (left next refl))) ∙ ap plain_answer e
-by_entries (Err errno) other e left = ap plain_answer e
+none_plain : (path : Path) (table : Table) → None_have (leads_to path) table → None_have (leads path) (map plain table)
+none_plain path [] h = tt
+none_plain path (step ∷ table) h = (h.0, none_plain path table h.1)
 
-pub umount_entries : (table : Table) (path : Path) (detach : Bool)
-    → mounts_after_umount (map plain table) path detach ≡ plain_answer (after_umount table path detach)
-umount_entries table path detach =
-    by_entries (mounts_after_umount (map plain table) path detach) (after_umount table path detach)
-    (umount_alike (map plain table) path detach (are_plain table) ∙ ap (λ (t : Table). after_umount t path detach) (steps_plain table))
-    (λ next e. umount_plain (map plain table) next path detach (are_plain table) e)
+-- the mounts about the one that a path belongs to
+abbrev mounts_split : Split → SplitOf Mount
+mounts_split split = record { earlier = map plain split.earlier; entry = plain split.entry; later = map plain split.later }
 
-pub remount_entries : (table : Table) (place : Path) (flags : Flags)
-    → mounts_after_remount (map plain table) place flags ≡ plain_answer (after_remount table place flags)
-remount_entries table place flags =
-    by_entries (mounts_after_remount (map plain table) place flags) (after_remount table place flags)
-    (remount_alike (map plain table) place flags (are_plain table)
-    ∙ ap (λ (t : Table). after_remount t place flags) (steps_plain table))
-    (λ next e. remount_plain (map plain table) next place flags (are_plain table) e)
+split_plain : (path : Path) (table : Table) (split : Split) → split_at path table ≡ Some split
+    → mount_at path (map plain table) ≡ Some (mounts_split split)
+split_plain path table split s =
+    let is = split_some (leads_to path) table split s in
+    ap (λ (t : Table). mount_at path (map plain t)) is.whole
+    ∙ ap (mount_at path) (map-append plain split.earlier (split.entry ∷ split.later))
+    ∙ split_is (leads path) (map plain split.earlier) (plain split.entry) (map plain split.later) is.has
+    (none_plain path split.later is.last)
 
-pub push_entries : (table : Table) (step : MountStep) → mounts_after_push (map plain table) step ≡ plain_answer (after_push table step)
-push_entries table step =
-    by_entries (mounts_after_push (map plain table) step) (after_push table step)
-    (push_alike (map plain table) step ∙ ap (λ (t : Table). after_push t step) (steps_plain table))
-    (λ next e. push_plain (map plain table) next step (are_plain table) e)
+filter_plain : (p : MountStep → Bool) (table : Table) → filter (λ mount. p mount.step) (map plain table) ≡ map plain (filter p table)
+filter_plain p [] = refl
+filter_plain p (step ∷ table) = by (p step) (filter_plain p table)
+  where
+    by : (b : Bool) → filter (λ mount. p mount.step) (map plain table) ≡ map plain (filter p table)
+        → cond b (plain step ∷ filter (λ mount. p mount.step) (map plain table)) (filter (λ mount. p mount.step) (map plain table))
+        ≡ map plain (cond b (step ∷ filter p table) (filter p table))
+    by true more = ap (λ (t : Mounts). plain step ∷ t) more
+    by false more = more
 
-pub bind_entries : (table : Table) (source target : Path) (recursive : Bool)
-    → mounts_after_bind (map plain table) source target recursive ≡ plain_answer (after_bind table source target recursive)
-bind_entries table source target recursive =
-    by_entries (mounts_after_bind (map plain table) source target recursive) (after_bind table source target recursive)
-    (bind_alike (map plain table) source target recursive (are_plain table)
-    ∙ ap (λ (t : Table). after_bind t source target recursive) (steps_plain table))
-    (λ next e. bind_plain (map plain table) next source target recursive (are_plain table) e)
+-- umount2 with MNT_DETACH at the place of an entry that no later one leads to
+pub umounts_own : (earlier later : Table) (entry : MountStep) → is_root entry.place ≡ false → None_have (leads_to entry.place) later →
+    after_umount (map plain (earlier ++ entry ∷ later)) entry.place true
+    ≡ Ok (map plain (earlier ++ filter (λ other. not (is_below entry.place other)) later))
+umounts_own earlier later entry low none =
+    let at : stands_at entry.place (plain entry) ≡ true = same_itself entry.place in
+    let split = split_is (leads entry.place) (map plain earlier) (plain entry) (map plain later) (prefix_itself entry.place) (none_plain entry.place later none) in
+    ap (λ (t : Mounts). after_umount t entry.place true) (map-append plain earlier (entry ∷ later)) ∙ rw (low, split, at) refl
+    ∙ ap (λ (t : Mounts). Ok (map plain earlier ++ t)) (filter_plain (λ other. not (is_below entry.place other)) later)
+    ∙ ap Ok (sym (map-append plain earlier (filter (λ other. not (is_below entry.place other)) later)))
+
+-- other flags for the entry that stands at a place
+pub remounts_own : (table : Table) (place : Path) (flags : Flags) (split : Split) → split_at place table ≡ Some split
+    → is_at place split.entry ≡ true → after_remount (map plain table) place flags
+    ≡ Ok (map plain (split.earlier ++ record split.entry { flags = flags } ∷ split.later))
+remounts_own table place flags split s at =
+    let now : MountStep = record split.entry { flags = flags } in
+    ap (remounted place flags) (split_plain place table split s)
+    ∙ ap (λ b. cond {A = Result Mounts ℕ} b (Ok (map plain split.earlier ++ plain now ∷ map plain split.later)) (Err einval)) at
+    ∙ ap Ok (sym (map-append plain split.earlier (now ∷ split.later)))
+
+none_locked : (source : Path) (table : Table) → list_any (is_locked_below source) (map plain table) ≡ false
+none_locked source [] = refl
+none_locked source (step ∷ table) = none_locked source table
+
+-- a bind that is not recursive, where there is room
+pub binds_alone : (table : Table) (source target : Path) (split : Split) → split_at source table ≡ Some split
+    → nat_lt mount_max (length table + 1) ≡ false
+    → after_bind (map plain table) source target false ≡ Ok (map plain (table ++ bound_entry source target split.entry ∷ []))
+binds_alone table source target split s room =
+    let new : MountStep = bound_entry source target split.entry in
+    let full : nat_lt mount_max (length (map plain table) + 1) ≡ false = ap (λ n. nat_lt mount_max (n + 1)) (length-map table plain) ∙ room in
+    ap (bound (map plain table) source target false) (split_plain source table split s)
+    ∙ ap (λ b. cond {A = Result Mounts ℕ} b (Err einval) (grown (map plain table) (plain new ∷ []))) (none_locked source split.later)
+    ∙ ap (λ b. cond {A = Result Mounts ℕ} b (Err enospc) (Ok (map plain table ++ plain new ∷ []))) full
+    ∙ ap Ok (sym (map-append plain table (new ∷ [])))

@@ -7,10 +7,9 @@ use Rattle.std.proofs.Math.Seq.{take-append_seam}
 use Rattle.std.proofs.lemmas.List.{get_or_default, take-append-le}
 use Rattle.abs_path.specs.Paths.{Path}
 use Rattle.kern_mounts.specs.declared.step.Mount.{Mount}
-use Rattle.kern_mounts.specs.Bind.{goes_too_far}
 use Rattle.kern_mounts.specs.Entry.{Belongs}
 use Rattle.kern_mounts.specs.Mounts.{Mounts, steps_of}
-use Rattle.kern_mounts.specs.MountsBind.{bound_mount, copied_mounts}
+use Rattle.kern_mounts.specs.Bind.{bound_mount, copies, goes_too_far}
 use Rattle.kern_mounts.specs.Pushed.{HasBound, HasCopies}
 use Rattle.kern_mounts.proofs.Known.{take_twice}
 use Rattle.kern_mounts.proofs.Mounts.{in_range}
@@ -34,11 +33,11 @@ bound_and_copies old pushed new at end source target mount first belongs le stan
       none_long = ap (list_any (λ mount. goes_too_far source target mount.step)) (sym same) ∙ h.none_long;
       behind = λ own is_own.
           let one : mount ≡ own = stands ∙ get_or_default old at mount own (in_range old source at belongs) ∙ sym is_own in
-          h.behind ∙ ap (λ (items : Mounts). items ++ copied_mounts true source target (drop (at + 1) (take end pushed))) is
-          ∙ append_assoc old (first ∷ []) (copied_mounts true source target (drop (at + 1) (take end pushed)))
-          ∙ ap (λ (m : Mount). old ++ m ∷ copied_mounts true source target (drop (at + 1) (take end pushed)))
+          h.behind ∙ ap (λ (items : Mounts). items ++ copies true source target (drop (at + 1) (take end pushed))) is
+          ∙ append_assoc old (first ∷ []) (copies true source target (drop (at + 1) (take end pushed)))
+          ∙ ap (λ (m : Mount). old ++ m ∷ copies true source target (drop (at + 1) (take end pushed)))
           (bound ∙ ap (bound_mount source target) one)
-          ∙ ap (λ (later : Mounts). old ++ bound_mount source target own ∷ copied_mounts true source target later) same;
+          ∙ ap (λ (later : Mounts). old ++ bound_mount source target own ∷ copies true source target later) same;
     }
 
 -- and where all were pushed

@@ -1,21 +1,19 @@
 -- What a path belongs to on a table that a bind makes.
-use Rattle.std.proofs.Common.{◌≡◌, ℕ, Bool, true, false, cond, filter, map, [], ◌∷◌, ◌++◌, Option, Some, None, option_map, Result, Ok, Err}
-use Rattle.std.proofs.Common.{refl, sym, ap, ◌∙◌}
-use Rattle.std.specs.Prelude.{nat_lt, length, ◌+◌}
-use Rattle.std.specs.List.{list_any}
+use Rattle.std.proofs.Common.{◌≡◌, Bool, true, false, cond, filter, map, [], ◌∷◌, ◌++◌, Option, Some, None, option_map, Ok, refl, sym, ap}
+use Rattle.std.proofs.Common.{◌∙◌}
 use Rattle.std.proofs.lemmas.Bool.{false≢true, false_from_ne_true}
 use Rattle.abs_path.specs.Paths.{Path}
 use Rattle.abs_path.specs.Prefix.{is_prefix, rest_of}
 use Rattle.abs_path.proofs.Prefixes.{prefix-append, prefix_trans}
-use Rattle.linux_numbers.specs.Errnos.{enospc, enametoolong}
-use Rattle.linux_numbers.specs.Limits.{mount_max}
 use Rattle.kern_mounts.specs.declared.step.MountStep.{MountStep}
 use Rattle.kern_mounts.specs.Entry.{leads_to, entry_of}
 use Rattle.kern_mounts.specs.Split.{Table, Split, split_at, is_below}
-use Rattle.kern_mounts.specs.Push.{grown}
-use Rattle.kern_mounts.specs.Bind.{moved, copies, is_too_long, bound_entry, bound, after_bind}
+use Rattle.kern_mounts.specs.Mounts.{Mounts, steps_of, stands_below}
+use Rattle.kern_mounts.specs.Bind.{moved, moved_mount, copies, bound_entry, bound_mount, after_bind}
+use Rattle.kern_mounts.proofs.Calls.{binds, grown_is}
 use Rattle.kern_mounts.proofs.Entries.{later_of, entry_more}
-use Rattle.kern_mounts.proofs.Paths.{behind, front_leads, stands_below, below_leads}
+use Rattle.kern_mounts.proofs.Mounts.{steps_append, steps_split, split_steps}
+use Rattle.kern_mounts.proofs.Paths.{behind, front_leads, stands_below as place_stands_below, below_leads}
 use Rattle.kern_mounts.proofs.Splits.{None_have, IsSplit, split_some, of_split}
 
 -- ---- the entry of a path in two tables, one behind the other
@@ -66,43 +64,49 @@ entry_without earlier entry later path leads =
     by None false e = refl
 
 -- ---- what a bind that is done makes
-grown_is : (table more next : Table) → grown table more ≡ Ok next → next ≡ table ++ more
-grown_is table more next e = by (nat_lt mount_max (length table + length more)) e
+-- the entries of the copies
+abbrev pub copied_entries : Bool → Path → Path → Table → Table
+copied_entries recursive source target later = cond recursive (map (moved source target) (filter (is_below source) later)) []
+
+copied_steps : (recursive : Bool) (source target : Path) (later : Mounts)
+    → steps_of (copies recursive source target later) ≡ copied_entries recursive source target (steps_of later)
+copied_steps false source target later = refl
+copied_steps true source target [] = refl
+copied_steps true source target (mount ∷ later) = by (stands_below source mount) (copied_steps true source target later)
   where
-    by : (b : Bool) → cond {A = Result Table ℕ} b (Err enospc) (Ok (table ++ more)) ≡ Ok next → next ≡ table ++ more
-    by true e = cc
-    by false e = cc
+    by : (b : Bool) → steps_of (copies true source target later) ≡ copied_entries true source target (steps_of later)
+        → steps_of (map (moved_mount source target)
+        (cond b (mount ∷ filter (stands_below source) later) (filter (stands_below source) later)))
+        ≡ map (moved source target)
+        (cond b (mount.step ∷ filter (is_below source) (steps_of later)) (filter (is_below source) (steps_of later)))
+    by true more = ap (λ (t : Table). moved source target mount.step ∷ t) more
+    by false more = more
 
 pub record IsBound (table next : Table) (source target : Path) (recursive : Bool) : Type 0 where
   pub split : Split
   pub found : split_at source table ≡ Some split
   pub is : IsSplit (leads_to source) table split
-  pub made : next ≡ table ++ bound_entry source target split.entry ∷ copies recursive source target split.later
+  pub made : next ≡ table ++ bound_entry source target split.entry ∷ copied_entries recursive source target split.later
 
-pub bind_made : (table next : Table) (source target : Path) (recursive : Bool) → after_bind table source target recursive ≡ Ok next
-    → IsBound table next source target recursive
-bind_made table next source target recursive e = by (split_at source table) refl e
-  where
-    unless_long : (b : Bool) (more : Table) → cond {A = Result Table ℕ} b (Err enametoolong) (grown table more) ≡ Ok next
-        → next ≡ table ++ more
-    unless_long true more e = cc
-    unless_long false more e = grown_is table more next e
-
-    by : (o : Option Split) → split_at source table ≡ o → bound table source target recursive o ≡ Ok next
-        → IsBound table next source target recursive
-    by None s e = cc
-    by (Some split) s e = record {
-      split = split;
-      found = s;
-      is = split_some (leads_to source) table split s;
-      made = unless_long (list_any is_too_long (copies recursive source target split.later))
-          (bound_entry source target split.entry ∷ copies recursive source target split.later) e;
+pub bind_made : (mounts next : Mounts) (source target : Path) (recursive : Bool) → after_bind mounts source target recursive ≡ Ok next
+    → IsBound (steps_of mounts) (steps_of next) source target recursive
+bind_made mounts next source target recursive e =
+    let b = binds mounts next source target recursive e in
+    let more : Mounts = bound_mount source target b.split.entry ∷ copies recursive source target b.split.later in
+    let found = split_steps source mounts ∙ ap steps_split b.found in
+    record {
+      split = record { earlier = steps_of b.split.earlier; entry = b.split.entry.step; later = steps_of b.split.later };
+      found = found;
+      is = split_some (leads_to source) (steps_of mounts) _ found;
+      made = ap steps_of (sym (grown_is mounts more next b.made)) ∙ steps_append mounts more
+          ∙ ap (λ (t : Table). steps_of mounts ++ bound_entry source target b.split.entry.step ∷ t)
+          (copied_steps recursive source target b.split.later);
     }
 
 -- ---- elsewhere
 -- copies stand below the target
 copies_elsewhere : (source target path : Path) (later : Table) → is_prefix target path ≡ false
-    → None_have (leads_to path) (copies true source target later)
+    → None_have (leads_to path) (copied_entries true source target later)
 copies_elsewhere source target path [] other = tt
 copies_elsewhere source target path (entry ∷ later) other = by (is_below source entry) (copies_elsewhere source target path later other)
   where
@@ -123,25 +127,23 @@ no_entry (first ∷ table) path none = entry_more first table path
     ∙ ap (λ o. later_of o (leads_to path first) first) (no_entry table path none.1) ∙ ap (λ b. later_of None b first) none.0
 
 copied_elsewhere : (recursive : Bool) (source target path : Path) (later : Table) → is_prefix target path ≡ false
-    → entry_of (copies recursive source target later) path ≡ None
-copied_elsewhere true source target path later other = no_entry (copies true source target later) path
+    → entry_of (copied_entries recursive source target later) path ≡ None
+copied_elsewhere true source target path later other = no_entry (copied_entries true source target later) path
     (copies_elsewhere source target path later other)
 copied_elsewhere false source target path later other = refl
 
 pub bind_elsewhere : (table next : Table) (source target path : Path) (recursive : Bool)
-    → after_bind table source target recursive ≡ Ok next → is_prefix target path ≡ false → entry_of next path ≡ entry_of table path
-bind_elsewhere table next source target path recursive e other =
-    let b = bind_made table next source target recursive e in
+    → IsBound table next source target recursive → is_prefix target path ≡ false → entry_of next path ≡ entry_of table path
+bind_elsewhere table next source target path recursive b other =
     ap (λ t. entry_of t path) b.made
-    ∙ entry_without table (bound_entry source target b.split.entry) (copies recursive source target b.split.later) path other
+    ∙ entry_without table (bound_entry source target b.split.entry) (copied_entries recursive source target b.split.later) path other
     ∙ ap (λ o. or_else o (entry_of table path)) (copied_elsewhere recursive source target path b.split.later other)
 
 -- ---- at the target and below
-pub plain_bind : (table next : Table) (source target path : Path) (step : MountStep) → after_bind table source target false ≡ Ok next
+pub plain_bind : (table next : Table) (source target path : Path) (step : MountStep) → IsBound table next source target false
     → entry_of table source ≡ Some step → is_prefix target path ≡ true
     → entry_of next path ≡ Some (bound_entry source target step)
-plain_bind table next source target path step e at leads =
-    let b = bind_made table next source target false e in
+plain_bind table next source target path step b at leads =
     let own : Some b.split.entry ≡ Some step = sym (of_split source table b.split b.found) ∙ at in
     let same : b.split.entry ≡ step = cc in
     ap (λ t. entry_of t path) b.made ∙ entry_behind table (bound_entry source target b.split.entry) [] path leads
@@ -160,7 +162,7 @@ beside : (source rest : Path) (entry : MountStep) → leads_to source entry ≡ 
     → leads_to (source ++ rest) entry ≡ false
 beside source rest entry not_there not_below =
     false_from_ne_true (leads_to (source ++ rest) entry)
-    (λ leads. false≢true (sym not_below ∙ stands_below source rest entry.place leads not_there))
+    (λ leads. false≢true (sym not_below ∙ place_stands_below source rest entry.place leads not_there))
 
 map_later : (f : MountStep → MountStep) (o : Option MountStep) (b : Bool) (first : MountStep)
     → later_of (option_map f o) b (f first) ≡ option_map f (later_of o b first)
@@ -170,7 +172,7 @@ map_later f None false first = refl
 
 -- the copy that a path below the target belongs to is that of the entry at the same place below the source
 pub copied_entry : (source target rest : Path) (later : Table) → None_have (leads_to source) later
-    → entry_of (copies true source target later) (target ++ rest) ≡ option_map (moved source target) (entry_of later (source ++ rest))
+    → entry_of (copied_entries true source target later) (target ++ rest) ≡ option_map (moved source target) (entry_of later (source ++ rest))
 copied_entry source target rest [] none = refl
 copied_entry source target rest (entry ∷ later) none =
     by (is_below source entry) refl (copied_entry source target rest later none.1)

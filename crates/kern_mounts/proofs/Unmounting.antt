@@ -1,52 +1,51 @@
 -- What umount2 makes of mount tables, and which entries it uncovers.
-use Rattle.std.proofs.Common.{◌≡◌, ℕ, Bool, true, false, [], ◌∷◌, ◌++◌, Option, Some, None, Result, Ok, Err, arith, refl, cond, ap, ◌∙◌}
-use Rattle.std.proofs.Common.{sym, subst, ◌≤◌, ◌<◌, length, zero, suc, append_assoc, length-append}
-use Rattle.std.specs.Prelude.{not, ◌&&◌, filter}
-use Rattle.std.specs.List.{list_any, AllByRecursion}
+use Rattle.std.proofs.Common.{◌≡◌, ℕ, Bool, true, false, [], ◌∷◌, ◌++◌, Option, Some, None, Result, Ok, arith, refl, cond, ap, ◌∙◌}
+use Rattle.std.proofs.Common.{sym, subst, ◌≤◌, ◌<◌, length, zero, suc, append_assoc, length-append, map}
+use Rattle.std.specs.Prelude.{not, filter}
+use Rattle.std.specs.List.{AllByRecursion}
 use Rattle.abs_path.specs.Paths.{Path, is_root}
 use Rattle.abs_path.specs.Prefix.{is_prefix, rest_of}
-use Rattle.abs_path.proofs.Prefixes.{prefix_itself, prefix-append, same_path, same_itself}
-use Rattle.linux_numbers.specs.Errnos.{ebusy, einval}
+use Rattle.abs_path.proofs.Prefixes.{prefix-append, same_path}
 use Rattle.kern_mounts.specs.Entry.{leads_to}
 use Rattle.kern_mounts.specs.Table.{StartsAtRoot, IsTable}
 use Rattle.kern_mounts.specs.declared.step.MountStep.{MountStep}
-use Rattle.kern_mounts.specs.Split.{Table, Split, split_last, split_at, is_at, is_below}
-use Rattle.kern_mounts.specs.Umount.{unmounted, after_umount}
+use Rattle.kern_mounts.specs.Mounts.{Mounts, steps_of, leads, plain}
+use Rattle.kern_mounts.specs.Split.{Table, Split, split_last, is_at, is_below}
+use Rattle.kern_mounts.specs.Umount.{after_umount}
 use Rattle.kern_mounts.specs.Unmounts.{Unmounts, still, then_one, IsPart, nothing, keeps, leaves, IsTrimmed, trimmed, Removes, IsOrdered}
 use Rattle.kern_mounts.specs.Unmounts.{Has, Uncovers}
+use Rattle.kern_mounts.proofs.Calls.{umounts}
+use Rattle.kern_mounts.proofs.Mounts.{steps_append, left_steps}
 use Rattle.kern_mounts.proofs.Paths.{leads_not, behind}
+use Rattle.kern_mounts.proofs.Plain.{steps_plain, umounts_own}
 use Rattle.kern_mounts.proofs.Splits.{None_have, IsSplit, split_some, split_none, split_is}
 
 pub is_at-place : (path : Path) (entry : MountStep) → is_at path entry ≡ true → path ≡ entry.place
 is_at-place path entry h = sym (same_path entry.place path h)
 
-unmounted_ok : (path : Path) (detach : Bool) (table next : Table) → is_root path ≡ false → (o : Option Split) → split_at path table ≡ o
-    → unmounted path detach o ≡ Ok next → Removes path table next
-unmounted_ok path detach table next r None s e = cc
-unmounted_ok path detach table next r (Some split) s e =
-    by_at (is_at path split.entry) (not detach && list_any (is_below path) split.later) refl e
-  where
-    is : IsSplit (leads_to path) table split
-    is = split_some (leads_to path) table split s
-
-    by_at : (a b : Bool) → is_at path split.entry ≡ a → cond {A = Result Table ℕ} (not a) (Err einval)
-        (cond {A = Result Table ℕ} b (Err ebusy) (Ok (split.earlier ++ filter (λ entry. not (is_below path entry)) split.later)))
-        ≡ Ok next → Removes path table next
-    by_at true true f e = cc
-    by_at false b f e = cc
-    by_at true false f e = record {
-      earlier = split.earlier;
-      entry = split.entry;
-      later = split.later;
-      whole = is.whole;
-      place = is_at-place path split.entry f;
-      next_is = cc;
-      below_root = r;
+-- what umount2 removes of mounts, by their entries
+pub removes : (path : Path) (detach : Bool) (mounts next : Mounts) → after_umount mounts path detach ≡ Ok next
+    → Removes path (steps_of mounts) (steps_of next)
+removes path detach mounts next e =
+    let r = umounts mounts next path detach e in
+    record {
+      earlier = steps_of r.split.earlier;
+      entry = r.split.entry.step;
+      later = steps_of r.split.later;
+      whole = ap steps_of (split_some (leads path) mounts r.split r.found).whole
+          ∙ steps_append r.split.earlier (r.split.entry ∷ r.split.later);
+      place = is_at-place path r.split.entry.step r.at_place;
+      next_is = ap steps_of (sym r.made) ∙ left_steps path r.split;
+      below_root = r.below_root;
     }
 
-pub removes : (path : Path) (detach : Bool) (table next : Table) → after_umount table path detach ≡ Ok next → Removes path table next
-removes [] detach table next e = cc
-removes (part ∷ path) detach table next e = unmounted_ok (part ∷ path) detach table next refl (split_at (part ∷ path) table) refl e
+-- and of a table of mounts that are not locked
+pub removes_plain : (path : Path) (detach : Bool) (table next : Table) → after_umount (map plain table) path detach ≡ Ok (map plain next)
+    → Removes path table next
+removes_plain path detach table next e =
+    let P : Table → Type 0 = λ t. Removes path t next in
+    let Q : Table → Type 0 = λ t. Removes path (steps_of (map plain table)) t in
+    subst P (steps_plain table) (subst Q (steps_plain next) (removes path detach (map plain table) (map plain next) e))
 
 pub part_self : (table : Table) → IsPart table table
 part_self [] = nothing
@@ -94,12 +93,18 @@ trims_at path first (head ∷ earlier) later entry next rest top r at whole is =
     let shown : next ≡ first ∷ (earlier ++ filter (λ other. not (is_below path other)) later) = cc in
     subst P (sym shown) (subst Q tail (trimmed first part))
 
-pub trims : (path : Path) (detach : Bool) (table next : Table) → StartsAtRoot table → after_umount table path detach ≡ Ok next
-    → IsTrimmed next table
-trims path detach [] next top e = absurd top
-trims path detach (first ∷ rest) next top e =
-    let r = removes path detach (first ∷ rest) next e in
+pub removal_trims : (path : Path) (table next : Table) → StartsAtRoot table → Removes path table next → IsTrimmed next table
+removal_trims path [] next top r = absurd top
+removal_trims path (first ∷ rest) next top r =
     trims_at path first r.earlier r.later r.entry next rest top r.below_root r.place r.whole r.next_is
+
+pub trims : (path : Path) (detach : Bool) (mounts next : Mounts) → StartsAtRoot (steps_of mounts)
+    → after_umount mounts path detach ≡ Ok next → IsTrimmed (steps_of next) (steps_of mounts)
+trims path detach mounts next top e = removal_trims path (steps_of mounts) (steps_of next) top (removes path detach mounts next e)
+
+pub trims_plain : (path : Path) (detach : Bool) (table next : Table) → StartsAtRoot table
+    → after_umount (map plain table) path detach ≡ Ok (map plain next) → IsTrimmed next table
+trims_plain path detach table next top e = removal_trims path table next top (removes_plain path detach table next e)
 
 pub trimmed_self : (table : Table) → StartsAtRoot table → IsTrimmed table table
 trimmed_self [] top = absurd top
@@ -111,8 +116,8 @@ trimmed_top (trimmed first p) top = top
 -- whatever umount2 makes of a table is a part of it, in order, with its first entry
 pub unmounts_trim : {table last : Table} → Unmounts table last → StartsAtRoot table → IsTrimmed last table
 unmounts_trim (still {table = table}) top = trimmed_self table top
-unmounts_trim (then_one path detach e more) top =
-    let one = trims path detach _ _ top e in
+unmounts_trim {table = table} (then_one {next = next} path detach e more) top =
+    let one = trims_plain path detach table next top e in
     trimmed_through (unmounts_trim more (trimmed_top one top)) one
 
 -- ---- what unmounting uncovers: all that stands in the table
@@ -153,23 +158,14 @@ not_root : (a b : Path) → is_prefix a b ≡ false → is_root a ≡ false
 not_root [] b e = cc
 not_root (part ∷ a) b e = refl
 
--- umount2 at the place of an entry that no later one leads to
-umounts_own : (earlier later : Table) (entry : MountStep) → is_root entry.place ≡ false → None_have (leads_to entry.place) later →
-    after_umount (earlier ++ entry ∷ later) entry.place true ≡ Ok (earlier ++ filter (λ other. not (is_below entry.place other)) later)
-umounts_own earlier later entry r n =
-    let own : leads_to entry.place entry ≡ true = prefix_itself entry.place in
-    let at : is_at entry.place entry ≡ true = same_itself entry.place in
-    let split = split_is (leads_to entry.place) earlier entry later own n in
-    rw (r, split, at)
-
-abbrev answer : Table → Result Table ℕ
-answer table = Ok table
+abbrev answer : Table → Result Mounts ℕ
+answer table = Ok (map plain table)
 
 -- one turn: the last entry that leads to the path goes
 record Turn (earlier : Table) (entry : MountStep) (later : Table) : Type 0 where
   left : Table
   detached : Path
-  run : after_umount (earlier ++ entry ∷ later) detached true ≡ Ok (earlier ++ entry ∷ left)
+  run : after_umount (map plain (earlier ++ entry ∷ later)) detached true ≡ Ok (map plain (earlier ++ entry ∷ left))
   part : IsPart left later
   shorter : length left < length later
 
@@ -187,7 +183,7 @@ turn earlier entry rest later split ordered is =
     record {
       left = split.earlier ++ kept;
       detached = c.place;
-      run = ap (λ (t : Table). after_umount t c.place true) (ap (λ (t : Table). earlier ++ entry ∷ t) is.whole
+      run = ap (λ (t : Table). after_umount (map plain t) c.place true) (ap (λ (t : Table). earlier ++ entry ∷ t) is.whole
           ∙ sym (append_assoc earlier (entry ∷ split.earlier) (c ∷ split.later))) ∙ run
           ∙ ap answer (append_assoc earlier (entry ∷ split.earlier) kept);
       part = let P : Table → Type 0 = λ t. IsPart (split.earlier ++ kept) t in subst P (sym is.whole) (part_append split.earlier kept (c ∷ split.later) (leaves c part));
@@ -237,8 +233,8 @@ stands_uncovered table entry rest ordered has =
     (has.0 ++ entry ∷ c.later, entry.place ++ rest, record { earlier = has.0; entry = entry; later = c.later }, subst P (sym has.2) c.run, split_is _ has.0 entry c.later own c.last, refl, refl)
 
 -- what umount2 leaves of a table is a table
-pub unmounted_table : (path : Path) (detach : Bool) (table next : Table) → IsTable table → after_umount table path detach ≡ Ok next
-    → IsTable next
-unmounted_table path detach table next is e =
-    let trim = trims path detach table next is.root e in
+pub unmounted_table : (path : Path) (detach : Bool) (mounts next : Mounts) → IsTable (steps_of mounts)
+    → after_umount mounts path detach ≡ Ok next → IsTable (steps_of next)
+unmounted_table path detach mounts next is e =
+    let trim = trims path detach mounts next is.root e in
     record { root = trimmed_top trim is.root; few = omega (arith, is.few, part_length (trimmed_part trim)) }

@@ -1,9 +1,7 @@
 -- What a call answers: errno(3) where it is refused, and then the table stays; else the table that the rule makes.
-use Rattle.std.specs.Prelude.{◌≡◌, ℕ, Result, Ok, Err, IsOk, map}
+use Rattle.std.specs.Prelude.{◌≡◌, ℕ, Result, Ok, Err, IsOk}
 use Rattle.kern_mounts.specs.declared.error.MountError.{MountError}
 use Rattle.kern_mounts.specs.declared.error.MountError.TheVariants.{Errno, Memory}
-use Rattle.kern_mounts.specs.Mounts.{Mounts, steps_of, plain}
-use Rattle.kern_mounts.specs.Split.{Table}
 
 -- from the old table to the new one, with this result, where the rule answers so
 abbrev pub Becomes : {T : Type 0} → T → T → Result (Unit {0}) ℕ → Result T ℕ → Type 0
@@ -19,13 +17,3 @@ Refuses Memory answer = IsOk answer
 abbrev pub BecomesOrMemory : {T : Type 0} → T → T → Result (Unit {0}) MountError → Result T ℕ → Type 0
 BecomesOrMemory old new (Ok u) answer = answer ≡ Ok new
 BecomesOrMemory old new (Err error) answer = Refuses error answer × (new ≡ old)
-
--- the answer, of the entries alone
-abbrev pub steps_answer : Result Mounts ℕ → Result Table ℕ
-steps_answer (Ok mounts) = Ok (steps_of mounts)
-steps_answer (Err errno) = Err errno
-
--- the answer of a rule on entries, as of mounts that are not locked and keep nothing
-abbrev pub plain_answer : Result Table ℕ → Result Mounts ℕ
-plain_answer (Ok table) = Ok (map plain table)
-plain_answer (Err errno) = Err errno

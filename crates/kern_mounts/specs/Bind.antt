@@ -1,4 +1,4 @@
--- mount(2), MS_BIND and MS_REC, once the source and the target have been found: what a table becomes, or why the call is
+-- mount(2), MS_BIND and MS_REC, once the source and the target have been found: what the mounts become, or why the call is
 -- refused.
 use Rattle.std.specs.Prelude.{ℕ, [], ◌∷◌, ◌++◌, ◌&&◌, Bool, true, false, not, filter, map, length, nat_lt, Option, Some, None, Result, Err}
 use Rattle.std.specs.Prelude.{if◌then◌else◌}
@@ -8,30 +8,37 @@ use Rattle.abs_path.specs.Prefix.{rest_of}
 use Rattle.linux_numbers.specs.Errnos.{einval, enametoolong}
 use Rattle.kern_mounts.specs.declared.step.What.{What}
 use Rattle.kern_mounts.specs.declared.step.What.TheVariants.{Host, Empty, Hidden}
+use Rattle.kern_mounts.specs.declared.step.Mount.{Mount}
 use Rattle.kern_mounts.specs.declared.step.MountStep.{MountStep}
 use Rattle.kern_mounts.specs.Entry.{entry_of}
-use Rattle.kern_mounts.specs.Split.{Table, Split, split_at, is_below}
+use Rattle.kern_mounts.specs.Mounts.{Mounts, stands_below}
+use Rattle.kern_mounts.specs.MountAt.{mount_at}
+use Rattle.kern_mounts.specs.Split.{Table, SplitOf, is_below}
 use Rattle.kern_mounts.specs.Push.{grown}
 
 -- an entry below the source, moved to the same place below the target
 abbrev pub moved : Path → Path → MountStep → MountStep
 moved source target entry = record entry { place = target ++ rest_of source entry.place }
 
--- what a recursive bind copies, in its order: of the entries later than the source's, those strictly below the source
-abbrev pub copies : Bool → Path → Path → Table → Table
-copies recursive source target later = if recursive then map (moved source target) (filter (is_below source) later) else []
+-- a mount below the source, moved so; its lock and what it keeps go with it
+abbrev pub moved_mount : Path → Path → Mount → Mount
+moved_mount source target mount = record mount { step = moved source target mount.step }
+
+-- what a recursive bind copies, in its order: of the mounts later than the source's, those strictly below the source
+abbrev pub copies : Bool → Path → Path → Mounts → Mounts
+copies recursive source target later = if recursive then map (moved_mount source target) (filter (stands_below source) later) else []
 
 -- the text of a path has more than 512 bytes, which no path has here
 abbrev pub is_long : Path → Bool
 is_long path = nat_lt 512 (length (text_of path))
 
--- no entry can stand at such a place
-abbrev pub is_too_long : MountStep → Bool
-is_too_long entry = is_long entry.place
+-- no mount can stand at such a place
+abbrev pub is_too_long : Mount → Bool
+is_too_long mount = is_long mount.step.place
 
 -- a recursive bind would copy the entry to such a place
 abbrev pub goes_too_far : Path → Path → MountStep → Bool
-goes_too_far source target entry = is_below source entry && is_too_long (moved source target entry)
+goes_too_far source target entry = is_below source entry && is_long (target ++ rest_of source entry.place)
 
 -- the source's object: on a host entry what it shows at the source
 abbrev pub object_at : Path → MountStep → What → What
@@ -39,20 +46,30 @@ object_at source entry (Host host) = Host (host ++ rest_of entry.place source)
 object_at source entry Empty = Empty
 object_at source entry (Hidden directory) = Hidden directory
 
--- what stands at the target: the source's object, with the flags of the source's entry
+-- the entry at the target: the source's object, with the flags of the source's entry
 abbrev pub bound_entry : Path → Path → MountStep → MountStep
 bound_entry source target entry = record { place = target; what = object_at source entry entry.what; flags = entry.flags }
 
--- ENAMETOOLONG where a copy's place is too long, then ENOSPC where there would be too many entries; else the new entry
--- comes behind the others, and the copies behind it
-abbrev pub bound : Table → Path → Path → Bool → Option Split → Result Table ℕ
-bound table source target recursive None = Err einval
-bound table source target recursive (Some split) =
-    if list_any is_too_long (copies recursive source target split.later) then Err enametoolong
-    else grown table (bound_entry source target split.entry ∷ copies recursive source target split.later)
+-- what stands at the target: that entry, with the flags that the source's mount keeps; it is not locked
+abbrev pub bound_mount : Path → Path → Mount → Mount
+bound_mount source target mount = record { step = bound_entry source target mount.step; locked = false; kept = mount.kept }
 
-abbrev pub after_bind : Table → Path → Path → Bool → Result Table ℕ
-after_bind table source target recursive = bound table source target recursive (split_at source table)
+-- a locked mount that covers a part of what is strictly below the source
+abbrev pub is_locked_below : Path → Mount → Bool
+is_locked_below source mount = mount.locked && stands_below source mount
+
+-- EINVAL where a bind that is not recursive would uncover what a locked mount covers; ENAMETOOLONG where a copy's place is
+-- too long, then ENOSPC where there would be too many mounts; else the new mount comes behind the others, and the copies
+-- behind it
+abbrev pub bound : Mounts → Path → Path → Bool → Option (SplitOf Mount) → Result Mounts ℕ
+bound mounts source target recursive None = Err einval
+bound mounts source target recursive (Some split) =
+    if not recursive && list_any (is_locked_below source) split.later then Err einval
+    else if list_any is_too_long (copies recursive source target split.later) then Err enametoolong
+    else grown mounts (bound_mount source target split.entry ∷ copies recursive source target split.later)
+
+abbrev pub after_bind : Mounts → Path → Path → Bool → Result Mounts ℕ
+after_bind mounts source target recursive = bound mounts source target recursive (mount_at source mounts)
 
 -- what an entry shows at a path can be bound: it is not hidden, and where the host has it the path there is not too long
 abbrev pub can_show : What → Path → Path → Bool

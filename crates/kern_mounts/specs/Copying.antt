@@ -3,7 +3,7 @@ use Rattle.std.specs.Prelude.{Bool, true, false, map}
 use Rattle.kern_mounts.specs.declared.step.Mount.{Mount}
 use Rattle.kern_mounts.specs.Mounts.{Mounts}
 
--- the mount with its flags kept, not to be mounts_unmounted alone
+-- the mount with its flags kept, not to be unmounted alone
 abbrev pub locked : Mount → Mount
 locked mount = record { step = mount.step; locked = true; kept = mount.step.flags }
 

@@ -12,10 +12,6 @@ pub mod Answer
 pub mod Mounts
 pub mod Keeping
 pub mod MountAt
-pub mod MountsUmount
-pub mod MountsRemount
-pub mod MountsPush
-pub mod MountsBind
 pub mod Copying
 pub mod Pushed
 pub mod Backing

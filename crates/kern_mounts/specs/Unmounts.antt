@@ -1,17 +1,18 @@
 -- What calls of umount2(2) make of mount tables.
-use Rattle.std.specs.Prelude.{◌≡◌, Bool, false, [], ◌∷◌, ◌++◌, Some, Ok, filter, not}
+use Rattle.std.specs.Prelude.{◌≡◌, Bool, false, [], ◌∷◌, ◌++◌, Some, Ok, filter, map, not}
 use Rattle.std.specs.List.{AllByRecursion}
 use Rattle.abs_path.specs.Paths.{Path, is_root}
 use Rattle.abs_path.specs.Prefix.{is_prefix}
 use Rattle.kern_mounts.specs.declared.step.MountStep.{MountStep}
+use Rattle.kern_mounts.specs.Mounts.{plain}
 use Rattle.kern_mounts.specs.Split.{Table, Split, split_at, is_below}
 use Rattle.kern_mounts.specs.Umount.{after_umount}
 
--- what any calls of umount2 make of a table, each of them done
+-- what any calls of umount2 make of a table of mounts that are not locked, each of them done
 pub data Unmounts : Table → Table → Type 0 where
   still : {table : Table} → Unmounts table table
-  then_one : {table next last : Table} (path : Path) (detach : Bool) → after_umount table path detach ≡ Ok next → Unmounts next last
-      → Unmounts table last
+  then_one : {table next last : Table} (path : Path) (detach : Bool) → after_umount (map plain table) path detach ≡ Ok (map plain next)
+      → Unmounts next last → Unmounts table last
 
 -- a part of a table, in its order
 pub data IsPart : Table → Table → Type 0 where

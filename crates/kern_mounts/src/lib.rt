@@ -2,7 +2,7 @@
 //! umount2(2) make of it (mount_namespaces(7)).
 //!
 //! A later mount hides what an earlier one shows, so a path belongs to the last entry whose place leads to it.
-//! The crate rests on `abs_path`, `place_tree` and `linux_numbers`; `MountTable::new(alloc)?` shows the host itself.
+//! `MountTable::new(alloc)?` shows the host itself.
 #![tactic(auto)]
 
 mod error;

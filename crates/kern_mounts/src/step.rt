@@ -20,7 +20,7 @@ pub struct Flags {
 }
 
 impl Flags {
-    // Whether one of these flags is not among the others.
+    // Tells whether one of these flags is not among the others.
     pub(crate) fn lacks(self, others: Flags) -> bool
         ensures { result ≡ lacks self others }
     {

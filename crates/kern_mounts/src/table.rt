@@ -1,6 +1,6 @@
 //! The type of a mount table: its start, its entries, the entry of a path, and tables that are copied or grow.
 //!
-//! A contract sees a table as the list of its entries. A tree over the parts of their places finds the entry of a path among the
+//! A contract sees a table as the list of its mounts. A tree over the parts of their places finds the entry of a path among the
 //! first, those that a launch makes. Those behind them are looked at one by one, so copies of many come and go without the tree.
 
 mod bind;
@@ -14,7 +14,7 @@ ghost use Rattle.linux_numbers.specs.Limits.{mount_max};
 ghost use Rattle.kern_mounts.specs.Table.{IsTable, IsFullOrMemory};
 ghost use Rattle.kern_mounts.specs.Mounts.{steps_of, plain, first_mounts};
 ghost use Rattle.kern_mounts.specs.Entry.{Belongs, entry_of};
-ghost use Rattle.kern_mounts.specs.MountsPush.{mounts_after_push};
+ghost use Rattle.kern_mounts.specs.Push.{after_push};
 ghost use Rattle.kern_mounts.specs.Copying.{locked, locked_copy};
 ghost use Rattle.kern_mounts.specs.Answer.{BecomesOrMemory};
 
@@ -90,7 +90,7 @@ impl MountTable {
         &self.mounts[at].step
     }
 
-    /// Whether the entry of this number, below `len`, is locked: it came with a copy for a less privileged user namespace,
+    /// Tells whether the entry of this number, below `len`, is locked: it came with a copy for a less privileged user namespace,
     /// and is not unmounted alone.
     pub fn locked(&self, at: usize) -> bool
         requires in_range { at < length self.now }
@@ -124,7 +124,7 @@ impl MountTable {
         ensures unchanged_on_error { OnErr result (self.new ≡ self.old) }
         ensures full_exactly_at_the_limit { IsErrOf result (MountError.Errno enospc) ↔ (length self.old ≡ mount_max) }
         ensures no_other_errno { IsFullOrMemory result }
-        ensures by_the_rule { BecomesOrMemory self.old self.new result (mounts_after_push self.old step) }
+        ensures by_the_rule { BecomesOrMemory self.old self.new result (after_push self.old step) }
     {
         if self.mounts.len() >= MOUNT_MAX {
             return Err(MountError::Errno(ENOSPC));

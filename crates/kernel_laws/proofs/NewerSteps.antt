@@ -19,7 +19,8 @@ use Rattle.kernel_model.specs.kern_mounts.Mounts.{Mounts as Table, steps_of}
 use Rattle.kernel_model.specs.kern_files.Bits.{has_some, has_all}
 use Rattle.kernel_model.specs.kern_files.Looking.{flags_at}
 use Rattle.kernel_model.specs.kern_files.Executing.{program_answer, executed_in, exec_answer_in}
-use Rattle.kernel_model.specs.kern_files.MountsCall.{mounts_after_mount, mounts_umount_answer}
+use Rattle.kernel_model.specs.kern_files.MountCall.{after_mount}
+use Rattle.kernel_model.specs.kern_files.UmountCall.{umount_answer}
 use Rattle.kernel_model.specs.declared.kern_files.program.Program.{Program}
 use Rattle.kernel_model.specs.kernel_calls.Doing as d
 use Rattle.kernel_model.specs.kernel_calls.Doing.{Doing}
@@ -141,17 +142,17 @@ module _ (launch : Launch) (power : Power) (top : Bounds) (below : Table → Typ
     is_in e now h = let P : Bool → Type 0 = λ b. TableIn b launch power below now in subst P (sym (apart e)) h
 
     safe_mount : (creds : Creds) (source target : Path) (flags : ℕ)
-        → Safe (with_own owns (with_admin creds (table_effect (mounts_after_mount (row_at launch.site.rows) table source target flags))))
+        → Safe (with_own owns (with_admin creds (table_effect (after_mount (row_at launch.site.rows) table source target flags))))
     safe_mount creds source target flags =
-        safe_if owns (with_admin creds (table_effect (mounts_after_mount (row_at launch.site.rows) table source target flags))) (Refuse 1)
-        (λ e. safe_admin creds (table_effect (mounts_after_mount (row_at launch.site.rows) table source target flags))
+        safe_if owns (with_admin creds (table_effect (after_mount (row_at launch.site.rows) table source target flags))) (Refuse 1)
+        (λ e. safe_admin creds (table_effect (after_mount (row_at launch.site.rows) table source target flags))
         (safe_table _ (λ now g. is_in e now (stable.mounts table now source target flags (is_below e) g)))) (λ e. tt)
 
     safe_umount : (creds : Creds) (path : Path) (flags : ℕ) → Safe
-        (with_own owns (with_admin creds (table_effect (mounts_umount_answer table path flags))))
+        (with_own owns (with_admin creds (table_effect (umount_answer table path flags))))
     safe_umount creds path flags =
-        safe_if owns (with_admin creds (table_effect (mounts_umount_answer table path flags))) (Refuse 1)
-        (λ e. safe_admin creds (table_effect (mounts_umount_answer table path flags))
+        safe_if owns (with_admin creds (table_effect (umount_answer table path flags))) (Refuse 1)
+        (λ e. safe_admin creds (table_effect (umount_answer table path flags))
         (safe_table _ (λ now g. is_in e now (stable.unmounts table now path flags (is_below e) g)))) (λ e. tt)
 
     -- the kinds that a call asks for are let through

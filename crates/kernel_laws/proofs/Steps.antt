@@ -21,8 +21,8 @@ use Rattle.kernel_model.specs.kern_files.Bits.{has_some, has_all}
 use Rattle.kernel_laws.specs.Bounds.{Bounds, Keeps}
 use Rattle.kernel_model.specs.kern_mounts.Split.{Table}
 use Rattle.kernel_model.specs.kern_mounts.Umount.{after_umount}
-use Rattle.kernel_model.specs.kern_files.MountsCall.{mounts_after_mount, mounts_umount_answer}
-use Rattle.kernel_model.proofs.MountsCall.{umount_answer_steps, mount_stays_plain, umount_stays_plain}
+use Rattle.kernel_model.specs.kern_files.MountCall.{after_mount}
+use Rattle.kernel_model.proofs.MountsCall.{umount_does, mount_stays_plain, umount_stays_plain}
 use Rattle.kernel_model.specs.kern_mounts.Mounts.{Mounts, steps_of}
 use Rattle.kernel_model.specs.kernel_calls.Doing as d
 use Rattle.kernel_model.specs.kernel_calls.Doing.{Doing}
@@ -31,10 +31,9 @@ use Rattle.kernel_model.specs.Effects.{looks, creds_effect, table_effect, with_c
 use Rattle.kernel_model.specs.Effects.{unshare_effect, ambient_effect, prctl_effect, push_effect, seccomp_effect, newuser, other_spaces}
 use Rattle.kernel_model.specs.Effects.{newns, socketcall_effect}
 use Rattle.kernel_model.specs.kern_files.Looking.{flags_at}
-use Rattle.filter_settings.specs.linux_numbers.Errnos.{einval}
 use Rattle.kernel_model.specs.declared.kern_files.program.Program.{Program}
 use Rattle.kernel_model.specs.kern_files.Executing.{marks_of, program_answer, executed, exec_answer}
-use Rattle.kernel_model.specs.kern_files.UmountCall.{mnt_detach}
+use Rattle.kernel_model.specs.kern_files.UmountCall.{umount_answer, mnt_detach}
 use Rattle.kernel_laws.specs.declared.question_types.power.Power.{Power}
 use Rattle.kernel_laws.specs.declared.question_types.power.Power.TheVariants.{None as Nowise, Unmount as Unmounting, Mount as Mounting}
 use Rattle.kernel_laws.specs.declared.question_types.kind.CallKind.{CallKind}
@@ -161,12 +160,12 @@ module _ (launch : Launch) (may_uids may_gids : Bool) (power : Power) (top : Bou
   mounted : (table : Table) → power ≡ Mounting → CanHave power launch.table table
   mounted table e = let P : Power → Type 0 = λ power. CanHave power launch.table table in subst P (sym e) tt
 
-  unmounted : (own : Power) (table next : Table) (path : Path) (detach : Bool) → (own ≡ Nowise → ⊥) → CanHave own launch.table table
-      → after_umount table path detach ≡ Ok next → CanHave own launch.table next
-  unmounted Nowise table next path detach barred allowed e = absurd (barred refl)
-  unmounted Unmounting table next path detach barred allowed e =
-      trimmed_through (trims path detach table next (trimmed_top allowed closed.rooted) e) allowed
-  unmounted Mounting table next path detach barred allowed e = tt
+  unmounted : (own : Power) (mounts next : Mounts) (path : Path) (detach : Bool) → (own ≡ Nowise → ⊥)
+      → CanHave own launch.table (steps_of mounts) → after_umount mounts path detach ≡ Ok next → CanHave own launch.table (steps_of next)
+  unmounted Nowise mounts next path detach barred allowed e = absurd (barred refl)
+  unmounted Unmounting mounts next path detach barred allowed e =
+      trimmed_through (trims path detach mounts next (trimmed_top allowed closed.rooted) e) allowed
+  unmounted Mounting mounts next path detach barred allowed e = tt
 
   safe_table : (answer : Result Mounts ℕ) → ((mounts : Mounts) → answer ≡ Ok mounts → CanHold power launch.table mounts)
       → Safe (table_effect answer)
@@ -174,21 +173,15 @@ module _ (launch : Launch) (may_uids may_gids : Bool) (power : Power) (top : Bou
   safe_table (Err errno) h = tt
 
   safe_umount : (mounts : Mounts) (path : Path) (flags : ℕ) → CanHold power launch.table mounts → (power ≡ Nowise → ⊥)
-      → Safe (table_effect (mounts_umount_answer mounts path flags))
-  safe_umount mounts path flags allowed h = safe_table (mounts_umount_answer mounts path flags) (λ next e. record {
+      → Safe (table_effect (umount_answer mounts path flags))
+  safe_umount mounts path flags allowed h = safe_table (umount_answer mounts path flags) (λ next e. record {
     plain = umount_stays_plain mounts next path flags allowed.plain e;
-    entries = unmounted power (steps_of mounts) (steps_of next) path (eqb flags mnt_detach) h allowed.entries
-        (by (eqb flags 0 || eqb flags mnt_detach) (steps_of next) (umount_answer_steps mounts next path flags e));
+    entries = unmounted power mounts next path (eqb flags mnt_detach) h allowed.entries (umount_does mounts next path flags e);
   })
-    where
-      by : (b : Bool) (next : Table) → cond {A = Result Table ℕ} b (after_umount (steps_of mounts) path (eqb flags mnt_detach))
-          (Err einval) ≡ Ok next → after_umount (steps_of mounts) path (eqb flags mnt_detach) ≡ Ok next
-      by true next e = e
-      by false next e = cc
 
   safe_mount : (mounts : Mounts) (source target : Path) (flags : ℕ) → CanHold power launch.table mounts → power ≡ Mounting
-      → Safe (table_effect (mounts_after_mount (row_at launch.site.rows) mounts source target flags))
-  safe_mount mounts source target flags allowed h = safe_table (mounts_after_mount (row_at launch.site.rows) mounts source target flags)
+      → Safe (table_effect (after_mount (row_at launch.site.rows) mounts source target flags))
+  safe_mount mounts source target flags allowed h = safe_table (after_mount (row_at launch.site.rows) mounts source target flags)
       (λ next e. record {
         plain = mount_stays_plain (row_at launch.site.rows) mounts next source target flags allowed.plain e;
         entries = mounted (steps_of next) h;
@@ -225,10 +218,10 @@ module _ (launch : Launch) (may_uids may_gids : Bool) (power : Power) (top : Bou
   safe_effect families creds stack table (d.Unshare flags) held allowed p u = safe_unshare creds flags held (p (k.ForNamespace User))
   safe_effect families creds stack table d.Exit held allowed p u = tt
   safe_effect families creds stack table (d.Mount source target flags) held allowed p u =
-      safe_admin creds (table_effect (mounts_after_mount (row_at launch.site.rows) table source target flags)) held
+      safe_admin creds (table_effect (after_mount (row_at launch.site.rows) table source target flags)) held
       (λ h. safe_mount table source target flags allowed (closed.mount (p k.ChangesMounts refl) h))
   safe_effect families creds stack table (d.Umount path flags) held allowed p u =
-      safe_admin creds (table_effect (mounts_umount_answer table path flags)) held
+      safe_admin creds (table_effect (umount_answer table path flags)) held
       (λ h. safe_umount table path flags allowed (closed.umount (p k.RemovesMounts refl) h))
   safe_effect families creds stack table (d.Setuid id) held allowed p u =
       safe_creds _ (kept-setuid top creds held closed.settled (λ h. closed.any_uid (u.0 refl h) (held.effective.each 7 h)) id)

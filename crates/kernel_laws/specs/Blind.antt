@@ -1,5 +1,5 @@
 -- Which folders a service cannot look into: no entry of a table that the power allows shows a place strictly below.
-use Rattle.std.specs.Prelude.{◌≡◌, ◌≤◌, ◌<◌, Bool, true, false, ◌&&◌, ◌||◌, not, [], ◌∷◌, ◌++◌, length, Option, Some, Ok}
+use Rattle.std.specs.Prelude.{◌≡◌, ◌≤◌, ◌<◌, Bool, true, false, ◌&&◌, ◌||◌, not, [], ◌∷◌, ◌++◌, length, map, Option, Some, Ok}
 use Rattle.std.specs.List.{list_any, AllByRecursion}
 use Rattle.filter_settings.specs.linux_numbers.Limits.{mount_max}
 use Rattle.kernel_model.specs.abs_path.Paths.{Path, text_of, is_normal, is_root, proc}
@@ -9,6 +9,7 @@ use Rattle.kernel_model.specs.site_table.declared.row.Row.{Row}
 use Rattle.kernel_model.specs.kern_mounts.Entry.{leads_to}
 use Rattle.kernel_model.specs.kern_mounts.Finds.{host_place}
 use Rattle.kernel_model.specs.kern_mounts.Launch.{HasShortPlace}
+use Rattle.kernel_model.specs.kern_mounts.Mounts.{plain}
 use Rattle.kernel_model.specs.kern_mounts.Split.{Table}
 use Rattle.kernel_model.specs.kern_mounts.Unmounts.{Unmounts, IsOrdered}
 use Rattle.kernel_model.specs.kern_mounts.declared.step.What.{What}
@@ -86,4 +87,4 @@ ExposedByMount = (rows : Path → Option Row) (table : Table) (first : MountStep
     → table ≡ first ∷ rest → first.place ≡ [] → first.what ≡ Host []
     → AllByRecursion (λ (entry : MountStep). is_root entry.place ≡ false) rest
     → rows [] ≡ Some root → is_dir root.kind ≡ true → target_kind rows table proc ≡ Ok true → length table < mount_max
-    → (now : Table) × (after_mount rows table [] proc ms_bind ≡ Ok now) × SeesBelow folder now
+    → (now : Table) × (after_mount rows (map plain table) [] proc ms_bind ≡ Ok (map plain now)) × SeesBelow folder now

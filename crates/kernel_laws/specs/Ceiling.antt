@@ -20,7 +20,8 @@ use Rattle.filter_settings.specs.declared.filter_rules.namespace_types.Namespace
 use Rattle.kernel_model.specs.Effects.{Effect, Refuse, Answer, SetCreds, SetTable, Push, Child, OwnTable, UserChild, OwnUser, End}
 use Rattle.kernel_model.specs.kern_files.Looking.{flags_at}
 use Rattle.kernel_model.specs.kern_files.Executing.{marks_of}
-use Rattle.kernel_model.specs.kern_files.MountsCall.{mounts_after_mount, mounts_umount_answer}
+use Rattle.kernel_model.specs.kern_files.MountCall.{after_mount}
+use Rattle.kernel_model.specs.kern_files.UmountCall.{umount_answer}
 use Rattle.kernel_model.specs.kern_mounts.Copying.{locked_copy}
 use Rattle.kernel_model.specs.World.{World, is_newer}
 use Rattle.kernel_model.specs.declared.process.Process.{Process}
@@ -66,8 +67,8 @@ pub record IsStable (launch : Launch) (power : Power) (below : Mounts → Type 0
   pub begins : (mounts : Mounts) → CanHold power launch.table mounts → below (locked_copy mounts)
   pub copies : (mounts : Mounts) → below mounts → below (locked_copy mounts)
   pub mounts : (mounts now : Mounts) (source target : Path) (flags : ℕ) → below mounts
-      → mounts_after_mount (row_at launch.site.rows) mounts source target flags ≡ Ok now → below now
-  pub unmounts : (mounts now : Mounts) (path : Path) (flags : ℕ) → below mounts → mounts_umount_answer mounts path flags ≡ Ok now
+      → after_mount (row_at launch.site.rows) mounts source target flags ≡ Ok now → below now
+  pub unmounts : (mounts now : Mounts) (path : Path) (flags : ℕ) → below mounts → umount_answer mounts path flags ≡ Ok now
       → below now
 
 -- the mount table, by whether it belongs to the first user namespace

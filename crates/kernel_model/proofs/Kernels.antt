@@ -20,7 +20,8 @@ use Rattle.kern_creds.specs.Setresuid.{after_setresuid, after_setresgid}
 use Rattle.kern_creds.specs.Setgroups.{after_setgroups}
 use Rattle.kern_mounts.specs.Copying.{locked_copy, copied}
 use Rattle.kern_mounts.specs.Mounts.{Mounts as Table}
-use Rattle.kernel_model.specs.kern_files.MountsCall.{mounts_after_mount, mounts_umount_answer}
+use Rattle.kernel_model.specs.kern_files.MountCall.{after_mount}
+use Rattle.kernel_model.specs.kern_files.UmountCall.{umount_answer}
 use Rattle.kernel_model.specs.declared.kernel_calls.call.Call.{Call}
 use Rattle.kernel_model.specs.kernel_calls.Doing as d
 use Rattle.kernel_model.specs.kernel_calls.Doing.{Doing}
@@ -291,15 +292,15 @@ roots_effect host caller (d.Clone flags) h = roots_clone caller.creds flags
 roots_effect host caller (d.Unshare flags) h = roots_unshare caller.creds flags
 roots_effect host caller d.Exit h = record { rooted = tt }
 roots_effect host caller (d.Mount source target flags) h =
-    roots_if caller.owns (with_admin caller.creds (table_effect (mounts_after_mount host.rows caller.table source target flags)))
+    roots_if caller.owns (with_admin caller.creds (table_effect (after_mount host.rows caller.table source target flags)))
     (f.Refuse eperm) (roots_cap cap_sys_admin caller.creds
-    (table_effect (mounts_after_mount host.rows caller.table source target flags))
-    (roots_table (mounts_after_mount host.rows caller.table source target flags)
+    (table_effect (after_mount host.rows caller.table source target flags))
+    (roots_table (after_mount host.rows caller.table source target flags)
     (λ next e. rooted_mount host.rows caller.table next source target flags h e))) (refuses eperm)
 roots_effect host caller (d.Umount path flags) h =
-    roots_if caller.owns (with_admin caller.creds (table_effect (mounts_umount_answer caller.table path flags))) (f.Refuse eperm)
-    (roots_cap cap_sys_admin caller.creds (table_effect (mounts_umount_answer caller.table path flags))
-    (roots_table (mounts_umount_answer caller.table path flags) (λ next e. rooted_umount_call caller.table next path flags h e)))
+    roots_if caller.owns (with_admin caller.creds (table_effect (umount_answer caller.table path flags))) (f.Refuse eperm)
+    (roots_cap cap_sys_admin caller.creds (table_effect (umount_answer caller.table path flags))
+    (roots_table (umount_answer caller.table path flags) (λ next e. rooted_umount_call caller.table next path flags h e)))
     (refuses eperm)
 roots_effect host caller (d.Setuid id) h = roots_if caller.newer (f.Refuse einval) (creds_effect (after_setuid caller.creds id))
     (refuses einval) (roots_creds _)

@@ -8,7 +8,7 @@ use Rattle.call_table.specs.Table as calls
 use Rattle.site_table.specs.Table.{Site}
 use Rattle.kern_mounts.specs.declared.step.MountStep.{MountStep}
 use Rattle.kern_mounts.specs.Mounts.{Mounts as Table}
-use Rattle.kern_mounts.specs.MountsRemount.{with_root_flags}
+use Rattle.kern_mounts.specs.Remount.{with_root_flags}
 use Rattle.kernel_model.specs.World.{of_number, put_number, table_or, mounts_of}
 use Rattle.kernel_model.specs.Worlds.{IsKernel}
 use Rattle.kernel_model.specs.State.{State, world_of, place_of, AtPlace}

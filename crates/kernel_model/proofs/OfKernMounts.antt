@@ -7,5 +7,6 @@ pub use Rattle.kern_mounts.proofs.Leaving as Leaving
 pub use Rattle.kern_mounts.proofs.Mounts as Mounts
 pub use Rattle.kern_mounts.proofs.Paths as Paths
 pub use Rattle.kern_mounts.proofs.Plain as Plain
+pub use Rattle.kern_mounts.proofs.Showing as Showing
 pub use Rattle.kern_mounts.proofs.Splits as Splits
 pub use Rattle.kern_mounts.proofs.Unmounting as Unmounting

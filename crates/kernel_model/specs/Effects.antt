@@ -27,7 +27,8 @@ use Rattle.kernel_model.specs.kern_files.Executing.{exec_answer_in}
 use Rattle.kernel_model.specs.kernel_calls.Doing.{Doing, See, Open, Create, Truncate, Execve, SetMode, Map, Protect, Attach, Schedule}
 use Rattle.kernel_model.specs.kernel_calls.Doing.{Personality, Socket, Enter, Fork, Clone, Unshare, Exit, Mount, Umount, Setuid, Setgid}
 use Rattle.kernel_model.specs.kernel_calls.Doing.{Setresuid, Setresgid, Setgroups, Capset, Prctl, Seccomp, Plain, Socketcall}
-use Rattle.kernel_model.specs.kern_files.MountsCall.{mounts_after_mount, mounts_umount_answer}
+use Rattle.kernel_model.specs.kern_files.MountCall.{after_mount}
+use Rattle.kernel_model.specs.kern_files.UmountCall.{umount_answer}
 
 pub data Effect : Type 0 where
   -- an errno, and nothing changes
@@ -249,9 +250,9 @@ effect_of host caller (Clone flags) = clone_effect caller.creds flags
 effect_of host caller (Unshare flags) = unshare_effect caller.creds flags
 effect_of host caller Exit = End
 effect_of host caller (Mount source target flags) = with_own caller.owns
-    (with_admin caller.creds (table_effect (mounts_after_mount host.rows caller.table source target flags)))
+    (with_admin caller.creds (table_effect (after_mount host.rows caller.table source target flags)))
 effect_of host caller (Umount path flags) = with_own caller.owns
-    (with_admin caller.creds (table_effect (mounts_umount_answer caller.table path flags)))
+    (with_admin caller.creds (table_effect (umount_answer caller.table path flags)))
 effect_of host caller (Setuid id) = with_mapped caller.newer (creds_effect (after_setuid caller.creds id))
 effect_of host caller (Setgid id) = with_mapped caller.newer (creds_effect (after_setgid caller.creds id))
 effect_of host caller (Setresuid real effective saved) = with_mapped_ids caller.newer real effective saved

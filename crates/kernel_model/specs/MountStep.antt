@@ -5,7 +5,7 @@ use Rattle.site_table.specs.abs_path.Paths.{is_root}
 use Rattle.kern_mounts.specs.linux_numbers.Limits.{mount_max}
 use Rattle.kern_mounts.specs.declared.step.MountStep.{MountStep}
 use Rattle.kern_mounts.specs.Mounts.{Mounts as Table, plain}
-use Rattle.kern_mounts.specs.MountsRemount.{with_root_flags}
+use Rattle.kern_mounts.specs.Remount.{with_root_flags}
 use Rattle.kernel_model.specs.declared.process.Process.{Process}
 use Rattle.kernel_model.specs.World.{World, living_of, mounts_of, with_table}
 

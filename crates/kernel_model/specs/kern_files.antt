@@ -3,7 +3,6 @@ pub mod Looking
 pub mod Executing
 pub mod MountCall
 pub mod UmountCall
-pub mod MountsCall
 pub mod Found
 pub mod Planning
 pub mod There

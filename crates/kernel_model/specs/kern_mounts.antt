@@ -10,8 +10,7 @@ pub use Rattle.kern_mounts.specs.Keeping as Keeping
 pub use Rattle.kern_mounts.specs.Launch as Launch
 pub use Rattle.kern_mounts.specs.MountAt as MountAt
 pub use Rattle.kern_mounts.specs.Mounts as Mounts
-pub use Rattle.kern_mounts.specs.MountsPush as MountsPush
-pub use Rattle.kern_mounts.specs.MountsRemount as MountsRemount
+pub use Rattle.kern_mounts.specs.Push as Push
 pub use Rattle.kern_mounts.specs.Remount as Remount
 pub use Rattle.kern_mounts.specs.Split as Split
 pub use Rattle.kern_mounts.specs.Table as Table

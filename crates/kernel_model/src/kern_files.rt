@@ -1,8 +1,7 @@
 //! What calls that name paths answer in a modelled Linux kernel, over a mount table and the rows of a site
 //! (path_resolution(7), stat(2), open(2), execve(2), mount(2), umount2(2)).
 //!
-//! Whether the caller may make the call is asked before: nothing here looks at capabilities.
-//! The crate rests on `kern_mounts` for tables, on `site_table` for rows and on `kern_creds` for the marks of programs;
+//! Nothing here looks at capabilities: the kernel asks before whether the caller may make the call.
 //! `see(&table, &site, &path)?` is `()` where the path is there.
 
 mod find;

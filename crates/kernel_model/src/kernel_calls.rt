@@ -1,7 +1,7 @@
 //! Calls as processes make them, and the rule that a table gives each number.
 //!
-//! A call is a number, six words and what its pointers point to, syscall(2); `Rules` says once for each call of a
-//! `CallTable` what the kernel does for it, and `asked` what a call asks for. It rests on `call_names` and `call_table`.
+//! A call is a number, six words and what its pointers point to, syscall(2). `Rules` says once for each call of a
+//! `CallTable` what the kernel does for it, and `asked` says what a call asks for.
 //! Where a table has the line `call getpid 39`, `rules.rule(&table, 0, 39)` is `Some(Rule::Plain(None))`.
 
 mod asked;

@@ -3,9 +3,9 @@
 ghost use Rattle.std.specs.Prelude.{◌≡◌, true, IfOk, IsOk, OnErr};
 ghost use Rattle.site_table.specs.Table.{row_at};
 ghost use Rattle.kernel_model.specs.kern_files.Bits.{has_all};
-ghost use Rattle.kernel_model.specs.kern_files.MountCall.{ms_remount_bind};
 ghost use Rattle.kernel_model.specs.Effects.{table_effect, with_admin, with_own};
-ghost use Rattle.kernel_model.specs.kern_files.MountsCall.{mounts_after_mount, mounts_umount_answer};
+ghost use Rattle.kernel_model.specs.kern_files.MountCall.{ms_remount_bind, after_mount};
+ghost use Rattle.kernel_model.specs.kern_files.UmountCall.{umount_answer};
 ghost use Rattle.kernel_model.specs.Replies.{Mounts};
 
 use crate::reply::{Reply, zero_reply};
@@ -29,7 +29,7 @@ impl<'a> Told<'a> {
         target: &AbsPath,
         flags: u32,
     ) -> Result<Reply, AllocError>
-        ensures mounts { IfOk result (λ reply. Mounts table.old reply table.new (with_own owns (with_admin creds.now (table_effect (mounts_after_mount (row_at self.now.site.now.rows) table.old source.now target.now flags))))) }
+        ensures mounts { IfOk result (λ reply. Mounts table.old reply table.new (with_own owns (with_admin creds.now (table_effect (after_mount (row_at self.now.site.now.rows) table.old source.now target.now flags))))) }
         ensures remount_takes_no_memory { has_all ms_remount_bind flags ≡ true → IsOk result }
         ensures stays { OnErr result (table.new ≡ table.old) }
     {
@@ -52,7 +52,7 @@ pub(crate) fn umount(
     path: &AbsPath,
     flags: u32,
 ) -> Reply
-    ensures { Mounts table.old result table.new (with_own owns (with_admin creds.now (table_effect (mounts_umount_answer table.old path.now flags)))) }
+    ensures { Mounts table.old result table.new (with_own owns (with_admin creds.now (table_effect (umount_answer table.old path.now flags)))) }
 {
     if !owns || !creds.effective().contains(CAP_SYS_ADMIN) {
         return Reply::Refused(EPERM);

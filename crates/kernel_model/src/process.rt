@@ -18,7 +18,7 @@ pub struct Process {
     pub namespace: u32,
     /// The number of its user namespace, from 1, user_namespaces(7).
     pub user: u32,
-    /// Whether it lives.
+    /// It lives.
     pub alive: bool,
 }
 

@@ -1,12 +1,11 @@
 -- What is not blind by the launched table calls expose: no call, calls of umount2(2), or one of mount(2).
-use Rattle.std.proofs.Common.{◌≡◌, ◌∙◌, ◌≤◌, ℕ, Bool, true, false, List, [], ◌∷◌, ◌++◌, Option, Some, None, Result, Ok, Err, refl, cond, ap}
+use Rattle.std.proofs.Common.{◌≡◌, ◌∙◌, ◌≤◌, ℕ, Bool, true, false, List, map, [], ◌∷◌, ◌++◌, Option, Some, None, Result, Ok, Err, refl, cond, ap}
 use Rattle.std.proofs.Common.{sym, subst, length, length-append, arith}
-use Rattle.std.specs.Prelude.{codes, slice_get, nat_lt, option_and_then, ◌+◌, ◌-◌}
+use Rattle.std.specs.Prelude.{codes, slice_get, option_and_then, ◌+◌, ◌-◌}
 use Rattle.std.specs.List.{AllByRecursion}
 use Rattle.std.proofs.lemmas.Bool.{and_from, not-false}
 use Rattle.std.proofs.lemmas.List.Folds.{list_all-append}
-use Rattle.launcher.specs.linux_numbers.Errnos.{enospc, enotdir}
-use Rattle.launcher.specs.linux_numbers.Limits.{mount_max}
+use Rattle.launcher.specs.linux_numbers.Errnos.{enotdir}
 use Rattle.launcher.specs.abs_path.Paths.{Path, tail_of, text_of, is_part, proc}
 use Rattle.launcher.specs.abs_path.Prefix.{is_prefix, is_below, rest_of}
 use Rattle.launcher.proofs.OfAbsPath.ByteOrder.{tail-append}
@@ -15,11 +14,11 @@ use Rattle.launcher.specs.cap_sets.Sets.{has}
 use Rattle.launcher.specs.site_table.declared.row.Row.{Row}
 use Rattle.launcher.specs.site_table.Table.{row_at}
 use Rattle.launcher.specs.kern_creds.declared.creds.Creds.{Creds}
-use Rattle.launcher.specs.kern_mounts.Bind.{bound, bound_entry, object_at, after_bind}
+use Rattle.launcher.specs.kern_mounts.Bind.{bound_entry, object_at, after_bind}
 use Rattle.launcher.specs.kern_mounts.Entry.{leads_to, entry_of}
 use Rattle.launcher.specs.kern_mounts.Finds.{finds, host_place, host_place_by}
 use Rattle.launcher.specs.kern_mounts.Launch.{BeginsAtRoot, HasShortPlace}
-use Rattle.launcher.specs.kern_mounts.Mounts.{steps_of}
+use Rattle.launcher.specs.kern_mounts.Mounts.{Mounts, plain, steps_of}
 use Rattle.launcher.proofs.OfKernMounts.Plain.{steps_plain}
 use Rattle.launcher.specs.kern_mounts.Split.{Table, Split, split_at}
 use Rattle.launcher.specs.kern_mounts.Unmounts.{IsOrdered, IsPart}
@@ -27,6 +26,7 @@ use Rattle.launcher.specs.kern_mounts.declared.step.MountStep.{MountStep}
 use Rattle.launcher.specs.kern_mounts.declared.step.What.TheVariants.{Host}
 use Rattle.launcher.proofs.OfKernMounts.Entries.{entry_push}
 use Rattle.launcher.proofs.OfKernMounts.Leaving.{ascending_is_ordered}
+use Rattle.launcher.proofs.OfKernMounts.Showing.{bind_made}
 use Rattle.launcher.proofs.OfKernMounts.Splits.{IsSplit, split_some}
 use Rattle.launcher.proofs.OfKernMounts.Unmounting.{append_all, trimmed_part, unmounts_trim}
 use Rattle.launcher.specs.kernel_model.kern_files.MountCall.{ms_bind, ms_remount_bind, kind_found, is_same_kind, target_kind, bind_found}
@@ -66,29 +66,31 @@ record AddsAtProc (table now : Table) : Type 0 where
   own : split_at [] table ≡ Some split
   now_is : now ≡ table ++ bound_entry [] proc split.entry ∷ []
 
-adds_at_proc : (rows : Path → Option Row) (table now : Table) → after_mount rows table [] proc ms_bind ≡ Ok now → AddsAtProc table now
-adds_at_proc rows table now e = by_target (target_kind rows table proc) e
+adds_at_proc : (rows : Path → Option Row) (table now : Table) → after_mount rows (map plain table) [] proc ms_bind ≡ Ok (map plain now)
+    → AddsAtProc table now
+adds_at_proc rows table now e = by_target (target_kind rows (steps_of (map plain table)) proc) e
   where
-    by_room : (split : Split) → split_at [] table ≡ Some split → (full : Bool)
-        → cond {A = Result Table ℕ} full (Err enospc) (Ok (table ++ bound_entry [] proc split.entry ∷ [])) ≡ Ok now → AddsAtProc table now
-    by_room split is true e = cc
-    by_room split is false e = (let same : table ++ bound_entry [] proc split.entry ∷ [] ≡ now = cc in record { split = split; own = is; now_is = sym same })
+    by_bind : after_bind (map plain table) [] proc false ≡ Ok (map plain now) → AddsAtProc table now
+    by_bind e =
+        let b = bind_made (map plain table) (map plain now) [] proc false e in
+        let P : Table → Type 0 = λ t. AddsAtProc t now in
+        let Q : Table → Type 0 = λ t. AddsAtProc (steps_of (map plain table)) t in
+        subst P (steps_plain table) (subst Q (steps_plain now) (record { split = b.split; own = b.found; now_is = b.made }))
 
-    by_split : (o : Option Split) → split_at [] table ≡ o → bound table [] proc false o ≡ Ok now → AddsAtProc table now
-    by_split None is e = cc
-    by_split (Some split) is e = by_room split is (nat_lt mount_max (length table + 1)) e
-
-    by_kind : (same : Bool) → cond {A = Result Table ℕ} same (after_bind table [] proc false) (Err enotdir) ≡ Ok now → AddsAtProc table now
-    by_kind true e = by_split (split_at [] table) refl e
+    by_kind : (same : Bool) → cond {A = Result Mounts ℕ} same (after_bind (map plain table) [] proc false) (Err enotdir)
+        ≡ Ok (map plain now) → AddsAtProc table now
+    by_kind true e = by_bind e
     by_kind false e = cc
 
-    by_source : (own : Result Bool ℕ) (directory : Bool) → bind_found table [] proc false directory own ≡ Ok now → AddsAtProc table now
+    by_source : (own : Result Bool ℕ) (directory : Bool) → bind_found (map plain table) [] proc false directory own ≡ Ok (map plain now)
+        → AddsAtProc table now
     by_source (Err errno) directory e = cc
     by_source (Ok own) directory e = by_kind (is_same_kind own directory) e
 
-    by_target : (target : Result Bool ℕ) → mount_onto rows table [] proc ms_bind target ≡ Ok now → AddsAtProc table now
+    by_target : (target : Result Bool ℕ) → mount_onto rows (map plain table) [] proc ms_bind target ≡ Ok (map plain now)
+        → AddsAtProc table now
     by_target (Err errno) e = cc
-    by_target (Ok directory) e = by_source (kind_found (finds rows table [])) directory e
+    by_target (Ok directory) e = by_source (kind_found (finds rows (steps_of (map plain table)) [])) directory e
 
 -- and that is the first entry, the root of the host
 record IsHostRoot (entry : MountStep) : Type 0 where

@@ -13,7 +13,6 @@ use Rattle.launcher.specs.kern_creds.declared.creds.Creds.{Creds}
 use Rattle.launcher.specs.kern_mounts.Entry.{leads_to, entry_of}
 use Rattle.launcher.specs.kern_mounts.Finds.{found_at, found_by, row_or_nothing}
 use Rattle.launcher.specs.kern_mounts.Launch.{HasShortPlace}
-use Rattle.launcher.specs.kern_mounts.Answer.{plain_answer}
 use Rattle.launcher.specs.kern_mounts.Mounts.{plain, steps_of}
 use Rattle.launcher.proofs.OfKernMounts.Plain.{steps_plain}
 use Rattle.launcher.specs.kern_mounts.Split.{Table, Split, split_at}
@@ -23,7 +22,7 @@ use Rattle.launcher.specs.kern_mounts.Unmounts.{IsOrdered}
 use Rattle.launcher.specs.kern_mounts.declared.step.MountStep.{MountStep}
 use Rattle.launcher.proofs.OfKernMounts.Leaving.{ascending_is_ordered}
 use Rattle.launcher.proofs.OfKernMounts.Splits.{split_some, split_is, of_split}
-use Rattle.launcher.proofs.OfKernMounts.Unmounting.{Apart, trims, trimmed_part, trimmed_top, append_all}
+use Rattle.launcher.proofs.OfKernMounts.Unmounting.{Apart, trims_plain, trimmed_part, trimmed_top, append_all}
 use Rattle.launcher.specs.kernel_model.kern_files.Looking.{flags_by}
 use Rattle.launcher.specs.kernel_model.kern_files.MountCall.{ms_bind, after_mount}
 use Rattle.launcher.specs.kernel_model.kern_files.UmountCall.{mnt_detach}
@@ -77,14 +76,14 @@ module _ (launch : Launch) (o : Offers launch) (creds : Creds) (nr : CallAt) whe
       let makes : Makes launch creds table (d.Umount c.place 2) (umount_call nr c.place) (SetTable (map plain next)) =
       make launch creds table nr (Known known.Umount) (one_word 1 mnt_detach) (OnePath c.place) (d.Umount c.place 2)
       (SetTable (map plain next)) can.number detach_words named can.follows refl through
-      (ap (λ b. cond b (table_effect (plain_answer (after_umount table c.place true))) (Refuse eperm)) can.admin ∙ ap (λ answer. table_effect (plain_answer answer)) e) in
-      let part = trims c.place true table next top e in
+      (ap (λ b. cond b (table_effect (after_umount (map plain table) c.place true)) (Refuse eperm)) can.admin ∙ ap table_effect e) in
+      let part = trims_plain c.place true table next top e in
       by_table (umount_call nr c.place) makes
       (unmounts_way can path more (trimmed_top part top) (part_all HasShortPlace (trimmed_part part) short))
 
   -- ---- mount
   mount_makes : CanMount launch creds known.Mount nr → (table now : Table) (flags : ℕ) → flags < 2 ^ 32
-      → after_mount (row_at launch.site.rows) table [] proc flags ≡ Ok now
+      → after_mount (row_at launch.site.rows) (map plain table) [] proc flags ≡ Ok (map plain now)
       → Makes launch creds table (d.Mount [] proc flags) (mount_call nr [] proc flags) (SetTable (map plain now))
   mount_makes can table now flags small e =
       let words : AreWords (one_word 3 flags) = six 0 0 0 flags (omega arith) (omega arith) (omega arith) small in
@@ -92,8 +91,8 @@ module _ (launch : Launch) (o : Offers launch) (creds : Creds) (nr : CallAt) whe
       make launch creds table nr (Known known.Mount) (one_word 3 flags) (TwoPaths [] proc) (d.Mount [] proc flags)
       (SetTable (map plain now)) can.number words (root_named, proc_named) can.follows
       (ap (λ w. Some (d.Mount [] proc w)) (low flags small)) through
-      (ap (λ b. cond b (table_effect (plain_answer (after_mount (row_at launch.site.rows) table [] proc flags))) (Refuse eperm)) can.admin
-      ∙ ap (λ answer. table_effect (plain_answer answer)) e)
+      (ap (λ b. cond b (table_effect (after_mount (row_at launch.site.rows) (map plain table) [] proc flags)) (Refuse eperm)) can.admin
+      ∙ ap table_effect e)
     where
       low : (n : ℕ) → n < 2 ^ 32 → n % 2 ^ 32 ≡ n
       low n h = omega (arith, h)

@@ -20,7 +20,8 @@ use Rattle.launcher.specs.kern_creds.Setresuid.{after_setresuid, after_setresgid
 use Rattle.launcher.specs.kern_creds.Setuid.{after_setuid, after_setgid}
 use Rattle.launcher.specs.kernel_model.kern_files.Executing.{exec_answer_in}
 use Rattle.launcher.specs.kernel_model.kern_files.Looking.{flags_at, see_answer, write_answer, open_answer}
-use Rattle.launcher.specs.kernel_model.kern_files.MountsCall.{mounts_after_mount, mounts_umount_answer}
+use Rattle.launcher.specs.kernel_model.kern_files.MountCall.{after_mount}
+use Rattle.launcher.specs.kernel_model.kern_files.UmountCall.{umount_answer}
 use Rattle.launcher.specs.kern_mounts.Mounts.{Mounts as Mounts', steps_of}
 use Rattle.launcher.specs.kern_mounts.Finds.{finds}
 use Rattle.launcher.specs.kern_mounts.Split.{Table}
@@ -187,11 +188,11 @@ effect_stays host caller (d.Clone flags) e = cc
 effect_stays host caller (d.Unshare flags) e = cc
 effect_stays host caller d.Exit e = tt
 effect_stays host caller (d.Mount source target flags) e = either caller.owns
-    (with_admin caller.creds (table_effect (mounts_after_mount host.rows caller.table source target flags))) (f.Refuse eperm)
-    (stays_admin caller.creds (mounts_after_mount host.rows caller.table source target flags)) tt
+    (with_admin caller.creds (table_effect (after_mount host.rows caller.table source target flags))) (f.Refuse eperm)
+    (stays_admin caller.creds (after_mount host.rows caller.table source target flags)) tt
 effect_stays host caller (d.Umount path flags) e = either caller.owns
-    (with_admin caller.creds (table_effect (mounts_umount_answer caller.table path flags))) (f.Refuse eperm)
-    (stays_admin caller.creds (mounts_umount_answer caller.table path flags)) tt
+    (with_admin caller.creds (table_effect (umount_answer caller.table path flags))) (f.Refuse eperm)
+    (stays_admin caller.creds (umount_answer caller.table path flags)) tt
 effect_stays host caller (d.Setuid id) e = either caller.newer (f.Refuse einval) (creds_effect (after_setuid caller.creds id)) tt
     (stays_creds (after_setuid caller.creds id))
 effect_stays host caller (d.Setgid id) e = either caller.newer (f.Refuse einval) (creds_effect (after_setgid caller.creds id)) tt

@@ -15,7 +15,7 @@ use Rattle.launcher.specs.kern_mounts.Table.{StartsAtRoot}
 use Rattle.launcher.specs.kern_mounts.Unmounts.{Unmounts, still, then_one}
 use Rattle.launcher.specs.kern_mounts.declared.step.MountStep.{MountStep}
 use Rattle.launcher.proofs.OfKernMounts.Splits.{split_of, split_some}
-use Rattle.launcher.proofs.OfKernMounts.Unmounting.{removes, trims, trimmed_part, trimmed_top, unmounts_trim, append_all}
+use Rattle.launcher.proofs.OfKernMounts.Unmounting.{removes_plain, trims_plain, trimmed_part, trimmed_top, unmounts_trim, append_all}
 use Rattle.launcher.specs.kernel_model.kern_files.Bits.{has_all}
 use Rattle.launcher.specs.kernel_model.kern_files.Looking.{flags_at, flags_by}
 use Rattle.launcher.specs.kernel_model.kern_files.MountCall.{ms_bind, ms_remount_bind, has_other_kind, flags_of}
@@ -74,8 +74,8 @@ module _ (launch : Launch) (o : Offers launch) (creds : Creds) (admin : has cred
       → Unmounts table now → ByUnmounts table now
   way_unmounts line top short still = record { calls = []; way = here; no_uid = tt; no_gid = tt }
   way_unmounts {table = table} line top short (then_one {next = next} path detach e more) =
-      let r = removes path detach table next e in
-      let part = trims path detach table next top e in
+      let r = removes_plain path detach table next e in
+      let part = trims_plain path detach table next top e in
       let all : AllByRecursion HasShortPlace (r.earlier ++ r.entry ∷ r.later) = subst (AllByRecursion HasShortPlace) r.whole short in
       let place : HasShortPlace r.entry = append_all HasShortPlace r.earlier r.entry r.later all in
       let named : IsPath r.entry.place = record { normal = place.normal; short = omega (arith, place.short) } in

@@ -23,7 +23,6 @@ use Rattle.launcher.specs.kernel_laws.declared.question_types.kind.CallKind.TheV
 use Rattle.launcher.specs.kernel_laws.Kinds.{AreWords, no_words, asks}
 use Rattle.launcher.specs.kernel_laws.Launched.{Launch}
 use Rattle.launcher.specs.kernel_model.kern_files.MountCall.{after_mount}
-use Rattle.launcher.specs.kern_mounts.Answer.{plain_answer}
 use Rattle.launcher.specs.kern_mounts.Mounts.{plain}
 use Rattle.launcher.specs.kern_mounts.Split.{Table}
 use Rattle.launcher.specs.kern_mounts.Umount.{after_umount}
@@ -68,7 +67,7 @@ module _ (launch : Launch) (o : Offers launch) (creds : Creds) (table : Table) w
   module _ (admin : has creds.effective 21 ≡ true) where
     umount_by : {own : Rule} {args : List ℕ} → (nr : CallAt) → IsCallAt nr → rule_there launch nr ≡ Some own → passes_at launch nr args
         → choices.Choice k.RemovesMounts own args
-        → (path : Path) → IsPath path → (detach : Bool) (now : Table) → after_umount table path detach ≡ Ok now → TableCall now
+        → (path : Path) → IsPath path → (detach : Bool) (now : Table) → after_umount (map plain table) path detach ≡ Ok (map plain now) → TableCall now
     umount_by nr n at t choices.unmounts path fit true now e =
         let w = six 0 2 0 0 (omega arith) (omega arith) (omega arith) (omega arith) in
         record {
@@ -76,8 +75,8 @@ module _ (launch : Launch) (o : Offers launch) (creds : Creds) (table : Table) w
           doing = d.Umount path 2;
           makes = make launch creds table nr (rule.Known known.Umount) (0 ∷ 2 ∷ 0 ∷ 0 ∷ 0 ∷ 0 ∷ []) (pay.OnePath path) (d.Umount path 2)
               (SetTable (map plain now)) n w fit at refl (other nr (rule.Known known.Umount) (0 ∷ 2 ∷ 0 ∷ 0 ∷ 0 ∷ 0 ∷ []) n w at refl t)
-              (ap (λ b. cond b (table_effect (plain_answer (after_umount table path true))) (f.Refuse 1)) admin
-              ∙ ap (λ answer. table_effect (plain_answer answer)) e);
+              (ap (λ b. cond b (table_effect (after_umount (map plain table) path true)) (f.Refuse 1)) admin
+              ∙ ap table_effect e);
           no_uid = refl;
           no_gid = refl;
         }
@@ -87,20 +86,20 @@ module _ (launch : Launch) (o : Offers launch) (creds : Creds) (table : Table) w
           doing = d.Umount path 0;
           makes = make launch creds table nr (rule.Known known.Umount) no_words (pay.OnePath path) (d.Umount path 0)
               (SetTable (map plain now)) n zeros fit at refl t
-              (ap (λ b. cond b (table_effect (plain_answer (after_umount table path false))) (f.Refuse 1)) admin
-              ∙ ap (λ answer. table_effect (plain_answer answer)) e);
+              (ap (λ b. cond b (table_effect (after_umount (map plain table) path false)) (f.Refuse 1)) admin
+              ∙ ap table_effect e);
           no_uid = refl;
           no_gid = refl;
         }
 
     pub umount_call : Line launch k.RemovesMounts → (path : Path) → IsPath path → (detach : Bool) (now : Table)
-        → after_umount table path detach ≡ Ok now → TableCall now
+        → after_umount (map plain table) path detach ≡ Ok (map plain now) → TableCall now
     umount_call line = umount_by (place_of line.line) line.number line.at line.through (choice_of line)
 
     mount_by : {own : Rule} {args : List ℕ} → (nr : CallAt) → IsCallAt nr → rule_there launch nr ≡ Some own → passes_at launch nr args
         → choices.Choice k.ChangesMounts own args
         → (source target : Path) → IsPath source → IsPath target → (flags : ℕ) → flags < 2 ^ 32 → (now : Table)
-        → after_mount (row_at launch.site.rows) table source target flags ≡ Ok now → TableCall now
+        → after_mount (row_at launch.site.rows) (map plain table) source target flags ≡ Ok (map plain now) → TableCall now
     mount_by nr n at t choices.mounts source target s g flags small now e =
         let w = six 0 0 0 flags (omega arith) (omega arith) (omega arith) small in
         record {
@@ -110,14 +109,14 @@ module _ (launch : Launch) (o : Offers launch) (creds : Creds) (table : Table) w
               (d.Mount source target flags) (SetTable (map plain now)) n w (s, g) at
               (ap (λ w. Some (d.Mount source target w)) (low flags small))
               (other nr (rule.Known known.Mount) (0 ∷ 0 ∷ 0 ∷ flags ∷ 0 ∷ 0 ∷ []) n w at refl t)
-              (ap (λ b. cond b (table_effect (plain_answer (after_mount (row_at launch.site.rows) table source target flags)))
-              (f.Refuse 1)) admin ∙ ap (λ answer. table_effect (plain_answer answer)) e);
+              (ap (λ b. cond b (table_effect (after_mount (row_at launch.site.rows) (map plain table) source target flags))
+              (f.Refuse 1)) admin ∙ ap table_effect e);
           no_uid = refl;
           no_gid = refl;
         }
 
     pub mount_call : Line launch k.ChangesMounts → (source target : Path) → IsPath source → IsPath target → (flags : ℕ) → flags < 2 ^ 32
-        → (now : Table) → after_mount (row_at launch.site.rows) table source target flags ≡ Ok now → TableCall now
+        → (now : Table) → after_mount (row_at launch.site.rows) (map plain table) source target flags ≡ Ok (map plain now) → TableCall now
     mount_call line = mount_by (place_of line.line) line.number line.at line.through (choice_of line)
 
   capset_by : {own : Rule} {args : List ℕ} → (nr : CallAt) → IsCallAt nr → rule_there launch nr ≡ Some own → passes_at launch nr args

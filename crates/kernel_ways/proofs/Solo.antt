@@ -21,7 +21,6 @@ use Rattle.launcher.specs.bpf_code.declared.machine.Insn.{Insn}
 use Rattle.launcher.specs.kern_mounts.Mounts.{Mounts, plain, steps_of}
 use Rattle.launcher.specs.kern_mounts.Finds.{finds}
 use Rattle.launcher.proofs.OfKernMounts.Plain.{steps_plain}
-use Rattle.launcher.proofs.OfKernelModel.MountsCall.{mount_entries, umount_answer_entries}
 use Rattle.launcher.specs.kernel_model.kern_files.Executing.{exec_answer}
 use Rattle.launcher.specs.kernel_model.kern_files.Looking.{flags_at, see_answer, write_answer, open_answer}
 use Rattle.launcher.specs.kern_mounts.Split.{Table}
@@ -48,10 +47,8 @@ effect_by host creds stack table (d.Truncate path) = ap (λ (t : Table). looks (
     (steps_plain table)
 effect_by host creds stack table (d.Execve path) =
     ap (λ (t : Table). creds_effect (exec_answer creds (flags_at t path) (finds host.rows t path))) (steps_plain table)
-effect_by host creds stack table (d.Mount source target flags) =
-    ap (λ answer. with_admin creds (table_effect answer)) (mount_entries host.rows table source target flags)
-effect_by host creds stack table (d.Umount path flags) = ap (λ answer. with_admin creds (table_effect answer))
-    (umount_answer_entries table path flags)
+effect_by host creds stack table (d.Mount source target flags) = refl
+effect_by host creds stack table (d.Umount path flags) = refl
 effect_by host creds stack table (d.SetMode mode) = refl
 effect_by host creds stack table (d.Map protection) = refl
 effect_by host creds stack table (d.Protect protection) = refl

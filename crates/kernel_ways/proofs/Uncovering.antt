@@ -1,16 +1,17 @@
 -- What covers a path is unmounted entry by entry, the last first, and then the path belongs to the entry behind which they stood.
-use Rattle.std.proofs.Common.{◌≡◌, ℕ, zero, suc, Bool, true, false, List, [], ◌∷◌, ◌++◌, Option, Some, None, Result, Ok, refl, ap, ◌∙◌, sym}
+use Rattle.std.proofs.Common.{◌≡◌, ℕ, zero, suc, Bool, true, false, List, map, [], ◌∷◌, ◌++◌, Option, Some, None, Result, Ok, refl, ap, ◌∙◌, sym}
 use Rattle.std.proofs.Common.{subst, cond, arith, ◌≤◌, ◌<◌, length, length-append, append_assoc, append-nil}
 use Rattle.std.specs.Prelude.{not, filter}
 use Rattle.launcher.specs.abs_path.Paths.{Path, is_root}
 use Rattle.launcher.specs.abs_path.Prefix.{is_prefix, rest_of}
-use Rattle.launcher.proofs.OfAbsPath.Prefixes.{prefix_itself, same_itself}
 use Rattle.launcher.specs.kern_mounts.Entry.{leads_to}
-use Rattle.launcher.specs.kern_mounts.Split.{Table, Split, split_last, split_at, is_at, is_below}
+use Rattle.launcher.specs.kern_mounts.Mounts.{Mounts, plain}
+use Rattle.launcher.specs.kern_mounts.Split.{Table, Split, split_last, split_at, is_below}
 use Rattle.launcher.specs.kern_mounts.Umount.{after_umount}
 use Rattle.launcher.specs.kern_mounts.Unmounts.{IsPart, nothing, keeps, leaves}
 use Rattle.launcher.specs.kern_mounts.declared.step.MountStep.{MountStep}
 use Rattle.launcher.proofs.OfKernMounts.Paths.{behind}
+use Rattle.launcher.proofs.OfKernMounts.Plain.{umounts_own}
 use Rattle.launcher.proofs.OfKernMounts.Splits.{None_have, IsSplit, split_some, split_none, split_is}
 use Rattle.launcher.proofs.OfKernMounts.Unmounting.{Apart, append_all, part_append, part_filter}
 use Rattle.launcher.proofs.OfKernelLaws.Blind.{none_not}
@@ -57,21 +58,13 @@ not_root : (a b : Path) → is_prefix a b ≡ false → is_root a ≡ false
 not_root [] b e = cc
 not_root (part ∷ a) b e = refl
 
-umounts_own : (earlier later : Table) (entry : MountStep) → is_root entry.place ≡ false → None_have (leads_to entry.place) later →
-    after_umount (earlier ++ entry ∷ later) entry.place true ≡ Ok (earlier ++ filter (λ other. not (is_below entry.place other)) later)
-umounts_own earlier later entry r n =
-    let own : leads_to entry.place entry ≡ true = prefix_itself entry.place in
-    let at : is_at entry.place entry ≡ true = same_itself entry.place in
-    let split = split_is (leads_to entry.place) earlier entry later own n in
-    rw (r, split, at) refl
-
 pub part_length : {part table : Table} → IsPart part table → length part ≤ length table
 part_length nothing = omega arith
 part_length (keeps entry p) = omega (arith, part_length p)
 part_length (leaves entry p) = omega (arith, part_length p)
 
-abbrev answer : Table → Result Table ℕ
-answer table = Ok table
+abbrev answer : Table → Result Mounts ℕ
+answer table = Ok (map plain table)
 
 module _ (earlier : Table) (entry : MountStep) (rest : Path) where
   abbrev path : Path
@@ -105,8 +98,8 @@ module _ (earlier : Table) (entry : MountStep) (rest : Path) where
       ap (λ (t : Table). earlier ++ entry ∷ t) is.whole ∙ sym (append_assoc earlier (entry ∷ split.earlier) (c ∷ split.later)) in
       let here : Split = record { earlier = earlier ++ entry ∷ split.earlier; entry = c; later = split.later } in
       let belongs : split_at path (earlier ++ entry ∷ later) ≡ Some here = ap (split_at path) whole ∙ split_is (leads_to path) (earlier ++ entry ∷ split.earlier) c split.later is.has is.last in
-      let detached : after_umount (earlier ++ entry ∷ later) c.place true ≡ Ok (earlier ++ entry ∷ (split.earlier ++ kept)) =
-      ap (λ (t : Table). after_umount t c.place true) whole ∙ umounts_own (earlier ++ entry ∷ split.earlier) split.later c
+      let detached : after_umount (map plain (earlier ++ entry ∷ later)) c.place true ≡ Ok (map plain (earlier ++ entry ∷ (split.earlier ++ kept))) =
+      ap (λ (t : Table). after_umount (map plain t) c.place true) whole ∙ umounts_own (earlier ++ entry ∷ split.earlier) split.later c
       (not_root c.place entry.place off) last
       ∙ ap answer (append_assoc earlier (entry ∷ split.earlier) kept) in
       let places : covering path later ≡ c.place ∷ covering path (split.earlier ++ kept) =

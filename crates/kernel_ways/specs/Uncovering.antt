@@ -2,6 +2,7 @@
 use Rattle.std.specs.Prelude.{◌≡◌, ℕ, true, List, [], ◌∷◌, ◌++◌, map, Some, Ok}
 use Rattle.launcher.specs.abs_path.Paths.{Path, proc}
 use Rattle.launcher.specs.kern_mounts.Entry.{leads_to}
+use Rattle.launcher.specs.kern_mounts.Mounts.{plain}
 use Rattle.launcher.specs.kern_mounts.Split.{Table, Split, split_at}
 use Rattle.launcher.specs.kern_mounts.Umount.{after_umount}
 use Rattle.launcher.specs.kernel_model.kern_files.MountCall.{ms_bind}
@@ -18,12 +19,12 @@ abbrev pub covering : Path → Table → List Path
 covering path [] = []
 covering path (entry ∷ later) = covering path later ++ if_so (leads_to path entry) entry.place
 
--- calls of umount2(2) with MNT_DETACH at these places make one table of another, and each of them is done. Each place is that of the
--- entry to which the path then belongs: the last whose place leads to it
+-- calls of umount2(2) with MNT_DETACH at these places make one table of another, of mounts that are not locked, and each of them is
+-- done. Each place is that of the entry to which the path then belongs: the last whose place leads to it
 pub data Detaches (path : Path) : Table → List Path → Table → Type 0 where
   still : {table : Table} → Detaches path table [] table
   then_one : {table next last : Table} {places : List Path} (split : Split) → split_at path table ≡ Some split
-      → after_umount table split.entry.place true ≡ Ok next
+      → after_umount (map plain table) split.entry.place true ≡ Ok (map plain next)
       → Detaches path next places last → Detaches path table (split.entry.place ∷ places) last
 
 -- umount2(2) by process 1 of each place, by its number in the table: the flags are argument 1

@@ -2,23 +2,19 @@
 use Rattle.std.specs.Prelude.{◌≡◌, ℕ, ◌-◌, ◌==◌, nat_lt, true, false, List, [], ◌∷◌, length, Some, slice_get, map, ◌<◌, ◌^◌, Option}
 use Rattle.launcher.specs.site_table.Table.{row_at}
 use Rattle.launcher.specs.kern_creds.declared.creds.Creds.{Creds}
-use Rattle.launcher.specs.kern_mounts.Answer.{plain_answer}
 use Rattle.launcher.specs.kern_mounts.Finds.{finds}
 use Rattle.launcher.specs.kern_mounts.Mounts.{Mounts, plain}
 use Rattle.launcher.specs.kern_mounts.Split.{Table}
 use Rattle.launcher.specs.kernel_model.kern_files.Executing.{exec_answer}
 use Rattle.launcher.specs.kernel_model.kern_files.Looking.{flags_at, see_answer, write_answer, open_answer}
-use Rattle.launcher.specs.kernel_model.kern_files.MountCall.{after_mount}
-use Rattle.launcher.specs.kernel_model.kern_files.UmountCall.{umount_answer}
 use Rattle.launcher.specs.kernel_model.declared.kernel_calls.call.Call.{Call}
 use Rattle.launcher.specs.call_table.Table.{calls_in}
 use Rattle.launcher.specs.call_table.declared.listed.CallLine.{CallLine}
 use Rattle.launcher.specs.kernel_model.kernel_calls.Calls.{IsCall}
 use Rattle.launcher.specs.kernel_model.kernel_calls.Rules.{rule_at}
 use Rattle.launcher.specs.kernel_model.declared.kernel_calls.rule.Rule.{Rule}
-use Rattle.launcher.specs.kernel_model.kernel_calls.Doing.{Doing, See, Open, Create, Truncate, Execve, Mount, Umount, Does, asked_of}
-use Rattle.launcher.specs.kernel_model.Effects.{Effect, SetCreds, SetTable, Host, Caller, effect_of, looks, creds_effect, table_effect}
-use Rattle.launcher.specs.kernel_model.Effects.{with_admin}
+use Rattle.launcher.specs.kernel_model.kernel_calls.Doing.{Doing, See, Open, Create, Truncate, Execve, Does, asked_of}
+use Rattle.launcher.specs.kernel_model.Effects.{Effect, SetCreds, SetTable, Host, Caller, effect_of, looks, creds_effect}
 use Rattle.launcher.specs.kernel_model.Step.{most_namespaces}
 use Rattle.launcher.specs.kernel_model.World.{World}
 use Rattle.launcher.specs.kernel_model.declared.process.Process.{Process}
@@ -50,16 +46,13 @@ host_at launch = record { rows = row_at launch.site.rows; families = launch.call
 abbrev pub caller_at : Launch → Creds → Table → Caller
 caller_at launch creds table = record { creds = creds; stack = launch.stack; table = map plain table; newer = false; owns = true }
 
--- the effect of a call, by the entries of the caller's table alone
+-- the effect of a call; where it looks at a path, by the entries of the caller's table alone
 abbrev pub effect_on : Host → Caller → Table → Doing → Effect
 effect_on host caller table (See path) = looks (see_answer 0 (finds host.rows table path))
 effect_on host caller table (Open flags path) = looks (open_answer flags (flags_at table path) (finds host.rows table path))
 effect_on host caller table (Create path) = looks (write_answer 3 (flags_at table path) (finds host.rows table path))
 effect_on host caller table (Truncate path) = looks (write_answer 0 (flags_at table path) (finds host.rows table path))
 effect_on host caller table (Execve path) = creds_effect (exec_answer caller.creds (flags_at table path) (finds host.rows table path))
-effect_on host caller table (Mount source target flags) = with_admin caller.creds
-    (table_effect (plain_answer (after_mount host.rows table source target flags)))
-effect_on host caller table (Umount path flags) = with_admin caller.creds (table_effect (plain_answer (umount_answer table path flags)))
 effect_on host caller table doing = effect_of host caller doing
 
 -- a call of an ABI, by its number

@@ -10,7 +10,7 @@ use Rattle.kernel_laws.specs.kern_creds.declared.creds.Creds.{Creds}
 use Rattle.kernel_laws.specs.kern_creds.Start as creds
 use Rattle.kernel_laws.specs.kern_mounts.Table as mounts
 use Rattle.kernel_laws.specs.kern_mounts.Mounts.{Mounts as MountList, plain, first_mounts}
-use Rattle.kernel_laws.specs.kern_mounts.MountsRemount.{with_root_flags}
+use Rattle.kernel_laws.specs.kern_mounts.Remount.{with_root_flags}
 use Rattle.kernel_laws.specs.kern_mounts.Split.{Table}
 use Rattle.kernel_laws.specs.kern_mounts.declared.step.Flags.{Flags}
 use Rattle.kernel_laws.specs.kern_mounts.declared.step.MountStep.{MountStep}

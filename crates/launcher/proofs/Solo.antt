@@ -28,7 +28,7 @@ use Rattle.kernel_laws.specs.kernel_model.MountStep.{with_step}
 use Rattle.kernel_laws.specs.kern_mounts.Mounts.{Mounts as MountList, plain, steps_of}
 use Rattle.kernel_laws.specs.kern_mounts.Split.{Table}
 use Rattle.kernel_laws.specs.kern_mounts.declared.step.Flags.{Flags}
-use Rattle.kernel_laws.specs.kern_mounts.MountsRemount.{with_root_flags}
+use Rattle.kernel_laws.specs.kern_mounts.Remount.{with_root_flags}
 use Rattle.kernel_laws.proofs.OfKernMounts.Plain.{steps_plain}
 use Rattle.std.proofs.lemmas.List.{map-append}
 use Rattle.exec_settings.specs.abs_path.Paths.{is_root}

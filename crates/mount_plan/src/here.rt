@@ -80,7 +80,7 @@ pub fn unbeaten<'a>(alloc: Global, here: &[&'a Mention]) -> Result<Vec<&'a Menti
     Ok(found)
 }
 
-/// Whether the mention is of this part.
+/// Tells whether the mention is of this part.
 pub fn is_asked(part: Part, mention: &Mention) -> bool
     ensures of_its_part { result ≡ is_asked part mention.now.kind }
 {
@@ -104,7 +104,7 @@ pub fn fate_beside(site: &SiteTable, beneath: Beneath, is_put: bool, mention: &M
     fate_of(mention, source_row(site, &mention.kind), beneath, is_put)
 }
 
-/// Whether the mention is kept, where this becomes of it.
+/// Tells whether the mention is kept, where this becomes of it.
 pub fn is_kept(fate: Fate) -> bool
     ensures by_its_fate { result ≡ is_kept fate }
 {
@@ -119,7 +119,7 @@ fn puts(site: &SiteTable, beneath: Beneath, mention: &Mention) -> bool
         && is_kept(fate_beside(site, beneath, true, mention))
 }
 
-/// Whether an empty file system or a bind is kept at the path of these mentions.
+/// Tells whether an empty file system or a bind is kept at the path of these mentions.
 pub fn is_put(site: &SiteTable, beneath: Beneath, here: &[&Mention]) -> bool
     ensures some_is_put { result ≡ list_any (puts (host_of site.now) beneath) (map (λ mention. mention.now) here.now) }
 {

@@ -18,7 +18,7 @@ fn is_dir(row: Option<&Row>) -> Option<bool>
     }
 }
 
-/// Whether the site has a row at the source with what the path has behind the front, and then whether it is a directory.
+/// Tells whether the site has a row at the source with what the path has behind the front, and then whether it is a directory.
 pub fn row_through(
     site: &SiteTable,
     source: &AbsPath,
@@ -31,7 +31,7 @@ pub fn row_through(
     is_dir(site.row_through(source, front, path))
 }
 
-/// Whether the site has a row at the path, and then whether it is a directory.
+/// Tells whether the site has a row at the path, and then whether it is a directory.
 pub fn row_at(site: &SiteTable, path: &AbsPath) -> Option<bool>
     ensures of_the_site { result ≡ host_of site.now path.now }
 {

@@ -9,8 +9,8 @@ pub fn plans_have_a_form()
     ensures of_every_plan { PlansHaveForm }
 {}
 
-/// What a plan shows of a host it rests on: on what stands beneath its places alone. So a host that differs below a folder that
-/// the plan does not show, and not at the sources of binds, has the same plan.
+/// A plan depends on the host only by what stands beneath its places. So a host that differs below a folder that the plan
+/// does not show, and not at the sources of binds, has the same plan.
 pub fn plans_rest_on_what_they_show()
     ensures on_its_places { PlanRestsOnItsPlaces }
     ensures not_on_what_is_not_shown { PlanIsBlind }

@@ -1,8 +1,7 @@
 //! The mounts that give a service its view of the files (systemd.exec(5), Sandboxing; mount_namespaces(7)).
 //!
-//! The mentions that the rules keep become a table of mounts on which every path is seen as the view has it. The crate
-//! stands on `path_settings` and `view_map` for mentions, kept mentions and the view, on `site_table` for the files of
-//! the host, and on `kern_mounts` for tables; `plan(alloc, &mentions, &site)?.list()` begins with the mount at `/`.
+//! The mentions that the rules keep become a table of mounts. On it every path is seen as the view has it.
+//! `plan(alloc, &mentions, &site)?.list()` begins with the mount at `/`.
 #![tactic(auto)]
 
 mod entry;

@@ -21,8 +21,10 @@ use Rattle.kernel_laws.specs.kern_mounts.declared.step.What.{What}
 use Rattle.kernel_laws.specs.kern_mounts.declared.step.What.TheVariants.{Host, Empty, Hidden}
 use Rattle.kernel_laws.specs.kern_mounts.declared.step.MountStep.{MountStep}
 use Rattle.kernel_laws.specs.kern_mounts.Split.{Table, split_at}
-use Rattle.kernel_laws.specs.kern_mounts.Bind.{bound, bound_entry, after_bind}
-use Rattle.kernel_laws.specs.kern_mounts.Remount.{remounted, after_remount}
+use Rattle.kernel_laws.specs.kern_mounts.Bind.{bound_entry}
+use Rattle.kernel_laws.specs.kern_mounts.Mounts.{plain}
+use Rattle.kernel_laws.specs.kern_mounts.Remount.{after_remount}
+use Rattle.kernel_laws.proofs.OfKernMounts.Plain.{binds_alone, remounts_own, steps_plain}
 use Rattle.kernel_laws.proofs.OfKernMounts.Entries.{entry_push}
 use Rattle.kernel_laws.proofs.OfKernMounts.Splits.{split_is, of_split}
 use Rattle.kernel_laws.specs.kernel_model.kern_files.Bits.{has_all}
@@ -136,18 +138,20 @@ module _ (site : Site) (table : Table) where
     room : nat_lt 4096 (length table + 1) ≡ false
     room = let few = can.few in grind (arith, nat_tests, few)
 
-    binds : after_mount rows table [] proc ms_bind ≡ Ok middle
+    binds : after_mount rows (map plain table) [] proc ms_bind ≡ Ok (map plain middle)
     binds =
-        let bind : after_bind table [] proc false ≡ Ok middle = ap (bound table [] proc false) split ∙ ap (λ t. cond {A = Result Table ℕ} t (Err 28) (Ok middle)) room in
-        ap (mount_onto rows table [] proc ms_bind) (serves_proc can.finds_proc) ∙ ap (bind_found table [] proc false true) root_found ∙ bind
+        let target = ap (λ (t : Table). target_kind rows t proc) (steps_plain table) ∙ serves_proc can.finds_proc in
+        let found = ap (λ (t : Table). kind_found (finds rows t [])) (steps_plain table) ∙ root_found in
+        ap (mount_onto rows (map plain table) [] proc ms_bind) target ∙ ap (bind_found (map plain table) [] proc false true) found
+        ∙ binds_alone table [] proc (record { earlier = []; entry = b.first; later = b.rest }) split room
 
-    remounts_by : (flags : Flags) → after_remount middle proc flags ≡ Ok (last flags)
+    remounts_by : (flags : Flags) → after_remount (map plain middle) proc flags ≡ Ok (map plain (last flags))
     remounts_by flags =
         let at : split_at proc middle ≡ Some (record { earlier = table; entry = added; later = [] }) = split_is (leads_to proc) table added [] (prefix_itself proc) tt in
-        ap (remounted proc flags) at ∙ ap (λ t. cond {A = Result Table ℕ} t (Ok (last flags)) (Err 22)) (same_itself proc)
+        remounts_own middle proc flags (record { earlier = table; entry = added; later = [] }) at (same_itself proc)
 
     remounts : (flags : ℕ) → has_all ms_remount_bind flags ≡ true → has_other_kind flags ≡ false
-        → after_mount rows middle [] proc flags ≡ Ok (last (flags_of flags))
+        → after_mount rows (map plain middle) [] proc flags ≡ Ok (map plain (last (flags_of flags)))
     remounts flags all other = rw (other, all) (remounts_by (flags_of flags))
 
     what_is : added.what ≡ Host []

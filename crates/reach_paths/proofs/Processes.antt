@@ -6,17 +6,14 @@ use Rattle.std.specs.List.{AllByRecursion}
 use Rattle.kernel_laws.specs.abs_path.Paths.{Path, proc}
 use Rattle.kernel_laws.specs.site_table.Table.{row_at}
 use Rattle.kernel_laws.specs.kern_mounts.Launch.{HasShortPlace}
-use Rattle.kernel_laws.specs.kern_mounts.Answer.{plain_answer}
 use Rattle.kernel_laws.specs.kern_mounts.Mounts.{Mounts, plain}
 use Rattle.kernel_laws.specs.kern_mounts.Split.{Table}
 use Rattle.kernel_laws.specs.kern_mounts.Table.{StartsAtRoot}
 use Rattle.kernel_laws.specs.kern_mounts.Umount.{after_umount}
 use Rattle.kernel_laws.specs.kern_mounts.Unmounts.{Unmounts, still, then_one}
-use Rattle.kernel_laws.proofs.OfKernMounts.Unmounting.{removes, trims, trimmed_part, trimmed_top, append_all}
+use Rattle.kernel_laws.proofs.OfKernMounts.Unmounting.{removes_plain, trims_plain, trimmed_part, trimmed_top, append_all}
 use Rattle.kernel_laws.specs.kernel_model.kern_files.MountCall.{ms_bind, after_mount}
 use Rattle.kernel_laws.specs.kernel_model.kern_files.UmountCall.{umount_answer}
-use Rattle.kernel_laws.specs.kernel_model.kern_files.MountsCall.{mounts_after_mount, mounts_umount_answer}
-use Rattle.kernel_laws.proofs.OfKernelModel.MountsCall.{mount_entries, umount_answer_entries}
 use Rattle.kernel_laws.specs.kernel_model.kernel_calls.Calls.{IsPath}
 use Rattle.kernel_laws.specs.kernel_model.kernel_calls.Doing.{Doing, Mount, Umount}
 use Rattle.kernel_laws.specs.kernel_model.declared.kernel_calls.call.Call.{Call}
@@ -68,35 +65,35 @@ module _ (world : World) (pid : ℕ) (process : Process) (table : Table) (can : 
       ∙ ap (answered world call.pid process) asks.asks
       ∙ ap (applied world call.pid process) makes
 
-  mount_makes : (source target : Path) (flags : ℕ) (next : Table) → after_mount (row_at world.site.rows) table source target flags ≡ Ok next
+  mount_makes : (source target : Path) (flags : ℕ) (next : Table) → after_mount (row_at world.site.rows) (map plain table) source target flags ≡ Ok (map plain next)
       → effect_of (host_of world) (caller_of world process) (Mount source target flags) ≡ SetTable (map plain next)
   mount_makes source target flags next e =
       ap (λ b. cond {A = Effect} b
       (cond (has process.creds.effective 21)
-      (table_effect (mounts_after_mount (row_at world.site.rows) (mounts_of world process.namespace) source target flags)) (Refuse 1))
+      (table_effect (after_mount (row_at world.site.rows) (mounts_of world process.namespace) source target flags)) (Refuse 1))
       (Refuse 1)) can.owns
       ∙ ap (λ b. cond {A = Effect} b
-      (table_effect (mounts_after_mount (row_at world.site.rows) (mounts_of world process.namespace) source target flags)) (Refuse 1))
+      (table_effect (after_mount (row_at world.site.rows) (mounts_of world process.namespace) source target flags)) (Refuse 1))
       can.admin
-      ∙ ap (λ (t : Mounts). table_effect (mounts_after_mount (row_at world.site.rows) t source target flags)) mounts_are
-      ∙ ap table_effect (mount_entries (row_at world.site.rows) table source target flags ∙ ap plain_answer e)
+      ∙ ap (λ (t : Mounts). table_effect (after_mount (row_at world.site.rows) t source target flags)) mounts_are
+      ∙ ap table_effect e
 
-  umount_is : (detach : Bool) (path : Path) (next : Table) → after_umount table path detach ≡ Ok next
-      → umount_answer table path (umount_flags detach) ≡ Ok next
+  umount_is : (detach : Bool) (path : Path) (next : Table) → after_umount (map plain table) path detach ≡ Ok (map plain next)
+      → umount_answer (map plain table) path (umount_flags detach) ≡ Ok (map plain next)
   umount_is true path next e = e
   umount_is false path next e = e
 
-  umount_makes : (path : Path) (detach : Bool) (next : Table) → after_umount table path detach ≡ Ok next
+  umount_makes : (path : Path) (detach : Bool) (next : Table) → after_umount (map plain table) path detach ≡ Ok (map plain next)
       → effect_of (host_of world) (caller_of world process) (Umount path (umount_flags detach)) ≡ SetTable (map plain next)
   umount_makes path detach next e =
       ap (λ b. cond {A = Effect} b
       (cond (has process.creds.effective 21)
-      (table_effect (mounts_umount_answer (mounts_of world process.namespace) path (umount_flags detach))) (Refuse 1)) (Refuse 1))
+      (table_effect (umount_answer (mounts_of world process.namespace) path (umount_flags detach))) (Refuse 1)) (Refuse 1))
       can.owns
-      ∙ ap (λ b. cond {A = Effect} b (table_effect (mounts_umount_answer (mounts_of world process.namespace) path (umount_flags detach)))
+      ∙ ap (λ b. cond {A = Effect} b (table_effect (umount_answer (mounts_of world process.namespace) path (umount_flags detach)))
       (Refuse 1)) can.admin
-      ∙ ap (λ (t : Mounts). table_effect (mounts_umount_answer t path (umount_flags detach))) mounts_are
-      ∙ ap table_effect (umount_answer_entries table path (umount_flags detach) ∙ ap plain_answer (umount_is detach path next e))
+      ∙ ap (λ (t : Mounts). table_effect (umount_answer t path (umount_flags detach))) mounts_are
+      ∙ ap table_effect (umount_is detach path next e)
 
   -- and then further calls
   one_more : (call : Call) (doing : Doing) (next : Table) → AsksFor world pid process call doing
@@ -140,12 +137,12 @@ unmounting : (world : World) (pid : ℕ) (process : Process) {table now : Table}
     → Unmounts table now → (calls : List Call) × LeadsTo world pid process calls now
 unmounting world pid process {table = table} can top short asks still = ([], nothing_more world pid process table can)
 unmounting world pid process {table = table} {now = now} can top short asks (then_one {next = next} path detach e more) =
-    let r = removes path detach table next e in
+    let r = removes_plain path detach table next e in
     let all : AllByRecursion HasShortPlace (r.earlier ++ r.entry ∷ r.later) = subst (AllByRecursion HasShortPlace) r.whole short in
     let place : HasShortPlace r.entry = append_all HasShortPlace r.earlier r.entry r.later all in
     let named : IsPath r.entry.place = record { normal = place.normal; short = omega (arith, place.short) } in
     let call = asks path detach (subst IsPath (sym r.place) named) in
-    let part = trims path detach table next top e in
+    let part = trims_plain path detach table next top e in
     let can' = still_can world pid process table can next in
     let more' = unmounting (with_table world process.namespace (map plain next)) pid process can' (trimmed_top part top) (part_all HasShortPlace (trimmed_part part) short)
     (λ path detach fits. let own = asks path detach fits in (own.0, later_asks world pid process next own.0 (Umount path (umount_flags detach)) own.1)) more in

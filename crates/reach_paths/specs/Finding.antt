@@ -1,10 +1,11 @@
 -- Where a row of a site can be found, on the tables that a power makes of one (path_resolution(7), mount_namespaces(7)).
-use Rattle.std.specs.Prelude.{◌≡◌, ℕ, ◌<◌, ◌^◌, Bool, true, Option, Ok, option_map}
+use Rattle.std.specs.Prelude.{◌≡◌, ℕ, ◌<◌, ◌^◌, Bool, true, Option, Ok, map, option_map}
 use Rattle.kernel_laws.specs.abs_path.Paths.{Path}
 use Rattle.kernel_laws.specs.site_table.declared.row.Row.{Row}
 use Rattle.kernel_laws.specs.site_table.Kinds.{is_dir}
 use Rattle.kernel_laws.specs.site_table.Table.{Site, kind_at}
 use Rattle.kernel_laws.specs.kern_mounts.Finds.{row, finds}
+use Rattle.kernel_laws.specs.kern_mounts.Mounts.{plain}
 use Rattle.kernel_laws.specs.kern_mounts.Split.{Table}
 use Rattle.kernel_laws.specs.kern_mounts.Unmounts.{Unmounts}
 use Rattle.kernel_laws.specs.kernel_model.kern_files.Looking.{flags_at}
@@ -26,11 +27,11 @@ pub record FindsRow (rows : Path → Option Row) (table : Table) (wish : Wish) (
   pub is_found : finds rows table path ≡ row target
   pub is_allowed : fits wish (flags_at table path) ≡ true
 
--- what any calls of mount(2) make of a table, each of them done
+-- what any calls of mount(2) make of a table of mounts that are not locked, each of them done
 pub data Mounts (rows : Path → Option Row) : Table → Table → Type 0 where
   still : {table : Table} → Mounts rows table table
   then_one : {table next last : Table} (source target : Path) (flags : ℕ) → IsPath source → IsPath target → flags < 2 ^ 32
-      → after_mount rows table source target flags ≡ Ok next → Mounts rows next last → Mounts rows table last
+      → after_mount rows (map plain table) source target flags ≡ Ok (map plain next) → Mounts rows next last → Mounts rows table last
 
 -- what a power makes of a table: the table alone, what calls of umount2(2) make of it, or what calls of mount(2) make of it
 abbrev pub Makes : Power → (Path → Option Row) → Table → Table → Type 0

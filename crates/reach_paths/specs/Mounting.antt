@@ -1,8 +1,9 @@
 -- How calls of mount(2) show the whole host: a bind of `/`, and a remount of it with other flags.
-use Rattle.std.specs.Prelude.{◌≡◌, ℕ, true, false, [], ◌++◌, Some, Ok}
+use Rattle.std.specs.Prelude.{◌≡◌, ℕ, true, false, [], ◌++◌, map, Some, Ok}
 use Rattle.kernel_laws.specs.kern_mounts.Finds.{row, finds}
 use Rattle.kernel_laws.specs.abs_path.Paths.{proc}
 use Rattle.kernel_laws.specs.kern_mounts.Launch.{CanBeMounted}
+use Rattle.kernel_laws.specs.kern_mounts.Mounts.{plain}
 use Rattle.kernel_laws.specs.kern_mounts.Split.{Table}
 use Rattle.kernel_laws.specs.site_table.declared.row.Row.{Row}
 use Rattle.kernel_laws.specs.site_table.Table.{Site, IsSite, row_at}
@@ -22,8 +23,8 @@ pub record IsBelowProc (site : Site) (table : Table) (flags : ℕ) (target : Row
 pub record MountedTwice (site : Site) (table : Table) (flags : ℕ) : Type 0 where
   pub middle : Table
   pub last : Table
-  pub bound : after_mount (row_at site.rows) table [] proc ms_bind ≡ Ok middle
-  pub remounted : after_mount (row_at site.rows) middle [] proc flags ≡ Ok last
+  pub bound : after_mount (row_at site.rows) (map plain table) [] proc ms_bind ≡ Ok (map plain middle)
+  pub remounted : after_mount (row_at site.rows) (map plain middle) [] proc flags ≡ Ok (map plain last)
   pub each_row : (target : Row) → row_at site.rows target.path ≡ Some target → IsBelowProc site last flags target
 
 -- by any word of flags that remounts a single mount, MS_REMOUNT with MS_BIND

@@ -5,73 +5,81 @@ ghost use Rattle.abs_path.specs.Paths.{Path};
 ghost use Rattle.abs_path.specs.Prefix.{is_prefix};
 ghost use Rattle.abs_path.specs.ByteOrder.{AreAscending};
 ghost use Rattle.kern_mounts.specs.declared.step.Flags.{Flags};
+ghost use Rattle.kern_mounts.specs.declared.step.Mount.{Mount};
 ghost use Rattle.kern_mounts.specs.declared.step.MountStep.{MountStep};
 ghost use Rattle.linux_numbers.specs.Errnos.{einval};
 ghost use Rattle.kern_mounts.specs.Table.{StartsAtRoot};
 ghost use Rattle.kern_mounts.specs.Entry.{entry_of};
 ghost use Rattle.kern_mounts.specs.Finds.{host_place, finds, nothing};
-ghost use Rattle.kern_mounts.specs.Split.{Table, Split, split_at, is_at};
+ghost use Rattle.kern_mounts.specs.Split.{Table, SplitOf, is_at};
+ghost use Rattle.kern_mounts.specs.Mounts.{Mounts, steps_of};
+ghost use Rattle.kern_mounts.specs.MountAt.{mount_at};
 ghost use Rattle.kern_mounts.specs.Umount.{after_umount};
-ghost use Rattle.kern_mounts.specs.Remount.{after_remount};
+ghost use Rattle.kern_mounts.specs.Remount.{with_flags, after_remount};
 ghost use Rattle.kern_mounts.specs.Bind.{bound_entry, after_bind, is_long, can_bind};
 ghost use Rattle.kern_mounts.specs.Unmounts.{Unmounts, IsTrimmed, Removes, IsOrdered, Has, Uncovers};
 
-/// A bind hides what the table showed at the target and below, and changes nothing elsewhere. One that is not recursive
-/// shows the new entry alone there. A recursive one shows there, with the same flags, what the table showed at the source
+/// A bind hides what the mounts showed at the target and below, and changes nothing elsewhere. One that is not recursive
+/// shows the new entry alone there. A recursive one shows there, with the same flags, what the mounts showed at the source
 /// and below: what the host has, and what is found wherever the source is found. What is found can be bound.
 pub fn bound_tables()
-    ensures elsewhere { (table next : Table) (source target path : Path) (recursive : Bool)
-        → after_bind table source target recursive ≡ Ok next → is_prefix target path ≡ false
-        → entry_of next path ≡ entry_of table path }
-    ensures one_entry_unless_recursive { (table next : Table) (source target path : Path) (step : MountStep)
-        → after_bind table source target false ≡ Ok next → entry_of table source ≡ Some step
-        → is_prefix target path ≡ true → entry_of next path ≡ Some (bound_entry source target step) }
-    ensures same_places_on_the_host { (table next : Table) (source target rest : Path)
-        → after_bind table source target true ≡ Ok next
-        → host_place next (target ++ rest) ≡ host_place table (source ++ rest) }
-    ensures same_flags { (table next : Table) (source target rest : Path)
-        → after_bind table source target true ≡ Ok next
-        → option_map (λ step. step.flags) (entry_of next (target ++ rest))
-        ≡ option_map (λ step. step.flags) (entry_of table (source ++ rest)) }
-    ensures same_is_found { (rows : Path → Option ℕ) (table next : Table) (source target rest : Path)
-        → after_bind table source target true ≡ Ok next
-        → ((errno : ℕ) → finds rows table source ≡ nothing errno → ⊥)
-        → finds rows next (target ++ rest) ≡ finds rows table (source ++ rest) }
+    ensures elsewhere { (mounts next : Mounts) (source target path : Path) (recursive : Bool)
+        → after_bind mounts source target recursive ≡ Ok next → is_prefix target path ≡ false
+        → entry_of (steps_of next) path ≡ entry_of (steps_of mounts) path }
+    ensures one_entry_unless_recursive { (mounts next : Mounts) (source target path : Path) (step : MountStep)
+        → after_bind mounts source target false ≡ Ok next → entry_of (steps_of mounts) source ≡ Some step
+        → is_prefix target path ≡ true → entry_of (steps_of next) path ≡ Some (bound_entry source target step) }
+    ensures same_places_on_the_host { (mounts next : Mounts) (source target rest : Path)
+        → after_bind mounts source target true ≡ Ok next
+        → host_place (steps_of next) (target ++ rest) ≡ host_place (steps_of mounts) (source ++ rest) }
+    ensures same_flags { (mounts next : Mounts) (source target rest : Path)
+        → after_bind mounts source target true ≡ Ok next
+        → option_map (λ step. step.flags) (entry_of (steps_of next) (target ++ rest))
+        ≡ option_map (λ step. step.flags) (entry_of (steps_of mounts) (source ++ rest)) }
+    ensures same_is_found { (rows : Path → Option ℕ) (mounts next : Mounts) (source target rest : Path)
+        → after_bind mounts source target true ≡ Ok next
+        → ((errno : ℕ) → finds rows (steps_of mounts) source ≡ nothing errno → ⊥)
+        → finds rows (steps_of next) (target ++ rest) ≡ finds rows (steps_of mounts) (source ++ rest) }
     ensures what_is_found_can_be_bound { (rows : Path → Option ℕ) (table : Table) (source : Path)
         → ((path : Path) (row : ℕ) → rows path ≡ Some row → is_long path ≡ false)
         → ((errno : ℕ) → finds rows table source ≡ nothing errno → ⊥) → can_bind table source ≡ true }
 {}
 
-/// A remount gives the flags to the entry at the place, to no other, and changes no path's entry but in its flags.
+/// A remount gives the flags to the mount at the place, to no other, and changes no path's entry but in its flags.
 pub fn remounted_tables()
-    ensures flags_of_one_entry { (table next : Table) (place : Path) (flags : Flags)
-        → after_remount table place flags ≡ Ok next
-        → (earlier later : Table) × (entry : MountStep) × (table ≡ earlier ++ entry ∷ later)
-        × (next ≡ earlier ++ record entry { flags = flags } ∷ later) × (entry.place ≡ place)
-        × (entry_of table place ≡ Some entry) }
-    ensures entry_of_each_path { (table next : Table) (place path : Path) (flags : Flags)
-        → after_remount table place flags ≡ Ok next
-        → entry_of next path
-        ≡ option_map (λ step. if is_at place step then record step { flags = flags } else step) (entry_of table path) }
+    ensures flags_of_one_mount { (mounts next : Mounts) (place : Path) (flags : Flags)
+        → after_remount mounts place flags ≡ Ok next
+        → (earlier later : Mounts) × (mount : Mount) × (mounts ≡ earlier ++ mount ∷ later)
+        × (next ≡ earlier ++ with_flags mount flags ∷ later) × (mount.step.place ≡ place)
+        × (entry_of (steps_of mounts) place ≡ Some mount.step) }
+    ensures entry_of_each_path { (mounts next : Mounts) (place path : Path) (flags : Flags)
+        → after_remount mounts place flags ≡ Ok next
+        → entry_of (steps_of next) path
+        ≡ option_map (λ step. if is_at place step then record step { flags = flags } else step)
+        (entry_of (steps_of mounts) path) }
 {}
 
 /// umount2 takes an entry and later ones below it. At the path and below, what stood before the entry shows again;
 /// elsewhere nothing changes. It never takes the first entry, at `/`: what any calls make is a part of the table.
 pub fn unmounted_tables()
-    ensures removes { (table next : Table) (path : Path) (detach : Bool)
-        → after_umount table path detach ≡ Ok next → Removes path table next }
-    ensures never_the_root { (table : Table) (detach : Bool) → after_umount table [] detach ≡ Err einval }
-    ensures elsewhere { (table next : Table) (path other : Path) (detach : Bool)
-        → after_umount table path detach ≡ Ok next → is_prefix path other ≡ false
-        → entry_of next other ≡ entry_of table other }
-    ensures at_the_path_and_below { (table next : Table) (path other : Path) (detach : Bool) (split : Split)
-        → split_at path table ≡ Some split → after_umount table path detach ≡ Ok next
-        → is_prefix path other ≡ true → entry_of next other ≡ entry_of split.earlier other }
-    ensures a_part_with_the_first { (table last : Table)
+    ensures removes { (mounts next : Mounts) (path : Path) (detach : Bool)
+        → after_umount mounts path detach ≡ Ok next → Removes path (steps_of mounts) (steps_of next) }
+    ensures never_the_root { (mounts : Mounts) (detach : Bool) → after_umount mounts [] detach ≡ Err einval }
+    ensures elsewhere { (mounts next : Mounts) (path other : Path) (detach : Bool)
+        → after_umount mounts path detach ≡ Ok next → is_prefix path other ≡ false
+        → entry_of (steps_of next) other ≡ entry_of (steps_of mounts) other }
+    ensures at_the_path_and_below { (mounts next : Mounts) (path other : Path) (detach : Bool) (split : SplitOf Mount)
+        → mount_at path mounts ≡ Some split → after_umount mounts path detach ≡ Ok next
+        → is_prefix path other ≡ true
+        → entry_of (steps_of next) other ≡ entry_of (steps_of split.earlier) other }
+    ensures a_part_with_the_first { (mounts next : Mounts) (path : Path) (detach : Bool)
+        → StartsAtRoot (steps_of mounts) → after_umount mounts path detach ≡ Ok next
+        → IsTrimmed (steps_of next) (steps_of mounts) }
+    ensures a_part_by_any_calls { (table last : Table)
         → StartsAtRoot table → Unmounts table last → IsTrimmed last table }
 {}
 
-/// An entry of an ordered table is one that calls of umount2 let a path belong to exactly where it stands in the table,
+/// An entry of an ordered table, none of whose mounts is locked, is one that calls of umount2 let a path belong to exactly where it stands in the table,
 /// whatever the path has behind its place. A table whose places ascend in byte order is ordered.
 pub fn uncovered_entries()
     ensures uncovered_stands { (table : Table) (entry : MountStep) (rest : Path)

@@ -7,9 +7,9 @@ ghost use Rattle.abs_path.specs.Prefix.{is_prefix, rest_of, IsRest};
 ghost use Rattle.linux_numbers.specs.Limits.{mount_max};
 ghost use Rattle.kern_mounts.specs.Entry.{Belongs};
 ghost use Rattle.kern_mounts.specs.Answer.{BecomesOrMemory};
-ghost use Rattle.kern_mounts.specs.Bind.{goes_too_far, is_long, object_at, bound_entry, can_show, can_bind};
 ghost use Rattle.kern_mounts.specs.Mounts.{steps_of, stands_below};
-ghost use Rattle.kern_mounts.specs.MountsBind.{bound_mount, is_locked_below, mounts_after_bind};
+ghost use Rattle.kern_mounts.specs.Bind.{bound_entry, bound_mount, object_at, goes_too_far, is_locked_below, is_long};
+ghost use Rattle.kern_mounts.specs.Bind.{can_show, can_bind, after_bind};
 ghost use Rattle.kern_mounts.specs.Pushed.{HasBound, HasCopies};
 
 use super::{MountTable, later_than};
@@ -24,7 +24,7 @@ use std::alloc::{AllocError, Global};
 const LONGEST: usize = 512;
 
 impl MountTable {
-    /// Whether a bind of this source is one that `bind` makes: its entry is not hidden, and on a host entry the path that
+    /// Tells whether a bind of this source is one that `bind` makes: its entry is not hidden, and on a host entry the path that
     /// it has on the host has at most 512 bytes. It takes no memory.
     pub fn can_bind(&self, source: &AbsPath) -> bool
         ensures by_the_entry { result ≡ can_bind (steps_of self.now) source.now }
@@ -48,7 +48,7 @@ impl MountTable {
     ) -> Result<(), MountError>
         requires can_bind { can_bind (steps_of self.old) source.now ≡ true }
         ensures binds { BecomesOrMemory self.old self.new result
-            (mounts_after_bind self.old source.now target.now recursive) }
+            (after_bind self.old source.now target.now recursive) }
     {
         let at = self.resolve(source);
         add_bound(&mut self.mounts, at, source, target, recursive)?;
@@ -70,7 +70,7 @@ fn add_bound(
     requires can_bind { can_bind (steps_of mounts.old.items) source.now ≡ true }
     requires few { length mounts.old.items ≤ mount_max }
     ensures by_the_rule { BecomesOrMemory mounts.old.items mounts.new.items result
-        (mounts_after_bind mounts.old.items source.now target.now recursive) }
+        (after_bind mounts.old.items source.now target.now recursive) }
     ensures behind { mounts.new.items ≡ mounts.old.items ++ drop (length mounts.old.items) mounts.new.items }
     ensures still_few { length mounts.new.items ≤ mount_max }
 {
@@ -108,8 +108,8 @@ fn refusal(
     requires covered { (not recursive && list_any (is_locked_below source.now) (drop (at + 1) mounts.now)) ≡ false }
     requires few { length mounts.now ≤ mount_max }
     ensures { MatchOption result
-        (IsOk (mounts_after_bind mounts.now source.now target.now recursive))
-        (λ errno. mounts_after_bind mounts.now source.now target.now recursive ≡ Err errno) }
+        (IsOk (after_bind mounts.now source.now target.now recursive))
+        (λ errno. after_bind mounts.now source.now target.now recursive ≡ Err errno) }
 {
     let Some(copies) = count_copies(copied_among(mounts, at, recursive), source, target) else {
         return Some(ENAMETOOLONG);
@@ -174,7 +174,7 @@ fn push_copies(
     Ok(true)
 }
 
-// Whether a bind that is not recursive would uncover what a locked mount, behind the one of this number, covers.
+// Tells whether a bind that is not recursive would uncover what a locked mount, behind the one of this number, covers.
 fn uncovers(mounts: &[Mount], at: usize, source: &AbsPath, recursive: bool) -> bool
     requires in_range { at < length mounts.now }
     ensures { result ≡ (not recursive && list_any (is_locked_below source.now) (drop (at + 1) mounts.now)) }
@@ -182,7 +182,7 @@ fn uncovers(mounts: &[Mount], at: usize, source: &AbsPath, recursive: bool) -> b
     !recursive && any_locked_below(later_than(mounts, at), source)
 }
 
-// Whether one of these mounts is locked and stands strictly below the source.
+// Tells whether one of these mounts is locked and stands strictly below the source.
 fn any_locked_below(later: &[Mount], source: &AbsPath) -> bool
     ensures { result ≡ list_any (is_locked_below source.now) later.now }
 {
@@ -203,7 +203,7 @@ fn copied_among(mounts: &[Mount], at: usize, recursive: bool) -> &[Mount]
     }
 }
 
-// Whether a path is too long with a rest behind it.
+// Tells whether a path is too long with a rest behind it.
 fn is_long(onto: &AbsPath, rest: &str) -> bool
     requires is_rest { IsRest rest.now }
     ensures { result ≡ is_long (onto.now ++ parts_of rest.now) }
@@ -211,7 +211,7 @@ fn is_long(onto: &AbsPath, rest: &str) -> bool
     onto.tail_len() + rest.len() > LONGEST
 }
 
-// Whether what the entry shows at the source can be bound.
+// Tells whether what the entry shows at the source can be bound.
 fn can_show(entry: &MountStep, source: &AbsPath) -> bool
     requires leads { is_prefix entry.now.place source.now ≡ true }
     ensures { result ≡ can_show entry.now.what entry.now.place source.now }

@@ -2,7 +2,7 @@
 
 ghost use Rattle.std.specs.Prelude.{◌≡◌};
 ghost use Rattle.kern_mounts.specs.Answer.{Becomes};
-ghost use Rattle.kern_mounts.specs.MountsRemount.{mounts_after_remount, with_root_flags};
+ghost use Rattle.kern_mounts.specs.Remount.{after_remount, with_root_flags};
 
 use super::MountTable;
 use crate::step::Flags;
@@ -16,7 +16,7 @@ impl MountTable {
     /// EINVAL where the place is not that of the entry that it belongs to; then EPERM where these flags lack one that the
     /// entry keeps. On either the table stays as it was.
     pub fn remount(&mut self, place: &AbsPath, flags: Flags) -> Result<(), u32>
-        ensures remounts { Becomes self.old self.new result (mounts_after_remount self.old place.now flags) }
+        ensures remounts { Becomes self.old self.new result (after_remount self.old place.now flags) }
     {
         let at = self.resolve(place);
         if self.mounts[at].step.place != *place {

@@ -6,7 +6,7 @@ ghost use Rattle.kern_mounts.specs.Answer.{Becomes};
 ghost use Rattle.kern_mounts.specs.Mounts.{stands_below};
 ghost use Rattle.kern_mounts.specs.Split.{Table};
 ghost use Rattle.kern_mounts.specs.Table.{Knows};
-ghost use Rattle.kern_mounts.specs.MountsUmount.{mounts_after_umount};
+ghost use Rattle.kern_mounts.specs.Umount.{after_umount};
 
 use super::{MountTable, later_than};
 use crate::step::Mount;
@@ -24,7 +24,7 @@ impl MountTable {
     /// EINVAL where the path is `/`, or not the place of the entry that it belongs to, or that entry is locked; then EBUSY where
     /// later entries stand below it and `detach` is false. On either the table stays as it was.
     pub fn umount(&mut self, path: &AbsPath, detach: bool) -> Result<(), u32>
-        ensures unmounts { Becomes self.old self.new result (mounts_after_umount self.old path.now detach) }
+        ensures unmounts { Becomes self.old self.new result (after_umount self.old path.now detach) }
     {
         if path.is_root() {
             return Err(EINVAL);
@@ -58,7 +58,7 @@ fn known_still(places: &mut PlaceTree, known: usize, at: usize) -> usize
     left
 }
 
-// Whether one of these mounts stands strictly below the path.
+// Tells whether one of these mounts stands strictly below the path.
 fn any_below(mounts: &[Mount], path: &AbsPath) -> bool
     ensures { result ≡ list_any (stands_below path.now) mounts.now }
 {

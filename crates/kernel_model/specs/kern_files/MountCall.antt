@@ -1,4 +1,4 @@
--- mount(2) of a process that may mount: its errors in order, and the table after it.
+-- mount(2) of a process that may mount: its errors in order, and the mounts after it.
 use Rattle.std.specs.Prelude.{ℕ, ◌&&◌, ◌||◌, not, Bool, true, Option, Some, None, Result, Ok, Err, if◌then◌else◌}
 use Rattle.site_table.specs.abs_path.Paths.{Path, is_root}
 use Rattle.site_table.specs.abs_path.Prefix.{is_same}
@@ -7,6 +7,7 @@ use Rattle.site_table.specs.declared.row.Row.{Row}
 use Rattle.site_table.specs.Kinds.{is_dir}
 use Rattle.kern_mounts.specs.Entry.{entry_of}
 use Rattle.kern_mounts.specs.Finds.{Found, row, empty_directory, nothing, finds}
+use Rattle.kern_mounts.specs.Mounts.{Mounts, steps_of}
 use Rattle.kern_mounts.specs.Push.{after_push}
 use Rattle.kern_mounts.specs.Bind.{after_bind}
 use Rattle.kern_mounts.specs.Remount.{after_remount}
@@ -84,26 +85,26 @@ is_same_kind one other = (one && other) || (not one && not other)
 
 -- MS_BIND of a source of which this is found: the errno of what is not there; ENOTDIR where just one of source and target
 -- is a directory
-abbrev pub bind_found : Table → Path → Path → Bool → Bool → Result Bool ℕ → Result Table ℕ
-bind_found table source target recursive directory (Err errno) = Err errno
-bind_found table source target recursive directory (Ok own) =
-    if is_same_kind own directory then after_bind table source target recursive else Err enotdir
+abbrev pub bind_found : Mounts → Path → Path → Bool → Bool → Result Bool ℕ → Result Mounts ℕ
+bind_found mounts source target recursive directory (Err errno) = Err errno
+bind_found mounts source target recursive directory (Ok own) =
+    if is_same_kind own directory then after_bind mounts source target recursive else Err enotdir
 
 -- a mount on a target of which this is found: a bind, or an empty file system on a directory
-abbrev pub mount_onto : (Path → Option Row) → Table → Path → Path → ℕ → Result Bool ℕ → Result Table ℕ
-mount_onto rows table source target flags (Err errno) = Err errno
-mount_onto rows table source target flags (Ok directory) =
+abbrev pub mount_onto : (Path → Option Row) → Mounts → Path → Path → ℕ → Result Bool ℕ → Result Mounts ℕ
+mount_onto rows mounts source target flags (Err errno) = Err errno
+mount_onto rows mounts source target flags (Ok directory) =
     if has_some ms_bind flags then
-    bind_found table source target (has_some ms_rec flags) directory (kind_found (finds rows table source))
+    bind_found mounts source target (has_some ms_rec flags) directory (kind_found (finds rows (steps_of mounts) source))
     else if not directory then Err enotdir
-    else after_push table (record { place = target; what = Empty; flags = flags_of flags })
+    else after_push mounts (record { place = target; what = Empty; flags = flags_of flags })
 
 -- EINVAL where a kind is asked for that is not modelled; a remount, of a single mount alone (else EINVAL); EBUSY on the root;
 -- else a mount on the target
-abbrev pub after_mount : (Path → Option Row) → Table → Path → Path → ℕ → Result Table ℕ
-after_mount rows table source target flags =
+abbrev pub after_mount : (Path → Option Row) → Mounts → Path → Path → ℕ → Result Mounts ℕ
+after_mount rows mounts source target flags =
     if has_other_kind flags then Err einval
-    else if has_all ms_remount_bind flags then after_remount table target (flags_of flags)
+    else if has_all ms_remount_bind flags then after_remount mounts target (flags_of flags)
     else if has_some ms_remount flags then Err einval
     else if is_root target then Err ebusy
-    else mount_onto rows table source target flags (target_kind rows table target)
+    else mount_onto rows mounts source target flags (target_kind rows (steps_of mounts) target)

@@ -3,9 +3,9 @@ use Rattle.std.specs.Prelude.{◌≡◌, ℕ, true, ⊤, Result, Ok, Err}
 use Rattle.site_table.specs.abs_path.Paths.{Path}
 use Rattle.kern_mounts.specs.Bind.{can_bind}
 use Rattle.kern_mounts.specs.Mounts.{Mounts}
-use Rattle.kern_mounts.specs.MountsPush.{mounts_after_push}
-use Rattle.kern_mounts.specs.MountsBind.{mounts_after_bind}
-use Rattle.kern_mounts.specs.MountsRemount.{mounts_after_remount}
+use Rattle.kern_mounts.specs.Push.{after_push}
+use Rattle.kern_mounts.specs.Bind.{after_bind}
+use Rattle.kern_mounts.specs.Remount.{after_remount}
 use Rattle.kern_mounts.specs.Split.{Table}
 use Rattle.kern_mounts.specs.declared.step.What.TheVariants as what
 use Rattle.kernel_model.specs.kern_files.MountCall.{flags_of}
@@ -14,10 +14,10 @@ use Rattle.kernel_model.specs.declared.kern_files.planning.Change.TheVariants.{R
 
 -- what the mounts become, or why they themselves refuse the change
 abbrev pub performed : Mounts → Path → Path → ℕ → Change → Result Mounts ℕ
-performed mounts source target flags Remount = mounts_after_remount mounts target (flags_of flags)
-performed mounts source target flags (Bind recursive) = mounts_after_bind mounts source target recursive
+performed mounts source target flags Remount = after_remount mounts target (flags_of flags)
+performed mounts source target flags (Bind recursive) = after_bind mounts source target recursive
 performed mounts source target flags Empty =
-    mounts_after_push mounts (record { place = target; what = what.Empty; flags = flags_of flags })
+    after_push mounts (record { place = target; what = what.Empty; flags = flags_of flags })
 
 -- the call's answer is that of the change, or the errno
 abbrev pub Plans : Mounts → Path → Path → ℕ → Result Mounts ℕ → Result Change ℕ → Type 0

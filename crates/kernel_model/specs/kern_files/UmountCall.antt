@@ -1,14 +1,14 @@
--- umount2(2) of a process that may mount: EINVAL of flags other than none and MNT_DETACH; else the table after it.
+-- umount2(2) of a process that may mount: EINVAL of flags other than none and MNT_DETACH; else the mounts after it.
 use Rattle.std.specs.Prelude.{ℕ, ◌==◌, ◌||◌, Result, Err, if◌then◌else◌}
 use Rattle.site_table.specs.abs_path.Paths.{Path}
 use Rattle.kern_mounts.specs.linux_numbers.Errnos.{einval}
-use Rattle.kern_mounts.specs.Split.{Table}
+use Rattle.kern_mounts.specs.Mounts.{Mounts}
 use Rattle.kern_mounts.specs.Umount.{after_umount}
 
 -- MNT_DETACH: what is mounted below goes too
 abbrev pub mnt_detach : ℕ
 mnt_detach = 2
 
-abbrev pub umount_answer : Table → Path → ℕ → Result Table ℕ
-umount_answer table path flags =
-    if flags == 0 || flags == mnt_detach then after_umount table path (flags == mnt_detach) else Err einval
+abbrev pub umount_answer : Mounts → Path → ℕ → Result Mounts ℕ
+umount_answer mounts path flags =
+    if flags == 0 || flags == mnt_detach then after_umount mounts path (flags == mnt_detach) else Err einval

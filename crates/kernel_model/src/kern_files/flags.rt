@@ -9,14 +9,14 @@ use crate::kern_files::find::entry_of;
 use abs_path::AbsPath;
 use kern_mounts::{Flags, MountTable};
 
-/// Whether some bit of the mask is on.
+/// Tells whether some bit of the mask is on.
 pub fn has_some(mask: u32, flags: u32) -> bool
     ensures some_flag { result ≡ has_some mask flags }
 {
     flags & mask != 0
 }
 
-/// Whether every bit of the mask is on.
+/// Tells whether every bit of the mask is on.
 pub fn has_all(mask: u32, flags: u32) -> bool
     ensures each_flag { result ≡ has_all mask flags }
 {

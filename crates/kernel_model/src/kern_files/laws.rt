@@ -1,6 +1,6 @@
 //! Laws of calls on paths, each the contract of a function that does nothing.
 
-ghost use Rattle.std.specs.Prelude.{◌≡◌, ◌↔◌, ◌⊎◌, ◌==◌, ◌||◌, ℕ, Bool, true, false, [], Option, Ok, Err, map};
+ghost use Rattle.std.specs.Prelude.{◌≡◌, ◌↔◌, ◌⊎◌, ◌==◌, ◌||◌, ℕ, Bool, true, false, [], Option, Ok, Err};
 ghost use Rattle.site_table.specs.abs_path.Paths.{Path};
 ghost use Rattle.kern_mounts.specs.linux_numbers.Errnos.{eacces, ebusy, einval, enotdir};
 ghost use Rattle.site_table.specs.declared.row.Row.{Row};
@@ -12,9 +12,7 @@ ghost use Rattle.kernel_model.specs.kern_files.Looking.{access_mode, flags_at, s
 ghost use Rattle.kernel_model.specs.kern_files.Executing.{program_answer};
 ghost use Rattle.kernel_model.specs.kern_files.MountCall.{ms_bind, ms_remount, ms_remount_bind, has_other_kind, target_kind, after_mount};
 ghost use Rattle.kernel_model.specs.kern_files.UmountCall.{mnt_detach, umount_answer};
-ghost use Rattle.kernel_model.specs.kern_files.MountsCall.{mounts_after_mount, mounts_umount_answer};
-ghost use Rattle.kern_mounts.specs.Mounts.{Mounts, steps_of, plain, ArePlain};
-ghost use Rattle.kern_mounts.specs.Answer.{steps_answer, plain_answer};
+ghost use Rattle.kern_mounts.specs.Mounts.{Mounts, steps_of, ArePlain};
 ghost use Rattle.kern_mounts.specs.Changes.{Changes};
 ghost use Rattle.kernel_model.specs.kern_files.There.{ShowsRow, IsEmptyPlace, IsHidden, IsWritableFile, IsProgram};
 
@@ -51,57 +49,47 @@ pub fn what_is_hidden()
         → open_answer flags (flags_at table path) (finds rows table path) ≡ Err eacces }
     ensures not_executed { (rows : Path → Option Row) (table : Table) (path : Path)
         → IsHidden table path → program_answer (flags_at table path) (finds rows table path) ≡ Err eacces }
-    ensures not_bound { (rows : Path → Option Row) (table : Table) (source target : Path) (flags : ℕ) (directory : Bool)
-        → IsHidden table source → has_other_kind flags ≡ false → has_some ms_remount flags ≡ false
-        → has_some ms_bind flags ≡ true → (target ≡ [] → ⊥) → target_kind rows table target ≡ Ok directory
-        → after_mount rows table source target flags ≡ Err eacces }
+    ensures not_bound { (rows : Path → Option Row) (mounts : Mounts) (source target : Path) (flags : ℕ) (directory : Bool)
+        → IsHidden (steps_of mounts) source → has_other_kind flags ≡ false → has_some ms_remount flags ≡ false
+        → has_some ms_bind flags ≡ true → (target ≡ [] → ⊥) → target_kind rows (steps_of mounts) target ≡ Ok directory
+        → after_mount rows mounts source target flags ≡ Err eacces }
 {}
 
 /// The errors of mount(2) that come before it looks at a path, in their order, and the kind of the target without MS_BIND.
 pub fn order_of_mount()
-    ensures other_kinds_first { (rows : Path → Option Row) (table : Table) (source target : Path) (flags : ℕ)
-        → has_other_kind flags ≡ true → after_mount rows table source target flags ≡ Err einval }
-    ensures remount_of_a_single_mount_alone { (rows : Path → Option Row) (table : Table) (source target : Path) (flags : ℕ)
+    ensures other_kinds_first { (rows : Path → Option Row) (mounts : Mounts) (source target : Path) (flags : ℕ)
+        → has_other_kind flags ≡ true → after_mount rows mounts source target flags ≡ Err einval }
+    ensures remount_of_a_single_mount_alone { (rows : Path → Option Row) (mounts : Mounts) (source target : Path) (flags : ℕ)
         → has_some ms_remount flags ≡ true → has_all ms_remount_bind flags ≡ false
-        → after_mount rows table source target flags ≡ Err einval }
-    ensures root_is_busy { (rows : Path → Option Row) (table : Table) (source : Path) (flags : ℕ)
+        → after_mount rows mounts source target flags ≡ Err einval }
+    ensures root_is_busy { (rows : Path → Option Row) (mounts : Mounts) (source : Path) (flags : ℕ)
         → has_other_kind flags ≡ false → has_some ms_remount flags ≡ false
-        → after_mount rows table source [] flags ≡ Err ebusy }
-    ensures no_file_system_on_a_file { (rows : Path → Option Row) (table : Table) (source target : Path) (flags : ℕ)
+        → after_mount rows mounts source [] flags ≡ Err ebusy }
+    ensures no_file_system_on_a_file { (rows : Path → Option Row) (mounts : Mounts) (source target : Path) (flags : ℕ)
         → has_other_kind flags ≡ false → has_some ms_remount flags ≡ false
-        → has_some ms_bind flags ≡ false → (target ≡ [] → ⊥) → target_kind rows table target ≡ Ok false
-        → after_mount rows table source target flags ≡ Err enotdir }
+        → has_some ms_bind flags ≡ false → (target ≡ [] → ⊥) → target_kind rows (steps_of mounts) target ≡ Ok false
+        → after_mount rows mounts source target flags ≡ Err enotdir }
 {}
 
 /// umount2(2) takes no flags but MNT_DETACH, and the root stays.
 pub fn limits_of_umount()
-    ensures no_other_flags { (table : Table) (path : Path) (flags : ℕ)
-        → (flags == 0 || flags == mnt_detach) ≡ false → umount_answer table path flags ≡ Err einval }
-    ensures root_stays { (table : Table) (flags : ℕ) → umount_answer table [] flags ≡ Err einval }
+    ensures no_other_flags { (mounts : Mounts) (path : Path) (flags : ℕ)
+        → (flags == 0 || flags == mnt_detach) ≡ false → umount_answer mounts path flags ≡ Err einval }
+    ensures root_stays { (mounts : Mounts) (flags : ℕ) → umount_answer mounts [] flags ≡ Err einval }
 {}
 
 /// A call that is done on mounts is one of the changes that keep what they are backed by.
 pub fn changes_of_mounts()
     ensures mount { (rows : Path → Option Row) (mounts next : Mounts) (source target : Path) (flags : ℕ)
-        → mounts_after_mount rows mounts source target flags ≡ Ok next → Changes mounts next }
+        → after_mount rows mounts source target flags ≡ Ok next → Changes mounts next }
     ensures umount { (mounts next : Mounts) (path : Path) (flags : ℕ)
-        → mounts_umount_answer mounts path flags ≡ Ok next → Changes mounts next }
+        → umount_answer mounts path flags ≡ Ok next → Changes mounts next }
 {}
 
-/// Where no mount is locked and none keeps a flag, a call answers by the entries alone, and leaves it so.
+/// Where no mount is locked and none keeps a flag, as in the table of a launched service, a call that is done leaves it so.
 pub fn calls_on_plain_mounts()
-    ensures mount { (rows : Path → Option Row) (mounts : Mounts) (source target : Path) (flags : ℕ) → ArePlain mounts
-        → steps_answer (mounts_after_mount rows mounts source target flags)
-        ≡ after_mount rows (steps_of mounts) source target flags }
-    ensures umount { (mounts : Mounts) (path : Path) (flags : ℕ) → ArePlain mounts
-        → steps_answer (mounts_umount_answer mounts path flags) ≡ umount_answer (steps_of mounts) path flags }
     ensures mounted { (rows : Path → Option Row) (mounts next : Mounts) (source target : Path) (flags : ℕ) → ArePlain mounts
-        → mounts_after_mount rows mounts source target flags ≡ Ok next → ArePlain next }
+        → after_mount rows mounts source target flags ≡ Ok next → ArePlain next }
     ensures umounted { (mounts next : Mounts) (path : Path) (flags : ℕ) → ArePlain mounts
-        → mounts_umount_answer mounts path flags ≡ Ok next → ArePlain next }
-    ensures mount_of_a_table { (rows : Path → Option Row) (table : Table) (source target : Path) (flags : ℕ)
-        → mounts_after_mount rows (map plain table) source target flags
-        ≡ plain_answer (after_mount rows table source target flags) }
-    ensures umount_of_a_table { (table : Table) (path : Path) (flags : ℕ)
-        → mounts_umount_answer (map plain table) path flags ≡ plain_answer (umount_answer table path flags) }
+        → umount_answer mounts path flags ≡ Ok next → ArePlain next }
 {}

@@ -26,7 +26,7 @@ const NO_MODE: u32 = 3;
 // The first descriptor behind the three standard ones.
 const DESCRIPTOR: u64 = 3;
 
-/// Whether a row is a directory.
+/// Tells whether a row is a directory.
 pub(crate) fn is_dir(kind: RowKind) -> bool
     ensures { result ≡ is_dir kind }
 {

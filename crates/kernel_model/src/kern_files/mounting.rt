@@ -3,12 +3,12 @@
 ghost use Rattle.std.specs.Prelude.{◌≡◌, false, IsErrOf};
 ghost use Rattle.site_table.specs.Table.{row_at};
 ghost use Rattle.kern_mounts.specs.Answer.{Becomes, BecomesOrMemory};
-ghost use Rattle.kern_mounts.specs.MountsPush.{mounts_after_push};
-ghost use Rattle.kern_mounts.specs.MountsRemount.{mounts_after_remount};
+ghost use Rattle.kern_mounts.specs.Push.{after_push};
+ghost use Rattle.kern_mounts.specs.Remount.{after_remount};
 ghost use Rattle.kern_mounts.specs.declared.step.What.TheVariants.{Empty as an_empty_file_system};
 ghost use Rattle.kernel_model.specs.kern_files.Bits.{has_all};
-ghost use Rattle.kernel_model.specs.kern_files.MountCall.{ms_remount_bind, flags_of};
-ghost use Rattle.kernel_model.specs.kern_files.MountsCall.{mounts_after_mount, mounts_umount_answer};
+ghost use Rattle.kernel_model.specs.kern_files.MountCall.{ms_remount_bind, flags_of, after_mount};
+ghost use Rattle.kernel_model.specs.kern_files.UmountCall.{umount_answer};
 
 use crate::kern_files::flags::has_some;
 use crate::kern_files::planning::{Change, planned};
@@ -44,7 +44,7 @@ fn flags_of(flags: u32) -> Flags
 
 fn remount(table: &mut MountTable, target: &AbsPath, flags: u32) -> Result<(), MountError>
     ensures by_the_rule { BecomesOrMemory table.old table.new result
-        (mounts_after_remount table.old target.now (flags_of flags)) }
+        (after_remount table.old target.now (flags_of flags)) }
     ensures takes_no_memory { IsErrOf result MountError.Memory → ⊥ }
 {
     table
@@ -59,7 +59,7 @@ fn mount_empty(
     target: &AbsPath,
     flags: u32,
 ) -> Result<(), MountError>
-    ensures { BecomesOrMemory table.old table.new result (mounts_after_push table.old
+    ensures { BecomesOrMemory table.old table.new result (after_push table.old
         (record { place = target.now; what = an_empty_file_system; flags = flags_of flags })) }
 {
     if table.len() >= MOUNT_MAX {
@@ -91,7 +91,7 @@ pub fn mount(
     flags: u32,
 ) -> Result<(), MountError>
     ensures mounts_by_the_rule { BecomesOrMemory table.old table.new result
-        (mounts_after_mount (row_at site.now.rows) table.old source.now target.now flags) }
+        (after_mount (row_at site.now.rows) table.old source.now target.now flags) }
     ensures remount_takes_no_memory { IsErrOf result MountError.Memory → has_all ms_remount_bind flags ≡ false }
 {
     match planned(table, site, source, target, flags) {
@@ -108,7 +108,7 @@ pub fn mount(
 /// of a locked mount; then EBUSY where later mounts stand below it, unless MNT_DETACH takes them too. On any error the table stays as it
 /// was.
 pub fn umount(table: &mut MountTable, path: &AbsPath, flags: u32) -> Result<(), u32>
-    ensures unmounts_by_the_rule { Becomes table.old table.new result (mounts_umount_answer table.old path.now flags) }
+    ensures unmounts_by_the_rule { Becomes table.old table.new result (umount_answer table.old path.now flags) }
 {
     if flags != 0 && flags != MNT_DETACH {
         return Err(EINVAL);

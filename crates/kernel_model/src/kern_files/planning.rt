@@ -7,8 +7,8 @@ ghost use Rattle.kern_mounts.specs.Bind.{can_bind};
 ghost use Rattle.kern_mounts.specs.Finds.{finds};
 ghost use Rattle.kernel_model.specs.kern_files.Found.{shown};
 ghost use Rattle.kernel_model.specs.kern_files.Bits.{has_all};
-ghost use Rattle.kernel_model.specs.kern_files.MountCall.{ms_remount_bind, kind_found, hidden_kind, target_kind};
-ghost use Rattle.kernel_model.specs.kern_files.MountsCall.{mounts_onto, mounts_after_mount};
+ghost use Rattle.kernel_model.specs.kern_files.MountCall.{ms_remount_bind, kind_found, hidden_kind, target_kind, mount_onto};
+ghost use Rattle.kernel_model.specs.kern_files.MountCall.{after_mount};
 ghost use Rattle.kernel_model.specs.kern_files.Planning.{Plans, CanPerform};
 
 use crate::kern_files::find::{Found, entry_of, find};
@@ -45,7 +45,7 @@ pub enum Change {
     Empty,
 }
 
-// Whether what is found is a directory, or the errno of what is not there.
+// Tells whether what is found is a directory, or the errno of what is not there.
 fn kind_found(found: Found) -> Result<bool, u32>
     ensures { result ≡ kind_found (shown found.entry) }
 {
@@ -56,7 +56,7 @@ fn kind_found(found: Found) -> Result<bool, u32>
     }
 }
 
-// Whether a hidden entry that stands at the path is a directory.
+// Tells whether a hidden entry that stands at the path is a directory.
 fn hidden_kind(entry: &MountStep, path: &AbsPath) -> Option<bool>
     ensures { result ≡ hidden_kind entry.now.place entry.now.what path.now }
 {
@@ -66,7 +66,7 @@ fn hidden_kind(entry: &MountStep, path: &AbsPath) -> Option<bool>
     }
 }
 
-// Whether the target is a directory, or the errno of what is not there.
+// Tells whether the target is a directory, or the errno of what is not there.
 fn target_kind(table: &MountTable, site: &SiteTable, target: &AbsPath) -> Result<bool, u32>
     ensures { result ≡ target_kind (row_at site.now.rows) (steps_of table.now) target.now }
 {
@@ -76,7 +76,7 @@ fn target_kind(table: &MountTable, site: &SiteTable, target: &AbsPath) -> Result
     }
 }
 
-// Whether the source is a directory, or the errno of what is not there; what is there can be bound.
+// Tells whether the source is a directory, or the errno of what is not there; what is there can be bound.
 fn source_kind(table: &MountTable, site: &SiteTable, source: &AbsPath) -> Result<bool, u32>
     ensures kind { result ≡ kind_found (finds (row_at site.now.rows) (steps_of table.now) source.now) }
     ensures can_bind { IfOk result (λ directory. can_bind (steps_of table.now) source.now ≡ true) }
@@ -96,7 +96,7 @@ fn planned_onto(
     directory: bool,
 ) -> Result<Change, u32>
     ensures by_the_rule { Plans table.now source.now target.now flags
-        (mounts_onto (row_at site.now.rows) table.now source.now target.now flags (Ok directory)) result }
+        (mount_onto (row_at site.now.rows) table.now source.now target.now flags (Ok directory)) result }
     ensures can_perform { IfOk result (λ change. CanPerform (steps_of table.now) source.now change) }
 {
     if has_some(MS_BIND, flags) {
@@ -127,7 +127,7 @@ pub fn planned(
     flags: u32,
 ) -> Result<Change, u32>
     ensures by_the_rule { Plans table.now source.now target.now flags
-        (mounts_after_mount (row_at site.now.rows) table.now source.now target.now flags) result }
+        (after_mount (row_at site.now.rows) table.now source.now target.now flags) result }
     ensures can_perform { IfOk result (λ change. CanPerform (steps_of table.now) source.now change) }
     ensures remounts { has_all ms_remount_bind flags ≡ true → IfOk result (λ change. change ≡ Change.Remount) }
 {

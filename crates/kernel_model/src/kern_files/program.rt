@@ -21,7 +21,7 @@ use site_table::{Row, RowKind, SiteTable};
 pub struct Program {
     /// The set-id bits and the capabilities of the file.
     pub file: FileCreds,
-    /// Whether the mount that it is on is nosuid.
+    /// The mount that it is on is nosuid.
     pub no_suid: bool,
 }
 

@@ -1,5 +1,5 @@
 use Rattle.std.proofs.Common.{◌∙◌, ap, refl}
-use Rattle.kern_mounts.specs.MountsRemount.{with_root_flags}
+use Rattle.kern_mounts.specs.Remount.{with_root_flags}
 use Rattle.kern_mounts.proofs.Changing.{root_set}
 use Rattle.kern_mounts.proofs.Places.{mounts_stay, mount_places_stay}
 use Rattle.kern_mounts.proofs.Known.{knows_same}

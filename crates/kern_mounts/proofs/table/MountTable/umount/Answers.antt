@@ -4,11 +4,11 @@ use Rattle.std.specs.List.{list_any}
 use Rattle.std.proofs.lemmas.List.{get_or_default}
 use Rattle.kern_mounts.specs.declared.step.Mount.{Mount}
 use Rattle.kern_mounts.specs.Mounts.{Mounts, steps_of, stands_at, stands_below}
-use Rattle.kern_mounts.specs.MountsUmount.{mounts_after_umount}
+use Rattle.kern_mounts.specs.Umount.{after_umount}
 use Rattle.kern_mounts.specs.Table.{IsTable}
 use Rattle.kern_mounts.proofs.Mounts.{in_range}
 use Rattle.kern_mounts.proofs.Changing.{Stands, umount_elsewhere, umount_locked, umount_busy, umount_done}
-use Rattle.kern_mounts.proofs.Steps.{unmounted_mounts}
+use Rattle.kern_mounts.proofs.Unmounting.{unmounted_table}
 use Rattle.kern_mounts.proofs.Known.{mounts_known}
 use Rattle.kern_mounts.proofs.table.MountTable.umount.Goals as goal
 use Rattle.kern_mounts.proofs.table.MountTable.umount.Goals.{else-not-detach-via-then-not-detach+else-any_below}
@@ -63,9 +63,9 @@ returns-then-any_below c =
     let some : list_any (stands_below c.args.path.now) (drop (c.resolve-at.result + 1) c.self.inside.mounts.items) ≡ true =
     sym (c.if-any_below.ensures ∙ ap (list_any (stands_below c.args.path.now)) (c.later_than.ensures.behind ∙ ap (drop (c.resolve-at.result + 1)) c.deref.ensures.value)) in
     let busy = umount_busy _ _ c.args.path.now c.resolve-at.result c.index-2.result.now stands (sym c.if-is_root.ensures.without_parts) (ap (λ (m : Mount). stands_at c.args.path.now m) (sym same) ∙ was_true _ c.if-ne.ensures) c.if-index.false some in
-    record { unmounts = (ap (mounts_after_umount c.args.self.now c.args.path.now) c.if-not-detach.true ∙ busy, refl) }
+    record { unmounts = (ap (after_umount c.args.self.now c.args.path.now) c.if-not-detach.true ∙ busy, refl) }
 
-done : (c : goal.After-self-2-1) → mounts_after_umount c.args.self.now c.args.path.now c.args.detach ≡ Ok c.take_away.new.mounts.items
+done : (c : goal.After-self-2-1) → after_umount c.args.self.now c.args.path.now c.args.detach ≡ Ok c.take_away.new.mounts.items
 done c =
     let stands : Stands c.args.self.now c.self.inside.mounts.items c.args.path.now c.resolve-at.result c.index-2.result.now =
     record { view = c.self.view_is; belongs = c.resolve-at.ensures.last_that_leads; entry_is = c.index-2.ensures } in
@@ -86,7 +86,7 @@ pub invariant_of-self : goal.invariant_of-self
 invariant_of-self c =
     let is : IsTable (steps_of c.args.self.now) = subst (λ (mounts : Mounts). IsTable (steps_of mounts)) c.self.view_is c.self.invariant.0 in
     let lt : c.resolve-at.result < length c.self.inside.mounts.items = subst (λ (mounts : Mounts). c.resolve-at.result < length mounts) (sym c.self.view_is) (in_range c.args.self.now c.args.path.now c.resolve-at.result c.resolve-at.ensures.last_that_leads) in (
-      unmounted_mounts c.args.path.now c.args.detach c.args.self.now c.take_away.new.mounts.items is (done c),
+      unmounted_table c.args.path.now c.args.detach c.args.self.now c.take_away.new.mounts.items is (done c),
       mounts_known c.self.inside.mounts.items c.take_away.new.mounts.items _ c.self.inside.places c.known_still-self-inside.new.places
           c.self.inside.known c.known_still-self-inside.result c.resolve-at.result
           c.known_still-self-inside.ensures.knows_those c.self.invariant.1 lt c.take_away.ensures.the_mount_and_below,
