@@ -1,4 +1,5 @@
-// Finds lines by number, by going through a list of at most 512, and calls by name in one ABI or two.
+// Finds calls by number and by name. A list has at most 512 calls, so a number is looked up by going through it. A name may
+// belong to either of two ABIs.
 ghost use Rattle.std.specs.Prelude.{◌≡◌, ◌<◌, ◌+◌, ◌^◌, ◌++◌, length, option_copied};
 ghost use Rattle.std.specs.List.{list_any};
 ghost use Rattle.call_table.specs.Lookups.{has_number, named, numbered, place_named};
@@ -13,14 +14,14 @@ pub fn has_number(lines: &[CallLine], number: u32) -> bool
     lines.iter().any(|line| line.number == number)
 }
 
-/// The line of this number.
+/// Returns the first line of this number.
 pub fn numbered(lines: &[CallLine], number: u32) -> Option<&CallLine>
     ensures by_number { option_copied result ≡ numbered number lines.now }
 {
     lines.iter().find(|line| line.number == number)
 }
 
-/// The calls of an ABI, where there is one.
+/// Returns the calls of an ABI, or none where the table lacks the ABI.
 pub fn lines_of(calls: Option<&CallLines>) -> &[CallLine]
     ensures lines_or_none { result.now ≡ lines_seen calls.entry }
 {
@@ -30,21 +31,21 @@ pub fn lines_of(calls: Option<&CallLines>) -> &[CallLine]
     }
 }
 
-/// The call of this name in an ABI, where there is one.
+/// Returns the call of this name in an ABI.
 pub fn named<'l>(calls: Option<&'l CallLines>, name: &str) -> Option<&'l CallLine>
     ensures by_name { option_copied result ≡ named name.now (lines_seen calls.entry) }
 {
     calls?.get(name)
 }
 
-// The position of the call of this name in an ABI, from 0, where there is one.
+// Returns the position of the call of this name in an ABI, from 0.
 fn place_in(calls: Option<&CallLines>, name: &str) -> Option<usize>
     ensures { result ≡ place_named name.now (lines_seen calls.entry) }
 {
     calls?.place(name)
 }
 
-/// The position of the first call of this name, from 0, where the calls of another ABI stand after these.
+/// Returns the position of the first call of this name, from 0, among these calls and then those of another ABI.
 pub fn place_among(calls: &CallLines, more: Option<&CallLines>, name: &str) -> Option<usize>
     requires { length calls.now + length (lines_seen more) < 2 ^ 63 }
     ensures by_name { result ≡ place_named name.now (calls.now ++ lines_seen more.entry) }

@@ -23,7 +23,7 @@ fn mark_all(marks: &mut [bool], positions: &[usize])
     }
 }
 
-// Marks the calls that a word stands for, or returns false if it names nothing.
+// Marks the calls that a word stands for. Returns false if the word names neither a call nor a group.
 fn mark_word(
     marks: &mut [bool],
     calls: &CallLines,
@@ -54,7 +54,7 @@ fn mark_word(
     }
 }
 
-// Marks the calls that the words stand for, or returns false if one names nothing.
+// Marks the calls that the words stand for. Returns false if a word names neither a call nor a group.
 fn mark_words(
     marks: &mut [bool],
     calls: &CallLines,
@@ -75,7 +75,7 @@ fn mark_words(
     true
 }
 
-// The positions that are marked, ascending.
+// Returns the marked positions, ascending.
 fn marked(alloc: Global, marks: &[bool]) -> Result<Vec<usize>, AllocError>
     ensures { IfOk result (λ positions. positions.items ≡ map (λ mark. mark.0) (filter (λ mark. mark.1) (enumerate_from 0 marks.now))) }
 {
@@ -88,7 +88,7 @@ fn marked(alloc: Global, marks: &[bool]) -> Result<Vec<usize>, AllocError>
     Ok(positions)
 }
 
-// The members among calls of which none is marked yet.
+// Finds the members of a group by marks on the calls, none of which is set yet.
 fn members_among(
     alloc: Global,
     marks: &mut [bool],
@@ -109,8 +109,9 @@ fn members_among(
     }
 }
 
-/// Returns the calls that the words stand for, or `None` if a word names neither an earlier call nor an earlier
-/// group. The calls are those of the native ABI and then more.
+/// Finds the calls that the words of a group stand for, among the calls of the native ABI and then those of a second one.
+///
+/// Returns `None` if a word names neither an earlier call nor an earlier group.
 pub fn find_members(
     alloc: Global,
     calls: &CallLines,

@@ -110,7 +110,7 @@ impl CallTable {
         Some(self.lists.calls.get(name)?.number)
     }
 
-    /// The position of the first call of this name among all calls, from 0: those of the native ABI come first.
+    /// Returns the position of the first call of this name among all calls, from 0. The calls of the native ABI come first.
     pub fn position(&self, name: &str) -> Option<usize>
         ensures by_name { result ≡ place_named name.now (every_call self.now) }
     {
@@ -256,8 +256,10 @@ impl CallTable {
         numbered(self.lists.calls.lines(), number)?.cap
     }
 
-    /// The members of the group of this name, which is written without its `@`: positions in
-    /// all calls, from 0, ascending, each once, and each the first of its name.
+    /// Returns the members of the group of this name, which is written without its `@`.
+    ///
+    /// Members are positions in all calls, from 0. They ascend, and each stands once: where both ABIs have a call of a name,
+    /// the first of the two is the member.
     pub fn members(&self, group: &str) -> Option<&[usize]>
         ensures by_name { option_copied result ≡ option_map (λ group. group.members) (group_named group.now self.now.groups) }
     {

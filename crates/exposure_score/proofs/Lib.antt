@@ -5,6 +5,7 @@ pub mod Known
 pub mod Finding
 pub mod Members
 pub mod Accepted
+pub mod Allowed
 pub mod Bytes
 pub mod Ordered
 pub mod Exact

@@ -8,7 +8,7 @@ ghost use Rattle.exposure_score.specs.Badness.{fact_of, HasBadness};
 use crate::custom_test::{Check, CustomTest};
 use crate::facts::{Fact, Facts};
 
-// the fact of an identifier
+// Finds the fact of an identifier.
 fn fact_of<'a>(facts: &'a Facts, id: &str) -> Option<&'a Fact>
     ensures { option_copied result ≡ fact_of facts.now.tests id.now }
 {
@@ -19,7 +19,7 @@ fn fact_of<'a>(facts: &'a Facts, id: &str) -> Option<&'a Fact>
         .find(|fact| fact.id.as_str() == id)
 }
 
-// the first stored test of an identifier
+// Finds the first stored test of an identifier.
 fn stored_of<'a>(tests: &'a [CustomTest], id: &str) -> Option<&'a CustomTest>
     ensures { option_copied result ≡ find (λ test. bytes_eq test.id id.now) tests.now }
 {

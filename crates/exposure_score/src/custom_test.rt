@@ -45,7 +45,7 @@ impl CustomTest {
         self.id.as_str()
     }
 
-    /// What the test answers for these facts.
+    /// Returns what the test answers for these facts.
     pub fn answer(&self, facts: &Facts) -> u32
         ensures says { Check.post self.now.check facts.entry result }
         ensures within_range { result ≤ self.now.range }

@@ -16,7 +16,7 @@ use crate::policy_file::{Policy, PolicyTest, TestId};
 use crate::rows::{Score, ScoreRow, ScoreRows};
 use std::alloc::{AllocError, Global};
 
-// the row of a test that is skipped
+// Makes the row of a skipped test.
 fn skipped_row(id: TestId) -> ScoreRow
     ensures { result ≡ skipped_row id }
 {
@@ -30,7 +30,7 @@ fn skipped_row(id: TestId) -> ScoreRow
     }
 }
 
-// what a test of a policy comes to
+// Scores one test of a policy.
 fn score_row(
     alloc: Global,
     test: &PolicyTest,
@@ -54,7 +54,7 @@ fn score_row(
     })
 }
 
-// what the tests of a policy come to
+// Scores the tests of a policy.
 fn score_rows(
     alloc: Global,
     policy: &[PolicyTest],

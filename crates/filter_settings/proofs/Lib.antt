@@ -9,6 +9,7 @@ pub mod Chosen
 pub mod Counted
 pub mod LowWords
 pub mod Mapped
+pub mod Marked
 pub mod Ordered
 pub mod Room
 pub mod RulesOf

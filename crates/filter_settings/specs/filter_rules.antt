@@ -25,4 +25,5 @@ pub mod NamespacesChoice
 pub mod BlockedChoice
 pub mod PersonalityChoice
 pub mod CallsChoice
+pub mod Marks
 pub mod Rules

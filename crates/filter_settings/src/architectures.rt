@@ -10,7 +10,7 @@ use dropin_merge::unit_values::{
 use dropin_merge::{NoteCause, Resolved, Text};
 use std::alloc::{AllocError, Global};
 
-// Whether the second ABI of the table has this name.
+// Returns whether the second ABI of the table has this name.
 fn is_second(table: &CallTable, word: &str) -> bool
     ensures { result ≡ is_second table.now word.now }
 {
@@ -20,7 +20,7 @@ fn is_second(table: &CallTable, word: &str) -> bool
     }
 }
 
-// Whether an ABI of the table has this name, or it is `native`.
+// Returns whether an ABI of the table has this name, or it is `native`.
 fn is_abi_name(table: &CallTable, word: &str) -> bool
     ensures { result ≡ is_abi_name table.now word.now }
 {
@@ -33,7 +33,7 @@ fn names_second(table: &CallTable, words: &[Text]) -> bool
     words.iter().any(|word| is_second(table, word.as_str()))
 }
 
-// Whether some value can be split into words.
+// Returns whether some value can be split into words.
 fn some_read(alloc: Global, values: &[Value]) -> Result<bool, AllocError>
     ensures { IfOk result (λ some. some ≡ list_any is_read values.now) }
 {
@@ -89,7 +89,7 @@ fn note_all(
     Ok(())
 }
 
-// Whether a list of these values is in force, none of whose words names the second ABI.
+// Returns whether a list of these values is in force, none of whose words names the second ABI.
 fn refuses_second(
     alloc: Global,
     table: &CallTable,
@@ -102,7 +102,7 @@ fn refuses_second(
     Ok(table.abis() == 2 && (is_set && !names_second(table, words)))
 }
 
-/// Whether the files of a unit refuse the second ABI of the table by such a key, with its notes.
+/// Returns whether the files of a unit refuse the second ABI of the table by such a key, with its notes.
 #[tactic(auto, unfolding(crate::specs::Architectures::unit_refuses_second, crate::specs::Architectures::unit_architectures_notes))]
 pub fn second_refused_by_key(
     alloc: Global,

@@ -12,7 +12,7 @@ use dropin_merge::Text;
 use dropin_merge::unit_values::{FileNote, Listed};
 use std::alloc::{AllocError, Global};
 
-// What a list of this mode begins with.
+// Returns the words that a list of this mode begins with.
 fn implied(alloc: Global, mode: Mode) -> Result<Vec<Mention>, AllocError>
     ensures { IfOk result (λ mentions. mentions.items ≡ implied mode) }
 {

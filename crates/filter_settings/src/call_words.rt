@@ -55,7 +55,7 @@ fn read_suffixed<'a>(may: bool, name: &'a str, suffix: &str) -> Option<CallWord<
     }
 }
 
-// The word, where it can be read.
+// Reads a word, or returns None where it cannot be read.
 fn read_word(may: bool, word: &str) -> Option<CallWord<'_>>
     ensures { option_map seen result ≡ word_of may word.now }
 {
@@ -75,7 +75,7 @@ fn has_group(table: &CallTable, group: &str) -> bool
     table.members(group).is_some()
 }
 
-// Whether the table has the call or the group of this name.
+// Returns whether the table has the call or the group of this name.
 fn is_known(table: &CallTable, name: &str) -> bool
     ensures { result ≡ is_known table.now name.now }
 {
@@ -85,7 +85,7 @@ fn is_known(table: &CallTable, name: &str) -> bool
     }
 }
 
-// The mention of a name that is known.
+// Makes the mention of a known name.
 fn known_mention(
     alloc: Global,
     table: &CallTable,

@@ -24,7 +24,7 @@ struct ErrorAction {
     action: Action,
 }
 
-// What is said where no value is in force: the process is ended.
+// Returns what is said where no value is in force: the process is ended.
 fn default_action() -> ErrorAction
     ensures { result ≡ default_action }
 {
@@ -46,7 +46,7 @@ impl KeyValue for ErrorAction {
     }
 }
 
-/// What the files of a unit say of a key such as SystemCallErrorNumber, with its notes.
+/// Returns what the files of a unit say of a key such as SystemCallErrorNumber, with its notes.
 pub fn error_action_of_key(
     alloc: Global,
     unit: &Resolved,

@@ -22,7 +22,7 @@ fn is_none_word(words: &[Text]) -> bool
     }
 }
 
-// Whether a value is the word `none` alone.
+// Returns whether a value is the word `none` alone.
 fn is_none_line(one: &Listed) -> bool
     ensures { result ≡ is_none_line one.now }
 {
@@ -45,7 +45,7 @@ fn count_behind_none(lines: &[Listed]) -> usize
         .count()
 }
 
-// The lines behind the last `none`.
+// Returns the lines after the last `none`.
 fn behind_none(lines: &[Listed]) -> &[Listed]
     ensures { result.now ≡ after_last is_none_line lines.now }
 {

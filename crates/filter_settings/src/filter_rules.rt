@@ -6,7 +6,7 @@
 //! mean; the readers of unit files fill [`FilterSettings`].
 //!
 //! `filters(alloc, &table, &settings)?` has one [`Filter`] for each setting that is on, in the order in which
-//! filters are installed. [`permits_family`] and [`allows_call`] say what two of the settings let through.
+//! filters are installed. [`permits_family`], [`allows_call`] and [`allowed_calls`] say what two of the settings let through.
 
 mod blocked;
 mod calls;
@@ -15,6 +15,7 @@ mod covers;
 mod families;
 mod installed;
 mod mapping;
+mod marks;
 mod mentions;
 mod names;
 mod namespace_types;
@@ -26,7 +27,7 @@ mod rules;
 mod settings;
 mod suid;
 
-pub use calls::allows_call;
+pub use calls::{allowed_calls, allows_call};
 pub use families::permits_family;
 pub use installed::{Filter, filters};
 pub use mentions::{CallList, FamilyList, FamilyMention, FamilyMentions, Mention, Mentions, Mode};

@@ -33,7 +33,7 @@ pub trait KeyList: Drop {
         ensures noted { OnOk result (notes.new.items ≡ notes.old.items ++ notes_of table.now all.now) };
 }
 
-/// What the files of a unit say of such a key, with its notes.
+/// Returns what the files of a unit say of such a key, with its notes.
 pub fn list_of_key<L: KeyList>(
     alloc: Global,
     unit: &Resolved,

@@ -6,14 +6,14 @@ ghost use Rattle.filter_settings.specs.Lines.{in_force};
 
 use dropin_merge::unit_values::Listed;
 
-// How many values stand behind the last empty one.
+// Counts the values after the last empty one.
 fn count_in_force(all: &[Listed]) -> usize
     ensures { result ≡ suffix_len (λ one. not (is_reset one)) all.now }
 {
     all.iter().rev().take_while(|one| !one.is_reset()).count()
 }
 
-/// The lines behind the last empty value, which resets what was listed before it.
+/// Returns the lines after the last empty value. An empty value resets what was listed before it.
 pub fn in_force(all: &[Listed]) -> &[Listed]
     ensures behind_the_last_reset { result.now ≡ in_force all.now }
 {

@@ -24,7 +24,7 @@ pub trait ListMention: Drop {
     /// What is wrong with the word.
     ghost causes_of: { Table → Mode → Bool → List ℕ → List NoteCause };
 
-    /// What a word says that is added to a list of this mode, or taken off.
+    /// Returns what a word says that is added to a list of this mode, or taken off.
     fn read(
         alloc: Global,
         table: &CallTable,

@@ -9,14 +9,14 @@ use dropin_merge::unit_values::{FileNote, Line, Listed, Said, Value, lines_of_ke
 use dropin_merge::{NoteCause, Resolved, Text};
 use std::alloc::{AllocError, Global};
 
-// What a value is by itself: true permits no type, false permits all.
+// Reads a value that is a boolean: true permits no type, false permits all.
 fn switch_of(one: &Listed) -> Option<bool>
     ensures { result ≡ switch_of one.now }
 {
     read_bool(one.value.text.as_str())
 }
 
-// Whether a value is a list without `~`.
+// Returns whether a value is a list without `~`.
 fn is_plain(one: &Listed) -> bool
     ensures { result ≡ is_plain one.now }
 {
@@ -29,7 +29,7 @@ fn has_word(name: &str, line: &Line) -> bool
     line.words.list().iter().any(|word| word.as_str() == name)
 }
 
-// What a list says of a type, by whether it has its name.
+// Returns what a list says of a type, by whether it has its name.
 fn listed_type(is_inverted: bool, is_later: bool, has_name: bool) -> Option<bool>
     ensures { result ≡ listed_type is_inverted is_later has_name }
 {
@@ -51,7 +51,7 @@ fn says_by(switch: Option<bool>, is_later: bool, kind: NamespaceType, line: &Lin
     }
 }
 
-// What a value says of a type; `is_later` is whether a plain list stands before it.
+// Returns what a value says of a type. `is_later` tells that a plain list comes before it.
 fn says(is_later: bool, kind: NamespaceType, one: &Listed) -> Option<bool>
     ensures { result ≡ says is_later kind one.now }
 {
@@ -67,7 +67,7 @@ fn next_type(is_later: bool, one: &Listed, kind: NamespaceType, was: bool) -> bo
     says(is_later, kind, one).unwrap_or(was)
 }
 
-// Which types are permitted behind one more value.
+// Returns the types that are permitted after one more value.
 fn next_types(is_later: bool, one: &Listed, types: NamespaceTypes) -> NamespaceTypes
     ensures { result ≡ next_types is_later one.now types }
 {
@@ -82,7 +82,7 @@ fn next_types(is_later: bool, one: &Listed, types: NamespaceTypes) -> NamespaceT
     }
 }
 
-// Whether a plain list stands before the next value.
+// Returns whether a plain list comes before the next value.
 fn next_plain(had: bool, one: &Listed) -> bool
     ensures { result ≡ next_plain had one.now }
 {
@@ -100,7 +100,7 @@ const ALL_PERMITTED: NamespaceTypes = NamespaceTypes {
     uts: true,
 };
 
-// What the values of such a key come to.
+// Reads the values of such a key in their order.
 fn namespaces_of(all: &[Listed]) -> NamespaceTypes
     ensures { result ≡ namespaces_of all.now }
 {
@@ -142,7 +142,7 @@ fn note_all(all: &[Listed], notes: &mut Vec<FileNote>) -> Result<(), AllocError>
     Ok(())
 }
 
-/// What the files of a unit say of a key such as RestrictNamespaces, with its notes.
+/// Returns what the files of a unit say of a key such as RestrictNamespaces, with its notes.
 #[tactic(auto, unfolding(crate::specs::Namespaces::unit_namespaces, crate::specs::Namespaces::unit_namespaces_notes))]
 pub fn namespaces_of_key(
     alloc: Global,

@@ -15,7 +15,7 @@ use dropin_merge::Resolved;
 use dropin_merge::unit_values::{FileNote, Said, flag_of_key};
 use std::alloc::{AllocError, Global};
 
-// What a boolean key says; its notes are put behind those that are there.
+// Reads a boolean key, and adds its notes.
 fn flag(
     alloc: Global,
     unit: &Resolved,
@@ -28,7 +28,7 @@ fn flag(
     flag_of_key(alloc, unit, key)?.noted_in(notes)
 }
 
-/// What the boolean keys say.
+/// The values of the boolean keys.
 #[derive(Clone, Copy)]
 pub struct Booleans {
     pub memory_deny_write_execute: bool,
@@ -42,7 +42,7 @@ pub struct Booleans {
     pub private_devices: bool,
 }
 
-// What the boolean keys say, with their notes behind those that are there.
+// Reads the boolean keys, and adds their notes.
 fn flags(alloc: Global, unit: &Resolved, notes: &mut Vec<FileNote>) -> Result<Booleans, AllocError>
     ensures means { IfOk result (λ flags. flags ≡ flags_of unit.now) }
     ensures noted { OnOk result (notes.new.items ≡ notes.old.items ++ (restriction_notes unit.now ++ protection_notes unit.now)) }
@@ -60,7 +60,7 @@ fn flags(alloc: Global, unit: &Resolved, notes: &mut Vec<FileNote>) -> Result<Bo
     })
 }
 
-// What all keys say, with their notes behind those that are there.
+// Reads all keys, and adds their notes.
 fn read_settings(
     alloc: Global,
     unit: &Resolved,
@@ -94,7 +94,7 @@ fn read_settings(
     })
 }
 
-/// What the files of a unit say of the keys of the system call filters (systemd.exec(5)): SystemCallFilter,
+/// Returns what the files of a unit say of the keys of the system call filters (systemd.exec(5)): SystemCallFilter,
 /// SystemCallErrorNumber, SystemCallArchitectures, RestrictAddressFamilies, RestrictNamespaces, and the boolean keys that turn a filter on.
 ///
 /// Calls, groups and families are looked up in the table. What cannot be read or is not known is passed over and
@@ -108,7 +108,7 @@ pub fn filter_settings(
     ensures noted { IfOk result (λ said. said.notes.items ≡ filter_notes unit.now table.now) }
     // The numbers of the families that are listed are those of families of the table.
     ensures families_are_known { IfOk result (λ said. HasKnownFamilies table.now said.what) }
-    // What is done to a refused call is the end of the process, or an error number that seccomp(2) answers.
+    // A refused call ends the process, or is answered with an error number (seccomp(2)).
     ensures refusals { IfOk result (λ said. AreRefusing said.what) }
 {
     let mut notes = Vec::new(alloc);

@@ -1,5 +1,5 @@
 -- The tests of a line of the table: what stands behind its identifier, and how bad the service is by each.
-use Rattle.std.specs.Prelude.{ℕ, ◌==◌, ◌&&◌, ◌||◌, not, cond, Bool, false, is_some, is_none, codes, List, [], ◌∷◌, map, slice_get}
+use Rattle.std.specs.Prelude.{ℕ, ◌==◌, ◌&&◌, ◌||◌, not, cond, Bool, false, is_some, is_none, codes, List, [], ◌∷◌, map, slice_get, unwrap_or}
 use Rattle.std.specs.List.{list_any, range_with_len}
 use Rattle.std.specs.Option.{option_map_or}
 use Rattle.exec_settings.specs.call_table.Table.{Table, every_call}
@@ -29,6 +29,10 @@ alone badness = ([], badness) ∷ []
 -- SystemCallFilter= allows the call at this place among those of all ABIs
 abbrev pub allows_place : Table → FilterSettings → ℕ → Bool
 allows_place table filters place = option_map_or (λ call. allows_call table filters call.name) (slice_get (every_call table) place) false
+
+-- a place is marked
+abbrev pub is_marked : List Bool → ℕ → Bool
+is_marked marks place = unwrap_or (slice_get marks place) false
 
 -- SystemCallFilter= is off, or allows a member of the group
 abbrev pub lets_through : Table → FilterSettings → GroupLine → Bool

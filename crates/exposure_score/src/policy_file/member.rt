@@ -16,7 +16,7 @@ const MOST: u64 = 1_000_000;
 /// The range of a test that names none, and the least range.
 const ONE: u32 = 1;
 
-// the number, where it is from `least` up to the most
+// Returns the number if it is from `least` up to the most.
 fn within(least: u32, number: u64) -> Option<u32>
     ensures { result ≡ within least number }
 {
@@ -42,7 +42,7 @@ fn range_of(said: &Value) -> Option<u32>
     }
 }
 
-// the weight and the range
+// Reads the weight and the range.
 fn numbers_of(said: &Value) -> Option<(u32, u32)>
     ensures { result ≡ numbers_of (view said.now) }
 {

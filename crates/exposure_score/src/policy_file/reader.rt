@@ -16,7 +16,7 @@ use std::alloc::Global;
 /// The most tests that a policy may have.
 const MOST_TESTS: usize = 512;
 
-// the tests that the members of an object are, or the first that is none
+// Reads the members of an object as tests, up to the first that is none.
 fn read_tests(alloc: Global, members: &Map<String, Value>) -> Result<Vec<PolicyTest>, PolicyError>
     ensures { SaysTests (members_of (members_view members.now.entries)) result }
 {
@@ -28,7 +28,7 @@ fn read_tests(alloc: Global, members: &Map<String, Value>) -> Result<Vec<PolicyT
     Ok(tests)
 }
 
-// the policy that a tree is
+// Reads a policy from the tree of its text.
 fn read_tree(alloc: Global, tree: &Value) -> Result<Policy, PolicyError>
     ensures { IsUnlessMemory result (policy_of_object (as_object (view tree.now))) }
 {
@@ -42,7 +42,7 @@ fn read_tree(alloc: Global, tree: &Value) -> Result<Policy, PolicyError>
     Ok(Policy::new(tests))
 }
 
-// the policy that bytes are
+// Reads a policy from its bytes.
 fn read_bytes(alloc: Global, bytes: &[u8]) -> Result<Policy, PolicyError>
     ensures { IsUnlessMemory result (policy_of bytes.now) }
 {

@@ -9,7 +9,7 @@ use crate::policy_file::{Policy, PolicyTest};
 use crate::service_facts::known_test;
 use exec_settings::CallTable;
 
-// Whether a stored test has the identifier.
+// Returns whether a stored test has the identifier.
 fn is_stored(tests: &[CustomTest], id: &str) -> bool
     ensures { result ≡ is_some (stored_of (λ test. test.id) tests.now id.now) }
 {
@@ -21,21 +21,21 @@ fn is_stored(tests: &[CustomTest], id: &str) -> bool
     false
 }
 
-// Whether settings decide the test of an identifier, or a stored test does.
+// Returns whether settings decide the test of an identifier, or a stored test does.
 fn counts(calls: &CallTable, id: &str, tests: &[CustomTest]) -> bool
     ensures { result ≡ is_counted calls.now (λ test. test.id) tests.now id.now }
 {
     known_test(id, calls) || is_stored(tests, id)
 }
 
-// Whether a test counts, and has a weight.
+// Returns whether a test counts, and has a weight.
 fn adds_weight(calls: &CallTable, test: &PolicyTest, tests: &[CustomTest]) -> bool
     ensures { result ≡ (nat_lt 0 test.now.weight && is_counted calls.now (λ test. test.id) tests.now test.now.id) }
 {
     test.weight > 0 && counts(calls, test.id.as_str(), tests)
 }
 
-// Whether one of some tests does.
+// Returns whether one of these tests counts and has a weight.
 fn have_weight(calls: &CallTable, policy: &[PolicyTest], tests: &[CustomTest]) -> bool
     ensures { result ≡ list_any (λ test. nat_lt 0 test.weight && is_counted calls.now (λ test. test.id) tests.now test.id) policy.now }
 {

@@ -17,7 +17,7 @@ fn has_family(calls: &CallTable, name: &str) -> bool
     calls.family(name).is_some()
 }
 
-/// Whether the table has both families of the Internet, and none of the name of both.
+/// Returns whether the table has both families of the Internet, and none of the name of both.
 pub fn has_internet(calls: &CallTable) -> bool
     ensures both_families { result ≡ has_internet calls.now }
 {
@@ -50,7 +50,7 @@ fn is_group(groups: &[GroupLine], name: &str) -> bool
     groups.iter().any(|group| group.name.as_str() == name)
 }
 
-// whether this stands behind the identifier of a line that looks at this
+// Returns whether an identifier of a line may end so: the line tells its facts of this matter.
 fn is_end(calls: &CallTable, matter: Matter, end: &str) -> bool
     ensures { result ≡ list_any (λ one. bytes_eq one end.now) (names calls.now matter) }
 {
@@ -79,7 +79,7 @@ fn is_of_a_line(calls: &CallTable, id: &str, lines: &[Line]) -> bool
     lines.iter().any(|line| is_of_line(calls, id, line))
 }
 
-/// Whether settings decide the test of this identifier, for a table of calls.
+/// Returns whether settings decide the test of this identifier, for a table of calls.
 pub fn known_test(id: &str, calls: &CallTable) -> bool
     ensures in_the_table { result ≡ is_known id.now calls.now }
 {

@@ -10,10 +10,10 @@ use crate::service_facts::matters::{has_ambient, home_badness, is_on, one_if, sy
 use crate::service_facts::permitted::{lets_through, permits_internet};
 use crate::service_facts::sandbox::Sandbox;
 use crate::{Fact, FactId};
-use exec_settings::{CallTable, CapSet, all_types, permits_family};
+use exec_settings::{CallTable, CapSet, all_types, allowed_calls, permits_family};
 use std::alloc::{AllocError, Global};
 
-// What the facts of a line are told of.
+// Tells the facts of a line: by what settings, for which table of calls.
 #[derive(Drop)]
 struct Teller<'a> {
     alloc: Global,
@@ -24,7 +24,7 @@ struct Teller<'a> {
 }
 
 impl Teller<'_> {
-    // Puts the fact of an identifier and what stands behind it behind the others.
+    // Adds one fact after the others. Its identifier is the front and this end.
     fn push_fact(&self, end: &str, badness: u32, facts: &mut Vec<Fact>) -> Result<(), AllocError>
         ensures { OnOk result (told facts.new.items ≡ told facts.old.items ++ behind self.now.front.now (end.now, badness) ∷ []) }
     {
@@ -33,7 +33,7 @@ impl Teller<'_> {
         Ok(())
     }
 
-    // Those of capabilities.
+    // Adds a fact for each capability.
     fn push_caps(&self, facts: &mut Vec<Fact>) -> Result<(), AllocError>
         ensures { OnOk result (told facts.new.items ≡ told facts.old.items ++ map (behind self.now.front.now) (ends self.now.sandbox.now self.now.calls.now Matter.EachCapability)) }
     {
@@ -44,7 +44,7 @@ impl Teller<'_> {
         Ok(())
     }
 
-    // Those of types of namespaces.
+    // Adds a fact for each type of namespaces.
     fn push_types(&self, facts: &mut Vec<Fact>) -> Result<(), AllocError>
         ensures { OnOk result (told facts.new.items ≡ told facts.old.items ++ map (behind self.now.front.now) (ends self.now.sandbox.now self.now.calls.now Matter.EachNamespaceType)) }
     {
@@ -55,7 +55,7 @@ impl Teller<'_> {
         Ok(())
     }
 
-    // Those of families.
+    // Adds a fact for each address family.
     fn push_families(&self, facts: &mut Vec<Fact>) -> Result<(), AllocError>
         ensures { OnOk result (told facts.new.items ≡ told facts.old.items ++ map (behind self.now.front.now) (ends self.now.sandbox.now self.now.calls.now Matter.EachFamily)) }
     {
@@ -66,18 +66,20 @@ impl Teller<'_> {
         Ok(())
     }
 
-    // Those of groups.
+    // Adds a fact for each group of calls.
     fn push_groups(&self, facts: &mut Vec<Fact>) -> Result<(), AllocError>
         ensures { OnOk result (told facts.new.items ≡ told facts.old.items ++ map (behind self.now.front.now) (ends self.now.sandbox.now self.now.calls.now Matter.EachGroup)) }
     {
+        let filters = &self.sandbox.filters;
+        let allowed = allowed_calls(self.alloc, self.calls, filters)?;
         for group in self.calls.groups() {
-            let badness = one_if(lets_through(self.calls, &self.sandbox.filters, group));
+            let badness = one_if(lets_through(self.calls, filters, &allowed, group));
             self.push_fact(group.name.as_str(), badness, facts)?;
         }
         Ok(())
     }
 
-    // That of both families of the Internet, where there is one.
+    // Adds the fact of both families of the Internet, if the table has one.
     fn push_internet(&self, facts: &mut Vec<Fact>) -> Result<(), AllocError>
         ensures { OnOk result (told facts.new.items ≡ told facts.old.items ++ map (behind self.now.front.now) (ends self.now.sandbox.now self.now.calls.now Matter.InternetFamilies)) }
     {
@@ -89,7 +91,7 @@ impl Teller<'_> {
     }
 }
 
-/// Puts the facts of a line of the table behind the others.
+/// Adds the facts of a line of the table after the others.
 pub fn push_line(
     alloc: Global,
     sandbox: &Sandbox,

@@ -15,7 +15,7 @@ use crate::{Fact, FactList, Facts};
 use exec_settings::{CallTable, CapSet, Resolved, Settings, SiteTable, written_paths};
 use std::alloc::{AllocError, Global};
 
-// Those of all lines, as they stand.
+// Returns the facts of all lines, in the order of the lines.
 fn all_facts(alloc: Global, sandbox: &Sandbox, calls: &CallTable) -> Result<Vec<Fact>, AllocError>
     ensures { IfOk result (λ facts. told facts.items ≡ told_by_lines sandbox.now calls.now) }
 {
@@ -33,7 +33,7 @@ fn put_in_order(facts: &mut [Fact])
     facts.sort_unstable_by(|one, other| one.id.as_str().cmp(other.id.as_str()));
 }
 
-// The facts of all lines, in byte order of identifiers.
+// Returns the facts of all lines, in byte order of identifiers.
 fn sorted_facts(alloc: Global, sandbox: &Sandbox, calls: &CallTable) -> Result<FactList, AllocError>
     ensures { IfOk result (AreTests sandbox.now calls.now) }
 {
@@ -42,7 +42,7 @@ fn sorted_facts(alloc: Global, sandbox: &Sandbox, calls: &CallTable) -> Result<F
     Ok(FactList::new(facts))
 }
 
-// What is known by settings, with these paths and tests.
+// Puts together what is known of a service.
 fn with_settings(
     uid: u32,
     bounding: CapSet,

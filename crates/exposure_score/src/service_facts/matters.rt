@@ -14,7 +14,7 @@ pub fn one_if(bad: bool) -> u32
     u32::from(bad)
 }
 
-/// Whether the protection is on.
+/// Returns whether the protection is on.
 pub fn is_on(sandbox: &Sandbox, protection: Protection) -> bool
     ensures as_set { result ≡ is_on sandbox.now protection }
 {
@@ -58,7 +58,7 @@ pub fn home_badness(home: HomeProtection) -> u32
     }
 }
 
-/// Whether there is an ambient capability.
+/// Returns whether there is an ambient capability.
 pub fn has_ambient(sandbox: &Sandbox) -> bool
     ensures some_ambient { result ≡ has_ambient sandbox.now }
 {

@@ -1,21 +1,29 @@
-//! What filters let through, by the names of a table of calls.
+//! What filters let through, by the names in a table of calls.
 
-ghost use Rattle.std.specs.Prelude.{◌≡◌};
-ghost use Rattle.exposure_score.specs.service_facts.Each.{allows_place, lets_through, permits_named, permits_internet};
+ghost use Rattle.std.specs.Prelude.{◌≡◌, map};
+ghost use Rattle.exec_settings.specs.call_table.Table.{every_call};
+ghost use Rattle.exec_settings.specs.filter_settings.filter_rules.Calls.{allows_call};
+ghost use Rattle.exposure_score.specs.service_facts.Each.{is_marked, lets_through, permits_named, permits_internet};
 
-use exec_settings::{CallTable, FilterSettings, GroupLine, allows_call, name_at, permits_family};
+use exec_settings::{CallTable, FilterSettings, GroupLine, permits_family};
 
-fn allows_place(calls: &CallTable, filters: &FilterSettings, place: usize) -> bool
-    ensures { result ≡ allows_place calls.now filters.now place }
+fn is_marked(marks: &[bool], place: usize) -> bool
+    ensures { result ≡ is_marked marks.now place }
 {
-    match name_at(calls, place) {
-        Some(name) => allows_call(calls, filters, name),
+    match marks.get(place) {
+        Some(mark) => *mark,
         None => false,
     }
 }
 
-/// Whether SystemCallFilter= is off, or allows a member of the group.
-pub fn lets_through(calls: &CallTable, filters: &FilterSettings, group: &GroupLine) -> bool
+/// Returns whether SystemCallFilter= is off, or allows a member of the group. It takes marks at the calls that are allowed.
+pub fn lets_through(
+    calls: &CallTable,
+    filters: &FilterSettings,
+    allowed: &[bool],
+    group: &GroupLine,
+) -> bool
+    requires marks { allowed.now ≡ map (λ call. allows_call calls.now filters.now call.name) (every_call calls.now) }
     ensures by_the_filters { result ≡ lets_through calls.now filters.now group.now }
 {
     filters.calls.is_none()
@@ -23,7 +31,7 @@ pub fn lets_through(calls: &CallTable, filters: &FilterSettings, group: &GroupLi
             .members
             .list()
             .iter()
-            .any(|place| allows_place(calls, filters, *place))
+            .any(|place| is_marked(allowed, *place))
 }
 
 fn permits_named(calls: &CallTable, filters: &FilterSettings, name: &str) -> bool
@@ -35,7 +43,7 @@ fn permits_named(calls: &CallTable, filters: &FilterSettings, name: &str) -> boo
     }
 }
 
-/// Whether a family of the Internet is permitted.
+/// Returns whether a family of the Internet is permitted.
 pub fn permits_internet(calls: &CallTable, filters: &FilterSettings) -> bool
     ensures by_the_families { result ≡ permits_internet calls.now filters.now }
 {

@@ -13,7 +13,7 @@ use exec_settings::{
 };
 use std::alloc::{AllocError, Global};
 
-// Whether SupplementaryGroups= names a group.
+// Returns whether SupplementaryGroups= names a group.
 fn names_groups(alloc: Global, unit: &Resolved) -> Result<bool, AllocError>
     ensures { IfOk result (λ names. names ≡ names_groups unit.now) }
 {
@@ -21,7 +21,7 @@ fn names_groups(alloc: Global, unit: &Resolved) -> Result<bool, AllocError>
     Ok(said.what.list().len() != 0)
 }
 
-// Whether DynamicUser= is on.
+// Returns whether DynamicUser= is on.
 #[tactic(auto, unfolding(exec_settings::specs::Dynamic::is_dynamic))]
 fn is_dynamic(alloc: Global, unit: &Resolved) -> Result<bool, AllocError>
     ensures { IfOk result (λ is. is ≡ is_dynamic_of unit.now) }
@@ -71,7 +71,7 @@ fn protections_in_effect(
     }
 }
 
-/// What the tests look at in a unit with these settings and written paths.
+/// Returns what the tests look at in a unit with these settings and written paths.
 #[tactic(auto, unfolding(crate::specs::service_facts::Sandbox::sandbox_of))]
 pub fn read_sandbox(
     alloc: Global,
@@ -102,7 +102,7 @@ fn is_writable_key(key: PathKey) -> bool
     matches!(key, PathKey::ReadWritePaths | PathKey::BindPaths)
 }
 
-/// How many of the paths are written or bound.
+/// Returns how many of the paths are written or bound.
 pub fn count_writable(paths: &[WrittenPath]) -> usize
     ensures count { result ≡ count_by (λ path. is_writable_key path.key) paths.now }
     ensures at_most_all { result ≤ length paths.now }

@@ -22,7 +22,7 @@ fn is_blocked(table: &CallTable, words: &[&str], name: &str) -> bool
     some_covers(table, words, name)
 }
 
-/// What is done to a call of this name, where one of the words speaks of it.
+/// Returns what is done to a call of this name, where one of the words speaks of it.
 pub fn blocked_choice(
     alloc: Global,
     table: &CallTable,

@@ -39,7 +39,7 @@ fn is_refused_by(mode: Mode, is_listed: bool) -> bool
     }
 }
 
-/// Whether socket(2) may be asked for the family of this number, AF_* of socket(2).
+/// Returns whether socket(2) may be asked for the family of this number, AF_* of socket(2).
 pub fn permits_family(families: &Option<FamilyList>, number: u32) -> bool
     ensures by_the_list { result ≡ permits_family families.now number }
 {
@@ -87,7 +87,7 @@ fn socket_choice(alloc: Global, table: &CallTable, list: &FamilyList) -> Result<
     Ok(choice_by(list.mode, tests))
 }
 
-/// What is done to a call of this name, where it is socket(2): a test for each family of the table that is listed.
+/// Returns what is done to a call of this name, where it is socket(2): a test for each family of the table that is listed.
 pub fn families_choice(
     alloc: Global,
     table: &CallTable,

@@ -1,5 +1,5 @@
 //! The filters that are on, in the order in which they are installed.
-ghost use Rattle.std.specs.Prelude.{◌≡◌, ◌<◌, ◌≤◌, map, filter, length, IfOk};
+ghost use Rattle.std.specs.Prelude.{◌≡◌, ◌<◌, ◌≤◌, map, filter, length, IfOk, IfSome};
 ghost use Rattle.std.specs.List.{All};
 ghost use Rattle.call_rules.specs.bpf_code.declared.machine.CallData.{CallData};
 ghost use Rattle.call_rules.specs.Action.{case_action};
@@ -8,10 +8,12 @@ ghost use Rattle.filter_settings.specs.filter_rules.Costs.{KeepsWithin, HasShort
 ghost use Rattle.filter_settings.specs.filter_rules.Known.{HasKnownFamilies};
 ghost use Rattle.filter_settings.specs.filter_rules.Installed.{shown, place_of, is_installed, installed};
 ghost use Rattle.call_table.specs.Table.{abis, calls_in};
+ghost use Rattle.filter_settings.specs.filter_rules.Marks.{AreMarksOf};
 ghost use Rattle.filter_settings.specs.filter_rules.Order.{Ascends};
 ghost use Rattle.filter_settings.specs.filter_rules.Rules.{AreRulesOf};
 ghost use Rattle.filter_settings.specs.filter_rules.Wanted.{is_on, wanted_action};
 
+use crate::filter_rules::marks::{Mark, call_marks};
 use crate::filter_rules::names::{FilterName, FilterPlace, all_programs};
 use crate::filter_rules::namespaces::forbids_a_type;
 use crate::filter_rules::order::ascending;
@@ -30,7 +32,7 @@ pub struct Filter {
     pub rules: RuleSet,
 }
 
-// Whether the settings ask for the filter.
+// Returns whether the settings ask for the filter.
 fn is_on(settings: &FilterSettings, filter: FilterName) -> bool
     ensures { result ≡ is_on settings.now filter }
 {
@@ -56,10 +58,12 @@ fn rules_at(
     alloc: Global,
     table: &CallTable,
     settings: &FilterSettings,
+    marks: &[Mark],
     native: &[&CallLine],
     second: &[&CallLine],
     place: FilterPlace,
 ) -> Result<RuleSet, AllocError>
+    requires marks { IfSome settings.now.calls (λ list. AreMarksOf table.now settings.now.default_action list marks.now) }
     requires known_families { HasKnownFamilies table.now settings.now }
     requires in_range { place.abi < length (abis table.now) }
     requires native_ascends { Ascends (calls_in table.now 0) (map (λ call. call.now) native.now) }
@@ -67,21 +71,23 @@ fn rules_at(
     ensures { IfOk result (λ rules. AreRulesOf place.name settings.now table.now place.abi rules) }
 {
     if place.abi == 0 {
-        rule_set(alloc, table, settings, place.name, 0, native)
+        rule_set(alloc, table, settings, marks, place.name, 0, native)
     } else {
-        rule_set(alloc, table, settings, place.name, 1, second)
+        rule_set(alloc, table, settings, marks, place.name, 1, second)
     }
 }
 
-// Those of these filters that are on.
+// Makes those of these filters that are on.
 fn filters_among(
     alloc: Global,
     table: &CallTable,
     settings: &FilterSettings,
+    marks: &[Mark],
     native: &[&CallLine],
     second: &[&CallLine],
     places: &[FilterPlace],
 ) -> Result<Vec<Filter>, AllocError>
+    requires marks { IfSome settings.now.calls (λ list. AreMarksOf table.now settings.now.default_action list marks.now) }
     requires known_families { HasKnownFamilies table.now settings.now }
     requires in_range { All (λ place. place.abi < length (abis table.now)) places.now }
     requires native_ascends { Ascends (calls_in table.now 0) (map (λ call. call.now) native.now) }
@@ -92,7 +98,7 @@ fn filters_among(
     let mut filters = Vec::new(alloc);
     for place in places {
         if is_on(settings, place.name) {
-            let rules = rules_at(alloc, table, settings, native, second, *place)?;
+            let rules = rules_at(alloc, table, settings, marks, native, second, *place)?;
             filters.push(Filter {
                 name: place.name,
                 abi: place.abi,
@@ -126,12 +132,14 @@ pub fn filters(
     // At most eight cases for a call, or one test each of one whole argument.
     ensures cases_are_short { IfOk result (λ filters. All (λ made. All HasShortCases made.rules.calls) filters.items) }
 {
+    let marks = call_marks(alloc, table, &settings.calls, settings.default_action)?;
     let native = ascending(alloc, table, 0)?;
     let second = ascending(alloc, table, 1)?;
     filters_among(
         alloc,
         table,
         settings,
+        marks.as_slice(),
         native.as_slice(),
         second.as_slice(),
         all_programs(table),

@@ -25,7 +25,7 @@ fn refused_bits(name: &str) -> Option<u32>
     }
 }
 
-/// What is done to a call of this name, where it maps memory: the bits of argument 2 decide.
+/// Returns what is done to a call of this name, where it maps memory: the bits of argument 2 decide.
 pub fn mapping_choice(alloc: Global, name: &str) -> Result<Option<Choice>, AllocError>
     ensures by_the_call { IfOk result (λ choice. choice ≡ mapping_choice name.now) }
 {

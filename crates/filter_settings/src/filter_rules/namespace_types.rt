@@ -61,7 +61,7 @@ pub struct NamespaceTypes {
 }
 
 impl NamespaceTypes {
-    /// Whether namespaces of this type are permitted.
+    /// Returns whether namespaces of this type are permitted.
     pub fn permits(self, kind: NamespaceType) -> bool
         ensures of_the_kind { result ≡ permits self kind }
     {

@@ -17,14 +17,14 @@ fn permits_each(types: NamespaceTypes, kinds: &[NamespaceType]) -> bool
     kinds.iter().all(|kind| types.permits(*kind))
 }
 
-/// Whether some type is not permitted.
+/// Returns whether some type is not permitted.
 pub fn forbids_a_type(types: NamespaceTypes) -> bool
     ensures not_all_permitted { result ≡ not (list_all (permits types) all_types) }
 {
     !permits_each(types, all_types())
 }
 
-// Which argument of a call of this name has the flags of types.
+// Returns which argument of a call of this name has the flags of types.
 fn types_argument(name: &str) -> Option<u8>
     ensures flags { result ≡ types_argument name.now }
     ensures is_argument { IfSome result (λ at. at ≤ 5) }
@@ -79,7 +79,7 @@ fn refused_types(
     refused_where(alloc, tests.as_slice())
 }
 
-/// What is done to a call of this name, where it makes or enters namespaces.
+/// Returns what is done to a call of this name, where it makes or enters namespaces.
 pub fn namespaces_choice(
     alloc: Global,
     types: NamespaceTypes,

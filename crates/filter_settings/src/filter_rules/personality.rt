@@ -11,7 +11,7 @@ const PER_LINUX: u32 = 0;
 /// The value that asks for the domain and changes nothing, personality(2).
 const ASKS_ONLY: u32 = 0xffff_ffff;
 
-/// What is done to a call of this name, where it sets the domain, which is argument 0.
+/// Returns what is done to a call of this name, where it sets the domain, which is argument 0.
 pub fn personality_choice(alloc: Global, name: &str) -> Result<Option<Choice>, AllocError>
     ensures by_the_call { IfOk result (λ choice. choice ≡ personality_choice name.now) }
 {

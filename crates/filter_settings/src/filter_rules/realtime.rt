@@ -14,7 +14,7 @@ const SCHED_BATCH: u32 = 3;
 /// SCHED_IDLE, sched(7).
 const SCHED_IDLE: u32 = 5;
 
-/// What is done to a call of this name, where it sets a policy, which is argument 1.
+/// Returns what is done to a call of this name, where it sets a policy, which is argument 1.
 pub fn realtime_choice(alloc: Global, name: &str) -> Result<Option<Choice>, AllocError>
     ensures by_the_call { IfOk result (λ choice. choice ≡ realtime_choice name.now) }
 {

@@ -1,7 +1,8 @@
-//! The rules of a filter, made by walking the calls of the table: each call is asked for by its name.
-ghost use Rattle.std.specs.Prelude.{◌≡◌, ◌<◌, map, length, IfOk};
+//! The rules of a filter. They are made call by call: for each call of the table by its name.
+ghost use Rattle.std.specs.Prelude.{◌≡◌, ◌<◌, map, length, IfOk, IfSome};
 ghost use Rattle.std.specs.List.{filter_map};
 ghost use Rattle.filter_settings.specs.filter_rules.Known.{HasKnownFamilies};
+ghost use Rattle.filter_settings.specs.filter_rules.Marks.{AreMarksOf};
 ghost use Rattle.filter_settings.specs.filter_rules.Order.{Ascends};
 ghost use Rattle.filter_settings.specs.filter_rules.Wanted.{unnamed_action, other_action};
 ghost use Rattle.call_table.specs.Table.{abis, calls_in};
@@ -12,6 +13,7 @@ use crate::filter_rules::calls::{calls_choice, rest_action};
 use crate::filter_rules::choice::{Choice, rule_with};
 use crate::filter_rules::families::families_choice;
 use crate::filter_rules::mapping::mapping_choice;
+use crate::filter_rules::marks::Mark;
 use crate::filter_rules::names::FilterName;
 use crate::filter_rules::namespaces::namespaces_choice;
 use crate::filter_rules::personality::personality_choice;
@@ -22,14 +24,16 @@ use call_rules::{Action, CallRule, CallRules, RuleSet};
 use call_table::{CallLine, CallTable};
 use std::alloc::{AllocError, Global};
 
-// What the filter does to a call of this name, where it has a rule for it.
+// Returns what the filter does to a call of this name, where it has a rule for it.
 fn choice_of(
     alloc: Global,
     table: &CallTable,
     settings: &FilterSettings,
+    marks: &[Mark],
     filter: FilterName,
     name: &str,
 ) -> Result<Option<Choice>, AllocError>
+    requires marks { IfSome settings.now.calls (λ list. AreMarksOf table.now settings.now.default_action list marks.now) }
     ensures { IfOk result (λ choice. choice ≡ choice_of filter settings.now table.now name.now) }
 {
     match filter {
@@ -54,13 +58,14 @@ fn choice_of(
             table,
             &settings.calls,
             settings.default_action,
+            marks,
             name,
         )),
         FilterName::Archs => Ok(None),
     }
 }
 
-// What the filter does to a number without a name.
+// Returns what the filter does to a number without a name.
 fn unnamed_action(settings: &FilterSettings, filter: FilterName) -> Action
     ensures { result ≡ unnamed_action filter settings.now }
 {
@@ -75,12 +80,14 @@ fn rule_for(
     alloc: Global,
     table: &CallTable,
     settings: &FilterSettings,
+    marks: &[Mark],
     filter: FilterName,
     call: &CallLine,
 ) -> Result<Option<CallRule>, AllocError>
+    requires marks { IfSome settings.now.calls (λ list. AreMarksOf table.now settings.now.default_action list marks.now) }
     ensures { IfOk result (λ rule. rule ≡ rule_for filter settings.now table.now call.now) }
 {
-    match choice_of(alloc, table, settings, filter, call.name.as_str())? {
+    match choice_of(alloc, table, settings, marks, filter, call.name.as_str())? {
         Some(choice) => Ok(Some(rule_with(alloc, call.number, &choice)?)),
         None => Ok(None),
     }
@@ -90,21 +97,23 @@ fn rules_for(
     alloc: Global,
     table: &CallTable,
     settings: &FilterSettings,
+    marks: &[Mark],
     filter: FilterName,
     calls: &[&CallLine],
 ) -> Result<Vec<CallRule>, AllocError>
+    requires marks { IfSome settings.now.calls (λ list. AreMarksOf table.now settings.now.default_action list marks.now) }
     ensures { IfOk result (λ rules. rules.items ≡ filter_map (rule_for filter settings.now table.now) (map (λ call. call.now) calls.now)) }
 {
     let mut rules = Vec::new(alloc);
     for call in calls {
-        if let Some(rule) = rule_for(alloc, table, settings, filter, *call)? {
+        if let Some(rule) = rule_for(alloc, table, settings, marks, filter, *call)? {
             rules.push(rule)?;
         }
     }
     Ok(rules)
 }
 
-// What is done to calls of another architecture than that of a filter.
+// Returns what is done to calls of another architecture than that of a filter.
 fn other_action(table: &CallTable) -> Action
     ensures { result ≡ other_action table.now.second }
 {
@@ -120,21 +129,23 @@ pub fn rule_set(
     alloc: Global,
     table: &CallTable,
     settings: &FilterSettings,
+    marks: &[Mark],
     filter: FilterName,
     abi: u8,
     calls: &[&CallLine],
 ) -> Result<RuleSet, AllocError>
+    requires marks { IfSome settings.now.calls (λ list. AreMarksOf table.now settings.now.default_action list marks.now) }
     requires known_families { HasKnownFamilies table.now settings.now }
     requires in_range { abi < length (abis table.now) }
     requires ascends { Ascends (calls_in table.now abi) (map (λ call. call.now) calls.now) }
     ensures of_the_settings { IfOk result (λ rules. AreRulesOf filter settings.now table.now abi rules) }
 {
-    // What the costs of the rules rest on.
+    // The tables' limits bound the costs of the rules.
     let few_calls = table.calls_in(abi).len() <= 512;
     prove!(few_calls);
     let few_families = table.families().len() <= 128;
     prove!(few_families);
-    let rules = rules_for(alloc, table, settings, filter, calls)?;
+    let rules = rules_for(alloc, table, settings, marks, filter, calls)?;
     Ok(RuleSet {
         arch: table.arch_of(abi),
         calls: CallRules::new(rules),

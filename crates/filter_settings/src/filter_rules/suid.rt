@@ -16,7 +16,7 @@ const SET_GROUP_ID: u32 = 0x400;
 /// O_CREAT, open(2).
 const O_CREAT: u32 = 0x40;
 
-// Which argument of a call of this name is the mode.
+// Returns which argument of a call of this name is the mode.
 fn mode_argument(name: &str) -> Option<u8>
     ensures mode { result ≡ mode_argument name.now }
     ensures is_argument { IfSome result (λ at. at ≤ 5) }
@@ -48,7 +48,7 @@ fn mode_choice(alloc: Global, given: Option<Test>, at: u8) -> Result<Choice, All
     Ok(Choice { given, ..choice })
 }
 
-/// What is done to a call of this name, where it has a mode.
+/// Returns what is done to a call of this name, where it has a mode.
 pub fn suid_choice(alloc: Global, name: &str) -> Result<Option<Choice>, AllocError>
     ensures by_the_call { IfOk result (λ choice. choice ≡ suid_choice name.now) }
 {
