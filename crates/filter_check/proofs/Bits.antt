@@ -1,10 +1,12 @@
 -- Known bits of words, one at a time.
-use Rattle.std.proofs.Common.{◌≡◌, ℕ, ◌*◌, ◌%◌, ◌^◌, ◌<◌, Bool, true, false, not, ◌&&◌, refl, sym, ◌∙◌, ap, subst, arith, inl, inr}
-use Rattle.std.specs.Prelude.{◌==◌, bit_and, bit_or, min}
-use Rattle.std.specs.Int.{bit_at, w32}
-use mathlib.Core.Bool.{beq}
-use Rattle.std.proofs.lemmas.Bool.{cases_eq, eqb-true, eq-eqb, eqb-false, ne_eqb, and_parts, and_from, both_ways}
-use Rattle.std.proofs.lemmas.Nat.Bits.{bit_at_and, bit_at-lt, bit_at_set_same, bit_at_set_other, same_from_bits}
+use Rattle.std.proofs.Common.{◌≡◌, ℕ, suc, ◌+◌, ◌-◌, ◌/◌, ◌*◌, ◌%◌, ◌^◌, ◌<◌, ◌≤◌, Bool, true, false, not, ◌&&◌, refl, sym, ◌∙◌, ap, subst, arith, inl, inr}
+use Rattle.std.specs.Prelude.{◌==◌, bit_and, bit_or, min, max}
+use Rattle.std.specs.Int.{bit_at, bit_not, leading_zeros, w32}
+use Rattle.std.proofs.lemmas.Bool.{cases_eq, cases_lt, eqb-true, eq-eqb, eqb-false, ne_eqb, and_parts, and_from, both_ways}
+use Rattle.std.proofs.lemmas.Nat.Bits.{bit_at_and, bit_at_or, bit_at_not, bit_at-lt, bit_at-zero, bit_at_above, bit_at-pow_same, bit_at_set_same, bit_at_set_other, same_from_bits}
+use Rattle.std.proofs.lemmas.Nat.{and_le_r, leading_top, shr-shr}
+use Rattle.std.proofs.Math.Nat.{div-eq_of_lt}
+use Rattle.std.proofs.Math.Pow.{shr_mono}
 use Rattle.filter_check.specs.word_sets.Words.{is_set, same}
 
 pub same_bools : (a b : Bool) → (a ≡ true → b ≡ true) → (b ≡ true → a ≡ true) → a ≡ b
@@ -151,33 +153,6 @@ pub zero_known : (known bits place : ℕ) → place < 32 → is_set known place 
     → Wider known bits (bit_or known (1 * 2 ^ place % 2 ^ 32)) bits place (bit_of false)
 zero_known known bits place lt unknown clear = wider_zero known bits place lt (unset known place unknown) clear
 
--- where the place is known already, its bit is that of the set
-pub known_set : (word known bits place : ℕ) → (bit_and word known == bits) ≡ true → is_set known place ≡ true
-    → is_set word place ≡ is_set bits place
-known_set word known bits place h one =
-    ap (λ n. n == 1) (known_bit word known bits place (eqb-true _ _ h) (eqb-true (bit_at known place) 1 one))
-
-pub in_known_same : (word known bits place : ℕ) (set : Bool) → is_set known place ≡ true → is_set bits place ≡ set
-    → (bit_and word known == bits) ≡ ((bit_and word known == bits) && same (is_set word place) set)
-in_known_same word known bits place set one e = same_bools _ _
-    (λ h. and_from _ _ h (is_same _ _ (known_set word known bits place h one ∙ e)))
-    (λ h. (and_parts (bit_and word known == bits) (same (is_set word place) set) h).0)
-
-pub in_known_other : (word known bits place : ℕ) (set : Bool) → is_set known place ≡ true → (is_set bits place ≡ set → ⊥)
-    → false ≡ ((bit_and word known == bits) && same (is_set word place) set)
-in_known_other word known bits place set one ne = same_bools _ _
-    (λ h. absurd (both_ways false refl h))
-    (λ h. let p = and_parts (bit_and word known == bits) (same (is_set word place) set) h in
-    absurd (ne (sym (known_set word known bits place p.0 one) ∙ same_is _ _ p.1)))
-
--- a bit under a mask
-pub masked_on : (word mask place : ℕ) → is_set mask place ≡ true → is_set (bit_and word mask) place ≡ is_set word place
-masked_on word mask place h = ap (λ n. n == 1) (bit_at_and word mask place
-    ∙ min_one (bit_at word place) (bit_at mask place) (bit_at-lt word place) (eqb-true (bit_at mask place) 1 h))
-
-pub masked_off : (word mask place : ℕ) → is_set mask place ≡ false → is_set (bit_and word mask) place ≡ false
-masked_off word mask place h = ne_eqb (bit_at (bit_and word mask) place) 1 (λ one. let zero : bit_at (bit_and word mask) place ≡ 0 = bit_at_and word mask place ∙ min_zero (bit_at word place) (bit_at mask place) (unset mask place h) in absurd (omega (arith, one, zero)))
-
 pub and_false : (a : Bool) → false ≡ (a && false)
 and_false true = refl
 and_false false = refl
@@ -186,14 +161,108 @@ pub and_true : (a : Bool) → a ≡ (a && true)
 and_true true = refl
 and_true false = refl
 
-pub beq_is : (a b : Bool) → beq a b ≡ true → a ≡ b
-beq_is true true h = refl
-beq_is true false h = sym h
-beq_is false false h = refl
-beq_is false true h = h
+pub false_unless : (b : Bool) → (b ≡ true → ⊥) → b ≡ false
+false_unless true f = absurd (f refl)
+false_unless false f = refl
 
-pub is_beq : (a b : Bool) → beq a b ≡ false → a ≡ b → ⊥
-is_beq true true h e = both_ways true h refl
-is_beq true false h e = both_ways false refl (sym e)
-is_beq false false h e = both_ways true h refl
-is_beq false true h e = both_ways false refl e
+-- where one place more is known, the known bits are a greater number
+pub wider_more : (known bits wide more place v : ℕ) → Wider known bits wide more place v → known < wide
+wider_more known bits wide more place v w =
+    let inside : bit_and known wide ≡ known = same_from_bits _ _ (λ i.
+    elim (cases_eq i place) [
+      | inl e ↦ subst (λ j. bit_at (bit_and known wide) j ≡ bit_at known j) (sym e)
+          (bit_at_and known wide place ∙ zero_min (bit_at known place) (bit_at wide place) w.unknown ∙ sym w.unknown)
+      | inr ne ↦ bit_at_and known wide i ∙ ap (λ n. min (bit_at known i) n) (w.elsewhere i ne) ∙ min_self (bit_at known i)
+    ]) in
+    let le : known ≤ wide = subst (λ n. n ≤ wide) inside (and_le_r known wide) in
+    elim (cases_lt known wide) [
+      | inl lt ↦ lt
+      | inr ge ↦
+          let e : known ≡ wide = omega (arith, le, ge) in
+          absurd (apart (bit_at known place) (bit_at wide place) w.unknown w.here (ap (λ n. bit_at n place) e))
+    ]
+  where
+    zero_min : (a b : ℕ) → a ≡ 0 → min a b ≡ 0
+    zero_min a b e = omega (arith, e)
+
+    min_self : (a : ℕ) → min a a ≡ a
+    min_self a = omega arith
+
+    apart : (a b : ℕ) → a ≡ 0 → b ≡ 1 → a ≡ b → ⊥
+    apart a b e f g = omega (arith, e, f, g)
+
+-- the words of a cube have no bits but those that are known to be 1 or are not known
+pub within_greatest : (known bits word : ℕ) → known < 2 ^ 32 → word < 2 ^ 32 → bit_and word known ≡ bits
+    → bit_and word (bit_or bits (bit_not w32 known)) ≡ word
+within_greatest known bits word small lt h = same_from_bits _ _ (λ i.
+    elim (cases_lt i 32) [
+      | inl below ↦ bit_at_and word (bit_or bits (bit_not w32 known)) i
+          ∙ ap (λ n. min (bit_at word i) n) (bit_at_or bits (bit_not w32 known) i)
+          ∙ covered (bit_at word i) (bit_at known i) (bit_at bits i) (bit_at (bit_not w32 known) i) (bit_at-lt word i) (bit_at-lt known i)
+          (sym (ap (λ n. bit_at n i) h) ∙ bit_at_and word known i) (bit_at_not w32 known i small below)
+      | inr above ↦
+          let zero : bit_at word i ≡ 0 = bit_at_above word 32 i lt above in
+          bit_at_and word (bit_or bits (bit_not w32 known)) i
+          ∙ none (bit_at word i) (bit_at (bit_or bits (bit_not w32 known)) i) zero
+    ])
+  where
+    covered : (w k b o : ℕ) → w < 2 → k < 2 → b ≡ min w k → o ≡ 1 - k → min w (max b o) ≡ w
+    covered w k b o lw lk e f = omega (arith, lw, lk, e, f)
+
+    none : (w o : ℕ) → w ≡ 0 → min w o ≡ w
+    none w o e = omega (arith, e)
+
+-- a bit that is free under a mask is not known
+pub free_unknown : (mask known place : ℕ) → known < 2 ^ 32 → place < 32 → is_set (bit_and mask (bit_not w32 known)) place ≡ true
+    → is_set known place ≡ false
+free_unknown mask known place small lt set = set_from known place false
+    (by (bit_at mask place) (bit_at (bit_not w32 known) place) (bit_at known place) (bit_at (bit_and mask (bit_not w32 known)) place)
+    (bit_at_and mask (bit_not w32 known) place) (bit_at_not w32 known place small lt)
+    (eqb-true (bit_at (bit_and mask (bit_not w32 known)) place) 1 set))
+  where
+    by : (m o k f : ℕ) → f ≡ min m o → o ≡ 1 - k → f ≡ 1 → k ≡ 0
+    by m o k f e n one = omega (arith, e, n, one)
+
+-- where none is, the words of a cube are one word under the mask
+pub none_free : (mask known word bits : ℕ) → mask < 2 ^ 32 → known < 2 ^ 32 → bit_and mask (bit_not w32 known) ≡ 0
+    → bit_and word known ≡ bits → bit_and word mask ≡ bit_and bits mask
+none_free mask known word bits small known_small free h = same_from_bits _ _ (λ i.
+    elim (cases_lt i 32) [
+      | inl lt ↦ bit_at_and word mask i
+          ∙ under (bit_at mask i) (bit_at known i) (bit_at word i) (bit_at bits i) (bit_at (bit_not w32 known) i) (bit_at-lt mask i)
+          (bit_at-lt known i) (bit_at-lt word i) (sym (ap (λ n. bit_at n i) h) ∙ bit_at_and word known i)
+          (bit_at_not w32 known i known_small lt)
+          (sym (bit_at_and mask (bit_not w32 known) i) ∙ ap (λ n. bit_at n i) free ∙ bit_at-zero i)
+          ∙ sym (bit_at_and bits mask i)
+      | inr above ↦
+          let zero : bit_at mask i ≡ 0 = bit_at_above mask 32 i small above in
+          bit_at_and word mask i ∙ min_zero (bit_at word i) (bit_at mask i) zero
+          ∙ sym (min_zero (bit_at bits i) (bit_at mask i) zero) ∙ sym (bit_at_and bits mask i)
+    ])
+  where
+    under : (m k w b o : ℕ) → m < 2 → k < 2 → w < 2 → b ≡ min w k → o ≡ 1 - k → min m o ≡ 0 → min w m ≡ min b m
+    under m k w b o lm lk lw e f z = omega (arith, lm, lk, lw, e, f, z)
+
+-- the place of the highest 1
+top_one : (n j : ℕ) → 2 ^ j ≤ n → n < 2 ^ suc j → bit_at n j ≡ 1
+top_one n j le lt =
+    let next : j + 1 ≡ suc j = omega arith in
+    let over : n / 2 ^ (j + 1) ≡ 0 = div-eq_of_lt (subst (λ k. n < 2 ^ k) (sym next) lt) in
+    let half : n / 2 ^ j ≡ 2 * (n / 2 ^ (j + 1)) + bit_at n j = halves n j in
+    let some : 2 ^ j / 2 ^ j ≤ n / 2 ^ j = shr_mono j le in
+    let one : bit_at (2 ^ j) j ≡ 1 = bit_at-pow_same j in
+    by (2 ^ j / 2 ^ j) (n / 2 ^ j) (n / 2 ^ (j + 1)) (bit_at n j) one some half over (bit_at-lt n j)
+  where
+    halves : (n place : ℕ) → n / 2 ^ place ≡ 2 * (n / 2 ^ (place + 1)) + bit_at n place
+    halves n place = let e : n / 2 ^ place / 2 ^ 1 ≡ n / 2 ^ (place + 1) = shr-shr n place 1 in omega (arith, e)
+
+    by : (p q r b : ℕ) → p % 2 ≡ 1 → p ≤ q → q ≡ 2 * r + b → r ≡ 0 → b < 2 → b ≡ 1
+    by p q r b odd le e zero small = omega (arith, odd, le, e, zero, small)
+
+pub highest : (word : ℕ) → (word ≡ 0 → ⊥) → word < 2 ^ 32
+    → (leading_zeros w32 word ≤ 31) × (31 - leading_zeros w32 word < 32) × (is_set word (31 - leading_zeros w32 word) ≡ true)
+highest word some small =
+    let t = leading_top 32 word (omega (arith, some)) small in
+    let e : leading_zeros w32 word + suc t.0 ≡ 32 = t.1 in
+    let is : 31 - leading_zeros w32 word ≡ t.0 = omega (arith, e) in
+    (omega (arith, e), omega arith, subst (λ j. is_set word j ≡ true) (sym is) (set_from word t.0 true (top_one word t.0 t.2 t.3)))

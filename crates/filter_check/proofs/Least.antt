@@ -158,7 +158,7 @@ no_later_more ends own end code old new least are lesser input theirs ours h =
           let same : a.1.answer ≡ ours = one_answer code input a.1.answer ours (one.answers input h.fits a.4) h.answers in
           let ne : end.answer ≢ a.1.answer = λ e. h.differ (sym here.1 ∙ e ∙ same) in
           let far : IsNoLater new a.1.least = subst (λ e. end.answer ≢ e.answer → IsNoLater new e.least) a.3 (lesser.no_later a.0 a.1 a.2) ne in
-          on_from new a.1.least input (not_after_below (words_of a.1.least) (words_of input) (one.least.2 input a.4)) far
+          on_from new a.1.least input (not_after_below (words_of a.1.least) (words_of input) (one.least.2 input h.fits a.4)) far
     ]
   where
     on_from : (found : Option Difference) (least : CallData) (input : CallData) → IsNotAfter (words_of least) (words_of input)

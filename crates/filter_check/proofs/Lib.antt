@@ -4,7 +4,8 @@ pub mod Counting
 pub mod OneAnswer
 pub mod Found
 pub mod Bits
-pub mod Places
+pub mod Conditions
+pub mod Searching
 pub mod Traces
 pub mod Lists
 pub mod Behind

@@ -26,9 +26,8 @@ use Rattle.filter_check.specs.filter_paths.Comparing.{compares}
 use Rattle.filter_check.specs.filter_paths.Regions.{IsWithin, sets_of, held_word}
 use Rattle.filter_check.specs.filter_paths.Covered.{Comes, EndsAt, IsComparison, LeadsOn, LeadsAll}
 use Rattle.filter_check.specs.declared.filter_paths.states.State.{State}
-use Rattle.filter_check.specs.declared.word_sets.known.Cube.{Cube}
 use Rattle.filter_check.specs.declared.word_sets.condition.Condition.{Condition}
-use Rattle.filter_check.specs.word_sets.Words.{is_in_any, meets}
+use Rattle.filter_check.specs.word_sets.Conditions.{meets, meets_all}
 use Rattle.filter_check.proofs.Lists.{zip_at, zip_put, zip_back, put_at}
 use Rattle.filter_check.proofs.Words.{word_fits, sixteen}
 
@@ -196,83 +195,77 @@ module _ (code : List Insn) (program : IsProgram code) (state : State) (insn : I
   abbrev pub the_word : CallData → ℕ
   the_word input = slice_index (words_of input) state.held.word
 
-  abbrev pub the_set : List Cube
+  abbrev pub the_set : List Condition
   the_set = get_or (sets_of state.region) state.held.word []
 
   -- the words of the set on which the comparison holds, or on which it fails
-  abbrev pub CutIs : Bool → List Cube → Type 0
-  CutIs t v = (word : ℕ) → word < 2 ^ 32 → is_in_any v word ≡
-      (is_in_any the_set word && keep t (compares insn (bit_and word state.held.mask)))
+  abbrev pub CutIs : Bool → (ℕ → Bool) → Type 0
+  CutIs t v = (word : ℕ) → word < 2 ^ 32 → v word ≡ (meets_all the_set word && keep t (compares insn (bit_and word state.held.mask)))
 
-  pub hit_cut : (condition : Condition) (v set : List Cube) →
+  pub hit_cut : (condition : Condition) (v : ℕ → Bool) (set : List Condition) →
       ((word : ℕ) → meets condition word ≡ compares insn (bit_and word state.held.mask))
       → set ≡ get_or (sets_of state.region) state.held.word []
-      → ((word : ℕ) → word < 2 ^ 32 → is_in_any v word ≡ (is_in_any set word && meets condition word)) → CutIs true v
-  hit_cut condition v set is same cut word lt = cut word lt ∙ ap (λ s. is_in_any s word && meets condition word) same
-      ∙ ap (λ t. is_in_any (get_or (sets_of state.region) state.held.word []) word && t) (is word)
+      → ((word : ℕ) → word < 2 ^ 32 → v word ≡ (meets_all set word && meets condition word)) → CutIs true v
+  hit_cut condition v set is same cut word lt = cut word lt ∙ ap (λ s. meets_all s word && meets condition word) same
+      ∙ ap (λ t. meets_all (get_or (sets_of state.region) state.held.word []) word && t) (is word)
 
-  pub miss_cut : (condition failing : Condition) (v set : List Cube)
+  pub miss_cut : (condition failing : Condition) (v : ℕ → Bool) (set : List Condition)
       → ((word : ℕ) → meets condition word ≡ compares insn (bit_and word state.held.mask))
       → ((word : ℕ) → meets failing word ≡ not (meets condition word)) → set ≡ get_or (sets_of state.region) state.held.word []
-      → ((word : ℕ) → word < 2 ^ 32 → is_in_any v word ≡ (is_in_any set word && meets failing word)) → CutIs false v
-  miss_cut condition failing v set is fails same cut word lt = cut word lt ∙ ap (λ s. is_in_any s word && meets failing word) same
-      ∙ ap (λ t. is_in_any (get_or (sets_of state.region) state.held.word []) word && t) (fails word ∙ ap not (is word))
+      → ((word : ℕ) → word < 2 ^ 32 → v word ≡ (meets_all set word && meets failing word)) → CutIs false v
+  miss_cut condition failing v set is fails same cut word lt = cut word lt ∙ ap (λ s. meets_all s word && meets failing word) same
+      ∙ ap (λ t. meets_all (get_or (sets_of state.region) state.held.word []) word && t) (fails word ∙ ap not (is word))
 
-  at_word : (input : CallData) → Comes state input → is_in_any the_set (the_word input) ≡ true
+  at_word : (input : CallData) → Comes state input → meets_all the_set (the_word input) ≡ true
   at_word input comes =
       let l = sixteen input comes.0 in
-      zip_at (λ (set : List Cube) (word : ℕ). is_in_any set word ≡ true) (sets_of state.region)
+      zip_at (λ (set : List Condition) (word : ℕ). meets_all set word ≡ true) (sets_of state.region)
       (words_of input) state.held.word [] 0 comes.1 (omega (arith, l, state.held.inside))
 
-  all_meet : (t : Bool) (input : CallData) → CutIs (not t) [] → Comes state input → compares insn (held_word state.held input) ≡ t
+  all_meet : (t : Bool) (input : CallData) → CutIs (not t) (λ word. false) → Comes state input → compares insn (held_word state.held input) ≡ t
   all_meet t input cut comes =
       let word = slice_index (words_of input) state.held.word in
       let c = cut word (word_fits input state.held.word comes.0) in
       let k = keep (not t) (compares insn (bit_and word state.held.mask)) in
       keep_other t _ (sym (c ∙ ap (λ b. b && k) (at_word input comes)))
 
-  nothing_in : (v : List Cube) → length v ≡ 0 → v ≡ []
-  nothing_in [] e = refl
-  nothing_in (x ∷ v) e = absurd (omega (arith, e))
-
-  pub empty_leads : (e : IsComparison insn) (to : State) (t : Bool) (v : List Cube) → length v ≡ 0 → CutIs (not t) v
+  pub empty_leads : (e : IsComparison insn) (to : State) (t : Bool) → CutIs (not t) (λ word. false)
       → to.at ≡ state.at + 1 + (if t then insn.jt else insn.jf) → to.held ≡ state.held → to.region ≡ state.region → LeadsAll code state to
-  empty_leads e to t v empty cut at held_same region_same =
-      let none = subst (CutIs (not t)) (nothing_in v empty) cut in
+  empty_leads e to t none at held_same region_same =
       let back : (input : CallData) → Comes to input → Comes state input = λ input comes. (comes.0, subst (λ region. IsWithin region input) region_same comes.1) in (
         compare_leads e to t at held_same back (λ input comes. all_meet t input none (back input comes)),
         λ input comes. (comes.0, subst (λ region. IsWithin region input) (sym region_same) comes.1),
       )
 
-  cut_within : (to : State) (t : Bool) (v : List Cube) (input : CallData) → CutIs t v
+  cut_within : (to : State) (t : Bool) (v : List Condition) (input : CallData) → CutIs t (meets_all v)
       → sets_of to.region ≡ set (sets_of state.region) state.held.word v → Comes to input
       → Comes state input × (compares insn (held_word state.held input) ≡ t)
   cut_within to t v input cut same comes =
       let l = sixteen input comes.0 in
-      let R : List Cube → ℕ → Type 0 = λ (set : List Cube) (word : ℕ). is_in_any set word ≡ true in
+      let R : List Condition → ℕ → Type 0 = λ (set : List Condition) (word : ℕ). meets_all set word ≡ true in
       let inside : AllZip R (set (sets_of state.region) state.held.word v) (words_of input) = subst (λ sets. AllZip R sets (words_of input)) same comes.1 in
       let here = put_at R (sets_of state.region) (words_of input) state.held.word v 0 (omega (arith, l, state.held.inside)) inside in
       let word = slice_index (words_of input) state.held.word in
-      let both = and_parts (is_in_any the_set word) (keep t (compares insn (bit_and word state.held.mask))) (sym (cut word (word_fits input state.held.word comes.0)) ∙ here) in
+      let both = and_parts (meets_all the_set word) (keep t (compares insn (bit_and word state.held.mask))) (sym (cut word (word_fits input state.held.word comes.0)) ∙ here) in
       ((comes.0, zip_back R (sets_of state.region) (words_of input) state.held.word v [] 0 inside both.0), keep_is t _ both.1)
 
-  pub cut_leads : (e : IsComparison insn) (to : State) (t : Bool) (v : List Cube) → CutIs t v
+  pub cut_leads : (e : IsComparison insn) (to : State) (t : Bool) (v : List Condition) → CutIs t (meets_all v)
       → sets_of to.region ≡ set (sets_of state.region) state.held.word v → to.at ≡ state.at + 1 + (if t then insn.jt else insn.jf)
       → to.held ≡ state.held → LeadsOn code state to
   cut_leads e to t v cut same at held_same = compare_leads e to t at held_same (λ input comes. (cut_within to t v input cut same comes).0)
       (λ input comes. (cut_within to t v input cut same comes).1)
 
-  cut_comes : (to : State) (t : Bool) (v : List Cube) (input : CallData) → CutIs t v
+  cut_comes : (to : State) (t : Bool) (v : List Condition) (input : CallData) → CutIs t (meets_all v)
       → sets_of to.region ≡ set (sets_of state.region) state.held.word v → Comes state input
       → compares insn (held_word state.held input) ≡ t → Comes to input
   cut_comes to t v input cut same comes meets_it =
-      let R : List Cube → ℕ → Type 0 = λ (set : List Cube) (word : ℕ). is_in_any set word ≡ true in
+      let R : List Condition → ℕ → Type 0 = λ (set : List Condition) (word : ℕ). meets_all set word ≡ true in
       let word = slice_index (words_of input) state.held.word in
       let k = keep t (compares insn (bit_and word state.held.mask)) in
-      let here : is_in_any v word ≡ true = cut word (word_fits input state.held.word comes.0) ∙ ap (λ b. b && k) (at_word input comes) ∙ is_keep t _ meets_it in
+      let here : meets_all v word ≡ true = cut word (word_fits input state.held.word comes.0) ∙ ap (λ b. b && k) (at_word input comes) ∙ is_keep t _ meets_it in
       (comes.0, subst (λ sets. AllZip R sets (words_of input)) (sym same) (zip_put R (sets_of state.region) (words_of input) state.held.word v 0 comes.1 here))
 
-  pub cut_either : (first second : State) (v w : List Cube) (input : CallData) → CutIs true v → CutIs false w
+  pub cut_either : (first second : State) (v w : List Condition) (input : CallData) → CutIs true (meets_all v) → CutIs false (meets_all w)
       → sets_of first.region ≡ set (sets_of state.region) state.held.word v
       → sets_of second.region ≡ set (sets_of state.region) state.held.word w → Comes state input → Comes first input ⊎ Comes second input
   cut_either first second v w input hit miss same other comes = by (compares insn (held_word state.held input)) refl

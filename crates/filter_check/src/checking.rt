@@ -18,7 +18,7 @@ use std::alloc::{AllocError, Global};
 /// How many paths a program may have.
 const MOST_PATHS: usize = 16384;
 
-// The least call data at which the rules want another answer than the ends have.
+// Finds the least call data at which the rules want another answer than the ends have.
 fn least_by_rules(
     alloc: Global,
     ends: &[End],
@@ -31,7 +31,7 @@ fn least_by_rules(
     least_difference(alloc, ends, ours.insns())
 }
 
-// What is found of a program with these ends.
+// Says what is found of a program with these ends.
 fn found(alloc: Global, ends: &[End], rules: &RuleSet) -> Result<Outcome, CheckError>
     requires can_be_compiled { CanCompile rules.now }
     requires few { length ends.now ≤ 16384 }
@@ -47,7 +47,7 @@ fn found(alloc: Global, ends: &[End], rules: &RuleSet) -> Result<Outcome, CheckE
     }
 }
 
-// What is found of a program of the form.
+// Says what is found of a program whose instructions are all of the form.
 fn compared(alloc: Global, insns: &[Insn], rules: &RuleSet) -> Result<Outcome, CheckError>
     requires can_be_compiled { CanCompile rules.now }
     requires program { IsProgram insns.now }
@@ -62,9 +62,9 @@ fn compared(alloc: Global, insns: &[Insn], rules: &RuleSet) -> Result<Outcome, C
 
 /// Compares a program with the rules of a filter, for all call data.
 ///
-/// `Form` tells the first instruction whose code is not of the form; `TooManyPaths` comes exactly where all are and there are
-/// more than 16,384 paths. Else it is `Same` exactly where the two decide every call alike, and `Differs` tells the least call
-/// data at which they do not, by their sixteen words in order of their offsets. The condition is that of `compile`.
+/// `Form` tells the first instruction whose code is not of the form. `TooManyPaths` comes exactly where all are and there are
+/// more than 16,384 paths. `Same` comes exactly where the two decide every call alike. `Differs` tells the least call data at
+/// which they do not, by their sixteen words in order of their offsets. `compile` asks the same of the rules.
 pub fn check(alloc: Global, program: &Program, rules: &RuleSet) -> Result<Outcome, CheckError>
     requires can_be_compiled { CanCompile rules.now }
     ensures finds { Finds program.now (wanted_by rules.now) result }

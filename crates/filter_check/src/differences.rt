@@ -17,7 +17,7 @@ pub struct Difference {
     pub ours: u32,
 }
 
-// The least of a difference that was found before and of the end's, where it has another answer than theirs.
+// Takes the lesser of the difference that was found before and the end's own, if the end has another answer than theirs.
 fn lesser(old: Option<Difference>, end: &End, theirs: u32) -> Option<Difference>
     ensures { IsLesser (end.now ∷ []) theirs old result }
 {
@@ -41,7 +41,7 @@ fn lesser(old: Option<Difference>, end: &End, theirs: u32) -> Option<Difference>
     }
 }
 
-// The least of a difference that was found before and of those of the ends that have another answer than theirs.
+// Takes the least of the difference that was found before and those of all ends that have another answer than theirs.
 fn least_of(own: &[End], theirs: u32, old: Option<Difference>) -> Option<Difference>
     ensures { IsLesser own.now theirs old result }
 {
@@ -52,7 +52,7 @@ fn least_of(own: &[End], theirs: u32, old: Option<Difference>) -> Option<Differe
     least
 }
 
-/// The least call data at which our program answers otherwise than one with these ends.
+/// Finds the least call data at which our program answers otherwise than a program with these ends.
 pub fn least_difference(
     alloc: Global,
     ends: &[End],

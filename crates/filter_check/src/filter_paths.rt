@@ -2,8 +2,7 @@
 //!
 //! A program of the form only loads words of the data, masks them, and compares them with numbers. So all that a path asks of
 //! the data is conditions on single words, and the data that take it are those whose sixteen words are each in a set of its
-//! own. [`all_ends`] finds all paths with their data; a [`Region`] is such a set of data. It rests on `bpf_code`,
-//! `seccomp_compile` for the form, and `word_sets`.
+//! own. [`all_ends`] finds all paths with their data. A [`Region`] is such a set of data.
 
 mod comparing;
 mod ends;

@@ -1,14 +1,17 @@
-//! Sets of 32-bit words that are given by known bits, and those of their words that meet a condition.
+//! Sets of 32-bit words that are given by conditions.
 //!
-//! A [`Cube`] is the words with these bits at the places that are known; a set of words is some cubes. [`narrow`] keeps
-//! the words that stand, under a mask, in one of some orders to a number, and [`least_word`] is the least of a set. It
-//! rests on std alone.
+//! A [`WordSet`] is the words that meet all of its conditions, with the least of them; [`narrow`] adds a condition. So a set
+//! has the size of its conditions, however many words and gaps it has. Only where the least word fails the new condition,
+//! the next one is searched for, bit by bit, in a [`Cube`]: the words of which some bits are known.
 
+mod choosing;
 mod condition;
 mod cube;
 mod known;
 mod narrowing;
+mod searching;
+mod set;
 
 pub use condition::{Condition, Orders};
-pub use known::Cube;
-pub use narrowing::{least_word, narrow};
+pub use narrowing::narrow;
+pub use set::WordSet;

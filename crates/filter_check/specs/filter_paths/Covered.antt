@@ -48,7 +48,8 @@ IsComparison insn = (insn.code ≡ 21) ⊎ ((insn.code ≡ 37) ⊎ ((insn.code �
 abbrev pub HasLeast : End → Type 0
 HasLeast end =
     IsCallData end.least × IsWithin end.region end.least
-    × ((input : CallData) → IsWithin end.region input → AllZip (λ (one other : ℕ). one ≤ other) (words_of end.least) (words_of input))
+    × ((input : CallData) → IsCallData input → IsWithin end.region input
+    → AllZip (λ (one other : ℕ). one ≤ other) (words_of end.least) (words_of input))
 
 -- where the instruction at a state leads its data
 abbrev pub StepsTo : List Insn → State → Next → Type 0

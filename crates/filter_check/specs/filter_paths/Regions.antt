@@ -3,18 +3,18 @@ use Rattle.std.specs.Prelude.{◌≡◌, ℕ, true, List, map, bit_and, slice_in
 use Rattle.std.specs.List.{AllZip}
 use Rattle.seccomp_compile.specs.bpf_code.declared.machine.CallData.{CallData}
 use Rattle.seccomp_compile.specs.bpf_code.Effects.{words_of}
-use Rattle.filter_check.specs.declared.word_sets.known.Cube.{Cube}
-use Rattle.filter_check.specs.word_sets.Words.{is_in_any}
+use Rattle.filter_check.specs.declared.word_sets.condition.Condition.{Condition}
+use Rattle.filter_check.specs.word_sets.Conditions.{meets_all}
 use Rattle.filter_check.specs.declared.filter_paths.region.Region.{Region}
 use Rattle.filter_check.specs.declared.filter_paths.held.Held.{Held}
 
--- the set of each word
-abbrev pub sets_of : Region → List (List Cube)
-sets_of region = map (λ set. set.items) region.words.items
+-- the conditions on each word
+abbrev pub sets_of : Region → List (List Condition)
+sets_of region = map (λ set. set.conditions.items) region.words.items
 
--- each word of the data is in the set of its place
-abbrev pub AreWithin : List (List Cube) → List ℕ → Type 0
-AreWithin sets words = AllZip (λ set word. is_in_any set word ≡ true) sets words
+-- each word of the data meets all conditions of its place
+abbrev pub AreWithin : List (List Condition) → List ℕ → Type 0
+AreWithin sets words = AllZip (λ set word. meets_all set word ≡ true) sets words
 
 abbrev pub IsWithin : Region → CallData → Type 0
 IsWithin region input = AreWithin (sets_of region) (words_of input)

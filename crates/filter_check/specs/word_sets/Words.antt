@@ -1,10 +1,12 @@
--- Sets of words by known bits, and conditions on a word.
-use Rattle.std.specs.Prelude.{ℕ, ◌==◌, nat_lt, bit_and, Bool, true, false, not, if◌then◌else◌, List, Option, Some, None}
+-- Words of which some bits are known, and the least of them that meets conditions.
+use Rattle.std.specs.Prelude.{◌≡◌, ◌⊎◌, ◌≤◌, ◌<◌, ◌^◌, ℕ, ◌==◌, bit_and, Bool, true, false, not, List, Option, Some, None, IfSome}
 use Rattle.std.specs.Int.{bit_at}
-use Rattle.std.specs.List.{list_any}
 use Rattle.filter_check.specs.declared.word_sets.known.Cube.{Cube}
+use Rattle.filter_check.specs.declared.word_sets.set.WordSet.{WordSet}
 use Rattle.filter_check.specs.declared.word_sets.condition.Condition.{Condition}
-use Rattle.filter_check.specs.declared.word_sets.condition.Orders.{Orders}
+use Rattle.filter_check.specs.declared.word_sets.choosing.Choice.{Choice}
+use Rattle.filter_check.specs.declared.word_sets.choosing.Choice.TheVariants.{Meets, Misses, Splits}
+use Rattle.filter_check.specs.word_sets.Conditions.{meets_all}
 
 abbrev pub same : Bool → Bool → Bool
 same true b = b
@@ -18,21 +20,34 @@ is_set word place = bit_at word place == 1
 abbrev pub is_in : Cube → ℕ → Bool
 is_in cube word = bit_and word cube.known == cube.bits
 
-abbrev pub is_in_some : Option Cube → ℕ → Bool
+-- the set, where there is one, has the word
+abbrev pub is_in_some : Option WordSet → ℕ → Bool
 is_in_some None word = false
-is_in_some (Some cube) word = is_in cube word
+is_in_some (Some set) word = meets_all set.conditions.items word
 
-abbrev pub is_in_any : List Cube → ℕ → Bool
-is_in_any cubes word = list_any (λ cube. is_in cube word) cubes
+-- a word is told, and it is at most this one
+abbrev pub IsUpTo : Option ℕ → ℕ → Type 0
+IsUpTo None word = ⊥
+IsUpTo (Some told) word = told ≤ word
 
--- the order of two numbers is a wanted one
-abbrev pub wants : Orders → ℕ → ℕ → Bool
-wants orders a b = if nat_lt a b then orders.below else (if a == b then orders.equal else orders.above)
+-- the word is of the cube and meets all conditions
+abbrev pub IsWanted : List Condition → Cube → ℕ → Type 0
+IsWanted conditions cube word = (word < 2 ^ 32) × (is_in cube word ≡ true) × (meets_all conditions word ≡ true)
 
--- the word under the mask stands to the number in a wanted order
-abbrev pub meets : Condition → ℕ → Bool
-meets condition word = wants condition.orders (bit_and word condition.mask) condition.number
+-- Told is the word that was told before or a wanted one, and it is at most that one and each wanted one.
+pub record IsLeastOf (conditions : List Condition) (cube : Cube) (old new : Option ℕ) : Type 0 where
+  pub comes_of : (new ≡ old) ⊎ ((word : ℕ) × (new ≡ Some word) × IsWanted conditions cube word)
+  pub kept : IfSome old (λ word. IsUpTo new word)
+  pub no_later : (word : ℕ) → IsWanted conditions cube word → IsUpTo new word
 
--- the order is wanted in which a word stands whose first bit that is other than the number's is at this place
-abbrev pub wanted_off : Condition → ℕ → Bool
-wanted_off condition place = if is_set condition.number place then condition.orders.below else condition.orders.above
+-- The least word of the cube meets all conditions; or no word of the cube does; or the bit at the place is not known.
+abbrev pub IsChoice : List Condition → Cube → Choice → Type 0
+IsChoice conditions cube Meets = meets_all conditions cube.bits ≡ true
+IsChoice conditions cube Misses = (word : ℕ) → word < 2 ^ 32 → is_in cube word ≡ true → meets_all conditions word ≡ false
+IsChoice conditions cube (Splits place free) = (place < 32) × (is_set cube.known place ≡ false)
+
+-- told is the least word that meets all conditions, where there is one
+abbrev pub IsLeastWord : List Condition → Option ℕ → Type 0
+IsLeastWord conditions None = (word : ℕ) → word < 2 ^ 32 → meets_all conditions word ≡ false
+IsLeastWord conditions (Some least) = (meets_all conditions least ≡ true)
+    × ((word : ℕ) → word < 2 ^ 32 → meets_all conditions word ≡ true → least ≤ word)

@@ -1,6 +1,6 @@
 //! Comparisons as conditions on a word.
 ghost use Rattle.std.specs.Prelude.{◌≡◌, ℕ, bit_and};
-ghost use Rattle.filter_check.specs.word_sets.Words.{meets};
+ghost use Rattle.filter_check.specs.word_sets.Conditions.{meets};
 ghost use Rattle.filter_check.specs.filter_paths.Comparing.{compares};
 
 use crate::word_sets::{Condition, Orders};

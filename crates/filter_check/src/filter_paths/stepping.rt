@@ -77,34 +77,34 @@ fn compared(alloc: Global, insns: &[Insn], insn: Insn, state: State) -> Result<N
         }));
     }
     let condition = condition_of(insn, held.mask);
-    let hit = narrow(alloc, region.word(held.word), condition)?;
-    let miss = narrow(alloc, region.word(held.word), condition.failing())?;
-    if miss.is_empty() {
-        return Ok(Next::One(State {
+    match narrow(alloc, region.word(held.word), condition.failing())? {
+        None => Ok(Next::One(State {
             at: hit_at,
             held,
             region,
-        }));
+        })),
+        Some(miss) => match narrow(alloc, region.word(held.word), condition)? {
+            None => Ok(Next::One(State {
+                at: miss_at,
+                held,
+                region,
+            })),
+            Some(hit) => {
+                let other = region.copy(alloc)?.with_word(held.word, hit);
+                let first = State {
+                    at: hit_at,
+                    held,
+                    region: other,
+                };
+                let second = State {
+                    at: miss_at,
+                    held,
+                    region: region.with_word(held.word, miss),
+                };
+                Ok(Next::Two(first, second))
+            }
+        },
     }
-    if hit.is_empty() {
-        return Ok(Next::One(State {
-            at: miss_at,
-            held,
-            region,
-        }));
-    }
-    let other = region.copy(alloc)?.with_word(held.word, hit);
-    let first = State {
-        at: hit_at,
-        held,
-        region: other,
-    };
-    let second = State {
-        at: miss_at,
-        held,
-        region: region.with_word(held.word, miss),
-    };
-    Ok(Next::Two(first, second))
 }
 
 /// Where the instruction at a state leads its data.

@@ -1,6 +1,6 @@
 //! Conditions on a word: how it stands, under a mask, to a number.
 ghost use Rattle.std.specs.Prelude.{◌≡◌, ◌<◌, ℕ, not, ◌^◌};
-ghost use Rattle.filter_check.specs.word_sets.Words.{meets, wants};
+ghost use Rattle.filter_check.specs.word_sets.Conditions.{meets, wants};
 
 /// Which orders of a masked word and a number meet a condition.
 #[derive(Clone, Copy)]
@@ -29,6 +29,16 @@ impl Orders {
             above: !self.above,
         }
     }
+
+    // Says whether the order of two numbers is one of these.
+    fn has(self, a: u32, b: u32) -> bool
+        ensures { result ≡ wants self a b }
+    {
+        if a < b {
+            return self.below;
+        }
+        if a == b { self.equal } else { self.above }
+    }
 }
 
 impl Condition {
@@ -41,5 +51,12 @@ impl Condition {
             number: self.number,
             orders: self.orders.others(),
         }
+    }
+
+    /// Says whether the word meets the condition.
+    pub fn is_met_by(self, word: u32) -> bool
+        ensures by_the_word { result ≡ meets self word }
+    {
+        self.orders.has(word & self.mask, self.number)
     }
 }

@@ -1,15 +1,14 @@
-//! Words of which some bits are known.
-ghost use Rattle.std.specs.Prelude.{◌≡◌, ◌<◌, ◌≤◌, ℕ, ◌&&◌, true, false, bit_and};
-ghost use Rattle.filter_check.specs.word_sets.Words.{is_in, is_in_some, is_set, same};
+//! Words of which some bits are known: their bounds, and one bit more.
+ghost use Rattle.std.specs.Prelude.{◌≡◌, ◌<◌, ◌≤◌, ◌^◌, ℕ, ◌&&◌, Bool, true, false, bit_and};
+ghost use Rattle.filter_check.specs.word_sets.Words.{is_in, is_set, same};
 
 use crate::word_sets::known::Cube;
 
-/// Whether the word has a 1 at a place.
-pub(crate) fn has_bit(word: u32, place: u32) -> bool
-    requires { place < 32 }
-    ensures { result ≡ is_set word place }
+// The word that has all bits that are not known.
+fn greatest_with(known: u32, bits: u32) -> u32
+    ensures covers { (word : ℕ) → word < 2 ^ 32 → bit_and word known ≡ bits → bit_and word result ≡ word }
 {
-    (word >> place) & 1 == 1
+    bits | !known
 }
 
 impl Cube {
@@ -22,17 +21,26 @@ impl Cube {
 
     /// The least of the words.
     pub fn least(self) -> u32
-        ensures is_one { is_in self result ≡ true }
-        ensures is_least { (word : ℕ) → is_in self word ≡ true → result ≤ word }
+        ensures is { result ≡ self.bits }
+        ensures small { result < 2 ^ 32 }
     {
         self.bits
     }
 
-    // With a place known that was not.
-    fn with_known(self, place: u32, set: bool) -> Cube
+    /// The greatest of the words: each of them has bits of it alone.
+    pub fn greatest(self) -> u32
+        ensures covers { (word : ℕ) → word < 2 ^ 32 → is_in self word ≡ true → bit_and word result ≡ word }
+    {
+        greatest_with(self.known, self.bits)
+    }
+
+    /// Those of the words that have this bit at a place where none was known.
+    pub fn with_bit(self, place: u32, set: bool) -> Cube
         requires place { place < 32 }
         requires unknown { is_set self.known place ≡ false }
-        ensures { (word : ℕ) → is_in result word ≡ (is_in self word && same (is_set word place) set) }
+        ensures those_with_the_bit { (word : ℕ) → is_in result word ≡ (is_in self word && same (is_set word place) set) }
+        ensures more { self.known < result.known }
+        ensures small { result.known < 2 ^ 32 }
     {
         let known = self.known | 1u32 << place;
         if set {
@@ -44,21 +52,6 @@ impl Cube {
         Cube {
             known,
             bits: self.bits,
-        }
-    }
-
-    /// Those of the words that have this bit at a place, or none.
-    pub fn with_bit(self, place: u32, set: bool) -> Option<Cube>
-        requires { place < 32 }
-        ensures those_with_the_bit { (word : ℕ) → is_in_some result word ≡ (is_in self word && same (is_set word place) set) }
-    {
-        if !has_bit(self.known, place) {
-            return Some(self.with_known(place, set));
-        }
-        if has_bit(self.bits, place) == set {
-            Some(self)
-        } else {
-            None
         }
     }
 }

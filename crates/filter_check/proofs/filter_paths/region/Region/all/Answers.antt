@@ -1,20 +1,19 @@
 use Rattle.std.proofs.Common.{◌≡◌, ◌<◌, ℕ, true, List, [], ◌∷◌, map, length, sym, ◌∙◌, arith}
-use Rattle.std.specs.Prelude.{Vec}
 use Rattle.std.specs.List.{AllZip, AllByRecursion}
-use Rattle.std.specs.declared.alloc.Global.{Global}
-use Rattle.filter_check.specs.declared.word_sets.known.Cube.{Cube}
-use Rattle.filter_check.specs.word_sets.Words.{is_in_any}
+use Rattle.filter_check.specs.declared.word_sets.condition.Condition.{Condition}
+use Rattle.filter_check.specs.declared.word_sets.set.WordSet.{WordSet}
+use Rattle.filter_check.specs.word_sets.Conditions.{meets_all}
 use Rattle.seccomp_compile.specs.bpf_code.Effects.{words_of}
 use Rattle.filter_check.proofs.Words.{sixteen}
 use Rattle.filter_check.proofs.filter_paths.region.Region.all.Goals as goal
 
-any_words : (sets : List (Vec Cube Global)) (words : List ℕ) → length sets ≡ length words
-    → AllByRecursion (λ set. (0 < length set.items) × ((word : ℕ) → is_in_any set.items word ≡ true)) sets
-    → AllZip (λ (set : List Cube) (word : ℕ). is_in_any set word ≡ true) (map (λ set. set.items) sets) words
+any_words : (sets : List WordSet) (words : List ℕ) → length sets ≡ length words
+    → AllByRecursion (λ set. (word : ℕ) → meets_all set.conditions.items word ≡ true) sets
+    → AllZip (λ (set : List Condition) (word : ℕ). meets_all set word ≡ true) (map (λ set. set.conditions.items) sets) words
 any_words [] [] l h = tt
 any_words [] (word ∷ words) l h = absurd (omega (arith, l))
 any_words (set ∷ sets) [] l h = absurd (omega (arith, l))
-any_words (set ∷ sets) (word ∷ words) l h = (h.0.1 word, any_words sets words (omega (arith, l)) h.1)
+any_words (set ∷ sets) (word ∷ words) l h = (h.0 word, any_words sets words (omega (arith, l)) h.1)
 
 pub returns : goal.returns
 returns c = record {

@@ -1,12 +1,12 @@
 use Rattle.std.proofs.Common.{◌≡◌, ◌<◌, ◌≤◌, ◌-◌, ℕ, true, length}
 use Rattle.std.specs.List.{AllByRecursion}
-use Rattle.filter_check.specs.word_sets.Words.{is_in_any}
+use Rattle.filter_check.specs.word_sets.Conditions.{meets_all}
 use Rattle.filter_check.proofs.filter_paths.region.Region.all.Given as goal
 
 abbrev pub invariant-loop-alloc : goal.invariant-loop-alloc
 invariant-loop-alloc l = record {
   few : length l.words.items ≤ 16;
-  any : AllByRecursion (λ set. (0 < length set.items) × ((word : ℕ) → is_in_any set.items word ≡ true)) l.words.items;
+  any : AllByRecursion (λ set. (word : ℕ) → meets_all set.conditions.items word ≡ true) l.words.items;
 }
 
 abbrev pub decreases-loop-alloc : goal.decreases-loop-alloc

@@ -1,5 +1,5 @@
 use Rattle.std.proofs.Common.{◌≡◌, map, take}
 use Rattle.filter_check.proofs.filter_paths.region.Region.copy.Given as goal
 
-abbrev pub invariant-loop-cubes : goal.invariant-loop-cubes
-invariant-loop-cubes l = map (λ set. set.items) l.words.items ≡ take l.cubes-index (map (λ set. set.items) l.self.words.items)
+abbrev pub invariant-loop-set : goal.invariant-loop-set
+invariant-loop-set l = map (λ set. set.conditions.items) l.words.items ≡ take l.set-index (map (λ set. set.conditions.items) l.self.words.items)
