@@ -20,7 +20,8 @@ module _ (table : Table) (filters : FilterSettings) (marks : List Bool)
   marked : (place : ℕ) → is_marked marks place ≡ allows_place table filters place
   marked place =
       ap (λ own. is_marked own place) are
-      ∙ ap (λ (o : Option Bool). unwrap_or o false) (slice_get-map (λ (call : CallLine). allows_call table filters call.name) (every_call table) place)
+      ∙ ap (λ (o : Option Bool). unwrap_or o false)
+      (slice_get-map (λ (call : CallLine). allows_call table filters call.name) (every_call table) place)
       ∙ by_call (slice_get (every_call table) place)
 
   -- some member is marked where some member is allowed
