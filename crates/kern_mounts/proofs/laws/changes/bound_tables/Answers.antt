@@ -1,4 +1,4 @@
-use Rattle.std.proofs.Common.{false}
+use Rattle.std.proofs.Common.{true, false}
 use Rattle.kern_mounts.specs.Mounts.{steps_of}
 use Rattle.kern_mounts.proofs.Showing.{bind_made, bind_elsewhere, plain_bind}
 use Rattle.kern_mounts.proofs.Alike.{same_host_place, same_flags, same_finds}
