@@ -1,8 +1,6 @@
 //! How bad the settings of a service are, test by test (systemd-analyze(1), security).
 //!
-//! One table has each test by its identifier and by what it looks at; from it come the facts, and which tests there are. The
-//! crate stands on `exec_settings` for settings, on `filter_settings` and `filter_rules` for what filters let through, on
-//! `mount_settings` for the protections of the file system, and on `exposure_score` for the facts that a score is made from.
+//! One table lists the tests, each by its identifier and by what it looks at. It gives both the facts and the known tests.
 //!
 //! `facts(alloc, &unit, &calls, &site, &settings)?.tests` has a fact for each test of the table, in byte order of identifiers.
 

@@ -7,8 +7,8 @@ ghost use Rattle.judge.specs.Worlds.{RepliesAreBlind, LaunchIsBlind, BlindIsShow
 
 /// Nothing below a folder changes a world that is blind to it. On every site that agrees outside the folder each list
 /// of calls has the same replies and leads to the same world except for the site. A launch that leaves such a world
-/// leaves it there too, after the same number of steps. No living process of the world is shown the folder or a place
-/// below it, if its mount table has at most the size of a plan and the folder's path has at most 250 bytes.
+/// leaves it there too, after the same number of steps. No living process of the world sees the folder or a place
+/// below it, if its mount table is no larger than a plan and the folder's path has at most 250 bytes.
 pub fn worlds_are_blind()
     ensures replies { RepliesAreBlind }
     ensures launches { LaunchIsBlind }

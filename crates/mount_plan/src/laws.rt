@@ -3,8 +3,9 @@
 ghost use Rattle.mount_plan.specs.Form.{PlansHaveForm};
 ghost use Rattle.mount_plan.specs.Resting.{PlanIsBlind, PlanRestsOnItsPlaces};
 
-/// Says what holds of every plan, whatever the length of its paths is: the first mount is the host's root, the places ascend, no mount
-/// takes privileges from programs, what is hidden has no flags, and /proc is found as a directory or is the place of a hidden one.
+/// Says what holds of every plan, whatever the length of its paths is. The first mount is the host's root, and the places ascend.
+/// No mount takes privileges from programs, and what is hidden has no flags. /proc is found as a directory, or is the place of a
+/// hidden one.
 pub fn plans_have_a_form()
     ensures of_every_plan { PlansHaveForm }
 {}

@@ -64,9 +64,9 @@ fn read_bytes(alloc: Global, bytes: &[u8]) -> Result<Policy, PolicyError>
 /// have a `range`, 1 to 1,000,000, which is else 1. Both are whole numbers, written without a fraction or
 /// an exponent. Other members of a test are passed over. Of doubled members the last stands.
 ///
-/// The first in this order is told: `NotJson` where the bytes are no JSON or no object, `Field` of the first
-/// member in byte order of identifiers that is no test, `TooMany` where there are more than 512 tests.
-/// `Memory` may come at any bytes.
+/// Answers the first of these errors: `NotJson` if the bytes are no JSON or no object; `Field` of the first member,
+/// in byte order of identifiers, that is no test; `TooMany` if there are more than 512 tests. `Memory` is possible
+/// whatever the bytes are.
 pub fn read_policy(alloc: Global, bytes: &[u8]) -> Result<Policy, PolicyError>
     ensures reads_the_policy { IfOk result (λ policy. policy_of bytes.now ≡ Ok policy) }
     ensures first_fault { IfErr result (λ error. error ≢ Memory → policy_of bytes.now ≡ Err error) }

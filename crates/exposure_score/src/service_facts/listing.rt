@@ -68,9 +68,9 @@ fn with_settings(
     }
 }
 
-/// What is known of the settings of a unit, by the table of calls and the site: a fact for each test that settings decide, in
-/// byte order of identifiers, and what stored tests look at. The settings are those of the unit, which are accepted where
-/// it writes at most 128 paths.
+/// Makes the facts of a unit's settings, by the table of calls and the site. There is one fact for each test that settings
+/// decide, in byte order of identifiers. The facts hold besides what stored tests look at. The settings are the unit's own,
+/// which are accepted if it writes at most 128 paths.
 pub fn facts(
     alloc: Global,
     unit: &Resolved,
