@@ -4,12 +4,16 @@ The program does not read it. It is JSON: `rows` has for each path of a row its 
 `folders` the mode, uid and gid of each of these. What cannot be told for sure is left out: what leads through links or is not there,
 what has an access control list, and what stands on a file system whose server or driver decides instead of the kernel.
 """
+from __future__ import annotations
+
 import errno
 import json
 import os
 import re
 import stat
+from typing import Optional
 
+from sites.root import Root
 from sites.rows import parents_of
 
 # File systems on which the kernel itself compares ids with the mode that stat(2) tells (generic_permission of fs/namei.c).
@@ -18,7 +22,7 @@ ACCESS_LIST = "system.posix_acl_access"
 PATH = re.compile(r'^path = ("(?:[^"\\]|\\.)*")$', re.M)
 
 
-def file_systems():
+def file_systems() -> dict[int, str]:
     """The kinds of the file systems that are mounted, by their device numbers."""
     found = {}
     try:
@@ -32,7 +36,7 @@ def file_systems():
     return found
 
 
-def has_list(file):
+def has_list(file: bytes) -> bool:
     """Whether a file has an access control list, or it cannot be told."""
     try:
         os.getxattr(file, ACCESS_LIST, follow_symlinks=False)
@@ -44,18 +48,18 @@ def has_list(file):
 class Modes:
     """The modes of paths of a root, each looked at once."""
 
-    def __init__(self, root):
+    def __init__(self, root: Root) -> None:
         self.root = root
         self.kinds = file_systems()
         self.seen = {}
 
-    def of(self, path):
+    def of(self, path: bytes) -> Optional[list[int]]:
         """The mode, the uid and the gid of a path that has no links in it; None where they are not known for sure."""
         if path not in self.seen:
             self.seen[path] = self.look_at(path)
         return self.seen[path]
 
-    def look_at(self, path):
+    def look_at(self, path: bytes) -> Optional[list[int]]:
         """The same, by looking."""
         file = self.root.outside(path)
         try:
@@ -68,7 +72,7 @@ class Modes:
         return [stat.S_IMODE(status.st_mode), status.st_uid, status.st_gid] if is_sure else None
 
 
-def text_of(root, site):
+def text_of(root: Root, site: bytes) -> bytes:
     """The text for the rows of a site; without any where the root is another user's, whose ids are not those that it runs with."""
     rows, modes = {}, Modes(root)
     if root.status(b"/").st_uid == 0:
