@@ -3,8 +3,9 @@ from __future__ import annotations
 
 import json
 import re
-from dataclasses import dataclass, field
 from typing import Mapping, Optional
+
+from .record import dataclass, field
 
 # A row, written as a table of its own or within a list: the path, and what stands behind it.
 _ROW = re.compile(r'\bpath\s*=\s*("(?:[^"\\\n]|\\.)*")(.*?)(?=\n\s*\n|\n\s*\[\[|\}|\Z)', re.DOTALL)

@@ -5,10 +5,10 @@ A build that was proved has a record beside it, FILE.proved: a line of the kit t
 from __future__ import annotations
 
 import hashlib
-from dataclasses import dataclass
 from typing import Optional, Sequence
 
 from .program import Program
+from .record import dataclass
 from .unit_text import UnitFile
 
 #: As many digits of a sum are shown on a screen.

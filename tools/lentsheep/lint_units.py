@@ -6,7 +6,6 @@ root the site is a small Debian (tables/debian) with the programs, paths, users 
 from __future__ import annotations
 
 import os
-from dataclasses import dataclass
 from typing import Optional, Sequence
 
 from sites import units
@@ -17,6 +16,7 @@ from sites.told import Told
 
 from . import asking
 from .home import TOP, absolute
+from .record import dataclass
 from .room import walk_file
 from .site_text import with_rows
 from .unit_text import LinkedFolder, UnitFile

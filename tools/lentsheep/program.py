@@ -4,12 +4,13 @@ from __future__ import annotations
 import contextlib
 import os
 import subprocess
-from dataclasses import dataclass
 from typing import Iterator, Mapping, Sequence
 
 from .build import command_of
 from .home import POLICY, TOP
+from .record import dataclass
 from .report import parse
+from .spawn import make_folder, remove
 from .terminal import doing
 from .values import Printed
 
@@ -81,11 +82,12 @@ class Program:
     @contextlib.contextmanager
     def changed(self, files: Mapping[str, bytes]) -> Iterator["Program"]:
         """The same folder with some files, by their paths below it, in the place of its own, in a folder that is gone afterwards."""
-        import tempfile
-
-        with tempfile.TemporaryDirectory(prefix="lentsheep.") as place:
+        place = make_folder()
+        try:
             _overlay(os.path.abspath(self.folder), place, {tuple(name.split("/")): data for name, data in files.items()})
             yield Program(place, self.unproved)
+        finally:
+            remove(place)
 
     def read(self, name: str) -> bytes | None:
         """The bytes of a file of the folder; None where there is none."""
