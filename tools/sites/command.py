@@ -15,7 +15,7 @@ the same root gives the same text. A site has at most 2,048 rows, chosen in this
 The site also has the parents of each row. Standard error, and the first lines of the site, list what was left out or could
 not be read, with counts. The first lines also have the root's version of systemd, its kernel if it runs, and the calls and
 families of tables/x86-64/calls.txt that this kernel lacks. Sockets, pipes, devices, disks and terminals are files, and a comment
-says which they are.
+says which they are. The comment of a path through a link says where it leads.
 """
 from __future__ import annotations
 

@@ -11,7 +11,7 @@ from typing import Iterable, NamedTuple, Optional
 from sites.others import is_of_another
 from sites.privileges import NONE, Privileges, is_program, privileges_of
 from sites.root import Root, folded, parts_of
-from sites.told import Told
+from sites.told import Told, shown
 
 # How many rows a site may have, and how many bytes a path.
 LIMIT = 2048
@@ -26,11 +26,12 @@ TERMINALS = (2, 3, 4, 5, *range(136, 144))
 
 class Row(NamedTuple):
     """A kind, `dir`, `file` or `exe`, what the program gives, and what a file is that is none: a socket, a pipe, a device, a disk
-    or a terminal."""
+    or a terminal. With a link in its path, `link` says where it leads; it is empty if that is no path of a row."""
 
     kind: str
     gives: Privileges = NONE
     special: str = ""
+    link: Optional[str] = None
 
 
 def special_of(status: os.stat_result) -> str:
@@ -118,7 +119,7 @@ class Rows:
             self.leave(path)
             return
         for folder in missing:
-            self.rows[folder] = Row("dir")
+            self.rows[folder] = self.folder_row(folder)
         self.rows[path] = row
 
     def add(self, path: bytes, made: Optional[str] = None, wanted: bool = False) -> None:
@@ -138,9 +139,18 @@ class Rows:
         except OSError as error:
             self.add_unseen(path, error, made, wanted)
             return
-        self.put(path, row)
-        if fault_of(target) is None and not OF_A_PROCESS.match(target):
+        is_row = fault_of(target) is None and not OF_A_PROCESS.match(target)
+        self.put(path, row if target == path else row._replace(link=shown(target) if is_row else ""))
+        if is_row:
             self.put(target, row)
+
+    def folder_row(self, path: bytes) -> Row:
+        """The row of a folder, or of a link to one; the folder that it leads to has a row of its own if another rule says so."""
+        try:
+            target = self.root.real(path)
+        except OSError:
+            return Row("dir")
+        return Row("dir", link=None if target == path else shown(target) if fault_of(target) is None else "")
 
     def add_unseen(self, path: bytes, error: OSError, made: Optional[str], wanted: bool) -> None:
         """Takes the row of a path where nothing is, or nothing that can be looked at."""

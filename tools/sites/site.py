@@ -123,8 +123,9 @@ def add_telling(rows: Rows, found: Sequence[Found]) -> None:
     taken = {path for level in of_the_root.folders[1:2] for path in level}
     taken.update(of_the_root.links[0])
     taken.update(path for it in found for path in it.telling)
+    links = set(of_the_root.links[0])
     for path in sorted(taken):
-        add_folder(rows, path)
+        add_folder(rows, path, path in links)
 
 
 def add_folders(rows: Rows, found: Sequence[Found], full: bool) -> None:
@@ -138,16 +139,16 @@ def add_folders(rows: Rows, found: Sequence[Found], full: bool) -> None:
         for path in sorted(folders | links):
             if any(is_below(path, passing) for passing in places.PASSING):
                 continue
-            add_folder(rows, path) if full else rows.leave_filler(path)
+            add_folder(rows, path, path in links) if full else rows.leave_filler(path)
 
 
-def add_folder(rows: Rows, path: bytes) -> None:
-    """Takes the row of a folder of the walk."""
+def add_folder(rows: Rows, path: bytes, is_link: bool) -> None:
+    """Takes the row of a folder of the walk, or of a link to one."""
     fault = fault_of(path)
     if fault:
         rows.told.add(fault, path)
     else:
-        rows.put(path, Row("dir"))
+        rows.put(path, rows.folder_row(path) if is_link else Row("dir"))
 
 
 def add_rows(rows: Rows, all_said: Sequence[units.Says], also: list[bytes], full: bool, keep: str) -> None:

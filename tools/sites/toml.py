@@ -24,7 +24,8 @@ def table(kind: str, fields: Sequence[tuple[str, object]]) -> str:
 
 def row_text(path: str, row: Row) -> str:
     """The table of a row; its path is text."""
-    fields: list[tuple[str, object]] = [("path", quoted(path)), ("kind", quoted(row.kind) + (f"  # {row.special}" if row.special else ""))]
+    comment = "; ".join(filter(None, (row.special, "" if row.link is None else f"link {row.link}".strip())))
+    fields: list[tuple[str, object]] = [("path", quoted(path)), ("kind", quoted(row.kind) + (f"  # {comment}" if comment else ""))]
     gives = row.gives
     if gives.setuid is not None:
         fields.append(("setuid", gives.setuid))
