@@ -45,5 +45,5 @@ uninstall:
 
 # The quick tests, which need neither the kit nor a proved program. The gate is rt ci.
 test:
-	for test in types command sites views docs prose reality graph; do tools/test-$$test || exit; done
+	for test in types command sites views docs prose reality graph worst; do tools/test-$$test || exit; done
 	tools/graph
