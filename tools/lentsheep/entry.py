@@ -33,6 +33,9 @@ _DROP_IN_OF_DERIVE = """\
 
 def main(words: Sequence[str]) -> int:
     """Does what the words of the command line ask for, and returns the exit status."""
+    # what is closed is written to in vain, as a full disk is, and messages do not go to standard output
+    sys.stdout = sys.stdout or open("/dev/full", "w", encoding="utf-8")
+    sys.stderr = sys.stderr or open(os.devnull, "w", encoding="utf-8")
     named = os.environ.get("LENTSHEEP_PROGRAM", "")
     if "/" in named:
         os.environ["LENTSHEEP_PROGRAM"] = absolute(named)

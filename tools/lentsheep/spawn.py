@@ -73,9 +73,9 @@ def make_folder() -> str:
 def remove(folder: str) -> None:
     """Removes a folder and everything in it; what links lead to stays."""
     for at, folders, files in os.walk(folder, topdown=False):
-        for name in files:
-            os.unlink(f"{at}/{name}")
-        for name in folders:
-            path = f"{at}/{name}"
-            os.unlink(path) if os.path.islink(path) else os.rmdir(path)
-    os.rmdir(folder)
+        for path in [f"{at}/{name}" for name in files + folders] + [at]:
+            try:
+                (os.rmdir if os.path.isdir(path) and not os.path.islink(path) else os.unlink)(path)
+            except OSError:
+                # a folder below was removed in its turn
+                pass
