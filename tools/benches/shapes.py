@@ -21,7 +21,7 @@ KINDS: dict[str, tuple[str, ...]] = {
     "tighten": ("lines", "rows", "words", "paths"), "why": ("units", "lines", "rows", "words", "calls", "paths"),
     "score": ("lines", "rows", "words", "paths"), "check": ("lines", "words", "calls"), "fleet": ("units", "lines", "rows", "words"),
 }  # fmt: skip
-# Pieces; {i} is the number of a piece, {h} half of it, and {r} a number that is drawn for it.
+# Pieces; {i} is the number of a piece, {h} half of it, {m} its rest by 64, and {r} a number that is drawn for it.
 LINES = (
     "ReadWritePaths=-/a/f{i}", "ReadOnlyPaths=-/a/f{i}", "ReadOnlyPaths=-/a", "InaccessiblePaths=-/a/f{i}", "InaccessiblePaths=-/b",
     "NoExecPaths=-/a/f{i}", "ExecPaths=-/a/f{i}", "BindPaths=-/a:/b/f{i}", "BindPaths=-/:/b/f{i}", "BindReadOnlyPaths=-/a/f{i}:/b/f{h}",
@@ -35,7 +35,7 @@ LINES = (
 WORDS = (
     ("SystemCallFilter=", "c{i}"), ("SystemCallFilter=~", "c{i}"), ("SystemCallFilter=~", "c{i}:{r}"), ("SystemCallFilter=", "@g{i}"),
     ("SupplementaryGroups=", "{i}"), ("ReadWritePaths=", "-/a/f{i}"), ("InaccessiblePaths=", "-/a/f{i}"), ("BindPaths=", "-/a:/b/f{i}"),
-    ("ReadOnlyPaths=", "-/a"), ("CapabilityBoundingSet=", "CAP_KILL"), ("RestrictAddressFamilies=", "AF_INET"), ("ExecStart=", "%n"),
+    ("ReadOnlyPaths=", "-/a"), ("CapabilityBoundingSet=", "CAP_KILL"), ("RestrictAddressFamilies=", "AF_INET"), ("ExecStart=/usr/bin/web ", "%n"),
     ("StateDirectory=", "s{i}"), ("ReadWritePaths=", "a"), ("Description=", "x{i}"), ("TemporaryFileSystem=", "/b/f{i}"),
     ("ReadWritePaths=-", "/a"), ("SystemCallFilter=~", "none{i}"),
 )  # fmt: skip
@@ -48,19 +48,19 @@ CALLED = (
     "getpid", "read 0", "open /a/f{i} 0 1", "open /a/f{h}", "stat /a/f{i}", "openat /usr/bin/web 0 0 1", "execve /usr/bin/web", "execve /a/f{i}",
     "mount / /proc 0 0 0 4096", "mount / /b 0 0 0 20480", "mount /a/f{i} /b/f{i} 0 0 0 4096", "mount /a /b/f{h} 0 0 0 20480", "umount2 /b 0 2",
     "umount2 /proc 0 2", "unshare 131072", "unshare 268435456", "setresuid {i} {i} {i}", "setresuid 0 0 0", "setgroups [{i},{h}] 2", "socket 2 1",
-    "seccomp 060000000000ff7f 1", "seccomp 200000000000000015000001{x}060000000000ff7f060000000000ff7f 1", "prctl 38 1", "chroot /a", "#{i}", "c{i}",
+    "seccomp 060000000000ff7f 1", "seccomp 200000000000000015000001{x}060000000000ff7f060000000000ff7f 1", "prctl 38 1", "chroot 0", "#{i}", "c{m}",
     "setns 3 131072", "mmap 0 4096 5 34", "dup 3",
 )  # fmt: skip
 INSTRUCTIONS = (
     ("15000001{x}", "060000000000ff7f"), ("45000001{x}", "0500000000000000"), ("20000000{a}000000", "15000100{x}", "060000000000ff7f"),
     ("25000001{x}", "0600000000000080"), ("20000000{a}000000", "45000001{x}", "0500000000000000"), ("35000001{x}", "060000000100ff7f"),
 )  # fmt: skip
-QUESTIONS = ("see /a/f{i}", "read /a/f{i}", "write /a/f{i}", "see /", "call read", "uid {i}", "map-wx")
+QUESTIONS = ("see /a/f{i}", "read /a/f{i}", "write /a/f{i}", "see /", "uid 33", "map-wx", "see /a")
 # The table of calls and the site to which pieces are added; fewer calls than a real table leave the most room.
 SMALL_CALLS = [line for line in (
     "abi x86-64 c000003e", "call read 0", "call write 1", "call open 2", "call close 3", "call stat 4", "call mmap 9", "call mprotect 10",
-    "call dup 32", "call getpid 39", "call socket 41", "call fork 57", "call execve 59", "call exit 60", "call mount 165 CAP_SYS_ADMIN",
-    "call umount2 166 CAP_SYS_ADMIN", "call prctl 157", "call chroot 161", "call setresuid 117", "call setgroups 116", "call openat 257",
+    "call dup 32", "call getpid 39", "call socket 41", "call fork 57", "call execve 59", "call exit 60", "call mount 165",
+    "call umount2 166", "call capset 126", "call setresgid 119", "call prctl 157", "call chroot 161", "call setresuid 117", "call setgroups 116", "call openat 257",
     "call unshare 272", "call setns 308", "call seccomp 317", "group @default exit execve",
 )]  # fmt: skip
 SITE = """\
@@ -131,28 +131,33 @@ class Shape:
         """The table of calls, with calls of their own for the pieces, and groups of two of them."""
         if self.has_real_table and self.kind != "calls":
             return real_table()
-        lines = SMALL_CALLS[:-1] + [f"call c{at} {1000 + at}" for at in range(max(count, 64))] + SMALL_CALLS[-1:]
-        return "\n".join(lines + [f"group @g{at} c{at} c{at // 2}" for at in range(max(count // 4, 64))]) + "\n"
+        # a table has at most 512 calls and 128 groups
+        lines = SMALL_CALLS[:-1] + [f"call c{at} {1000 + at}" for at in range(min(max(count, 64), 480))] + SMALL_CALLS[-1:]
+        return "\n".join(lines + [f"group @g{at} c{at}" + (f" c{at // 2}" if at else "") for at in range(min(max(count // 4, 64), 120))]) + "\n"
 
     def _site(self, many: dict[str, int]) -> str:
         rows = [f'path = "{folder}", kind = "dir"' for folder in FOLDERS] + ['path = "/usr/bin/web", kind = "exe"']
         count = max(many["rows"], min(many["paths"], 1900))
         draw = random.Random(self.seed)
-        known = set()
+        # the parent of a row is a folder, and questions of KEEP ask of files that are there
+        kinds, made = dict.fromkeys(FOLDERS, "dir"), set(FOLDERS)
+        pieces = (ROWS[0], *self.rows) if self.command == "tighten" else self.rows
         for at in range(count):
-            row = pieced(self.rows[at % len(self.rows)], at, draw)
-            path = row.split('"')[1]
+            row = pieced(pieces[at % len(pieces)], at if self.command != "tighten" else at // len(pieces), draw)
+            _, path, _, kind = row.split('"')[:4]
             above = path.rpartition("/")[0]
-            if above not in FOLDERS and above not in known:
-                known.add(above)
+            if kinds.setdefault(above, "dir") != "dir" or path in kinds:
+                continue
+            if above not in made:
                 rows.append(f'path = "{above}", kind = "dir"')
-            if path not in known:
-                known.add(path)
-                rows.append(row)
+            made |= {above, path}
+            kinds[path] = kind
+            rows.append(row)
         return SITE + "".join(f"  {{ {row} }},\n" for row in rows) + "]\n"
 
     def _unit(self, many: dict[str, int], draw: random.Random) -> str:
         lines = ["[Service]", "ExecStart=/usr/bin/web", *([] if self.is_root else ["User=33"]), *self.base]
+        lines += ["SystemCallFilter=~read"] if self.command == "check" else []
         if self.kind in ("lines", "paths", "rows"):
             paths = [it for it in self.lines if "Paths=" in it] or ["ReadWritePaths=-/a/f{i}"]
             chosen = paths if self.kind == "paths" else self.lines
@@ -165,10 +170,13 @@ class Shape:
         return "\n".join(lines) + "\n"
 
     def _script(self, many: dict[str, int], draw: random.Random) -> str:
-        calls = [pieced(self.calls[at % len(self.calls)], at, draw) for at in range(many["calls"] if self.kind != "paths" else many["paths"])]
+        # a filter of a script is refused by derive, and a real table has no calls of its own for pieces
+        pieces = [it for it in self.calls if not (self.command == "derive" and it.startswith("seccomp") or self.has_real_table and it == "c{m}")]
+        pieces = pieces or ["getpid"]
+        calls = [pieced(pieces[at % len(pieces)], at, draw) for at in range(many["calls"] if self.kind != "paths" else many["paths"])]
         lines = [f"1 {call}" for call in calls]
         if self.kind == "processes":
-            lines += ["1 fork"] * many["processes"] + [f"{2 + at} {pieced(self.calls[at % len(self.calls)], at, draw)}" for at in range(many["processes"])]
+            lines += ["1 fork"] * many["processes"] + [f"{2 + at} {pieced(pieces[at % len(pieces)], at, draw)}" for at in range(many["processes"])]
         return "\n".join(lines) + "\n"
 
     def _filter(self, count: int, draw: random.Random) -> str:
@@ -183,7 +191,7 @@ def pieced(template: str, at: int, draw: random.Random) -> str:
     if "{" not in template:
         return template
     number = draw.getrandbits(32)
-    return template.format(i=at, h=at // 2, r=number % 1000, x=number.to_bytes(4, "little").hex(), a=f"{4 * (number % 16):02x}")
+    return template.format(i=at, h=at // 2, m=at % 64, r=number % 1000, x=number.to_bytes(4, "little").hex(), a=f"{4 * (number % 16):02x}")
 
 
 def drawn(command: str, kind: str, seed: int) -> Shape:

@@ -234,7 +234,9 @@ class Room:
     def _make_site(self, names: list[str]) -> None:
         switches, made = self.line.switches, Site()
         made.root, made.units, made.unit = self.root, self.units, names
-        made.keep, made.modes, made.drop_in = self.site, f"{self.here}/site.toml.modes", self.added
+        made.keep, made.drop_in = self.site, self.added
+        # only views read modes
+        made.modes = f"{self.here}/site.toml.modes" if self.line.view else ""
         # the walk over the root is cached once for all of its units
         made.walk = walk_file(self.root)
         made.fresh, made.full, made.short = "--fresh" in switches, "--full" in switches, "--verbose" not in switches
