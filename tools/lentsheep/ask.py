@@ -28,7 +28,7 @@ def tell(lines: Sequence[str]) -> None:
 
 
 def root_of() -> str | None:
-    """The root that `--root` names, as tools/with-root hands it over."""
+    """The root that `--root` names, as room.py hands it over."""
     return os.environ.get("LENTSHEEP_ROOT") or None
 
 
