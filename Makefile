@@ -13,7 +13,7 @@ COMPLETION = $(DESTDIR)$(PREFIX)/share/bash-completion/completions
 # Tools that people run by themselves, as lentsheep-NAME.
 COMMANDS = make-site running-filters script-of-strace
 PAGES = lentsheep.1 lentsheep-harden.1 lentsheep-lint.1 $(COMMANDS:%=lentsheep-%.1) lentsheep-calls.5 lentsheep-script.5 lentsheep-site.5
-TOOLS = words with-root link-unit make-calls $(COMMANDS) $(notdir $(wildcard tools/view))
+TOOLS = link-unit make-calls $(COMMANDS)
 TREES = tables $(wildcard tools/sites tools/lentsheep)
 
 .PHONY: all install uninstall test FORCE
@@ -31,7 +31,6 @@ install: $(PROGRAM)
 	install -m 755 sandbox $(LIB)/sandbox
 	for tool in $(TOOLS); do install -m 755 tools/$$tool $(LIB)/tools/ || exit; done
 	find $(TREES) \( -name __pycache__ -o -name tests \) -prune -o -type f -exec install -D -m 644 {} $(LIB)/{} \;
-	chmod 644 $(LIB)/tools/words
 	ln -sfn ../lib/lentsheep/sandbox $(BIN)/lentsheep
 	for tool in $(COMMANDS); do ln -sfn ../lib/lentsheep/tools/$$tool $(BIN)/lentsheep-$$tool || exit; done
 	for page in $(PAGES); do install -m 644 man/$$page $(MAN)/man$${page##*.}/ || exit; done
@@ -46,5 +45,5 @@ uninstall:
 
 # The quick tests, which need neither the kit nor a proved program. The gate is rt ci.
 test:
-	for test in command sites views docs prose reality graph; do tools/test-$$test || exit; done
+	for test in types command sites views docs prose reality graph worst; do tools/test-$$test || exit; done
 	tools/graph

@@ -1,6 +1,7 @@
 """What tools/bench is made of, one thing a module: `inputs` (made units, sites and scripts), `timing` (runs in turns), `table` (the
 commands beside systemd-analyze), `site` (a row of site.toml), `filters` (what their programs cost), `foreign` (what
-`check` takes for those of another maker), `hostile`, and `step`.
+`check` takes for those of another maker), `hostile`, `step` and `view`. tools/worst uses `shapes` (random inputs) and `growth` (runs over
+inputs of growing size).
 """
 import os
 

@@ -6,20 +6,26 @@ stack with 4 for each program, and the fewest, the average and the most instruct
 
 The reader knows nothing of the compiler: it runs the instructions as their table in bpf(4) and <linux/filter.h> has them.
 """
+from __future__ import annotations
+
+import argparse
 import os
 import shutil
 import struct
 import subprocess
 import tempfile
+from typing import Callable, Iterator, Sequence, Tuple
 
 from benches import CALLS, DEBIAN, PROGRAM, inputs
 
+# The code, both jumps and the operand.
+Insn = Tuple[int, int, int, int]
 X86_64 = 0xC000003E
 NUMBERS = range(512)
 
 LOAD, AND, JUMP, EQUAL, GREATER, AT_LEAST, ANY_BIT, END = 0x20, 0x54, 0x05, 0x15, 0x25, 0x35, 0x45, 0x06
 
-TESTS = {
+TESTS: dict[int, Callable[[int, int], bool]] = {
     EQUAL: lambda a, k: a == k,
     GREATER: lambda a, k: a > k,
     AT_LEAST: lambda a, k: a >= k,
@@ -42,14 +48,14 @@ UNITS = {
 }  # fmt: skip
 
 
-def add_words(parser):
+def add_words(parser: argparse.ArgumentParser) -> None:
     """The words of the subcommand."""
     parser.add_argument("files", nargs="*", metavar="FILE", help="what `filter` printed (made of some units where none is given)")
 
 
-def read_programs(unit, text):
+def read_programs(unit: str, text: str) -> list[tuple[str, list[Insn]]]:
     """The programs of a printed text, each with its name."""
-    programs = []
+    programs: list[tuple[str, int, list[Insn]]] = []
     for line in text.split("\n"):
         words = line.split()
         if len(words) == 3 and words[0] == "filter":
@@ -62,7 +68,7 @@ def read_programs(unit, text):
     return [(name, program) for name, _, program in programs]
 
 
-def run(program, words):
+def run(program: Sequence[Insn], words: Sequence[int]) -> tuple[int, int]:
     """The answer, and how many instructions were made."""
     a = place = made = 0
     while True:
@@ -83,7 +89,7 @@ def run(program, words):
             raise ValueError(f"code {code:#x}")
 
 
-def longest_path(program):
+def longest_path(program: Sequence[Insn]) -> int:
     """The longest way through the instructions, whether some input takes it or not."""
     longest = [0] * len(program)
     for place in reversed(range(len(program))):
@@ -100,17 +106,17 @@ def longest_path(program):
     return longest[0]
 
 
-def spread(counts):
+def spread(counts: Sequence[int]) -> str:
     """The fewest, the average and the most."""
     return f"{min(counts)}/{sum(counts) / len(counts):.1f}/{max(counts)}"
 
 
-def made_for_each_number(program):
+def made_for_each_number(program: Sequence[Insn]) -> list[int]:
     """How many instructions are made for each number."""
     return [run(program, [number, X86_64] + [0] * 14)[1] for number in NUMBERS]
 
 
-def tell(unit, text):
+def tell(unit: str, text: str) -> None:
     """Tells of the programs of a unit."""
     programs = read_programs(unit, text)
     whole = [0] * len(NUMBERS)
@@ -126,7 +132,7 @@ def tell(unit, text):
 
 
 
-def printed():
+def printed() -> Iterator[tuple[str, str]]:
     """What `filter` prints of some units."""
     with tempfile.TemporaryDirectory(prefix="bench-") as folder:
         shutil.copy(CALLS, folder)
@@ -136,7 +142,7 @@ def printed():
             yield name, subprocess.run([PROGRAM, "filter", "web.service"], cwd=folder, stdout=subprocess.PIPE, text=True, check=True).stdout
 
 
-def main(found):
+def main(found: argparse.Namespace) -> int:
     """Tells of the files, or of the units."""
     for path in found.files:
         with open(path, encoding="utf-8") as file:

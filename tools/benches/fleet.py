@@ -2,9 +2,13 @@
 
 The units are the hardened one and the same with fewer of its lines, over the table and the site of a source folder or the small Debian.
 """
+from __future__ import annotations
+
+import argparse
 import os
 import shutil
 import tempfile
+from typing import Sequence
 
 from benches import PROGRAM, inputs
 from benches.table import tell
@@ -13,14 +17,14 @@ from benches.timing import Timed, in_turns, median
 MOST = 1024
 
 
-def add_words(parser):
+def add_words(parser: argparse.ArgumentParser) -> None:
     """The words of the subcommand."""
     parser.add_argument("--runs", type=int, default=5, metavar="N", help="how often all units are scored (5)")
     parser.add_argument("--units", type=int, default=MOST, metavar="N", help=f"how many units there are ({MOST})")
     parser.add_argument("--source", metavar="FOLDER", help="a folder whose calls.txt and site.toml the units are scored on")
 
 
-def make_units(folder, count):
+def make_units(folder: str, count: int) -> list[str]:
     """So many units beside the hardened one's inputs: each leaves out other lines of it. Returns their paths."""
     with open(f"{folder}/{inputs.SYSTEM}/web.service", encoding="utf-8") as file:
         lines = file.read().splitlines()
@@ -37,10 +41,12 @@ def make_units(folder, count):
 class OneByOne:
     """Runs of a command for each of some units, counted together."""
 
-    def __init__(self, runs):
-        self.runs, self.clock, self.processor, self.memory, self.status, self.printed = runs, [], [], 0.0, 0, 0
+    def __init__(self, runs: Sequence[Timed]):
+        self.runs, self.memory, self.status, self.printed = runs, 0.0, 0, 0
+        self.clock: list[float] = []
+        self.processor: list[float] = []
 
-    def run(self):
+    def run(self) -> None:
         """One run more of each."""
         for timed in self.runs:
             timed.run()
@@ -48,7 +54,7 @@ class OneByOne:
         self.processor.append(sum(timed.processor[-1] for timed in self.runs))
         self.status = max(timed.status for timed in self.runs)
 
-    def measure(self):
+    def measure(self) -> None:
         """What each prints, and the most memory of one."""
         for timed in self.runs:
             timed.measure()
@@ -56,13 +62,13 @@ class OneByOne:
         self.printed = sum(timed.printed for timed in self.runs)
 
 
-def main(found):
+def main(found: argparse.Namespace) -> int:
     """Times the commands, and prints the table."""
     with tempfile.TemporaryDirectory(prefix="bench-") as top:
         folder = f"{top}/host"
         inputs.make_hardened(folder, found.source and os.path.abspath(found.source))
         paths = make_units(folder, found.units)
-        all_of_them = [(f"fleet, {found.units:,} units", Timed("fleet", [PROGRAM, "fleet", "policy.json"], folder))]
+        all_of_them: list[tuple[str, Timed | OneByOne]] = [(f"fleet, {found.units:,} units", Timed("fleet", [PROGRAM, "fleet", "policy.json"], folder))]
         analyze = shutil.which("systemd-analyze")
         if analyze:
             words = [analyze, "security", "--offline=true", "--no-pager"]

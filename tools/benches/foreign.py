@@ -4,12 +4,16 @@ Filters in a row are made here, one comparison for each number; where libseccomp
 a row and as a tree (SCMP_FLTATR_CTL_OPTIMIZE 1 and 2), for the one ABI, as systemd has it make them. Of each: its instructions, what
 the program says, the median of the processor's milliseconds, and the most memory.
 """
+from __future__ import annotations
+
+import argparse
 import ctypes
 import ctypes.util
 import os
 import shutil
 import struct
 import tempfile
+from typing import Iterator, Optional, Sequence
 
 from benches import CALLS, DEBIAN, PROGRAM, inputs
 from benches.filters import END, EQUAL, LOAD, X86_64
@@ -20,26 +24,27 @@ KILL, ALLOW = 0x80000000, 0x7FFF0000
 BAD_ARCHITECTURE, OPTIMIZE = 2, 8
 
 
-def add_words(parser):
+def add_words(parser: argparse.ArgumentParser) -> None:
     """The words of the subcommand."""
     parser.add_argument("--runs", type=int, default=11, metavar="N", help="how often each is run (11)")
     parser.add_argument("--keep", metavar="FOLDER", help="where the filters are kept as files")
 
 
-def numbers_of(words):
+def numbers_of(words: Sequence[str]) -> list[int]:
     """The numbers of the calls that these names and groups of the table stand for, ascending."""
-    calls, groups = {}, {}
+    calls: dict[str, set[int]] = {}
+    groups: dict[str, set[int]] = {}
     with open(CALLS, encoding="utf-8") as file:
         for line in file:
             said = line.split()
             if said[:1] == ["call"]:
                 calls[said[1]] = {int(said[2])}
             elif said[:1] == ["group"]:
-                groups[said[1]] = set().union(*((calls | groups).get(one, set()) for one in said[2:]))
-    return sorted(set().union(*((calls | groups)[word] for word in words)))
+                groups[said[1]] = {number for one in said[2:] for number in {**calls, **groups}.get(one, set())}
+    return sorted({number for word in words for number in {**calls, **groups}[word]})
 
 
-def in_a_row(numbers):
+def in_a_row(numbers: Sequence[int]) -> list[bytes]:
     """A filter that compares with one number after the other."""
     code = [(LOAD, 0, 0, 4), (EQUAL, 1, 0, X86_64), (END, 0, 0, KILL), (LOAD, 0, 0, 0)]
     for number in numbers:
@@ -47,7 +52,7 @@ def in_a_row(numbers):
     return [struct.pack("<HBBI", *insn) for insn in code + [(END, 0, 0, KILL)]]
 
 
-def by_libseccomp(numbers, level):
+def by_libseccomp(numbers: Sequence[int], level: int) -> Optional[list[bytes]]:
     """The filter that libseccomp makes; None where it is not installed."""
     path = ctypes.util.find_library("seccomp")
     if path is None:
@@ -69,7 +74,7 @@ def by_libseccomp(numbers, level):
     return [code[at : at + 8] for at in range(0, len(code), 8)]
 
 
-def filters():
+def filters() -> Iterator[tuple[str, list[bytes], str]]:
     """Each filter with its name and the lines of its unit."""
     service = numbers_of(["@default", "@system-service"])
     unit = "SystemCallFilter=@system-service"
@@ -84,7 +89,7 @@ def filters():
         yield f"{count} calls in a row", in_a_row(numbers_of(["@default", *names[:count]])), "SystemCallFilter=" + " ".join(names[:count])
 
 
-def main(found):
+def main(found: argparse.Namespace) -> int:
     """Times them all in turns."""
     with tempfile.TemporaryDirectory(prefix="bench-") as folder:
         runs = []

@@ -3,14 +3,20 @@
 The inputs below stand over the files of examples/hardened. A run that takes more than a second, 200 MB or prints more than 16 MB is
 marked `!`.
 """
+from __future__ import annotations
+
+import argparse
 import os
 import shutil
 import subprocess
 import tempfile
+from io import BufferedReader
+from typing import Callable, Dict, Sequence, Tuple, cast
 
 from benches import CALLS, PROGRAM, TOP
 from benches.timing import high_water
 
+Files = Dict[str, str]
 SYSTEM = "etc/systemd/system"
 NAME = "a" * 245 + ".service"
 HEAD = "[Service]\nExecStart=/usr/bin/web\n"
@@ -22,37 +28,37 @@ MEBIBYTE = 1 << 20
 MOST_PRINTED = 64_000_000
 
 
-def filled(front, piece, behind="\n"):
+def filled(front: str, piece: str, behind: str = "\n") -> str:
     """A text of at most one mebibyte: the front, as many pieces as there is room for, and what ends it."""
     return front + piece * ((MEBIBYTE - len(front) - len(behind)) // len(piece)) + behind
 
 
-def unit(text):
+def unit(text: str) -> Files:
     """The unit of a name of 253 bytes."""
     return {f"{SYSTEM}/{NAME}": text}
 
 
-def drop_ins(text, count=16, name=WEB):
+def drop_ins(text: str, count: int = 16, name: str = WEB) -> Files:
     """A unit with so many drop-ins of this text."""
-    return {f"{SYSTEM}/{name}": HEAD} | {f"{SYSTEM}/{name}.d/{at:02}.conf": text for at in range(count)}
+    return {f"{SYSTEM}/{name}": HEAD, **{f"{SYSTEM}/{name}.d/{at:02}.conf": text for at in range(count)}}
 
 
-def mounting(script):
+def mounting(script: str) -> Files:
     """A script over the real table of calls."""
     with open(CALLS, encoding="utf-8") as file:
-        return unit(HEAD) | {"calls.txt": file.read(), "s.txt": script}
+        return {**unit(HEAD), "calls.txt": file.read(), "s.txt": script}
 
 
-def beside(path, text):
+def beside(path: str, text: str) -> Files:
     """A plain unit with another file."""
-    return unit(HEAD) | {path: text}
+    return {**unit(HEAD), path: text}
 
 
 FILTER, PLAN, JUDGE = ["filter", NAME], ["plan", NAME], ["judge", NAME]
 REPLAY, SCORE = ["replay", NAME, "s.txt"], ["score", NAME, "p.json"]
 
 # What the input is, what makes its files, which stand over those of the example, and the commands that run over it.
-ROWS = (
+ROWS: Tuple[Tuple[str, Callable[[], Files], Sequence[Sequence[str]]], ...] = (
     ("a name of 253 bytes, a thousand times in User=", lambda: unit(HEAD + "User=" + "%n" * 1000 + "\n"), (FILTER, JUDGE)),
     ("a name of 253 bytes, a mebibyte of them in User=", lambda: unit(filled(HEAD + "User=", "%n")), (FILTER, JUDGE)),
     ("a name of 253 bytes, a mebibyte of them in Group=", lambda: unit(filled(HEAD + "Group=", "%n")), (FILTER,)),
@@ -91,7 +97,7 @@ ROWS = (
 )
 
 
-def measured(folder, words):
+def measured(folder: str, words: Sequence[str]) -> tuple[int, int, float, float, bytes]:
     """The status, the printed bytes, seconds of the processor, the most memory in MB of a run more, and what was written to standard error.
 
     What is printed is counted and passed over; a run that prints more than 64 MB is cut there, and counts as status 5.
@@ -99,23 +105,24 @@ def measured(folder, words):
     count = 0
     with open(f"{folder}/told", "w+b") as told:
         run = subprocess.Popen([PROGRAM, *words], cwd=folder, stdin=subprocess.DEVNULL, stdout=subprocess.PIPE, stderr=told)
-        while piece := run.stdout.read1(1 << 20):
+        output = cast(BufferedReader, run.stdout)
+        while piece := output.read1(1 << 20):
             count += len(piece)
             if count > MOST_PRINTED:
                 break
-        run.stdout.close()
+        output.close()
         _, status, used = os.wait4(run.pid, 0)
         run.returncode = os.waitstatus_to_exitcode(status)
         told.seek(0)
         return run.returncode, count, used.ru_utime + used.ru_stime, high_water([PROGRAM, *words], folder), told.read()
 
 
-def add_words(parser):
+def add_words(parser: argparse.ArgumentParser) -> None:
     """The words of the subcommand."""
     parser.add_argument("sought", nargs="*", metavar="WORD", help="run the inputs whose names have one of these (all where none is given)")
 
 
-def main(found):
+def main(found: argparse.Namespace) -> int:
     """Runs the commands, and prints a line of each."""
     for what, made, commands in ROWS:
         if found.sought and not any(word in what for word in found.sought):

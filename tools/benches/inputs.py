@@ -1,6 +1,9 @@
 """Made inputs: a site of thousands of rows, a unit that speaks of many of them, a hardened unit, and a long script."""
+from __future__ import annotations
+
 import os
 import shutil
+from typing import Optional
 
 from benches import CALLS, DEBIAN, POLICY
 
@@ -44,14 +47,14 @@ CALLS_IN_TURNS = [
 SCRIPT_CALLS, FORKS = 16384, 512
 
 
-def write(path, text):
+def write(path: str, text: str) -> None:
     """Makes a file with the folders above it."""
     os.makedirs(os.path.dirname(path), exist_ok=True)
     with open(path, "w", encoding="utf-8") as file:
         file.write(text)
 
 
-def large_site(rows):
+def large_site(rows: int) -> str:
     """A site of 40 folders with so many rows in each; every third of these is a program, each 24th with a set-user-id bit."""
     text = ['dynamic_uid = 61184\nuser = [{ name = "root", uid = 0, gid = 0 }]\ngroup = [{ name = "root", gid = 0 }]\nrow = [\n']
     for folder in range(FOLDERS):
@@ -63,7 +66,7 @@ def large_site(rows):
     return "".join([*text, "]\n"])
 
 
-def large_unit(rows):
+def large_unit(rows: int) -> str:
     """A unit of 128 written paths, 32 of each of four kinds: whole folders, and files in them."""
     file = "/folder-{:02}/a-file-with-a-long-name-{:02}".format
     text = [f"[Service]\nExecStart={file(FOLDERS - 1, 3)}\nDynamicUser=yes\nPrivateDevices=yes\nProtectKernelTunables=yes"]
@@ -76,7 +79,7 @@ def large_unit(rows):
     return "\n".join(text) + "\n"
 
 
-def hidden_site(programs, binds):
+def hidden_site(programs: int, binds: int) -> str:
     """A site of so many set-user-id programs in one folder, /x, of a visible one behind all of them, and of folders for binds."""
     folders = ["/usr", "/usr/bin", "/x", *(f"/a{at:02}" for at in range(binds)), "/z"]
     rows = [f'{{ path = "{it}", kind = "dir" }},' for it in folders]
@@ -85,7 +88,7 @@ def hidden_site(programs, binds):
     return "\n".join(["dynamic_uid = 61184", "row = [", *rows, "]", ""])
 
 
-def hidden_unit(binds):
+def hidden_unit(binds: int) -> str:
     """A unit that hides that folder, below `/` and below each bind of it."""
     text = ["[Service]", "ExecStart=/usr/bin/web", "User=33", "InaccessiblePaths=/x"]
     for at in range(binds):
@@ -93,13 +96,13 @@ def hidden_unit(binds):
     return "\n".join([*text, ""])
 
 
-def many_groups(program, count):
+def many_groups(program: str, count: int) -> str:
     """A unit with so many gids, of which 65,000 differ."""
     lines = (range(at, min(at + 1000, count)) for at in range(0, count, 1000))
     return f"[Service]\nExecStart={program}\nUser=33\n" + "".join(f"SupplementaryGroups={' '.join(str(1 + it % 65000) for it in line)}\n" for line in lines)
 
 
-def long_script(program):
+def long_script(program: str) -> str:
     """A script of as many calls as a script may have."""
     calls = [CALLS_IN_TURNS[at % len(CALLS_IN_TURNS)].format(program=program) for at in range(SCRIPT_CALLS)]
     getpid = [at for at, call in enumerate(calls) if call == "1 getpid"]
@@ -114,19 +117,19 @@ MOUNTS, COPIES = 2000, 7100
 ALLOWS = "060000000000ff7f"
 
 
-def sharing_script():
+def sharing_script() -> str:
     """A script of long programs and many groups, which each of many children has from its parent."""
     calls = [f"1 seccomp {ALLOWS * INSTRUCTIONS} 1"] * PROGRAMS
     return "\n".join([*calls, f"1 setgroups [{','.join(['1'] * GIDS)}] {GIDS}", *["1 fork"] * CHILDREN]) + "\n"
 
 
-def copying_script():
+def copying_script() -> str:
     """A script of many binds of a folder with many mounts below it, each with all of them, and each taken away at once."""
     calls = ["1 mount /usr/share /usr/bin 0 0 0 4096"] * MOUNTS
     return "\n".join(calls + ["1 mount /usr /srv 0 0 0 20480", "1 umount2 /srv 0 2"] * COPIES) + "\n"
 
 
-def many_paths(site):
+def many_paths(site: str) -> str:
     """A unit of 128 written paths of a site, 32 of each of four kinds: whole folders, and files and programs."""
     with open(site, encoding="utf-8") as file:
         rows = [(it.split('path = "')[1].split('"')[0], 'kind = "dir"' in it) for it in file.read().split("\n\n") if 'path = "' in it]
@@ -141,21 +144,21 @@ def many_paths(site):
     return "\n".join(text) + "\n"
 
 
-def make_large(folder, rows):
+def make_large(folder: str, rows: int) -> None:
     """A folder with a large site and its unit."""
     write(f"{folder}/{SYSTEM}/web.service", large_unit(rows))
     write(f"{folder}/site.toml", large_site(rows))
     shutil.copy(CALLS, folder)
 
 
-def make_hidden(folder, programs, binds):
+def make_hidden(folder: str, programs: int, binds: int) -> None:
     """A folder with hidden set-user-id programs and the unit that hides them."""
     write(f"{folder}/{SYSTEM}/web.service", hidden_unit(binds))
     write(f"{folder}/site.toml", hidden_site(programs, binds))
     shutil.copy(CALLS, folder)
 
 
-def make_scripts(folder):
+def make_scripts(folder: str) -> None:
     """A folder with those scripts, and a unit that runs as root over the small Debian."""
     os.makedirs(folder)
     shutil.copy(CALLS, f"{folder}/calls.txt")
@@ -165,14 +168,14 @@ def make_scripts(folder):
     write(f"{folder}/copied", copying_script())
 
 
-def make_other(folder, hardened, unit):
+def make_other(folder: str, hardened: str, unit: str) -> None:
     """A folder with another unit over the tables of the hardened one."""
     write(f"{folder}/{SYSTEM}/web.service", unit)
     for name in ("calls.txt", "site.toml"):
         shutil.copy(f"{hardened}/{name}", folder)
 
 
-def make_hardened(folder, source=None):
+def make_hardened(folder: str, source: Optional[str] = None) -> str:
     """A folder with a hardened unit, a script and a policy, over the tables of a source folder or the small Debian; and its program."""
     os.makedirs(folder)
     shutil.copy(f"{source}/calls.txt" if source else CALLS, f"{folder}/calls.txt")
@@ -187,7 +190,7 @@ def make_hardened(folder, source=None):
     return program
 
 
-def first_program(site):
+def first_program(site: str) -> str:
     """The path of the first program of a site without a privilege, as make-site writes it."""
     with open(site, encoding="utf-8") as file:
         tables = file.read().split("\n\n")

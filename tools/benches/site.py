@@ -1,4 +1,7 @@
 """What a row of site.toml takes: `filter` with a large site, less `filter` with a site of no rows."""
+from __future__ import annotations
+
+import argparse
 import os
 import re
 import shutil
@@ -8,19 +11,19 @@ from benches import PROGRAM, inputs
 from benches.timing import Timed, in_turns
 
 
-def add_words(parser):
+def add_words(parser: argparse.ArgumentParser) -> None:
     """The words of the subcommand."""
     parser.add_argument("--runs", type=int, default=41, help="how often each is run (41)")
     parser.add_argument("--source", metavar="FOLDER", help="a folder whose calls.txt and site.toml are taken in place of made ones")
 
 
-def without_rows(text):
+def without_rows(text: str) -> str:
     """A site without its rows, of either writing."""
     text = re.sub(r"^row *= *\[$.*?^\]$", "", text, flags=re.M | re.S)
     return re.sub(r"^\[\[row\]\]$.*?(?=^\[|\Z)", "", text, flags=re.M | re.S)
 
 
-def main(found):
+def main(found: argparse.Namespace) -> int:
     """Times both, and prints the difference."""
     with tempfile.TemporaryDirectory(prefix="bench-") as folder:
         whole, none = f"{folder}/whole", f"{folder}/none"

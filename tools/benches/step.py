@@ -3,6 +3,9 @@
 The calls take no memory: one that is plain, one that the kernel lacks, a path that is found and one that is not, an open for
 writing that is refused, a family, an id that stays, and two operations of prctl(2).
 """
+from __future__ import annotations
+
+import argparse
 import os
 import subprocess
 import time
@@ -16,7 +19,7 @@ STEPPED = [
 ]  # fmt: skip
 
 
-def add_words(parser):
+def add_words(parser: argparse.ArgumentParser) -> None:
     """The words of the subcommand."""
     parser.add_argument("--source", metavar="FOLDER", help="a folder whose calls.txt and site.toml are taken")
     parser.add_argument(
@@ -25,13 +28,13 @@ def add_words(parser):
     )  # fmt: skip
 
 
-def indented(path):
+def indented(path: str) -> str:
     """The lines of a file, as rows have them."""
     with open(path, encoding="utf-8") as file:
         return "".join(f"  {line}" for line in file)
 
 
-def main(found):
+def main(found: argparse.Namespace) -> int:
     """Prints the nanoseconds of each call."""
     if not os.access(found.kernel_rows, os.X_OK):
         print(f"there is no {found.kernel_rows}")
@@ -39,7 +42,7 @@ def main(found):
     calls, site = (f"{found.source}/calls.txt", f"{found.source}/site.toml") if found.source else (CALLS, DEBIAN)
     head = f"part worlds\n{indented(calls)}calls\n{indented(site)}site\nworld of a step\n"
 
-    def run(steps, call):
+    def run(steps: int, call: str) -> tuple[float, str]:
         began = time.perf_counter()
         ended = subprocess.run([found.kernel_rows], input=f"{head}repeat {steps} {call}\n", stdout=subprocess.PIPE, text=True, check=True)
         return time.perf_counter() - began, ended.stdout.rstrip("\n").split("\n")[-1]

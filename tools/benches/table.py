@@ -3,9 +3,13 @@
 The last column is the processor's time as a part of that of systemd-analyze over the hardened unit. With `--source ../shared/real` the
 hardened unit, the one that runs as root, the one with 128 paths and the one with many groups are judged on a real table and site.
 """
+from __future__ import annotations
+
+import argparse
 import os
 import shutil
 import tempfile
+from typing import Optional, Sequence
 
 from benches import PROGRAM, inputs
 from benches.timing import Timed, in_turns, median
@@ -14,7 +18,7 @@ HEAD = ["What", "Status", "Printed", "Fastest", "Median", "Slowest", "Processor"
 ANALYZE = "systemd-analyze security, {}"
 
 
-def add_words(parser):
+def add_words(parser: argparse.ArgumentParser) -> None:
     """The words of the subcommand."""
     parser.add_argument("--runs", type=int, default=21, help="how often each is run (21)")
     parser.add_argument("--rows", type=int, default=50, help="rows in each of the 40 folders of the large site (50)")
@@ -29,7 +33,7 @@ HIDDEN = ((1976, 0), (1976, 7), (1976, 63), (500, 63))
 GROUPS = (65_000, 140_000)
 
 
-def make_all(folder, found):
+def make_all(folder: str, found: argparse.Namespace) -> dict[str, str]:
     """Makes the inputs below a folder, and tells where each lies."""
     places = {name: f"{folder}/{name}" for name in ("large", "hardened", "root")}
     inputs.make_large(places["large"], found.rows)
@@ -46,7 +50,7 @@ def make_all(folder, found):
     return places
 
 
-def timed_commands(folder, is_piped, large, hardened, root, paths=None):
+def timed_commands(folder: str, is_piped: bool, large: str, hardened: str, root: str, paths: Optional[str] = None) -> list[Timed]:
     """Each command with its inputs."""
     rows = [
         ("start", ["--version"], hardened),
@@ -77,7 +81,7 @@ def timed_commands(folder, is_piped, large, hardened, root, paths=None):
     return found
 
 
-def tell(rows):
+def tell(rows: Sequence[Sequence[str]]) -> None:
     """Prints a table."""
     widths = [max(len(row[at]) for row in [HEAD, *rows]) for at in range(len(HEAD))]
     for number, row in enumerate([HEAD, ["-" * width for width in widths], *rows]):
@@ -85,7 +89,7 @@ def tell(rows):
         print("| " + " | ".join(cells) + " |")
 
 
-def main(found):
+def main(found: argparse.Namespace) -> int:
     """Times the commands, and prints the table."""
     with tempfile.TemporaryDirectory(prefix="bench-") as folder:
         places = make_all(folder, found)

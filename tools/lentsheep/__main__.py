@@ -1,4 +1,4 @@
-"""The entry: `python3 tools/lentsheep WORDS..`, which tools/view runs."""
+"""The entry, which sandbox runs by the name of this file: a folder takes longer to be run."""
 import os
 import sys
 
@@ -10,6 +10,6 @@ from sites import bytecode
 
 bytecode.keep()
 
-from lentsheep.cli import main
+from lentsheep.entry import main
 
 sys.exit(main(sys.argv[1:]))

@@ -5,12 +5,11 @@ Nothing of what the program prints is changed; what is told besides stands on st
 from __future__ import annotations
 
 import os
-import sys
 from typing import TYPE_CHECKING, Sequence
 
 from .program import Program, Run
 from .report import parse, read_question
-from .terminal import NAME, write
+from .build import tell as _tell
 from .values import Question, Report
 
 # What is told of refusals and of questions is read where it is told.
@@ -24,14 +23,12 @@ KEPT_FILE = ".lentsheep-keeps-{}"
 
 def tell(lines: Sequence[str]) -> None:
     """Tells lines on standard error."""
-    sys.stdout.flush()
     for line in lines:
-        print(f"{NAME}: {line}", file=sys.stderr)
-    sys.stderr.flush()
+        _tell(line)
 
 
 def root_of() -> str | None:
-    """The root that `--root` names, as tools/with-root hands it over."""
+    """The root that `--root` names, as room.py hands it over."""
     return os.environ.get("LENTSHEEP_ROOT") or None
 
 
@@ -47,30 +44,27 @@ def asked(program: Program, words: Sequence[str]) -> Run:
 
 def _told(program: Program, words: Sequence[str]) -> Run:
     run = program.run(*words)
-    if run.status in (3, 7, 8) or run.command == "effect":
-        from .explain import Folder, explained
-
-        folder = Folder(program.folder, root_of())
-        tell(explained(words, run.text, run.status, folder, lambda *others: program.run(*others).text))
+    explain(program, words, run.status, run.text)
     return run
 
 
-def ask(program: Program, words: Sequence[str]) -> int:
-    """Prints a run as it is, tells the rest, and gives its status."""
+def ask(program: Program, words: Sequence[str]) -> Run:
+    """Returns a run with what is to be told of it told, of the lines of the unit too."""
     from .unit_lines import passed_over
     from .unit_text import files_in_force
 
     unit = words[1] if len(words) > 1 else ""
     tell([f"{it.place}: {it.text}" for it in passed_over(files_in_force(program.folder, unit))])
-    run = asked(program, words)
-    write(run.text)
-    return run.status
+    return asked(program, words)
 
 
-def explain(program: Program, status: int, words: Sequence[str]) -> int:
-    """Tells what is to be told of a run that ended with a status, which is made once more."""
-    _told(program, words)
-    return status
+def explain(program: Program, words: Sequence[str], status: int, text: str) -> None:
+    """Tells what is to be told of a run that ended with a status."""
+    if status in (3, 7, 8) or words[:1] == ["effect"]:
+        from .explain import Folder, explained
+
+        folder = Folder(program.folder, root_of())
+        tell(explained(words, text, status, folder, lambda *others: program.run(*others).text))
 
 
 def _files_for(program: Program, words: Sequence[str]) -> tuple[dict[str, bytes], list[str]]:

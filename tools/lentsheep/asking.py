@@ -7,10 +7,10 @@ from __future__ import annotations
 
 import os
 import re
-from dataclasses import dataclass, field
 from typing import Sequence
 
 from .nearest import nearest
+from .record import dataclass, field
 from .report import read_question
 from .table import Table
 from .values import PATH_KINDS, SWITCHES, Question

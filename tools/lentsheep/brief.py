@@ -5,7 +5,6 @@ folders, notes, and the partings from systemd that this unit meets.
 """
 from __future__ import annotations
 
-from dataclasses import dataclass, field
 from typing import Iterable, Sequence
 
 from .causes import State, causes, held_capabilities, state_of
@@ -15,6 +14,7 @@ from .notes import ToldNote
 from .parting_sides import bears_on
 from .partings import Direction, Parting, doubted
 from .places import Exceptional, described, is_below
+from .record import dataclass, field
 from .screen import LABEL, Page, braced, counted, covered, parted
 from .table import Table
 from .unit_lines import Passed

@@ -2,8 +2,9 @@
 from __future__ import annotations
 
 import re
-from dataclasses import dataclass
+from functools import lru_cache
 
+from .record import dataclass
 from .words import unescaped
 
 # Calls whose pointers lead to one path: the see calls, and those that open, run or take away a mount.
@@ -41,22 +42,31 @@ class Call:
         return self.payload if self.name in WITH_PATHS else ()
 
 
-def _number(word: str) -> int:
+@lru_cache(maxsize=4096)
+def _number(word: str) -> int | None:
+    """The number of a word; None where it is none. A report has the same few numbers over and over."""
+    if not _NUMBER.fullmatch(word):
+        return None
     return int(word, 16 if word[:2] in ("0x", "0X") else 10)
+
+
+@lru_cache(maxsize=4096)
+def _name(word: str) -> tuple[str | None, str, int] | None:
+    """The ABI and the name of a call, and how many words of what its pointers lead to it has."""
+    found = _NAME.fullmatch(word)
+    return (found[1], found[2], _PAYLOADS.get(found[2], 0)) if found else None
 
 
 def read_call(text: str) -> Call | None:
     """The call of a line; None where it is none."""
     words = text.split(" ")
-    if len(words) < 2 or not _NUMBER.fullmatch(words[0]):
+    pid, found = _number(words[0]), _name(words[1]) if len(words) > 1 else None
+    if pid is None or found is None:
         return None
-    found = _NAME.fullmatch(words[1])
-    if not found:
-        return None
-    abi, name = found[1], found[2]
-    count = _PAYLOADS.get(name, 0)
-    payload, numbers = words[2 : 2 + count], words[2 + count :]
-    if len(payload) < count or len(numbers) > 6 or not all(_NUMBER.fullmatch(word) for word in numbers):
+    abi, name, count = found
+    payload, read = words[2 : 2 + count], tuple(map(_number, words[2 + count :]))
+    numbers = tuple(it for it in read if it is not None)
+    if len(payload) < count or len(read) > 6 or len(numbers) < len(read):
         return None
     held = tuple(map(unescaped, payload)) if name in WITH_PATHS else tuple(payload)
-    return Call(_number(words[0]), name, abi, held, tuple(map(_number, numbers)), text)
+    return Call(pid, name, abi, held, numbers, text)

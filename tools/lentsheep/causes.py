@@ -6,10 +6,10 @@ capability that it holds at launch, or a program that gives one. The first such 
 from __future__ import annotations
 
 from collections import Counter
-from dataclasses import dataclass
 from enum import Enum
 
 from .calls import Call
+from .record import dataclass
 from .table import Table
 from .values import Answer, Launched, Report
 

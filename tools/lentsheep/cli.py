@@ -1,13 +1,15 @@
-"""The command line of the views, as `./sandbox` hands it over."""
+"""The views, over a run of the program in the current folder: `run_view(line, program)`."""
 from __future__ import annotations
 
 import os
 import sys
 from typing import TYPE_CHECKING, Callable, Sequence
 
-from .ask import ask, asked, explain
-from .program import POLICY, TOP, Program, Run
-from .terminal import COMMAND, NAME, Paint, show, wants_colour, width_of, write
+from .ask import asked
+from .home import COMMAND, POLICY
+from .line import VIEWS_WITH_FILE, Line
+from .program import Program, Run
+from .terminal import Paint, show, wants_colour, width_of, write
 from .values import Filters, Fleet, Report, Score
 
 # What one view needs alone is read where it is made, so that the others do not wait for it.
@@ -46,90 +48,21 @@ class Wrong(Exception):
     """Words, or a file that they name, that cannot be taken; the text says what."""
 
 
-def main(words: Sequence[str]) -> int:
-    """Runs a view; its status comes back."""
-    try:
-        return _run(list(words))
-    except Wrong as wrong:
-        print(f"{NAME}: {wrong}", file=sys.stderr)
-        return 2
-    except OSError as error:
-        # a full disk, a closed pipe: as the program does, and what is left in the buffer goes nowhere
-        os.dup2(os.open(os.devnull, os.O_WRONLY), sys.stdout.fileno())
-        print(f"{NAME}: a write failed ({error.strerror}), and the text was cut", file=sys.stderr)
-        return 5
-    except KeyboardInterrupt:
-        return 130
-
-
-def _run(words: list[str]) -> int:
-    if words[:1] == ["--tool"]:
-        return _run_tool(words[1], words[2:])
-    if "--root" in words[:4]:
-        with_root = f"{TOP}/tools/with-root"
-        os.execv(with_root, [with_root, *words])
-    unproved = words[:1] == ["--try"]
-    words = words[unproved:]
-    option, rest = (words or ["--help"])[0], words[1:]
-    if "--help" in (option, *rest[:1]):
-        write(HELP)
-        return 0
-    if option == "--compare":
-        return _compare(rest)
-    program = Program(".", unproved)
-    if option == "--ask":
-        return ask(program, rest)
-    if option == "--derive":
-        return _derive(program, rest)
-    if option == "--explain" and rest:
-        return explain(program, int(rest[0]), rest[1:])
-    if option in _VIEWS:
-        return _VIEWS[option](program, _command(option, rest))
-    if option in _VIEWS_WITH_FILE:
-        if len(rest) < 2:
-            raise Wrong(f"{option} needs a file and a command after it")
-        return _VIEWS_WITH_FILE[option](program, rest[0], _command(option, rest[1:]))
-    raise Wrong(f"unknown option {option} ({COMMAND} --brief --help lists the options)")
-
-
-def _run_tool(tool: str, words: list[str]) -> int:
-    """Runs `lint` or `harden`, which have options of their own; the words still have the name of the tool."""
-    words.remove(tool)
-    if tool == "lint":
-        from .lint_cli import main as lint
-
-        return lint(words)
-    from .harden_cli import main as harden
-
-    return harden(words)
-
-
-def _derive(program: Program, words: list[str]) -> int:
-    """Prints one list of calls for several scripts, each of which the program derives by itself."""
-    from .hardened import united
-    from .ask import tell
-
-    scripts = [(program.read(name) or b"").decode("utf-8", "surrogateescape") for name in words[2:]]
-    missing = next((name for name in words[2:] if program.read(name) is None), None)
-    if missing:
-        write(f"refused {missing} missing\n")
-        return 3
-    messages: list[str] = []
-    calls = united(program, words[1], scripts, messages)
-    if calls is not None:
-        write(f"[Service]\nSystemCallFilter=\nSystemCallFilter={' '.join(calls)}\n")
-        messages.append(f"the list has the calls of these {len(scripts)} scripts; all other calls are refused")
-    tell(messages)
-    return 0 if calls is not None else 3
+def run_view(line: Line, program: Program) -> int:
+    """Runs the view that the words ask for, and returns its status."""
+    words = _command(line.view, line.words)
+    if line.view in VIEWS_WITH_FILE:
+        return _VIEWS_WITH_FILE[line.view](program, line.view_file, words)
+    if line.view == "--brief" and words[0] == "fleet":
+        return _brief_fleet(program, words, int(line.top) if line.top else None)
+    return _VIEWS[line.view](program, words)
 
 
 def _command(option: str, words: list[str]) -> list[str]:
-    if not words:
-        raise Wrong(f"{option} needs a command after it")
     if option in ("--brief", "--html") and words[0] == "fleet":
         return words
     if option != "--json" and words[0] != "judge":
-        what = f"{option} FILE" if option in _VIEWS_WITH_FILE else option
+        what = f"{option} FILE" if option in VIEWS_WITH_FILE else option
         raise Wrong(f"{option} is a view of judge alone: write {COMMAND} {what} judge UNIT; --json prints all of {words[0]}")
     return words
 
@@ -144,8 +77,6 @@ def _judged(program: Program, words: Sequence[str]) -> tuple[Run, Report | None]
 
 
 def _brief(program: Program, words: list[str]) -> int:
-    if words[0] == "fleet":
-        return _brief_fleet(program, words)
     run = asked(program, words)
     if not isinstance(run.printed, Report) or run.printed.refusal or not run.text:
         write(run.text)
@@ -159,7 +90,7 @@ def _brief(program: Program, words: list[str]) -> int:
     return run.status
 
 
-def _brief_fleet(program: Program, words: list[str]) -> int:
+def _brief_fleet(program: Program, words: list[str], most: int | None) -> int:
     from .fleet_view import MOST, brief_fleet
     from .screen import Page
 
@@ -167,9 +98,8 @@ def _brief_fleet(program: Program, words: list[str]) -> int:
     if not isinstance(run.printed, Fleet) or not run.printed.whole or run.printed.refusal:
         write(run.text)
         return run.status
-    most = os.environ.get("LENTSHEEP_TOP", "")
     screen = Page(width_of(sys.stdout), Paint(wants_colour(sys.stdout)))
-    show("\n".join(brief_fleet(program, run.printed, screen, int(most) if most.isdigit() else MOST)) + "\n")
+    show("\n".join(brief_fleet(program, run.printed, screen, MOST if most is None else most)) + "\n")
     return run.status
 
 
@@ -340,7 +270,8 @@ def _reasons(
     return [f"exposure {score.exposure}"] if score.exposure > expectation.most else []
 
 
-def _compare(files: list[str]) -> int:
+def compare_reports(files: list[str]) -> int:
+    """Prints what changed between two outputs of judge, and returns the status."""
     from . import compare, expect
     from .report import parse
 

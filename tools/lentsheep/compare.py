@@ -1,8 +1,8 @@
 """What changed between two reports of a unit: what opened, what closed, and what is asked in one of them alone."""
 from __future__ import annotations
 
-from dataclasses import dataclass
 
+from .record import dataclass
 from .values import Answer, Launched, Report
 from .words import escaped
 

@@ -6,10 +6,10 @@ says the action. A part that several tests lead to stands in the tree once for e
 from __future__ import annotations
 
 import errno
-from dataclasses import dataclass
 from typing import Optional, Sequence, Union
 
 from .bpf import action_name, field_name, value_name
+from .record import dataclass
 from .values import Instruction
 
 # Codes of instructions, linux/bpf_common.h.

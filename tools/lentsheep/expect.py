@@ -6,13 +6,12 @@ denies or is blind asks that no parting of systemd touches it, and `with-modes` 
 """
 from __future__ import annotations
 
-import dataclasses
 import re
-from dataclasses import dataclass
 from typing import Sequence
 
 from .partings import Parting, doubted
 from .places import is_below
+from .record import dataclass, replace
 from .report import read_question
 from .values import PATH_KINDS, Answer, Question, Report
 from .words import escaped, unescaped
@@ -193,8 +192,8 @@ def doubts(expectation: Expectation, report: Report, found: Sequence[Parting]) -
 
 def with_modes_denied(report: Report) -> Report:
     """The report with what file modes close as denied, so that partings which would open it touch it."""
-    answers = (dataclasses.replace(it, is_open=False, calls=()) if it.by_modes else it for it in report.answers)
-    return dataclasses.replace(report, answers=tuple(answers))
+    answers = (replace(it, is_open=False, calls=()) if it.by_modes else it for it in report.answers)
+    return replace(report, answers=tuple(answers))
 
 
 def _are_one_way(path: str, folder: str) -> bool:

@@ -5,13 +5,13 @@ The units of most exposure come first; of equal ones those of which most answers
 from __future__ import annotations
 
 import os
-from dataclasses import dataclass
 from html import escape
 from typing import Optional, Sequence
 
 from .causes import causes
 from .harm import FIRST_KEYS, Group, candidates, closing, groups, has_sandbox
 from .program import Program
+from .record import dataclass
 from .report import parse
 from .screen import Page, counted
 from .table import Table, read_table

@@ -11,10 +11,12 @@ from . import asking
 from .ask import root_of, tell
 from .explain import Folder, questions_of
 from .hardened import COSTS, MOST_CALLS, Hardening, Line, Refused, shortened
+from .home import COMMAND, NAME, absolute
+from .line import Line
 from .program import Program
 from .report import read_question
 from .strace import Traced, calls_of, names, script_of, signals_of
-from .terminal import COMMAND, NAME, TOP, write
+from .terminal import write
 from .unit_text import UnitFile, files_in_force
 from .values import Question
 from .wanted import KEPT_FILE, Wanted, commands_not_seen, of_trace, of_unit
@@ -78,14 +80,26 @@ def main(words: Sequence[str]) -> int:
 
 
 def _with_root(found: argparse.Namespace) -> int:
-    """Runs this again in a folder that tools/with-root makes."""
-    options = [word for it in ("root", "units", "calls", "site") if getattr(found, it) for word in (f"--{it}", getattr(found, it))]
-    options += [f"--{it}" for it in ("fresh", "full", "verbose") if getattr(found, it)] + (["--try"] if found.unproved else [])
-    files = [f"--strace={os.path.abspath(file)}" for file in found.strace]
-    files += [f"--keep={os.path.abspath(found.keep)}"] if found.keep else []
-    tool = f"{TOP}/tools/with-root"
-    unit = found.unit if "/" in found.unit or found.unit.endswith(".service") else f"{found.unit}.service"
-    os.execv(tool, [tool, *options, "harden", unit, f"--drop-in={os.path.abspath(found.drop_in)}", *files])
+    """Runs this in a folder that is made for the unit of a root."""
+    from .room import Failed, Room
+    from .room import Wrong as WrongRoom
+
+    line = Line()
+    line.names = {f"--{it}": getattr(found, it) for it in ("root", "units", "calls", "site") if getattr(found, it)}
+    line.switches = {f"--{it}" for it in ("fresh", "full", "verbose") if getattr(found, it)}
+    line.words = ["harden", found.unit if "/" in found.unit or found.unit.endswith(".service") else f"{found.unit}.service"]
+    found.strace = [absolute(file) for file in found.strace]
+    found.keep, found.drop_in = absolute(found.keep) if found.keep else None, absolute(found.drop_in)
+    try:
+        with Room(line):
+            found.unit = line.words[1]
+            return _run(found, Program(".", found.unproved))
+    except WrongRoom as wrong:
+        print(wrong, file=sys.stderr)
+        return 2
+    except Failed as fault:
+        tell([str(fault)])
+        return 125
 
 
 def _run(found: argparse.Namespace, program: Program) -> int:

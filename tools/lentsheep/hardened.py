@@ -6,12 +6,12 @@ the program launches the unit with it and every wanted question stays open. Line
 from __future__ import annotations
 
 import contextlib
-from dataclasses import dataclass, field
 from typing import Iterable, Iterator, Optional, Sequence
 
 from . import asking
 from .lint_units import fitting
 from .program import Program, Run
+from .record import dataclass, field
 from .site_text import with_rows
 from .unit_text import FALSE, Said, UnitFile, files_in_force
 from .values import Answer, Derive, Effect, Launched, Question, Report, Tighten, Why

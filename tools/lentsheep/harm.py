@@ -5,12 +5,11 @@ answers: those of which a run of `effect` said so.
 """
 from __future__ import annotations
 
-import dataclasses
 from collections import Counter
-from dataclasses import dataclass
 from typing import Mapping, Optional, Sequence
 
 from .causes import Cause, closed_by, is_root, told
+from .record import dataclass, replace
 from .unit_text import Said
 from .values import Answer, Report
 
@@ -103,7 +102,7 @@ def _parted(cause: Cause) -> list[tuple[str, Cause]]:
     if len(parts) == 1:
         return [(next(iter(parts)), cause)]
     return [
-        (kind, dataclasses.replace(
+        (kind, replace(
             cause, answers=tuple(answers), count=len(answers), kinds=dict(Counter(it.question.kind for it in answers)),
             example=cause.example if cause.example in answers else answers[0],
         ))

@@ -3,12 +3,14 @@ from __future__ import annotations
 
 import json
 import re
-from dataclasses import dataclass, field
 from typing import Mapping, Optional
+
+from .record import dataclass, field
 
 # A row, written as a table of its own or within a list: the path, and what stands behind it.
 _ROW = re.compile(r'\bpath\s*=\s*("(?:[^"\\\n]|\\.)*")(.*?)(?=\n\s*\n|\n\s*\[\[|\}|\Z)', re.DOTALL)
 _SPECIAL = re.compile(r"#\s*(socket|pipe|device|disk|terminal)\b")
+_LINK = re.compile(r"#(?:[^\n]*; )?\s*link(?: (\S[^\n]*))?$", re.MULTILINE)
 _EFFECTIVE = re.compile(r"\beffective\s*=\s*true\b")
 _SYSTEMD = re.compile(r"^# systemd ([0-9]+)", re.MULTILINE)
 _LACKS = re.compile(r"^# the kernel lacks the (calls|families): (.*)$", re.MULTILINE)
@@ -22,6 +24,8 @@ class Host:
     systemd: Optional[int] = None
     #: `socket`, `pipe`, `device`, `disk` or `terminal` by the paths of such rows
     special: Mapping[str, str] = field(default_factory=dict)
+    #: where rows with a link in their path lead, by their paths; empty where that is not known
+    links: Mapping[str, str] = field(default_factory=dict)
     #: programs whose capabilities are effective when they are run
     effective: frozenset[str] = frozenset()
     #: calls and families that the kernel does not have
@@ -36,23 +40,25 @@ class Host:
 
 def read_host(site: str) -> Host:
     """What the text of a site says."""
-    special, effective = {}, set()
+    special, links, effective = {}, {}, set()
     for written, rest in _ROW.findall(site):
-        found = _SPECIAL.search(rest)
-        if found or _EFFECTIVE.search(rest):
+        found, link = _SPECIAL.search(rest), _LINK.search(rest)
+        if found or link or _EFFECTIVE.search(rest):
             path = _text(written)
             if found:
                 special[path] = found[1]
-            else:
+            if link:
+                links[path] = link[1] or ""
+            if not found and _EFFECTIVE.search(rest):
                 effective.add(path)
     version = _SYSTEMD.search(site)
     lacking = {name for _, names in _LACKS.findall(site) for name in names.split()}
-    return Host(int(version[1]) if version else None, special, frozenset(effective), frozenset(lacking))
+    return Host(int(version[1]) if version else None, special, links, frozenset(effective), frozenset(lacking))
 
 
 def _text(written: str) -> str:
     """A basic string of TOML, whose escapes are those of JSON but for a few that no path of make-site has."""
     try:
-        return json.loads(written)
+        return str(json.loads(written))
     except ValueError:
         return written[1:-1]

@@ -5,10 +5,11 @@ A build that was proved has a record beside it, FILE.proved: a line of the kit t
 from __future__ import annotations
 
 import hashlib
-from dataclasses import dataclass
 from typing import Optional, Sequence
 
+from .build import proved_by as record_of
 from .program import Program
+from .record import dataclass
 from .unit_text import UnitFile
 
 #: As many digits of a sum are shown on a screen.
@@ -44,13 +45,7 @@ def sum_of(data: bytes) -> str:
 
 def proved_by(file: Optional[str]) -> str:
     """The line of the kit that proved a program; empty where there is no record, or one of another build."""
-    try:
-        with open(f"{file}.proved", encoding="utf-8") as record:
-            kit, total = record.read().splitlines()
-        with open(file or "", "rb") as program:
-            return kit if sum_of(program.read()) == total else ""
-    except (OSError, ValueError):
-        return ""
+    return record_of(file) if file else ""
 
 
 def identity(program: Program, files: Sequence[UnitFile]) -> Identity:

@@ -1,7 +1,6 @@
 """The JSON form of printed texts, as docs/JSON.md and lentsheep.schema.json say."""
 from __future__ import annotations
 
-import dataclasses
 from typing import Any
 
 from .bpf import described as described_instruction
@@ -14,6 +13,7 @@ from .parting_sides import bears_on
 from .partings import Parting, doubted
 from .places import described
 from .program import Run
+from .record import asdict
 from .values import (
     PATH_KINDS, Answer, Check, Counts, Derive, Effect, Filter, Filters, Fleet, Launch, Launched, LaunchKilled, LaunchPrivileged,
     LaunchRefused, Plan, Printed, Refusal, Replay, Report, Sample, Score, Tighten, Unknown, Why,
@@ -55,13 +55,13 @@ def _refusal(refusal: Refusal | None) -> Json | None:
 
 def _launch(launch: Launch | None) -> Json | None:
     if isinstance(launch, Launched):
-        return {"outcome": "launched", **dataclasses.asdict(launch)}
+        return {"outcome": "launched", **asdict(launch)}
     if isinstance(launch, LaunchRefused):
-        return {"outcome": "refused", **dataclasses.asdict(launch)}
+        return {"outcome": "refused", **asdict(launch)}
     if isinstance(launch, LaunchKilled):
-        return {"outcome": "killed", **dataclasses.asdict(launch)}
+        return {"outcome": "killed", **asdict(launch)}
     if isinstance(launch, LaunchPrivileged):
-        return {"outcome": "privileged", **dataclasses.asdict(launch)}
+        return {"outcome": "privileged", **asdict(launch)}
     return None
 
 
@@ -80,7 +80,7 @@ def _answer(answer: Answer) -> Json:
 
 
 def _counts(counts: Counts | None) -> Json | None:
-    return None if counts is None else dataclasses.asdict(counts)
+    return None if counts is None else asdict(counts)
 
 
 def _cause(cause: Cause, group: Group, report: Report, tried: Tried | None) -> Json:
@@ -156,7 +156,7 @@ def _doubt(names: list[str]) -> Json:
 
 
 def _plan(plan: Plan) -> Json:
-    return {"count": plan.count, "mounts": [dataclasses.asdict(mount) for mount in plan.mounts]}
+    return {"count": plan.count, "mounts": [asdict(mount) for mount in plan.mounts]}
 
 
 def _filter(told_filter: Filter) -> Json:
@@ -180,7 +180,7 @@ def _replay(replay: Replay) -> Json:
 
 
 def _score(score: Score) -> Json:
-    tests = [{**dataclasses.asdict(test), "skipped": test.skipped} for test in score.tests]
+    tests = [{**asdict(test), "skipped": test.skipped} for test in score.tests]
     return {"exposure": score.exposure, "threshold": score.threshold, "tests": tests}
 
 
@@ -218,16 +218,16 @@ def _effect(effect: Effect) -> Json:
         "launch": _launch(effect.launch), "with": {"launch": _launch(effect.with_launch), "refusal": _refusal(effect.with_refusal)},
         "closed": [it.text for it in effect.closed], "opened": [_answer(it) for it in effect.opened],
         "hidden": list(effect.hidden), "shown": list(effect.shown),
-        "counts": None if effect.counts is None else dataclasses.asdict(effect.counts),
+        "counts": None if effect.counts is None else asdict(effect.counts),
     }  # fmt: skip
 
 
 def _why(why: Why) -> Json:
     return {
         "launch": _launch(why.launch), "answer": None if why.answer is None else _answer(why.answer), "nothing": why.nothing,
-        "by": [dataclasses.asdict(it) for it in why.by], "count": why.count,
+        "by": [asdict(it) for it in why.by], "count": why.count,
         "without": {"launch": _launch(why.without_launch), "refusal": _refusal(why.without_refusal)},
-        "lines": [dataclasses.asdict(it) | {"opened": [question.text for question in it.opened]} for it in why.each], "idle": why.idle,
+        "lines": [asdict(it) | {"opened": [question.text for question in it.opened]} for it in why.each], "idle": why.idle,
     }  # fmt: skip
 
 

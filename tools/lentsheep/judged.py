@@ -4,13 +4,13 @@ Partings ask it what the report says where there is one, and else what the text 
 """
 from __future__ import annotations
 
-from dataclasses import dataclass, field
 from functools import cached_property
 from typing import Iterable, Mapping, Optional
 
 from .host import Host
 from .parting_lists import ALL, capabilities_here, more_capabilities, words_of
 from .places import is_below
+from .record import dataclass, field
 from .table import Table, read_groups
 from .unit_text import Said, forbids_namespace
 from .values import Answer, Launched, Plan, Report

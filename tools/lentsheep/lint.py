@@ -6,7 +6,6 @@ from __future__ import annotations
 
 import re
 import tempfile
-from dataclasses import dataclass
 from typing import Iterable, Optional, Sequence
 
 from sites import units
@@ -15,6 +14,7 @@ from . import lint_judged
 from .lint_units import INSTANCE, LintedUnit, made_folder
 from .nearest import nearest
 from .program import Program
+from .record import dataclass
 from .unit_lines import Assignment, Passed, assignments_of, numbered_lines, passed_over
 from .unit_text import UnitFile
 from .value_kinds import unread_value

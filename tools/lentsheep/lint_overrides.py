@@ -7,11 +7,11 @@ A file of overrides has one a line, below a comment with the reason:
 """
 from __future__ import annotations
 
-from dataclasses import dataclass
 from typing import Sequence
 
 from .lint import Finding
 from .lint_tags import TAGS
+from .record import dataclass
 
 
 class Fault(Exception):

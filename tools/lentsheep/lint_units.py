@@ -6,17 +6,19 @@ root the site is a small Debian (tables/debian) with the programs, paths, users 
 from __future__ import annotations
 
 import os
-import subprocess
-from dataclasses import dataclass
 from typing import Optional, Sequence
 
 from sites import units
+from sites.command import Site, make
 from sites.root import Root
+from sites.site import Fault
 from sites.told import Told
 
 from . import asking
+from .home import TOP, absolute
+from .record import dataclass
+from .room import walk_file
 from .site_text import with_rows
-from .terminal import TOP
 from .unit_text import LinkedFolder, UnitFile
 
 #: The instance of which a template is judged.
@@ -167,14 +169,14 @@ def _table_of(place: str) -> str:
 
 
 def _site_of_root(unit: LintedUnit, place: str, root: str) -> None:
-    """Makes the site of a root; the walk over it is cached where --root caches it."""
-    cache = os.environ.get("XDG_CACHE_HOME") or os.path.expanduser("~/.cache")
-    walk = f"{cache}/lentsheep/walk-lint-{root.replace('/', '_')}.json"
-    words = [f"{TOP}/tools/make-site", "--quiet", "--root", root, "--units", place, f"--unit={unit.name}", "--keep", f"{place}/site.toml"]
-    words += ["--walk", walk] if os.path.isdir(os.path.dirname(walk)) else []
-    ended = subprocess.run(words, stderr=subprocess.PIPE, text=True, check=False)
-    if ended.returncode:
-        raise NoUnit(f"there is no site of {root}: {ended.stderr.strip().rpartition(': ')[2]}")
+    """Makes the site of a root; the walk over it is cached once for all units, as --root has it."""
+    made = Site()
+    made.root, made.units, made.unit, made.keep, made.quiet = root, place, [unit.name], f"{place}/site.toml", True
+    made.walk = walk_file(absolute(root) if root == "/" else absolute(root).removesuffix("/"))
+    try:
+        make(made)
+    except (Fault, OSError) as error:
+        raise NoUnit(f"there is no site of {root}: {str(error).rpartition(': ')[2]}") from None
 
 
 def site_of(unit: LintedUnit, place: str) -> bytes:

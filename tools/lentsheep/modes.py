@@ -5,11 +5,11 @@ mode of the file, or may change it; whatever is not known for sure stays open.
 """
 from __future__ import annotations
 
-import dataclasses
 import json
 from typing import Optional
 
 from .places import is_below
+from .record import dataclass, replace
 from .unit_text import Said
 from .values import Answer, Report
 
@@ -32,7 +32,7 @@ MADE_OVER = {
 }  # fmt: skip
 
 
-@dataclasses.dataclass(frozen=True)
+@dataclass(frozen=True)
 class Modes:
     """Modes, owners and groups of paths, and the folders above them."""
 
@@ -40,7 +40,7 @@ class Modes:
     folders: dict[str, tuple[int, int, int]]
 
 
-@dataclasses.dataclass(frozen=True)
+@dataclass(frozen=True)
 class Reach:
     """What the processes of a service can ever have, as its report says; of ids only those are known that it asks."""
 
@@ -82,9 +82,9 @@ def with_modes(report: Report, modes: Optional[Modes], said: Said) -> Report:
         return report
     own = _made_over(said)
     answers = tuple(
-        dataclasses.replace(answer, by_modes=True) if _is_closed(answer, modes, reach, own) else answer for answer in report.answers
+        replace(answer, by_modes=True) if _is_closed(answer, modes, reach, own) else answer for answer in report.answers
     )
-    return dataclasses.replace(report, answers=answers)
+    return replace(report, answers=answers)
 
 
 def _made_over(said: Said) -> list[str]:

@@ -1,7 +1,9 @@
 """The word of a list that a wrong word is nearest to, by letters that are put in, left out, changed or crossed with the next."""
 from __future__ import annotations
 
-from typing import Iterable
+TYPE_CHECKING = False
+if TYPE_CHECKING:
+    from typing import Iterable
 
 
 def nearest(word: str, known: Iterable[str]) -> str:

@@ -1,10 +1,10 @@
 """Notes with what stands in their lines: the key, the text, and for a key that systemd does not know the nearest one."""
 from __future__ import annotations
 
-from dataclasses import dataclass
 from typing import Sequence
 
 from .nearest import nearest
+from .record import dataclass
 from .service_keys import SERVICE_KEYS
 from .unit_text import UnitFile
 from .values import Note

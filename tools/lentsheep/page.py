@@ -148,7 +148,7 @@ def counts(report: Report) -> str:
     kinds = [kind for kind in KINDS if kind not in SWITCHES]
     groups = [(kind, report.of_kind(kind)) for kind in kinds] + [("switches", report.of_kind(*SWITCHES))]
     stand = {kind: Counter(state_of(it) for it in found) for kind, found in groups if found}
-    of_all: Counter = sum(stand.values(), Counter())
+    of_all: Counter[State] = sum(stand.values(), Counter())
     shown = [State.STEPS] + [State.MODES] * bool(of_all[State.MODES])
     rows = [
         (kind, cell(found[State.DENIED], "denied"), cell(sum(found.values()) - found[State.DENIED], "open"),

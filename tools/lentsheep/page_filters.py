@@ -1,11 +1,11 @@
 """The pictures of filters on the page: each decision tree as SVG, from left to right, one line for each end."""
 from __future__ import annotations
 
-from dataclasses import dataclass, field
 from html import escape
 from typing import Mapping
 
 from .decisions import End, Test, Tree, decision_tree
+from .record import dataclass, field
 from .values import Filter
 
 # In pixels: the height of a line, and the widths of a column and of the boxes in it.

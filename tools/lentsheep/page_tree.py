@@ -4,11 +4,11 @@ A folder is folded where all below is alike; in one that is not, so are the many
 """
 from __future__ import annotations
 
-from dataclasses import dataclass, field
 from html import escape
 from typing import Collection, Iterable
 
 from .causes import State, state_of
+from .record import dataclass, field
 from .values import PATH_KINDS, Answer, Report
 
 # The signs of marks: of how a question stands, of several that stand otherwise, and of none.

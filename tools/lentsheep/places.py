@@ -4,9 +4,9 @@ Of the paths that are told, the longest one that a row lies at or below says how
 """
 from __future__ import annotations
 
-from collections import Counter
-from dataclasses import dataclass, field
 from typing import Generic, Iterable, Mapping, TypeVar
+
+from .record import dataclass, field
 
 S = TypeVar("S")
 
@@ -26,7 +26,7 @@ class _Node(Generic[S]):
     path: str
     own: S | None = None
     below: dict[str, "_Node[S]"] = field(default_factory=dict)
-    counts: Counter = field(default_factory=Counter)
+    counts: dict[S, int] = field(default_factory=dict)
     kept: dict[S, int] = field(default_factory=dict)
     costs: dict[S, int] = field(default_factory=dict)
 
@@ -57,10 +57,13 @@ def _tree(rows: Mapping[str, S]) -> _Node[S]:
     root: _Node[S] = _Node("/")
     for path, state in rows.items():
         at = root
-        at.counts[state] += 1
+        at.counts[state] = at.counts.get(state, 0) + 1
         for name in parts_of(path):
-            at = at.below.setdefault(name, _Node(f"{at.path.rstrip('/')}/{name}"))
-            at.counts[state] += 1
+            below = at.below.get(name)
+            if below is None:
+                below = at.below[name] = _Node(f"{at.path.rstrip('/')}/{name}")
+            at = below
+            at.counts[state] = at.counts.get(state, 0) + 1
         at.own = state
     return root
 

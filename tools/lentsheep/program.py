@@ -1,19 +1,20 @@
-"""Runs of the program, by `./sandbox`, in the folder that it reads."""
+"""Runs of the program in the folder that it reads."""
 from __future__ import annotations
 
 import contextlib
 import os
 import subprocess
-from dataclasses import dataclass
 from typing import Iterator, Mapping, Sequence
 
+from .build import command_of
+from .home import POLICY, TOP
+from .record import dataclass
 from .report import parse
+from .spawn import make_folder, remove
 from .terminal import doing
 from .values import Printed
 
-TOP = os.path.dirname(os.path.dirname(os.path.dirname(os.path.realpath(__file__))))
-SANDBOX = f"{TOP}/sandbox"
-POLICY = f"{TOP}/tables/policy/systemd.json"
+__all__ = ["POLICY", "TOP", "Program", "Run"]
 
 
 @dataclass(frozen=True)
@@ -40,40 +41,53 @@ class Program:
 
     @property
     def built(self) -> str | None:
-        """The program as ./sandbox names it where it is built; None where ./sandbox builds it and runs it."""
-        return None if self.unproved else os.environ.get("LENTSHEEP_RUNS")
+        """The program, which is built first if it is not built yet; None for an unproved build."""
+        return None if self.unproved else command_of(False)[0]
 
-    def _command(self, words: Sequence[str]) -> list[str]:
-        return [*([self.built] if self.built else [SANDBOX, "--try"] if self.unproved else [SANDBOX]), *words]
+    def command(self, words: Sequence[str]) -> list[str]:
+        """The words that run the program with these words."""
+        return [*command_of(self.unproved), *words]
 
     def run_many(self, many: Sequence[Sequence[str]], what: str = "trying what closes them") -> list[str]:
         """What the program prints of each of several words, as many at a time as there are processors."""
         texts: list[str] = []
-        how = {"cwd": self.folder, "env": {**os.environ, "LENTSHEEP_PLAIN": "yes"}, "stderr": subprocess.DEVNULL}
         at_once = max(1, min(8, os.cpu_count() or 1))
         with doing(what):
             for at in range(0, len(many), at_once):
-                runs = [subprocess.Popen(self._command(words), stdout=subprocess.PIPE, **how) for words in many[at : at + at_once]]
+                runs = [self._begun(words, subprocess.DEVNULL) for words in many[at : at + at_once]]
                 texts += [run.communicate()[0].decode("utf-8", "surrogateescape") for run in runs]
         return texts
 
-    def run(self, *words: str) -> Run:
-        """Runs the program; what it says on standard error goes on as it is."""
+    def _begun(self, words: Sequence[str], said: int | None = None) -> subprocess.Popen[bytes]:
         how = {**os.environ, "LENTSHEEP_PLAIN": "yes"}
-        with doing("making " + " ".join(words)):
-            ended = subprocess.run(self._command(words), cwd=self.folder, env=how, stdout=subprocess.PIPE, check=False)
-        text = ended.stdout.decode("utf-8", "surrogateescape")
-        status = ended.returncode if ended.returncode >= 0 else 128 - ended.returncode
+        return subprocess.Popen(self.command(words), cwd=self.folder, env=how, stdout=subprocess.PIPE, stderr=said)
+
+    def text(self, *words: str, what: str = "") -> tuple[int, str]:
+        """Runs the program; its status and what it prints come back, and what it says on standard error goes on as it is."""
+        with doing(what or "making " + " ".join(words)):
+            run = self._begun(words)
+            try:
+                data = run.communicate()[0]
+            except BaseException:
+                run.kill()
+                raise
+        status = run.returncode if run.returncode >= 0 else 128 - run.returncode
+        return status, data.decode("utf-8", "surrogateescape")
+
+    def run(self, *words: str) -> Run:
+        """Runs the program, and reads what it prints."""
+        status, text = self.text(*words)
         return Run(words, text, parse(text, words[0] if words else None), status)
 
     @contextlib.contextmanager
     def changed(self, files: Mapping[str, bytes]) -> Iterator["Program"]:
         """The same folder with some files, by their paths below it, in the place of its own, in a folder that is gone afterwards."""
-        import tempfile
-
-        with tempfile.TemporaryDirectory(prefix="lentsheep.") as place:
+        place = make_folder()
+        try:
             _overlay(os.path.abspath(self.folder), place, {tuple(name.split("/")): data for name, data in files.items()})
             yield Program(place, self.unproved)
+        finally:
+            remove(place)
 
     def read(self, name: str) -> bytes | None:
         """The bytes of a file of the folder; None where there is none."""

@@ -13,32 +13,32 @@ from typing import Callable
 
 from .calls import Call, read_call
 from .values import (
-    SWITCHES, Answer, CallData, Changes, Check, Counts, Derive, Effect, Filter, Filters, Fleet, FleetRow, Instruction, Launch,
+    PATH_KINDS, SWITCHES, Answer, CallData, Changes, Check, Counts, Derive, Effect, Filter, Filters, Fleet, FleetRow, Instruction, Launch,
     Launched, LaunchKilled, LaunchPrivileged, LaunchRefused, LineAlone, Mount, Note, Plan, Printed, Question, Refusal, Replay, Reply,
     Report, Sample, Score, ScoreTest, Tighten, UnitLine, Unknown, Why,
 )  # fmt: skip
-from .words import unescaped
+from .words import Pattern, unescaped
 
 __all__ = ["parse", "read_instruction", "read_launch", "read_question", "read_refusal"]
 
-_QUESTION = re.compile(r"(see|read|write|exec|call|socket|ns|cap) ([^ ]+)|(uid|gid) ([0-9]+)|(%s)" % "|".join(SWITCHES))
-_LAUNCHED = re.compile(r"launched uid ([0-9]+) gid ([0-9]+) nnp (yes|no) steps ([0-9]+)")
-_REFUSED = re.compile(r"launch refused step ([0-9]+) errno ([0-9]+)")
-_KILLED = re.compile(r"launch killed step ([0-9]+)")
-_PRIVILEGED = re.compile(r"launch privileged ([^ ]+)")
-_SUMMARY = re.compile(r"(?:summary|before|after) denied ([0-9]+) open ([0-9]+)")
-_NOTE = re.compile(r"note ([^ ]+) ([0-9]+) ([a-z-]+)")
-_MOUNT = re.compile(r"mount ([^ ]+) (?:(hidden)|(?:host ([^ ]+)|(empty)) (ro|rw) (exec|noexec))")
-_FILTER = re.compile(r"filter ([^ ]+) ([0-9]+)")
-_INSTRUCTION = re.compile(r"[0-9a-f]{16}")
-_REPLY = re.compile(r"(.+) -> (?:(ok|errno) ([0-9]+)|(killed))")
-_TEST = re.compile(r"test ([^ ]+) badness ([0-9]+) range ([0-9]+) weight ([0-9]+) term ([0-9]+)")
-_EXPOSURE = re.compile(r"exposure ([0-9]+) threshold ([0-9]+)")
-_DIFFERS = re.compile("differs nr N arch N ip N args N N N N N N theirs N ours N".replace("N", "([0-9]+)"))
-_FLEET_ROW = re.compile(r"unit ([^ ]+) exposure ([0-9]+)")
-_BY = re.compile(r"by ([^ ]+) ([0-9]+) ([^ ]+)")
-_ALONE = re.compile(r"line ([^ ]+) ([0-9]+) ([^ ]+) (?:opens ([0-9]+)|needed)")
-_FLEET_END = re.compile(r"units ([0-9]+) refused ([0-9]+)")
+_QUESTION = Pattern(r"(see|read|write|exec|call|socket|ns|cap) ([^ ]+)|(uid|gid) ([0-9]+)|(%s)" % "|".join(SWITCHES))
+_LAUNCHED = Pattern(r"launched uid ([0-9]+) gid ([0-9]+) nnp (yes|no) steps ([0-9]+)")
+_REFUSED = Pattern(r"launch refused step ([0-9]+) errno ([0-9]+)")
+_KILLED = Pattern(r"launch killed step ([0-9]+)")
+_PRIVILEGED = Pattern(r"launch privileged ([^ ]+)")
+_SUMMARY = Pattern(r"(?:summary|before|after) denied ([0-9]+) open ([0-9]+)")
+_NOTE = Pattern(r"note ([^ ]+) ([0-9]+) ([a-z-]+)")
+_MOUNT = Pattern(r"mount ([^ ]+) (?:(hidden)|(?:host ([^ ]+)|(empty)) (ro|rw) (exec|noexec))")
+_FILTER = Pattern(r"filter ([^ ]+) ([0-9]+)")
+_INSTRUCTION = Pattern(r"[0-9a-f]{16}")
+_REPLY = Pattern(r"(.+) -> (?:(ok|errno) ([0-9]+)|(killed))")
+_TEST = Pattern(r"test ([^ ]+) badness ([0-9]+) range ([0-9]+) weight ([0-9]+) term ([0-9]+)")
+_EXPOSURE = Pattern(r"exposure ([0-9]+) threshold ([0-9]+)")
+_DIFFERS = Pattern("differs nr N arch N ip N args N N N N N N theirs N ours N".replace("N", "([0-9]+)"))
+_FLEET_ROW = Pattern(r"unit ([^ ]+) exposure ([0-9]+)")
+_BY = Pattern(r"by ([^ ]+) ([0-9]+) ([^ ]+)")
+_ALONE = Pattern(r"line ([^ ]+) ([0-9]+) ([^ ]+) (?:opens ([0-9]+)|needed)")
+_FLEET_END = Pattern(r"units ([0-9]+) refused ([0-9]+)")
 
 
 def parse(text: str | bytes, command: str | None = None) -> Printed:
@@ -56,6 +56,10 @@ def parse(text: str | bytes, command: str | None = None) -> Printed:
 
 def read_question(text: str) -> Question | None:
     """The question of these words, as they stand behind `open` or `denied`."""
+    kind, _, name = text.partition(" ")
+    # most lines of a report are these
+    if kind in PATH_KINDS and name and " " not in name:
+        return Question(kind, unescaped(name))
     found = _QUESTION.fullmatch(text)
     if not found:
         return None

@@ -1,9 +1,9 @@
 """Lines of a screen: a label, and behind it words that are wrapped and, where they are too many, counted."""
 from __future__ import annotations
 
-from dataclasses import dataclass
 from typing import Sequence
 
+from .record import dataclass
 from .terminal import Paint
 
 #: The columns of a label.

@@ -6,8 +6,9 @@ about what cannot be converted.
 from __future__ import annotations
 
 import re
-from dataclasses import dataclass, field
 from typing import Iterable, Optional, Sequence
+
+from .record import dataclass, field
 
 PATH_FIRST = {"stat", "lstat", "access", "open", "creat", "truncate", "execve", "umount2"}
 PATH_SECOND = {"openat", "newfstatat", "statx", "faccessat", "faccessat2"}

@@ -2,8 +2,9 @@
 from __future__ import annotations
 
 import os
-from dataclasses import dataclass, field
 from functools import lru_cache
+
+from .record import dataclass, field
 
 #: The tables of this tree, with the groups of systemd 257; those of 252 are in a folder of their own.
 TABLES = f"{os.path.dirname(os.path.dirname(os.path.dirname(os.path.realpath(__file__))))}/tables/x86-64"

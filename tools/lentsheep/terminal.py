@@ -1,22 +1,19 @@
 """What is done on a terminal alone: colour, a pager, and telling what takes long."""
 from __future__ import annotations
 
-import contextlib
 import os
-import shlex
-import shutil
-import subprocess
 import sys
-import threading
-from typing import Iterator, TextIO
+from .home import COMMAND, NAME, TOP
 
-#: How the command is called, in a checkout and where it is installed.
-TOP = os.path.dirname(os.path.dirname(os.path.dirname(os.path.realpath(__file__))))
-COMMAND = "./sandbox" if os.path.isfile(f"{TOP}/crates.txt") else "lentsheep"
-#: The same, before what it tells.
-NAME = COMMAND.removeprefix("./")
+__all__ = ["COMMAND", "NAME", "TOP", "Paint", "doing", "pager", "show", "wants_colour", "width_of", "write"]
+
+TYPE_CHECKING = False
+if TYPE_CHECKING:
+    from typing import Callable, Optional, TextIO
 
 _CODES = {"bold": "1", "dim": "2", "red": "31", "green": "32", "yellow": "33"}
+#: After so many seconds a terminal is told what is done.
+SECONDS = 2
 
 
 class Paint:
@@ -37,11 +34,18 @@ def wants_colour(stream: TextIO) -> bool:
 
 def width_of(stream: TextIO) -> int:
     """The columns of the terminal; 100 where it is none, so that a text does not depend on where it is made."""
-    return max(60, shutil.get_terminal_size((100, 24)).columns) if stream.isatty() else 100
+    if not stream.isatty():
+        return 100
+    import shutil
+
+    return max(60, shutil.get_terminal_size((100, 24)).columns)
 
 
 def pager() -> list[str]:
     """The words of the pager, as git has it: PAGER, else less, which ends at once where all is on one screen."""
+    import shlex
+    import shutil
+
     words = shlex.split(os.environ.get("PAGER", "less -FRX"))
     return [] if words in ([], ["cat"]) or not shutil.which(words[0]) else words
 
@@ -52,9 +56,13 @@ def show(text: str) -> None:
     if not words:
         write(text)
         return
+    import subprocess
+
     how = {**os.environ, "LESS": os.environ.get("LESS", "FRX")}
-    with contextlib.suppress(BrokenPipeError, KeyboardInterrupt):
+    try:
         subprocess.run(words, input=text.encode("utf-8", "surrogateescape"), env=how, check=False)
+    except (BrokenPipeError, KeyboardInterrupt):
+        pass
 
 
 def write(text: str) -> None:
@@ -64,26 +72,42 @@ def write(text: str) -> None:
     sys.stdout.buffer.flush()
 
 
-@contextlib.contextmanager
-def doing(what: str) -> Iterator[None]:
-    """Tells on a terminal's standard error what is done, once it takes more than a second, until it is done."""
-    if not sys.stderr.isatty():
-        yield
-        return
+class doing:
+    """Tells on a terminal's standard error what is done, once it takes more than two seconds, until it is done."""
+
+    def __init__(self, what: str):
+        self.what = what
+        self.stop: Optional[Callable[[], None]] = None
+
+    def __enter__(self) -> None:
+        if self.what and sys.stderr.isatty():
+            self.stop = _telling(self.what)
+
+    def __exit__(self, *of_an_error: object) -> None:
+        if self.stop:
+            self.stop()
+
+
+def _telling(what: str) -> Callable[[], None]:
+    """Begins to tell; what ends it comes back."""
+    import threading
+
     done = threading.Event()
 
     def tell() -> None:
         seconds = 0
         while not done.wait(1):
             seconds += 1
-            print(f"\r\x1b[K{NAME}: {what} .. {seconds} s", end="", file=sys.stderr, flush=True)
-        if seconds:
+            if seconds >= SECONDS:
+                print(f"\r\x1b[K{NAME}: {what} .. {seconds} s", end="", file=sys.stderr, flush=True)
+        if seconds >= SECONDS:
             print("\r\x1b[K", end="", file=sys.stderr, flush=True)
 
     teller = threading.Thread(target=tell, daemon=True)
     teller.start()
-    try:
-        yield
-    finally:
+
+    def stop() -> None:
         done.set()
         teller.join()
+
+    return stop

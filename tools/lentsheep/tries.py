@@ -4,8 +4,9 @@ from __future__ import annotations
 import hashlib
 import json
 import os
-import tempfile
 from typing import Optional, Sequence
+
+from sites.kept import write_whole
 
 from .program import Program
 from .report import parse
@@ -66,9 +67,6 @@ def _write(place: Optional[str], known: dict[str, list[str]]) -> None:
         return
     try:
         os.makedirs(os.path.dirname(place), exist_ok=True)
-        number, new = tempfile.mkstemp(prefix=".tried-", dir=os.path.dirname(place))
-        with os.fdopen(number, "w", encoding="utf-8") as file:
-            json.dump(known, file)
-        os.replace(new, place)
+        write_whole(place, json.dumps(known).encode())
     except OSError:
         pass

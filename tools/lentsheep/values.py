@@ -6,10 +6,10 @@ kept in `unread`, in their order; a whole text of this program has none.
 """
 from __future__ import annotations
 
-from dataclasses import dataclass
 from typing import ClassVar, Union
 
 from .calls import Call
+from .record import dataclass
 from .words import escaped
 
 #: Questions of a row of the site, by its path.

@@ -6,10 +6,10 @@ from __future__ import annotations
 
 import os
 import re
-from dataclasses import dataclass, field
 from typing import Iterable, Optional, Sequence
 
 from .parting_lists import words_of
+from .record import dataclass, field
 from .strace import Traced, arguments, string
 from .unit_lines import lines_with
 from .unit_text import FALSE, Said, UnitFile

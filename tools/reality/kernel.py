@@ -8,6 +8,7 @@ import struct
 from importlib.machinery import SourceFileLoader
 from importlib.util import module_from_spec, spec_from_loader
 from pathlib import Path
+from types import ModuleType
 from typing import Iterator
 
 TOP = Path(__file__).resolve().parent.parent.parent
@@ -83,10 +84,12 @@ def handle_of(path: str) -> bytes:
     return held.raw[: 8 + size]
 
 
-def _running_filters():
+def _running_filters() -> ModuleType:
     path = TOP / "tools" / "running-filters"
     loader = SourceFileLoader("running_filters", str(path))
-    module = module_from_spec(spec_from_loader("running_filters", loader))
+    spec = spec_from_loader("running_filters", loader)
+    assert spec is not None
+    module = module_from_spec(spec)
     loader.exec_module(module)
     return module
 

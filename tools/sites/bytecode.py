@@ -1,9 +1,11 @@
 """Where Python keeps the bytecode of these tools: below the user's cache, and never beside them."""
+from __future__ import annotations
+
 import os
 import sys
 
 
-def keep():
+def keep() -> None:
     """Has bytecode kept below ~/.cache/lentsheep, if that folder is the user's own; else it is not kept."""
     home = os.environ.get("XDG_CACHE_HOME") or (os.environ["HOME"] + "/.cache" if os.environ.get("HOME") else "")
     folder = f"{home}/lentsheep"

@@ -15,14 +15,15 @@ the same root gives the same text. A site has at most 2,048 rows, chosen in this
 The site also has the parents of each row. Standard error, and the first lines of the site, list what was left out or could
 not be read, with counts. The first lines also have the root's version of systemd, its kernel if it runs, and the calls and
 families of tables/x86-64/calls.txt that this kernel lacks. Sockets, pipes, devices, disks and terminals are files, and a comment
-says which they are.
+says which they are. The comment of a path through a link says where it leads.
 """
-import argparse
+from __future__ import annotations
+
 import contextlib
 import os
 import sys
+from typing import Optional, Sequence
 
-from lentsheep.terminal import doing
 from sites import kept, machine, modes
 from sites.root import Root
 from sites.site import Fault, make_site
@@ -34,14 +35,29 @@ etc/passwd), and 2 for a usage error.
 """
 
 
-def words(line):
+class Site:
+    """The words of a command line: which site is made, and where it and what goes with it are kept."""
+
+    def __init__(self) -> None:
+        self.root = "/"
+        self.units = ""
+        self.unit: list[str] = []
+        self.also: list[str] = []
+        self.full = self.fresh = self.short = self.quiet = False
+        #: the files of the site, of the walk, of a further drop-in and of modes; empty where there are none
+        self.keep = self.walk = self.drop_in = self.modes = ""
+
+
+def words(line: Sequence[str]) -> Site:
     """The words of a command line."""
-    what, _, how = __doc__.partition("\n\n")
+    import argparse
+
+    what, _, how = (__doc__ or "").partition("\n\n")
     parser = argparse.ArgumentParser(
         prog="make-site", description=what, epilog=how + STATUSES, formatter_class=argparse.RawDescriptionHelpFormatter
     )
     parser.add_argument("--root", metavar="DIR", default="/", help="the root folder (default: /)")
-    parser.add_argument("--units", metavar="DIR", help="read the units of this folder instead of the root's")
+    parser.add_argument("--units", metavar="DIR", default="", help="read the units of this folder instead of the root's")
     parser.add_argument("--unit", metavar="NAME", nargs="+", action="extend", default=[], help="units, such as ssh.service")
     parser.add_argument(
         "--also", metavar="PATH", nargs="+", action="extend", default=[],
@@ -49,23 +65,23 @@ def words(line):
     )  # fmt: skip
     parser.add_argument("--full", action="store_true", help="include folders that have nothing but folders and plain files")
     parser.add_argument(
-        "--keep", metavar="FILE",
+        "--keep", metavar="FILE", default="",
         help="write FILE instead of printing, unless it is newer than the units, the users, the packages and this tool",
     )  # fmt: skip
     parser.add_argument("--fresh", action="store_true", help="make the site and the walk again, even if they are cached")
-    parser.add_argument("--walk", metavar="FILE", help="cache the walk over the root in FILE, for the sites of its other units")
-    parser.add_argument("--drop-in", metavar="FILE", help="another drop-in of the units, whose paths and users the site has too")
-    parser.add_argument("--modes", metavar="FILE", help="write owners, groups and modes of the rows into FILE, for the views")
+    parser.add_argument("--walk", metavar="FILE", default="", help="cache the walk over the root in FILE, for the sites of its other units")
+    parser.add_argument("--drop-in", metavar="FILE", default="", help="another drop-in of the units, whose paths and users the site has too")
+    parser.add_argument("--modes", metavar="FILE", default="", help="write owners, groups and modes of the rows into FILE, for the views")
     parser.add_argument("--short", action="store_true", help="print one line, and what concerns the answers of the named units")
     parser.add_argument("--quiet", action="store_true", help="print only faults on standard error")
-    found = parser.parse_args(line)
+    found = parser.parse_args(line, namespace=Site())
     for path in found.also:
         if not path.startswith("/"):
             parser.error(f"--also {path}: a path of the root must begin with a slash")
     return found
 
 
-def root_at(folder):
+def root_at(folder: str) -> Root:
     """The root in this folder."""
     try:
         os.listdir(folder)
@@ -74,7 +90,7 @@ def root_at(folder):
     return Root(folder)
 
 
-def head_of(root, found):
+def head_of(root: Root, found: Site) -> list[str]:
     """The first lines of the site, which say what it is of, and of what systemd and kernel."""
     parts = [f"made by tools/make-site of {shown(root.folder)}"]
     parts += [f"units of {shown(os.path.realpath(os.fsencode(found.units)))}"] if found.units else []
@@ -84,7 +100,7 @@ def head_of(root, found):
     return [shown("; ".join(parts).encode("utf-8", "surrogateescape")), *machine.heads(root)]
 
 
-def is_left_out(line):
+def is_left_out(line: str) -> bool:
     """Whether a line of the site's head is of its rows, and not of the root's systemd and kernel."""
     return not line.startswith(("systemd ", "kernel ", "the kernel lacks "))
 
@@ -93,7 +109,7 @@ def is_left_out(line):
 USUAL = ("not walked, ", "left out, folders with nothing but folders", "rows of every running system", "without user namespaces")
 
 
-def told_lines(lines, is_short):
+def told_lines(lines: list[str], is_short: bool) -> list[str]:
     """The lines for standard error."""
     if not is_short:
         return lines
@@ -102,14 +118,15 @@ def told_lines(lines, is_short):
     return [first] + [line for line in lines[1:] if line not in usual]
 
 
-def dropin_of(file):
+def dropin_of(file: str) -> Optional[str]:
     """The text of a further drop-in; None where there is none, or it cannot be read, as the program says then."""
-    with contextlib.suppress(OSError, ValueError, TypeError), open(file, encoding="utf-8") as text:
-        return text.read()
+    if file:
+        with contextlib.suppress(OSError, ValueError), open(file, encoding="utf-8") as text:
+            return text.read()
     return None
 
 
-def run(found):
+def make(found: Site) -> None:
     """Prints or keeps the site."""
     root = root_at(found.root)
     unit_root = root_at(found.units) if found.units else root
@@ -119,8 +136,10 @@ def run(found):
         with contextlib.suppress(OSError):
             os.unlink(found.walk)
     if text is None:
-        with contextlib.nullcontext() if found.quiet else doing(f"reading the files of {shown(root.folder)}"):
-            also = [os.fsencode(path) for path in found.also]
+        from lentsheep.terminal import doing
+
+        also = [os.fsencode(path) for path in found.also]
+        with doing("" if found.quiet else f"reading the files of {shown(root.folder)}"):
             text = make_site(head, root, unit_root, found.unit, also, found.full, Told(), found.walk, dropin_of(found.drop_in))
         if found.keep:
             kept.write_whole(found.keep, text)
@@ -134,11 +153,11 @@ def run(found):
             print(f"make-site: {line}", file=sys.stderr)
 
 
-def main(line):
+def main(line: Sequence[str]) -> int:
     """Makes a site as the words of a command line say, and gives the status."""
     found = words(line)
     try:
-        run(found)
+        make(found)
     except (Fault, OSError) as error:
         print(f"make-site: {error}", file=sys.stderr)
         return 1

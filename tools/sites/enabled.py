@@ -3,7 +3,12 @@
 A service counts that stands in a folder `*.wants`, `*.requires` or `*.upholds`, is activated by a socket, a timer, a path or a name of
 D-Bus that counts, is named in Wants= and the like of what counts, or was started on a running system.
 """
+from __future__ import annotations
+
+from typing import Callable
+
 from sites import units
+from sites.root import Root
 
 FOLDERS = (b".wants", b".requires", b".upholds")
 PULLING = ("Wants", "Requires", "Requisite", "BindsTo", "Upholds")
@@ -12,9 +17,9 @@ ACTIVATING = {"socket": ("[Socket]", "Service"), "timer": ("[Timer]", "Unit"), "
 STARTED = b"/run/systemd/units"
 
 
-def pulled_in(root):
+def pulled_in(root: Root) -> set[bytes]:
     """The names that stand in the folders of units that are enabled, but for those of an initial file system."""
-    found = set()
+    found: set[bytes] = set()
     for place in units.PLACES:
         for folder in units.names_in(root, place):
             if folder.endswith(FOLDERS) and not folder.startswith(b"initrd"):
@@ -25,16 +30,16 @@ def pulled_in(root):
     return found
 
 
-def started(root):
+def started(root: Root) -> set[bytes]:
     """The names of the units that were started since the root runs."""
     return {name.partition(b":")[2] for name in root.names(STARTED) if name.startswith(b"invocation:")}
 
 
-def settings(root, name):
+def settings(root: Root, name: str) -> list[units.Setting]:
     """The sections, keys and values of the files of a unit of any kind."""
     stem, at, rest = name.partition("@")
     template = f"{stem}@.{rest.rpartition('.')[2]}" if at else name
-    found = []
+    found: list[units.Setting] = []
     for file in dict.fromkeys([name, template]):
         for place in units.PLACES:
             path = place + b"/" + file.encode()
@@ -47,7 +52,7 @@ def settings(root, name):
     return found
 
 
-def activated(root, name, own):
+def activated(root: Root, name: str, own: Callable[[str], str]) -> list[str]:
     """The names that a unit pulls in or activates."""
     kind = name.rpartition(".")[2]
     said = settings(root, name)
@@ -60,10 +65,10 @@ def activated(root, name, own):
     return [own(it) for it in found if "%" not in it]
 
 
-def enabled(root, own):
+def enabled(root: Root, own: Callable[[str], str]) -> set[str]:
     """The names of the units that are enabled or were started; `own` gives a unit's own name for another name of it."""
     left = [own(name.decode("utf-8", "replace")) for name in sorted(pulled_in(root) | started(root))]
-    found = set()
+    found: set[str] = set()
     while left:
         name = left.pop()
         if name not in found:

@@ -1,7 +1,11 @@
 """What a root says of its systemd and its kernel, for the first lines of a site: the views and `--root` read them."""
+from __future__ import annotations
+
 import os
 import re
+from typing import Iterable, Mapping, Optional
 
+from sites.root import Root
 from sites.told import shown
 
 # Where Debian and others have the library whose name has the version, and what dpkg knows of the package.
@@ -25,7 +29,7 @@ PROTOCOLS_OF = {
 }  # fmt: skip
 
 
-def systemd_version(root):
+def systemd_version(root: Root) -> Optional[int]:
     """The version of systemd, as 252; None where the root has none."""
     triplets = [b"/usr/lib/" + name + b"/systemd" for name in root.names(b"/usr/lib") if name.endswith(b"-linux-gnu")]
     for folder in (*FOLDERS, *triplets):
@@ -36,7 +40,7 @@ def systemd_version(root):
     return packaged_version(root)
 
 
-def packaged_version(root):
+def packaged_version(root: Root) -> Optional[int]:
     """The version of the package, by what dpkg knows."""
     try:
         text = root.read(PACKAGES).decode(errors="replace")
@@ -47,7 +51,7 @@ def packaged_version(root):
     return int(found[1]) if found else None
 
 
-def read_text(root, path):
+def read_text(root: Root, path: bytes) -> str:
     """The text of a file; empty where it cannot be read."""
     try:
         return root.read(path).decode(errors="replace")
@@ -55,7 +59,7 @@ def read_text(root, path):
         return ""
 
 
-def heads(root):
+def heads(root: Root) -> list[str]:
     """The lines that say what systemd and what kernel a root has."""
     version, release = systemd_version(root), read_text(root, RELEASE).strip()
     found = [f"systemd {version}"] if version else []
@@ -65,37 +69,38 @@ def heads(root):
     return found
 
 
-def numbers_of(table):
+def numbers_of(table: str) -> tuple[dict[str, str], dict[str, str]]:
     """The calls and the families of a table with their numbers, in its order."""
     words = [line.split() for line in table.split("\n")]
-    return tuple({word[1]: word[2] for word in words if len(word) > 2 and word[0] == kind} for kind in ("call", "family"))
+    calls, families = ({word[1]: word[2] for word in words if len(word) > 2 and word[0] == kind} for kind in ("call", "family"))
+    return calls, families
 
 
-def lacking_calls(symbols, names):
+def lacking_calls(symbols: str, names: Iterable[str]) -> list[str]:
     """Those of the calls that a kernel with these symbols does not have: its functions for them are weak, or not there."""
     there = {name for kind, name in re.findall(r"^\S+ (\w) __x64_sys_(\w+)", symbols, re.M) if kind not in "Ww"}
     return [name for name in names if FUNCTIONS.get(name, name) not in there] if there else []
 
 
-def lacking_families(protocols, modules, numbers):
+def lacking_families(protocols: str, modules: str, numbers: Mapping[str, str]) -> list[str]:
     """Those of the families that have no protocol among these, and none of these aliases of modules."""
     there = [line.split()[0] for line in protocols.split("\n")[1:] if line.strip()]
     loadable = set(re.findall(r"^alias net-pf-(\d+) ", modules, re.M))
     return [name for name, number in numbers.items() if number not in loadable and not has_protocol(name, there)] if there else []
 
 
-def has_protocol(family, protocols):
+def has_protocol(family: str, protocols: Iterable[str]) -> bool:
     """Whether one of these protocols is of a family."""
     pattern = re.compile(PROTOCOLS_OF.get(family, re.escape(family[len("AF_") :])))
     return any(map(pattern.fullmatch, protocols))
 
 
-def kernel_heads(root):
+def kernel_heads(root: Root) -> list[str]:
     """The lines that say which calls and families of the table the kernel of a root lacks; none where it does not show them."""
     with open(TABLE, encoding="utf-8") as table:
         calls, families = numbers_of(table.read())
     modules = read_text(root, b"/usr/lib/modules/" + read_text(root, RELEASE).strip().encode() + b"/modules.alias")
-    lacking = {
+    lacking: dict[str, list[str]] = {
         "calls": lacking_calls(read_text(root, SYMBOLS), calls),
         "families": lacking_families(read_text(root, PROTOCOLS), modules, families),
     }

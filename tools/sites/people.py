@@ -1,5 +1,9 @@
 """The users and groups of etc/passwd and etc/group (passwd(5), group(5)). No name service is asked."""
-from typing import NamedTuple
+from __future__ import annotations
+
+from typing import Container, Iterator, NamedTuple, Optional, Sequence, TypeVar
+
+from sites.told import Told
 
 # The largest id; the next one stands for no id in chown(2) and setresuid(2).
 LARGEST = 4294967294
@@ -15,7 +19,7 @@ class User(NamedTuple):
     name: str
     uid: int
     gid: int
-    groups: tuple
+    groups: tuple[int, ...]
 
 
 class Group(NamedTuple):
@@ -23,17 +27,20 @@ class Group(NamedTuple):
 
     name: str
     gid: int
-    members: tuple
+    members: tuple[bytes, ...]
 
 
-def read_id(field):
+P = TypeVar("P", User, Group)
+
+
+def read_id(field: bytes) -> Optional[int]:
     """The number of an id; None where it is none."""
     return int(field) if field.isdigit() and int(field) <= LARGEST else None
 
 
-def lines_of(text, fields, ids, file, told):
+def lines_of(text: bytes, fields: int, ids: Sequence[int], file: str, told: Told) -> Iterator[tuple[str, list[bytes]]]:
     """The fields of the lines that have a name of their own and ids: the name as text, and the rest as bytes."""
-    names = set()
+    names: set[str] = set()
     for line in text.split(b"\n"):
         if not line.strip() or line.startswith((b"#", b"+", b"-")):
             continue
@@ -52,7 +59,7 @@ def lines_of(text, fields, ids, file, told):
             yield name, found
 
 
-def read_groups(text, told):
+def read_groups(text: bytes, told: Told) -> list[Group]:
     """The groups of the text of a group file, in its order."""
     return [
         Group(name, read_id(found[2]), tuple(found[3].split(b",")))
@@ -60,9 +67,9 @@ def read_groups(text, told):
     ]
 
 
-def read_users(text, groups, told):
+def read_users(text: bytes, groups: Sequence[Group], told: Told) -> list[User]:
     """The users of the text of a passwd file, in its order."""
-    extra = {}
+    extra: dict[bytes, set[int]] = {}
     for group in groups:
         for member in group.members:
             extra.setdefault(member, set()).add(group.gid)
@@ -72,7 +79,7 @@ def read_users(text, groups, told):
     ]
 
 
-def at_most(people, wanted, file, told):
+def at_most(people: Sequence[P], wanted: Container[str], file: str, told: Told) -> list[P]:
     """At most as many as a site may have, in their order: those that units name first, and then the first of the file."""
     first = [it for it in people if it.name in wanted] + [it for it in people if it.name not in wanted]
     kept = {it.name for it in first[:LIMIT]}
@@ -81,7 +88,7 @@ def at_most(people, wanted, file, told):
     return [it for it in people if it.name in kept]
 
 
-def dynamic_uid(users, groups):
+def dynamic_uid(users: Sequence[User], groups: Sequence[Group]) -> int:
     """The first id of systemd's range that no user and no group has; the first of all where each has an owner."""
     taken = {user.uid for user in users} | {group.gid for group in groups}
     return next((uid for uid in DYNAMIC if uid not in taken), DYNAMIC[0])

@@ -1,9 +1,13 @@
 """What a program gives to whoever executes it: its set-id bits and its file capabilities (execve(2), capabilities(7))."""
+from __future__ import annotations
+
 import errno
 import os
 import stat
 import struct
-from typing import NamedTuple
+from typing import NamedTuple, Optional
+
+from sites.told import Told
 
 # The capabilities by number, linux/capability.h.
 CAPABILITIES = """
@@ -25,9 +29,9 @@ EFFECTIVE = 0x000001
 class Privileges(NamedTuple):
     """A uid, a gid or None; names of capabilities, and whether they are effective at once."""
 
-    setuid: object = None
-    setgid: object = None
-    caps: tuple = ()
+    setuid: Optional[int] = None
+    setgid: Optional[int] = None
+    caps: tuple[str, ...] = ()
     effective: bool = False
 
 
@@ -42,7 +46,7 @@ class FileCaps(NamedTuple):
     root: int
 
 
-def read_caps(raw):
+def read_caps(raw: bytes) -> FileCaps:
     """The attribute of these bytes. ValueError where they have no form of a revision."""
     if len(raw) < 4 or len(raw) % 4:
         raise ValueError("no form of security.capability")
@@ -54,7 +58,7 @@ def read_caps(raw):
     return FileCaps(permitted, bool(head & EFFECTIVE), words[-1] if roots else 0)
 
 
-def raw_caps(file):
+def raw_caps(file: bytes) -> Optional[bytes]:
     """The bytes of the attribute security.capability of a file on this machine; None where it has none."""
     try:
         return os.getxattr(file, "security.capability", follow_symlinks=False)
@@ -64,12 +68,12 @@ def raw_caps(file):
         raise
 
 
-def is_program(mode):
+def is_program(mode: int) -> bool:
     """Whether it is a regular file that somebody may execute."""
     return stat.S_ISREG(mode) and mode & 0o111 != 0
 
 
-def is_script(file):
+def is_script(file: bytes) -> bool:
     """Whether an interpreter executes it: Linux passes over the set-id bits and the capabilities of a script."""
     try:
         with open(file, "rb") as program:
@@ -78,7 +82,7 @@ def is_script(file):
         return False
 
 
-def caps_of(file, path, told):
+def caps_of(file: bytes, path: bytes, told: Told) -> tuple[tuple[str, ...], bool]:
     """The names of the capabilities of a program, and whether they are effective at once."""
     try:
         raw = raw_caps(file)
@@ -97,7 +101,7 @@ def caps_of(file, path, told):
     return names, caps.effective and names != ()
 
 
-def at_most_one(found, path, told):
+def at_most_one(found: Privileges, path: bytes, told: Told) -> Privileges:
     """The same without its set-user-ID bit or its capabilities where it has both, since a row has one of them.
 
     The one that gives more is kept: uid 0 has every capability, and another uid has none.
@@ -111,7 +115,7 @@ def at_most_one(found, path, told):
     return found._replace(setuid=None)
 
 
-def privileges_of(file, status, path, told):
+def privileges_of(file: bytes, status: os.stat_result, path: bytes, told: Told) -> Privileges:
     """What the program at a path gives, whose name on this machine is `file`."""
     if not is_program(status.st_mode):
         return NONE

@@ -1,24 +1,27 @@
 """The site of a root: which rows it has, in the order in which they are chosen, and which users and groups."""
+from __future__ import annotations
+
 import stat
+from typing import Optional, Sequence
 
 from sites import kept, machine, people, places, toml, units
-from sites.root import folded
-from sites.rows import Rows, Row, fault_of, parents_of
+from sites.root import Root, folded
+from sites.rows import Row, Rows, fault_of, parents_of
 from sites.spaces import user_namespaces
 from sites.told import Told
-from sites.walk import leads_to_folder, walk
+from sites.walk import Found, leads_to_folder, walk
 
 
 class Fault(Exception):
     """Why there is no site."""
 
 
-def is_below(path, folder):
+def is_below(path: bytes, folder: bytes) -> bool:
     """Whether the path stands below the folder."""
     return path.startswith(folder + b"/")
 
 
-def add_running(rows):
+def add_running(rows: Rows) -> None:
     """Takes rows for what a running system has, where this one does not run: nothing stands in its /proc."""
     if rows.root.names(b"/proc"):
         return
@@ -29,7 +32,7 @@ def add_running(rows):
         rows.add(path, made=kind)
 
 
-def tell_links(rows, path):
+def tell_links(rows: Rows, path: bytes) -> None:
     """Tells a path of a unit that leads elsewhere, since the program takes the two for different files."""
     path = folded(path)
     if path is None or not rows.root.stands(path):
@@ -39,7 +42,7 @@ def tell_links(rows, path):
         rows.told.add("paths of the units that lead through links, and are judged apart from their targets", path)
 
 
-def add_said(rows, says):
+def add_said(rows: Rows, says: units.Says) -> None:
     """Takes the rows of what a unit says."""
     for path in says.programs:
         if path.startswith(b"/"):
@@ -54,7 +57,7 @@ def add_said(rows, says):
         tell_links(rows, path)
 
 
-def walks(root, also, told, keep=None):
+def walks(root: Root, also: list[bytes], told: Told, keep: str = "") -> list[Found]:
     """The walks over the file systems of the root, of /usr, and of the folders that are to be walked as well.
 
     Those of a root without further folders are kept in the file `keep`, and taken from it as long as no package was installed.
@@ -72,9 +75,9 @@ def walks(root, also, told, keep=None):
     return found[0]
 
 
-def new_walks(root, also, told):
+def new_walks(root: Root, also: list[bytes], told: Told) -> list[Found]:
     """The walks as they are made."""
-    seen = set()
+    seen: set[tuple[int, int]] = set()
     found = []
     for start in [b"/", b"/usr"] + also:
         try:
@@ -88,7 +91,7 @@ def new_walks(root, also, told):
     return found
 
 
-def add_sockets(rows, found):
+def add_sockets(rows: Rows, found: Sequence[Found]) -> None:
     """Takes the rows of the sockets below /run, which may be a file system of its own."""
     sockets = {path for it in found for path in it.sockets if is_below(path, b"/run")}
     if any(b"/run" in it.elsewhere for it in found):
@@ -97,7 +100,7 @@ def add_sockets(rows, found):
         rows.add(path)
 
 
-def parted_folders(says):
+def parted_folders(says: units.Says) -> list[bytes]:
     """The folders of whose children some may be shown and others not: places of empty file systems, and below such a place
     the folders above what the unit names."""
     emptied = list(filter(None, map(folded, says.emptied)))
@@ -106,7 +109,7 @@ def parted_folders(says):
     return emptied + [folder for folder in above if any(is_below(folder, top) for top in emptied)]
 
 
-def add_parted(rows, says):
+def add_parted(rows: Rows, says: units.Says) -> None:
     """Takes the rows of the folders beside what an empty file system shows."""
     for folder in sorted(set(parted_folders(says))):
         for path in [folder.rstrip(b"/") + b"/" + name for name in rows.root.names(folder)]:
@@ -114,17 +117,18 @@ def add_parted(rows, says):
                 rows.add(path)
 
 
-def add_telling(rows, found):
+def add_telling(rows: Rows, found: Sequence[Found]) -> None:
     """Takes the rows of the folders that hold more than folders and plain files, and of the folders of `/` itself."""
     of_the_root = found[0]
     taken = {path for level in of_the_root.folders[1:2] for path in level}
     taken.update(of_the_root.links[0])
     taken.update(path for it in found for path in it.telling)
+    links = set(of_the_root.links[0])
     for path in sorted(taken):
-        add_folder(rows, path)
+        add_folder(rows, path, path in links)
 
 
-def add_folders(rows, found, full):
+def add_folders(rows: Rows, found: Sequence[Found], full: bool) -> None:
     """Takes the rows of folders level by level, and of links to folders, until there is no room; counts them where the
     site is not to be full."""
     levels = max(len(it.folders) for it in found)
@@ -135,19 +139,19 @@ def add_folders(rows, found, full):
         for path in sorted(folders | links):
             if any(is_below(path, passing) for passing in places.PASSING):
                 continue
-            add_folder(rows, path) if full else rows.leave_filler(path)
+            add_folder(rows, path, path in links) if full else rows.leave_filler(path)
 
 
-def add_folder(rows, path):
-    """Takes the row of a folder of the walk."""
+def add_folder(rows: Rows, path: bytes, is_link: bool) -> None:
+    """Takes the row of a folder of the walk, or of a link to one."""
     fault = fault_of(path)
     if fault:
         rows.told.add(fault, path)
     else:
-        rows.put(path, Row("dir"))
+        rows.put(path, rows.folder_row(path) if is_link else Row("dir"))
 
 
-def add_rows(rows, all_said, also, full, keep):
+def add_rows(rows: Rows, all_said: Sequence[units.Says], also: list[bytes], full: bool, keep: str) -> None:
     """Takes all rows, the most telling first."""
     rows.put(b"/", Row("dir"))
     rows.put(b"/proc", Row("dir"))
@@ -171,7 +175,7 @@ def add_rows(rows, all_said, also, full, keep):
     add_folders(rows, found, full)
 
 
-def read_people(root, says, told):
+def read_people(root: Root, says: Sequence[units.Says], told: Told) -> tuple[list[people.User], list[people.Group]]:
     """The users and groups, at most as many as a site has."""
     try:
         passwd = root.read(b"/etc/passwd")
@@ -190,7 +194,7 @@ def read_people(root, says, told):
     return users, people.at_most(groups, wanted_groups, "etc/group", told)
 
 
-def all_said(unit_root, names, told, dropin=None):
+def all_said(unit_root: Root, names: Sequence[str], told: Told, dropin: Optional[str] = None) -> list[units.Says]:
     """What each of the units says, with the text of a further drop-in; a name of no unit is told."""
     found = []
     for text in names:
@@ -202,13 +206,16 @@ def all_said(unit_root, names, told, dropin=None):
     return found
 
 
-def tell_owner(root, told):
+def tell_owner(root: Root, told: Told) -> None:
     """Tells a root that another user unpacked, who then owns its set-user-ID programs."""
     if root.status(b"/").st_uid != 0:
         told.add("not owned by root, so set-user-ID bits may mean other uids once it runs", b"/")
 
 
-def make_site(head, root, unit_root, names, also, full, told, keep=None, dropin=None):
+def make_site(
+    head: Sequence[str], root: Root, unit_root: Root, names: Sequence[str], also: list[bytes], full: bool, told: Told,
+    keep: str = "", dropin: Optional[str] = None,
+) -> bytes:
     """The bytes of site.toml, which begin with these lines, what it has, what it leaves out, and what of the root is otherwise.
 
     The walks are kept in the file `keep`, and `dropin` is the text of a drop-in that applies to each unit besides its own.

@@ -1,11 +1,18 @@
 """How many user namespaces the kernel of a root makes: user_namespaces(7), namespaces(7), and sysctl/kernel of Debian."""
 
+from __future__ import annotations
+
+from typing import Optional
+
+from sites.root import Root
+from sites.told import Told
+
 MOST = 64
 LIMIT = b"/proc/sys/user/max_user_namespaces"
 SWITCH = b"/proc/sys/kernel/unprivileged_userns_clone"
 
 
-def number(root, path):
+def number(root: Root, path: bytes) -> Optional[int]:
     """The number that a file of the root holds, or None where it holds none or cannot be read."""
     try:
         return int(root.read(path))
@@ -13,7 +20,7 @@ def number(root, path):
         return None
 
 
-def user_namespaces(root, told):
+def user_namespaces(root: Root, told: Told) -> Optional[int]:
     """The kernel's limit, at most what a site may say; None where the root does not show its kernel, as one that does not run."""
     limit = number(root, LIMIT)
     if limit is None:

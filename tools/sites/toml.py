@@ -1,23 +1,31 @@
 """The text of site.toml."""
 
+from __future__ import annotations
+
+from typing import Mapping, Optional, Sequence
+
+from sites.people import Group, User
+from sites.rows import Row
+
 # Up to which size the program reads a file.
 LONGEST = 1 << 20
 
 
-def quoted(text):
+def quoted(text: str) -> str:
     """A basic string of TOML."""
     escaped = text.replace("\\", "\\\\").replace('"', '\\"')
     return '"' + "".join(f"\\u{ord(c):04x}" if c < " " or c == "\x7f" else c for c in escaped) + '"'
 
 
-def table(kind, fields):
+def table(kind: str, fields: Sequence[tuple[str, object]]) -> str:
     """A table of an array of tables, by the texts of its values."""
     return "\n".join([f"[[{kind}]]"] + [f"{key} = {value}" for key, value in fields]) + "\n"
 
 
-def row_text(path, row):
+def row_text(path: str, row: Row) -> str:
     """The table of a row; its path is text."""
-    fields = [("path", quoted(path)), ("kind", quoted(row.kind) + (f"  # {row.special}" if row.special else ""))]
+    comment = "; ".join(filter(None, (row.special, "" if row.link is None else f"link {row.link}".strip())))
+    fields: list[tuple[str, object]] = [("path", quoted(path)), ("kind", quoted(row.kind) + (f"  # {comment}" if comment else ""))]
     gives = row.gives
     if gives.setuid is not None:
         fields.append(("setuid", gives.setuid))
@@ -30,20 +38,22 @@ def row_text(path, row):
     return table("row", fields)
 
 
-def user_text(user):
+def user_text(user: User) -> str:
     """The table of a user."""
-    fields = [("name", quoted(user.name)), ("uid", user.uid), ("gid", user.gid)]
+    fields: list[tuple[str, object]] = [("name", quoted(user.name)), ("uid", user.uid), ("gid", user.gid)]
     if user.groups:
         fields.append(("groups", list(user.groups)))
     return table("user", fields)
 
 
-def group_text(group):
+def group_text(group: Group) -> str:
     """The table of a group."""
     return table("group", [("name", quoted(group.name)), ("gid", group.gid)])
 
 
-def site_text(heads, dynamic_uid, user_namespaces, rows, users, groups):
+def site_text(
+    heads: Sequence[str], dynamic_uid: int, user_namespaces: Optional[int], rows: Mapping[bytes, Row], users: Sequence[User], groups: Sequence[Group]
+) -> bytes:
     """The whole text, with first lines that say where it comes from. Rows stand in byte order of their paths."""
     top = f"dynamic_uid = {dynamic_uid}\n"
     if user_namespaces is not None:

@@ -3,10 +3,15 @@
 A unit is looked for where the program looks, and its lines, specifiers and words are read as the program reads them; what
 cannot be read is passed over, since the program notes or refuses it.
 """
+from __future__ import annotations
+
 import errno
 import os
 import re
-from typing import NamedTuple
+from typing import Iterator, NamedTuple, Optional, Tuple
+
+from sites.root import Root
+from sites.told import Told
 
 PLACES = [b"/etc/systemd/system", b"/run/systemd/system", b"/usr/lib/systemd/system"]
 # How a path can lead to nothing.
@@ -25,34 +30,38 @@ FOLDERS = {
 }
 
 
+# A section with its brackets, or None in front of all sections, a key and its value.
+Setting = Tuple[Optional[str], str, str]
+
+
 class UnitName(NamedTuple):
     """A name, `PREFIX.service` or `PREFIX@INSTANCE.service`; the instance is None in the first."""
 
     text: str
     prefix: str
-    instance: object
+    instance: Optional[str]
 
 
 class Says(NamedTuple):
     """What a unit says: its programs, paths that are to be there, paths that may be missing, places of empty file systems
     (which may be missing too), folders that systemd makes, and the names of users and groups."""
 
-    programs: list
-    paths: list
-    optional: list
-    emptied: list
-    folders: list
-    users: set
-    groups: set
+    programs: list[bytes]
+    paths: list[bytes]
+    optional: list[bytes]
+    emptied: list[bytes]
+    folders: list[bytes]
+    users: set[str]
+    groups: set[str]
 
 
-def read_name(text):
+def read_name(text: str) -> Optional[UnitName]:
     """The name of a unit; None where it is none."""
     found = re.fullmatch(r"([A-Za-z0-9:\-_.\\]+)(?:@([A-Za-z0-9:\-_.\\@]+))?\.service", text)
     return UnitName(text, found[1], found[2]) if found and len(text) <= 255 else None
 
 
-def fragment_names(name):
+def fragment_names(name: UnitName) -> list[bytes]:
     """The names of the files that may be the fragment, the first first."""
     names = [name.text]
     if name.instance is not None:
@@ -60,7 +69,7 @@ def fragment_names(name):
     return [it.encode() for it in names]
 
 
-def dropin_folders(name):
+def dropin_folders(name: UnitName) -> list[bytes]:
     """The names of the folders of drop-ins, the most specific first."""
     folders = [name.text + ".d"]
     if name.instance is not None:
@@ -70,12 +79,12 @@ def dropin_folders(name):
     return [it.encode() for it in folders + ["service.d"]]
 
 
-def ways(path):
+def ways(path: bytes) -> list[bytes]:
     """The path, and where a tree has it whose /lib is a folder of its own, as a package's."""
     return [path, path[len(b"/usr") :]] if path.startswith(b"/usr/lib/") else [path]
 
 
-def is_mask(root, path):
+def is_mask(root: Root, path: bytes) -> bool:
     """Whether it is a link to /dev/null, which the root need not have."""
     folder, _, file = path.rpartition(b"/")
     try:
@@ -84,14 +93,14 @@ def is_mask(root, path):
         return False
 
 
-def standing(root, path):
+def standing(root: Root, path: bytes) -> Optional[bytes]:
     """Where the file of this path stands; None where it does not."""
     return next((way for way in ways(path) if root.stands(way) or is_mask(root, way)), None)
 
 
-def names_in(root, folder):
+def names_in(root: Root, folder: bytes) -> list[bytes]:
     """The names in a folder of drop-ins, in byte order. OSError where it is there and cannot be read."""
-    found = set()
+    found: set[bytes] = set()
     for way in ways(folder):
         try:
             found.update(os.listdir(root.outside(root.real(way))))
@@ -101,15 +110,15 @@ def names_in(root, folder):
     return sorted(found)
 
 
-def fragment(root, name):
+def fragment(root: Root, name: UnitName) -> Optional[bytes]:
     """The path of the fragment; None where there is none."""
     paths = [place + b"/" + it for it in fragment_names(name) for place in PLACES]
     return next(filter(None, (standing(root, path) for path in paths)), None)
 
 
-def dropins(root, name):
+def dropins(root: Root, name: UnitName) -> list[bytes]:
     """The paths of the drop-ins in force, in the order in which they are applied."""
-    winners = {}
+    winners: dict[bytes, bytes] = {}
     for folder in dropin_folders(name):
         for place in PLACES:
             for file in names_in(root, place + b"/" + folder):
@@ -119,21 +128,21 @@ def dropins(root, name):
     return [path for _, path in sorted(winners.items())]
 
 
-def sources(root, name):
+def sources(root: Root, name: UnitName) -> tuple[list[bytes], list[bytes]]:
     """The files in force, and the folders in which others may come to be."""
     found = fragment(root, name)
     folders = PLACES + [place + b"/" + folder for folder in dropin_folders(name) for place in PLACES]
     return ([found] if found else []) + dropins(root, name), [way for folder in folders for way in ways(folder)]
 
 
-def is_comment(line):
+def is_comment(line: str) -> bool:
     """Whether a line is skipped, within a continued one too."""
     return line.lstrip(SPACES).startswith(("#", ";"))
 
 
-def joined_lines(text):
+def joined_lines(text: str) -> Iterator[str]:
     """The lines of a file, continued ones as one."""
-    whole = None
+    whole: Optional[str] = None
     for line in text.split("\n"):
         if is_comment(line):
             continue
@@ -147,9 +156,9 @@ def joined_lines(text):
         yield whole
 
 
-def all_assignments(text):
+def all_assignments(text: str) -> Iterator[Setting]:
     """The sections, keys and values of a file."""
-    section = None
+    section: Optional[str] = None
     for line in joined_lines(text):
         line = line.strip(SPACES)
         if line.startswith("["):
@@ -160,20 +169,20 @@ def all_assignments(text):
             yield section, key.strip(SPACES), value.strip(SPACES)
 
 
-def assignments(text):
+def assignments(text: str) -> Iterator[tuple[str, str]]:
     """The keys and values of [Service]."""
     for section, key, value in all_assignments(text):
         if section == "[Service]":
             yield key, value
 
 
-def unescaped(text):
+def unescaped(text: str) -> str:
     """A part of a name without its escapes: `-` is a slash and `\\xNN` a byte."""
     raw = text.replace("-", "/").encode()
     return re.sub(rb"\\x([0-9A-Fa-f]{2})", lambda found: bytes([int(found[1], 16)]), raw).decode("utf-8")
 
 
-def specified(name):
+def specified(name: UnitName) -> dict[str, str]:
     """What the specifiers stand for, by their letters."""
     instance = name.instance or ""
     last = name.prefix.rpartition("-")[2]
@@ -185,7 +194,7 @@ def specified(name):
     return {**plain, "P": unescaped(name.prefix), "I": unescaped(instance), "J": unescaped(last)}
 
 
-def expanded(name, value):
+def expanded(name: UnitName, value: str) -> Optional[str]:
     """The value with its specifiers expanded; None where one is not known."""
     try:
         known = specified(name)
@@ -194,7 +203,7 @@ def expanded(name, value):
         return None
 
 
-def escape_at(value, at):
+def escape_at(value: str, at: int) -> tuple[bytes, int]:
     """The bytes of the escape whose backslash is here, and the place behind it. ValueError where it is none."""
     if value[at + 1 : at + 2] == "x" and re.fullmatch("[0-9A-Fa-f]{2}", value[at + 2 : at + 4]):
         return bytes([int(value[at + 2 : at + 4], 16)]), at + 4
@@ -203,9 +212,11 @@ def escape_at(value, at):
     return ESCAPES[value[at + 1]], at + 2
 
 
-def words(value):
+def words(value: str) -> list[bytes]:
     """The words of a value; none where a quote or an escape is cut short."""
-    found, word, quote, at = [], None, "", 0
+    found: list[bytes] = []
+    word: Optional[bytes] = None
+    quote, at = "", 0
     while at < len(value):
         letter = value[at]
         if letter == "\\":
@@ -230,14 +241,14 @@ def words(value):
     return [] if quote else found
 
 
-def add_path(says, word):
+def add_path(says: Says, word: bytes) -> None:
     """Takes up a word of a list of paths, which a `-` in front makes optional."""
     bare = word[1:] if word.startswith(b"-") else word
     bare = bare[1:] if bare.startswith(b"+") else bare
     (says.optional if word.startswith(b"-") else says.paths).append(bare)
 
 
-def add_bind(says, word):
+def add_bind(says: Says, word: bytes) -> None:
     """Takes up a word `[-]SOURCE[:PLACE[:OPTION]]`. The place need not be there."""
     bare = word[1:] if word.startswith(b"-") else word
     source, _, rest = bare.partition(b":")
@@ -246,7 +257,7 @@ def add_bind(says, word):
         says.optional.append(rest.partition(b":")[0])
 
 
-def add_words(says, key, found):
+def add_words(says: Says, key: str, found: list[bytes]) -> None:
     """Takes up the words of a value."""
     if key in COMMANDS:
         says.programs.extend([word.lstrip(b"-:@+!|") for word in found[:1]])
@@ -260,7 +271,7 @@ def add_words(says, key, found):
             (add_bind if key in BINDS else add_path)(says, word)
 
 
-def add_assignment(says, key, value):
+def add_assignment(says: Says, key: str, value: str) -> None:
     """Takes up an assignment, its specifiers expanded."""
     if key == "User":
         says.users.add(value)
@@ -270,7 +281,7 @@ def add_assignment(says, key, value):
         add_words(says, key, words(value))
 
 
-def said(root, name, told, dropin=None):
+def said(root: Root, name: UnitName, told: Told, dropin: Optional[str] = None) -> Says:
     """What the files of a unit, and the text of a further drop-in, say, whether or not a later assignment takes it back."""
     says = Says([], [], [], [], [], set(), set())
     texts = []

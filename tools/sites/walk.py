@@ -1,9 +1,14 @@
 """A walk over the folders of one file system, level by level, and its form in a file, for the next site of the same root."""
+from __future__ import annotations
+
 import errno
 import json
 import os
 import stat
-from typing import NamedTuple
+from typing import Any, NamedTuple, Optional, Sequence
+
+from sites.root import Root
+from sites.told import Kinds, Told
 
 # What getxattr(2) says of a file without capabilities, or of a file system that has none.
 WITHOUT = (errno.ENODATA, errno.ENOTSUP)
@@ -19,15 +24,15 @@ class Found(NamedTuple):
     `links` the symbolic links there that lead to folders, and `elsewhere` are folders where another file system begins.
     """
 
-    privileged: list
-    sockets: list
-    telling: list
-    folders: list
-    links: list
-    elsewhere: list
+    privileged: list[bytes]
+    sockets: list[bytes]
+    telling: list[bytes]
+    folders: list[list[bytes]]
+    links: list[list[bytes]]
+    elsewhere: list[bytes]
 
 
-def has_caps(file):
+def has_caps(file: bytes) -> bool:
     """Whether a program has capabilities."""
     try:
         os.getxattr(file, "security.capability", follow_symlinks=False)
@@ -36,7 +41,7 @@ def has_caps(file):
     return True
 
 
-def leads_to_folder(root, path):
+def leads_to_folder(root: Root, path: bytes) -> bool:
     """Whether a link leads to a folder, within the root."""
     try:
         # of / the kernel follows as the root does
@@ -46,10 +51,13 @@ def leads_to_folder(root, path):
     return stat.S_ISDIR(status.st_mode)
 
 
-def look_into(root, folder, device, found, told, seen):
+def look_into(
+    root: Root, folder: bytes, device: int, found: Found, told: Told, seen: set[tuple[int, int]]
+) -> tuple[list[bytes], list[bytes]]:
     """Notes what stands in a folder; the folders below it that are on its device and were not seen yet come back, and its links."""
     front, here = folder.rstrip(b"/") + b"/", root.outside(folder)
-    below, links = [], []
+    below: list[bytes] = []
+    links: list[bytes] = []
     try:
         entries = list(os.scandir(here))
     except FileNotFoundError:
@@ -88,14 +96,15 @@ def look_into(root, folder, device, found, told, seen):
     return below, links
 
 
-def walk(root, start, told, seen):
+def walk(root: Root, start: bytes, told: Told, seen: set[tuple[int, int]]) -> Found:
     """What stands at and below a folder that has no links in its path; `seen` has the folders of earlier walks."""
     found = Found([], [], [], [], [], [])
     device = root.status(start).st_dev
     level = [start]
     while level:
         found.folders.append(level)
-        next_level, links = [], []
+        next_level: list[bytes] = []
+        links: list[bytes] = []
         for folder in level:
             below, linked = look_into(root, folder, device, found, told, seen)
             next_level += below
@@ -108,27 +117,27 @@ def walk(root, start, told, seen):
     return found
 
 
-def text_of(head, walks, kinds):
+def text_of(head: str, walks: Sequence[Found], kinds: Kinds) -> bytes:
     """The text of walks with what was told of them, behind a line that says what they are of."""
-    return (json.dumps([head, kinds, [list(map(_strings, found)) for found in walks]]) + "\n").encode()
+    return (json.dumps([head, kinds, [[_strings(paths) for paths in found] for found in walks]]) + "\n").encode()
 
 
-def read(text, head):
+def read(text: bytes, head: str) -> Optional[tuple[list[Found], Kinds]]:
     """The walks of a text with this head, and what was told of them; None where it has another one, or was cut."""
     try:
         of, kinds, walks = json.loads(text)
         if of == head:
-            return [Found(*map(_bytes, found)) for found in walks], kinds
-    except (ValueError, TypeError):
+            return [Found(*map(_bytes, found)) for found in walks], {kind: (count, names) for kind, (count, names) in kinds.items()}
+    except (ValueError, TypeError, AttributeError):
         pass
     return None
 
 
-def _strings(value):
+def _strings(value: bytes | Sequence[Any]) -> Any:
     """Paths as text, in lists within each other."""
     return os.fsdecode(value) if isinstance(value, bytes) else list(map(_strings, value))
 
 
-def _bytes(value):
+def _bytes(value: str | Sequence[Any]) -> Any:
     """Paths as bytes, in lists within each other."""
     return os.fsencode(value) if isinstance(value, str) else list(map(_bytes, value))

@@ -68,7 +68,6 @@ class Runs(unittest.TestCase):
     def run_command(self, *words):
         """Runs the command in examples/fleet."""
         how = {**os.environ, "LENTSHEEP_PROGRAM": os.path.abspath(BUILT), "XDG_CACHE_HOME": f"{self.place}/cache"}
-        how.pop("LENTSHEEP_RUNS", None)
         return subprocess.run([TOP / "sandbox", *words], cwd=TOP / "examples/fleet", env=how, capture_output=True, text=True, check=False)
 
     def test_screen(self):

@@ -144,7 +144,7 @@ class Tries(unittest.TestCase):
         self.addCleanup(shutil.rmtree, place)
         shutil.copytree(TOP / "examples/hardened", f"{place}/web")
         program, files = Program(f"{place}/web"), files_in_force(f"{place}/web", "web.service")
-        with mock.patch.dict(os.environ, {"LENTSHEEP_RUNS": os.path.abspath(BUILT), "XDG_CACHE_HOME": f"{place}/cache"}):
+        with mock.patch.dict(os.environ, {"LENTSHEEP_PROGRAM": os.path.abspath(BUILT), "XDG_CACHE_HOME": f"{place}/cache"}):
             # the two answers of /home and below are closed; PrivateTmp= is set already; with the last line the unit is refused
             lines = ["ProtectHome=yes", "PrivateTmp=yes", "ReadWritePaths=/gone"]
             wanted = {"ProtectHome=yes": frozenset({"see /home", "read /home"}), "PrivateTmp=yes": frozenset(), "ReadWritePaths=/gone": frozenset()}

@@ -9,6 +9,7 @@ import sys
 import tempfile
 import unittest
 from pathlib import Path
+from unittest import mock
 
 TOP = Path(__file__).resolve().parents[3]
 sys.path.insert(0, str(TOP / "tools"))
@@ -252,9 +253,9 @@ class Judged(unittest.TestCase):
     """What runs of the program show. The expected findings follow from systemd.exec(5) and docs/PROFILE.md."""
 
     def setUp(self):
-        before = os.environ.get("LENTSHEEP_RUNS")
-        os.environ["LENTSHEEP_RUNS"] = BUILT
-        self.addCleanup(lambda: os.environ.pop("LENTSHEEP_RUNS") if before is None else os.environ.update(LENTSHEEP_RUNS=before))
+        patched = mock.patch.dict(os.environ, {"LENTSHEEP_PROGRAM": os.path.abspath(BUILT)})
+        patched.start()
+        self.addCleanup(patched.stop)
 
     def found(self, *lines, name="web.service"):
         """What is found in a unit with these lines below ExecStart=, which is line 2."""

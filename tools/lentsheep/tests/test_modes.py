@@ -1,5 +1,4 @@
 """Tests which open answers file modes close: the rule by itself, and against the kernel of this machine where the test runs as root."""
-import dataclasses
 import json
 import os
 import shutil
@@ -18,6 +17,7 @@ from lentsheep.brief import View, brief
 from lentsheep.causes import State, state_of
 from lentsheep.modes import read_modes, with_modes
 from lentsheep.partings import Direction, Parting
+from lentsheep.record import replace
 from lentsheep.report import parse, read_question
 from lentsheep.screen import Page
 from lentsheep.terminal import Paint
@@ -113,7 +113,7 @@ class Rule(unittest.TestCase):
 def denied_of(report):
     """The report with what modes close as denied by the report itself."""
     report = expect.with_modes_denied(report)
-    return dataclasses.replace(report, answers=tuple(dataclasses.replace(it, by_modes=False) for it in report.answers))
+    return replace(report, answers=tuple(replace(it, by_modes=False) for it in report.answers))
 
 
 class Views(unittest.TestCase):

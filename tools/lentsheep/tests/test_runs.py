@@ -24,7 +24,7 @@ from lentsheep.report import parse
 from lentsheep.schema import faults, read_schema
 from lentsheep.table import read_table
 
-VIEW = TOP / "tools" / "view"
+SANDBOX = TOP / "sandbox"
 EXAMPLES = TOP / "examples"
 # A built program is run as it is, however old: a test starts no proof.
 BUILT = os.environ.get("LENTSHEEP_PROGRAM") or str(TOP / "crates/sandbox_cli/out/sandbox_cli")
@@ -222,8 +222,8 @@ def site():
 
 def run(folder, *words, by=None):
     """Runs a view in a folder, as ./sandbox does: its status and what it printed."""
-    how = {**HOW, "LENTSHEEP_RUNS": os.path.abspath(BUILT), "XDG_CACHE_HOME": CACHE.name}
-    ended = subprocess.run([VIEW, *words], cwd=folder, env=by or how, capture_output=True, text=True, check=False)
+    how = {**HOW, "LENTSHEEP_PROGRAM": os.path.abspath(BUILT), "XDG_CACHE_HOME": CACHE.name}
+    ended = subprocess.run([SANDBOX, *words], cwd=folder, env=by or how, capture_output=True, text=True, check=False)
     return ended.returncode, ended.stdout + ended.stderr
 
 
@@ -234,7 +234,7 @@ def judged(folder, unit):
 
 def met(folder, unit):
     """The partings that a report meets, by their names; what closes its causes is not tried."""
-    with mock.patch.dict(os.environ, {"LENTSHEEP_RUNS": os.path.abspath(BUILT)}):
+    with mock.patch.dict(os.environ, {"LENTSHEEP_PROGRAM": os.path.abspath(BUILT)}):
         program = Program(folder)
         found = program.run("judge", unit)
         return {parting.name: parting for parting in partings_of(program, found, found.printed)}
