@@ -4,5 +4,6 @@ pub mod Files
 pub mod Reading
 pub mod Turns
 pub mod Writing
+pub mod Puts
 pub mod MemoryFiles
 pub mod MemoryOutput

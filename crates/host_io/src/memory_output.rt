@@ -4,6 +4,8 @@
 ghost use Rattle.std.specs.Prelude.{◌≡◌, ◌<◌, ◌↔◌, [], ◌++◌, length, min, Some, IfOk, MatchResult, IsTrue, IsErrOf};
 ghost use Rattle.host_io.specs.declared.writing.SinkError.TheVariants.{Failed, Memory};
 ghost use Rattle.host_io.specs.Causes.{StaysUnless};
+ghost use Rattle.host_io.specs.MemoryOutput.{PutsMemory};
+ghost use Rattle.host_io.specs.Puts.{put_of};
 ghost use Rattle.host_io.specs.Turns.{fails_now, after_turn};
 ghost use Rattle.host_io.specs.Writing.{Takes, HasCause};
 
@@ -66,8 +68,11 @@ impl Sink for MemSink {
 
     ghost faults = { λ sink. sink.turns.faults };
 
+    ghost puts = { PutsMemory };
+
     fn put(&mut self, piece: &[u8]) -> Result<usize, SinkError>
         ensures takes_a_prefix { Takes (Some self.old.bytes) (Some self.new.bytes) piece.now result }
+        ensures hands_it { PutsMemory self.old (put_of piece.now result) self.new }
         ensures fault_rose { HasCause self.old.turns.faults self.new.turns.faults result }
         ensures no_other_fault { StaysUnless Failed self.old.turns.faults self.new.turns.faults result }
         ensures takes_what_fits { IfOk result (λ count. count ≡ min (length piece.now) self.old.limit) }

@@ -7,6 +7,7 @@ ghost use Rattle.host_io.specs.declared.reading.ShelfError.TheVariants.{Missing,
 ghost use Rattle.host_io.specs.Calls.{AsksOutside, FileAt, NamesIn, call_of};
 ghost use Rattle.host_io.specs.Causes.{Rose, StaysUnless};
 ghost use Rattle.host_io.specs.Files.{begins_with_slash};
+ghost use Rattle.host_io.specs.Puts.{PutsOutside};
 ghost use Rattle.host_io.specs.Reading.{Reads, Lists, HasCause};
 
 use crate::reading::{Shelf, ShelfError};
@@ -204,6 +205,8 @@ impl<R: Print + Clone + Drop> Sink for StdSink<R> {
     ghost taken = { λ _. None };
 
     ghost faults = { λ sink. sink.faults };
+
+    ghost puts = { λ before put now. PutsOutside before.faults put now.faults };
 
     fn put(&mut self, piece: &[u8]) -> Result<usize, SinkError> {
         match write_some(&self.rt, piece) {
