@@ -1,6 +1,6 @@
 -- Lines that are handed one behind the other, each as one piece.
-use Rattle.std.proofs.Common.{◌≡◌, ℕ, zero, suc, ◌+◌, ◌<◌, ◌≤◌, ◌==◌, Bool, true, false, cond, List, [], ◌∷◌, ◌++◌, length, get_or, take, drop}
-use Rattle.std.proofs.Common.{Option, Some, None, Result, Ok, Err, refl, sym, ap, ◌∙◌, subst, append_assoc, append-nil, arith, inl, inr}
+use Rattle.std.proofs.Common.{◌≡◌, ℕ, zero, suc, ◌+◌, ◌<◌, ◌≤◌, ◌==◌, Bool, true, false, cond, List, [], ◌∷◌, ◌++◌, length, get_or, take}
+use Rattle.std.proofs.Common.{Some, None, refl, sym, ap, ◌∙◌, subst, append_assoc, append-nil, arith, inl, inr}
 use Rattle.std.specs.List.{list_any, position, position_or_len}
 use Rattle.std.specs.Prelude.{flat_map, nat_lt, ◌||◌, ◌⊎◌}
 use Rattle.std.proofs.lemmas.Bool.Decides.{nat_tests}
@@ -11,7 +11,7 @@ use Rattle.std.proofs.lemmas.List.Sums.{fails_before_first}
 use Rattle.exec_settings.specs.host_io.Puts.{HandsPart, HandsWhole, Leaves, Put, Puts, handed}
 use Rattle.exec_settings.specs.host_io.declared.writing.SinkError.{SinkError}
 use Rattle.exec_settings.specs.host_io.declared.writing.SinkError.TheVariants.{Memory}
-use Rattle.unit_inputs.specs.command_answers.Lines.{EndsLine, HandsEach, HandsLast, HandsLines, HandsNext, HandsSome, HandsText, IsOfLines}
+use Rattle.unit_inputs.specs.command_answers.Lines.{EndsLine, HandsEach, HandsLast, HandsLines, HandsSome, HandsText, IsOfLines}
 use Rattle.unit_inputs.specs.command_answers.Lines.{IsLine, StopsAt, has_feed, joined}
 
 -- Texts that end in a line feed.
@@ -55,7 +55,8 @@ first_is_line text at found =
 
 pub none_is_line : (text : List ℕ) → position (λ byte. byte == 10) text ≡ None → has_feed text ≡ false
 none_is_line text none =
-    let past : length text ≤ position_or_len (λ byte. byte == 10) text = past_it (nat_lt (position_or_len (λ byte. byte == 10) text) (length text)) refl none in
+    let past : length text ≤ position_or_len (λ byte. byte == 10) text =
+    past_it (nat_lt (position_or_len (λ byte. byte == 10) text) (length text)) refl none in
     let below : list_any (λ byte. byte == 10) (take (length text) text) ≡ false =
     none_below (λ byte. byte == 10) text (length text) 0
     (λ k lt. fails_before_first (λ byte. byte == 10) text k 0 (omega (arith, past, lt))) (omega arith) in
@@ -84,7 +85,9 @@ no_more (x ∷ front) last is = cc
 nothing_behind : (front last words : List ℕ) → front ++ last ≡ words ++ 10 ∷ [] → has_feed last ≡ false → last ≡ []
 nothing_behind [] last words is none = absurd (not_in_it words (subst (λ l. has_feed l ≡ false) is none))
 nothing_behind (x ∷ front) last [] is none = no_more front last cc
-nothing_behind (x ∷ front) last (y ∷ words) is none = nothing_behind front last words cc none
+nothing_behind (x ∷ front) last (y ∷ words) is none =
+    let e : front ++ last ≡ words ++ 10 ∷ [] = cc in
+    nothing_behind front last words e none
 
 no_tail : (x front last : List ℕ) → IsOfLines x → front ++ last ≡ x → has_feed last ≡ false → last ≡ []
 no_tail x front last (inl empty) is none = no_more front last (is ∙ empty)

@@ -20,7 +20,8 @@ not_whole ending kind whole e = subst (λ k. IsTrue (is_whole k)) e whole
 
 module _ (laws : Laws) (together : GoTogether laws) (outside : Outside) where
   -- a whole text that is admitted
-  ran_whole : (ending : Ending) (text : List ℕ) → laws.admits ending text → PutsText outside.sink.taken outside.sink.puts outside.sink.before outside.sink.after text (Ok tt)
+  ran_whole : (ending : Ending) (text : List ℕ) → laws.admits ending text
+      → PutsText outside.sink.taken outside.sink.puts outside.sink.before outside.sink.after text (Ok tt)
       → outside.shelf_after ≡ outside.shelf_before → outside.sink.faults outside.sink.after ≡ outside.sink.faults outside.sink.before → IsRun laws ending outside
   ran_whole ending text admitted puts shelf put =
       let ends = together.ends ending text admitted in
@@ -43,7 +44,8 @@ module _ (laws : Laws) (together : GoTogether laws) (outside : Outside) where
 
   -- a write that failed
   ran_cut : WrotePrefix laws.admits outside.sink → outside.shelf_after ≡ outside.shelf_before
-      → outside.sink.faults outside.sink.before ≤ outside.sink.faults outside.sink.after → Rose (outside.sink.faults outside.sink.before) (outside.sink.faults outside.sink.after)
+      → outside.sink.faults outside.sink.before ≤ outside.sink.faults outside.sink.after
+      → Rose (outside.sink.faults outside.sink.before) (outside.sink.faults outside.sink.after)
       → IsRun laws WriteFault outside
   ran_cut prefix shelf later rose = record {
     prints_the_whole_text = λ w. cc;
@@ -102,7 +104,8 @@ module _ (laws : Laws) (together : GoTogether laws) (outside : Outside) where
   -- by how the text was put
   ran_by_put : (ending : Ending) (text : List ℕ) (put : Result (Unit {0}) SinkError) → laws.admits ending text
       → PutsText outside.sink.taken outside.sink.puts outside.sink.before outside.sink.after text put → outside.shelf_after ≡ outside.shelf_before
-      → HasWriteCause (outside.sink.faults outside.sink.before) (outside.sink.faults outside.sink.after) put → IsRun laws (ending_of_put put ending) outside
+      → HasWriteCause (outside.sink.faults outside.sink.before) (outside.sink.faults outside.sink.after) put
+      → IsRun laws (ending_of_put put ending) outside
   ran_by_put ending text (Ok u) admitted takes shelf cause = ran_whole ending text admitted takes shelf cause.no_other_fault
   ran_by_put ending text (Err sink.Failed) admitted takes shelf cause =
       ran_cut (inr (ending, text, Err sink.Failed, admitted, takes)) shelf cause.later (cause.failed refl)
@@ -112,7 +115,8 @@ module _ (laws : Laws) (together : GoTogether laws) (outside : Outside) where
   ran_text : (ending : Ending) (text : List ℕ) (ended : Ending) → laws.admits ending text → PrintsText ending text ended outside.sink
       → outside.shelf_after ≡ outside.shelf_before → IsRun laws ended outside
   ran_text ending text ended admitted printed shelf =
-      subst (λ e. IsRun laws e outside) (sym printed.ends) (ran_by_put ending text printed.put admitted printed.puts_the_text shelf printed.cause)
+      subst (λ e. IsRun laws e outside) (sym printed.ends)
+      (ran_by_put ending text printed.put admitted printed.puts_the_text shelf printed.cause)
 
   -- a command that is prepared and then finished runs by its laws
   pub ran : {R : Type 0} (behind : R → Ending) (text : R → List ℕ) (prepared : Result R Stop) (ended : Ending)

@@ -1,6 +1,6 @@
 -- Texts that are printed one behind the other.
-use Rattle.std.proofs.Common.{◌≡◌, ℕ, suc, ◌+◌, ◌<◌, ◌≤◌, List, [], ◌∷◌, ◌++◌, length, get_or, take, drop, Option, Result, Ok, Err, refl, sym}
-use Rattle.std.proofs.Common.{ap, ◌∙◌, subst, append_assoc, append-nil, inl, inr}
+use Rattle.std.proofs.Common.{◌≡◌, ℕ, suc, ◌+◌, ◌<◌, ◌≤◌, false, List, [], ◌∷◌, ◌++◌, length, get_or, take, drop, Option}
+use Rattle.std.proofs.Common.{Result, Ok, Err, refl, sym, ap, ◌∙◌, subst, append_assoc, append-nil, inl, inr}
 use Rattle.std.specs.Prelude.{flat_map}
 use Rattle.std.specs.Result.{IsErrAnd}
 use Rattle.std.specs.Io.KnownBytes.{append_known}
@@ -13,7 +13,7 @@ use Rattle.exec_settings.specs.host_io.declared.writing.SinkError.{SinkError}
 use Rattle.exec_settings.specs.host_io.declared.writing.SinkError.TheVariants.{Memory}
 use Rattle.exec_settings.proofs.OfHostIo.Growth.{append_known-append, append_known-nil}
 use Rattle.unit_inputs.specs.command_answers.Lines.{IsLine, IsOfLines, has_feed}
-use Rattle.unit_inputs.specs.command_answers.Printing.{PrintsAll, PrintsLines, PrintsSome, PutsAll, PutsSome, PutsText, TakesFront}
+use Rattle.unit_inputs.specs.command_answers.Printing.{PrintsAll, PrintsLines, PrintsSome, PutsSome, PutsText, TakesFront}
 use Rattle.unit_inputs.proofs.Lines.{as_text, lines_behind, no_lines, not_begun, one_line, part_of_line, some_before, some_behind}
 use Rattle.unit_inputs.proofs.Lines.{some_lines, whole_lines}
 
@@ -30,6 +30,32 @@ front_cut a b x y (front, rest, is, g) = (front, rest ++ y, sym (append_assoc fr
 -- a part of a piece that was taken
 pub piece_cut : (a b : Option (List ℕ)) (piece : List ℕ) (error : SinkError) → TakesWhole a b piece (Err error) → TakesFront a b piece
 piece_cut a b piece error (count, lt, grew) = (take count piece, drop count piece, take-append-drop count piece, grew)
+
+module _ {S : Type 0} (taken : S → Option (List ℕ)) (puts : S → Put → S → Type 0) where
+  pub text_as : (a b : S) (x y : List ℕ) (put : Result (Unit {0}) SinkError) → x ≡ y → PrintsLines taken puts a b x put
+      → PrintsLines taken puts a b y put
+  text_as a b x y put same prints = subst (λ text. PrintsLines taken puts a b text put) same prints
+
+  -- a line that was put
+  pub line_printed : (a b : S) (line : List ℕ) (put : Result (Unit {0}) SinkError) → IsLine line
+      → TakesWhole (taken a) (taken b) line put → Hands puts a b line put → PrintsLines taken puts a b line put
+  line_printed a b line (Ok u) is takes hands = record { takes = takes; hands = one_line puts a b line is hands }
+  line_printed a b line (Err error) is takes hands = record {
+    takes = piece_cut (taken a) (taken b) line error takes;
+    hands = part_of_line puts a b line error is hands;
+  }
+
+  -- a text of whole lines that was printed is put
+  pub printed_text : (a b : S) (x : List ℕ) (put : Result (Unit {0}) SinkError) → PrintsLines taken puts a b x put
+      → PutsText taken puts a b x put
+  printed_text a b x (Ok u) prints = record { takes = prints.takes; hands = as_text puts a b x prints.hands }
+  printed_text a b x (Err error) prints = record { takes = prints.takes; hands = inl prints.hands }
+
+  -- and a text that is put is printed where it ends in a line feed
+  pub text_of_lines : (a b : S) (x : List ℕ) (put : Result (Unit {0}) SinkError) → IsOfLines x → PutsText taken puts a b x put
+      → PrintsLines taken puts a b x put
+  text_of_lines a b x (Ok u) ends text = record { takes = text.takes; hands = whole_lines puts a b x ends text.hands }
+  text_of_lines a b x (Err error) ends text = record { takes = text.takes; hands = some_lines puts a b x error ends text.hands }
 
 module _ {S : Type 0} {taken : S → Option (List ℕ)} {puts : S → Put → S → Type 0} where
   -- The lemma of composition: a text that is printed behind a whole one makes one text with it
@@ -50,10 +76,6 @@ module _ {S : Type 0} {taken : S → Option (List ℕ)} {puts : S → Put → S 
     takes = front_cut (taken a) (taken b) x y f.takes;
     hands = some_before puts a b x y error f.hands;
   }
-
-  pub text_as : (a b : S) (x y : List ℕ) (put : Result (Unit {0}) SinkError) → x ≡ y → PrintsLines taken puts a b x put
-      → PrintsLines taken puts a b y put
-  text_as a b x y put same prints = subst (λ text. PrintsLines taken puts a b text put) same prints
 
   -- by how the printing ended
   pub text_at_error : (a b : S) (x : List ℕ) (error : SinkError) (put : Result (Unit {0}) SinkError)
@@ -77,15 +99,6 @@ module _ {S : Type 0} {taken : S → Option (List ℕ)} {puts : S → Put → S 
 
   pub not_printed : (a : S) (x : List ℕ) → PrintsSome taken puts a a x Memory
   not_printed a x = record { takes = ([], x, refl, sym (append_known-nil (taken a))); hands = not_begun puts a x }
-
-  -- a line that was put
-  pub line_printed : (a b : S) (line : List ℕ) (put : Result (Unit {0}) SinkError) → IsLine line
-      → TakesWhole (taken a) (taken b) line put → Hands puts a b line put → PrintsLines taken puts a b line put
-  line_printed a b line (Ok u) is takes hands = record { takes = takes; hands = one_line puts a b line is hands }
-  line_printed a b line (Err error) is takes hands = record {
-    takes = piece_cut (taken a) (taken b) line error takes;
-    hands = part_of_line puts a b line error is hands;
-  }
 
   -- what stands behind the last line
   pub last_put : (a b c : S) (front last text : List ℕ) (put : Result (Unit {0}) SinkError) → PrintsAll taken puts a b front
@@ -118,20 +131,8 @@ module _ {S : Type 0} {taken : S → Option (List ℕ)} {puts : S → Put → S 
     });
   }
 
-  -- a text of whole lines that was printed is put
-  pub printed_text : (a b : S) (x : List ℕ) (put : Result (Unit {0}) SinkError) → PrintsLines taken puts a b x put
-      → PutsText taken puts a b x put
-  printed_text a b x (Ok u) prints = record { takes = prints.takes; hands = as_text puts a b x prints.hands }
-  printed_text a b x (Err error) prints = record { takes = prints.takes; hands = inl prints.hands }
-
-  -- and a text that is put is printed where it ends in a line feed
-  pub text_of_lines : (a b : S) (x : List ℕ) (put : Result (Unit {0}) SinkError) → IsOfLines x → PutsText taken puts a b x put
-      → PrintsLines taken puts a b x put
-  text_of_lines a b x (Ok u) ends text = record { takes = text.takes; hands = whole_lines puts a b x ends text.hands }
-  text_of_lines a b x (Err error) ends text = record { takes = text.takes; hands = some_lines puts a b x error ends text.hands }
-
 -- the texts of items, up to one more
-module _ {S X : Type 0} {taken : S → Option (List ℕ)} {puts : S → Put → S → Type 0} (text : X → List ℕ) (xs : List X) (i : ℕ) (d x : X) (a b c : S) where
+module _ {X : Type 0} (text : X → List ℕ) (xs : List X) (i : ℕ) (d x : X) where
   one_more : i < length xs → x ≡ get_or xs i d → flat_map text (take i xs) ++ text x ≡ flat_map text (take (i + 1) xs)
   one_more lt is =
       ap (λ l. flat_map text (take i xs) ++ l) (sym (append-nil (text x)) ∙ ap (λ y. flat_map text (y ∷ [])) is)
@@ -146,18 +147,24 @@ module _ {S X : Type 0} {taken : S → Option (List ℕ)} {puts : S → Put → 
       ∙ sym (flat_map-append text (take i xs) (drop i xs))
       ∙ ap (flat_map text) (take-append-drop i xs)
 
-  pub items_more : i < length xs → x ≡ get_or xs i d → PrintsAll taken puts a b (flat_map text (take i xs)) → PrintsAll taken puts b c (text x)
+module _ {S X : Type 0} {taken : S → Option (List ℕ)} {puts : S → Put → S → Type 0} (text : X → List ℕ) (xs : List X) (i : ℕ) (d x : X)
+    (a b c : S) where
+  pub items_more : i < length xs → x ≡ get_or xs i d → PrintsAll taken puts a b (flat_map text (take i xs))
+      → PrintsAll taken puts b c (text x)
       → PrintsAll taken puts a c (flat_map text (take (i + 1) xs))
-  items_more lt is f g = subst (PrintsAll taken puts a c) (one_more lt is) (text_then a b c (flat_map text (take i xs)) (text x) (Ok tt) f g)
+  items_more lt is f g =
+      subst (PrintsAll taken puts a c) (one_more text xs i d x lt is) (text_then a b c (flat_map text (take i xs)) (text x) (Ok tt) f g)
 
   pub items_cut : (error : SinkError) → i < length xs → x ≡ get_or xs i d → PrintsAll taken puts a b (flat_map text (take i xs))
       → PrintsSome taken puts b c (text x) error → PrintsSome taken puts a c (flat_map text xs) error
   items_cut error lt is f prints =
-      text_as a c ((flat_map text (take i xs) ++ text x) ++ flat_map text (drop (suc i) xs)) (flat_map text xs) (Err error) (the_rest lt is)
+      text_as taken puts a c ((flat_map text (take i xs) ++ text x) ++ flat_map text (drop (suc i) xs)) (flat_map text xs) (Err error)
+      (the_rest text xs i d x lt is)
       (text_cut a c (flat_map text (take i xs) ++ text x) (flat_map text (drop (suc i) xs)) error
       (text_then a b c (flat_map text (take i xs)) (text x) (Err error) f prints))
 
 -- and all of them
-pub items_all : {S X : Type 0} {taken : S → Option (List ℕ)} {puts : S → Put → S → Type 0} (text : X → List ℕ) (xs : List X) (i : ℕ) (a b : S)
-    → length xs ≤ i → PrintsAll taken puts a b (flat_map text (take i xs)) → PrintsAll taken puts a b (flat_map text xs)
-items_all {S} {X} {taken} {puts} text xs i a b past f = subst (λ these. PrintsAll taken puts a b (flat_map text these)) (take_all i xs past) f
+pub items_all : {S X : Type 0} {taken : S → Option (List ℕ)} {puts : S → Put → S → Type 0} (text : X → List ℕ) (xs : List X) (i : ℕ)
+    (a b : S) → length xs ≤ i → PrintsAll taken puts a b (flat_map text (take i xs)) → PrintsAll taken puts a b (flat_map text xs)
+items_all {S} {X} {taken} {puts} text xs i a b past f = subst (λ these. PrintsAll taken puts a b (flat_map text these))
+    (take_all i xs past) f

@@ -1,5 +1,5 @@
 -- Texts of lines, and the pieces by which they are handed to a sink: each line, with its line feed, is handed as one piece.
-use Rattle.std.specs.Prelude.{◌≡◌, ◌⊎◌, ◌==◌, ℕ, Bool, false, List, [], ◌∷◌, ◌++◌, Result, Ok, Err}
+use Rattle.std.specs.Prelude.{◌≡◌, ◌⊎◌, ◌==◌, ℕ, Bool, false, List, [], ◌∷◌, ◌++◌}
 use Rattle.std.specs.List.{list_any}
 use Rattle.exec_settings.specs.host_io.Puts.{HandsPart, HandsWhole, Put}
 use Rattle.exec_settings.specs.host_io.declared.writing.SinkError.{SinkError}
