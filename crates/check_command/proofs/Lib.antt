@@ -1,3 +1,4 @@
+pub mod Ends
 pub mod Joined
 pub mod Named
 pub mod Once

@@ -1,6 +1,6 @@
 //! Compiled filters, printed line by line.
 ghost use Rattle.std.specs.Prelude.{flat_map};
-ghost use Rattle.unit_inputs.specs.command_answers.Printing.{HasWriteCause, TakesText};
+ghost use Rattle.unit_inputs.specs.command_answers.Printing.{HasWriteCause, PrintsLines};
 ghost use Rattle.filter_command.specs.Lines.{filter_text, insn_line};
 
 use crate::lines::{head_line, insn_line};
@@ -11,7 +11,7 @@ use unit_inputs::command_answers::put_line;
 
 // Prints instructions.
 fn print_insns<K: Sink>(alloc: Global, insns: &[Insn], out: &mut K) -> Result<(), SinkError>
-    ensures takes_the_text { TakesText (K.taken out.old) (K.taken out.new) (flat_map insn_line insns.now) result }
+    ensures prints_the_text { PrintsLines K.taken K.puts out.old out.new (flat_map insn_line insns.now) result }
     ensures fault_rose { HasWriteCause (K.faults out.old) (K.faults out.new) result }
 {
     for insn in insns {
@@ -26,7 +26,7 @@ fn print_filter<K: Sink>(
     filter: &FilterProgram,
     out: &mut K,
 ) -> Result<(), SinkError>
-    ensures takes_the_text { TakesText (K.taken out.old) (K.taken out.new) (filter_text filter.now) result }
+    ensures prints_the_text { PrintsLines K.taken K.puts out.old out.new (filter_text filter.now) result }
     ensures fault_rose { HasWriteCause (K.faults out.old) (K.faults out.new) result }
 {
     put_line(out, head_line(alloc, filter))?;
@@ -39,7 +39,7 @@ pub fn print_filters<K: Sink>(
     filters: &[FilterProgram],
     out: &mut K,
 ) -> Result<(), SinkError>
-    ensures takes_the_text { TakesText (K.taken out.old) (K.taken out.new) (flat_map filter_text filters.now) result }
+    ensures prints_the_text { PrintsLines K.taken K.puts out.old out.new (flat_map filter_text filters.now) result }
     ensures fault_rose { HasWriteCause (K.faults out.old) (K.faults out.new) result }
 {
     for filter in filters {

@@ -1,6 +1,6 @@
 //! Reports of all units, printed line by line.
 ghost use Rattle.std.specs.Prelude.{flat_map};
-ghost use Rattle.score_command.specs.unit_inputs.command_answers.Printing.{HasWriteCause, TakesText};
+ghost use Rattle.score_command.specs.unit_inputs.command_answers.Printing.{HasWriteCause, PrintsLines};
 ghost use Rattle.fleet_command.specs.Texts.{fleet_text, row_line};
 
 use crate::fleet_report::FleetRow;
@@ -11,7 +11,7 @@ use std::alloc::Global;
 
 // Prints what came of each unit.
 fn print_rows<K: Sink>(alloc: Global, rows: &[FleetRow], out: &mut K) -> Result<(), SinkError>
-    ensures takes_the_text { TakesText (K.taken out.old) (K.taken out.new) (flat_map row_line rows.now) result }
+    ensures prints_the_text { PrintsLines K.taken K.puts out.old out.new (flat_map row_line rows.now) result }
     ensures fault_rose { HasWriteCause (K.faults out.old) (K.faults out.new) result }
 {
     for row in rows {
@@ -22,7 +22,7 @@ fn print_rows<K: Sink>(alloc: Global, rows: &[FleetRow], out: &mut K) -> Result<
 
 /// Prints a report: a line for each unit, and how many there are.
 pub fn print_fleet<K: Sink>(alloc: Global, rows: &[FleetRow], out: &mut K) -> Result<(), SinkError>
-    ensures takes_the_text { TakesText (K.taken out.old) (K.taken out.new) (fleet_text rows.now) result }
+    ensures prints_the_text { PrintsLines K.taken K.puts out.old out.new (fleet_text rows.now) result }
     ensures fault_rose { HasWriteCause (K.faults out.old) (K.faults out.new) result }
 {
     print_rows(alloc, rows, out)?;

@@ -1,3 +1,4 @@
+pub mod Ends
 pub mod Answered
 pub mod Named
 pub mod Counted

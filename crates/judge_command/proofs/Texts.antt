@@ -19,9 +19,9 @@ use Rattle.asked_service.specs.report_text.Answers.{blind_line, call_line, open_
 use Rattle.asked_service.specs.report_text.Launches.{launched_line}
 use Rattle.asked_service.specs.report_text.declared.launches.Launched.{Launched as Line}
 use Rattle.asked_service.specs.unit_launch.Told.{told_of}
-use Rattle.asked_service.specs.host_io.Writing.{Grew}
+use Rattle.asked_service.specs.host_io.Puts.{Put}
 use Rattle.asked_service.specs.host_io.declared.writing.SinkError.{SinkError}
-use Rattle.asked_service.specs.unit_inputs.command_answers.Printing.{TakesText}
+use Rattle.asked_service.specs.unit_inputs.command_answers.Printing.{PrintsAll, PrintsLines}
 use Rattle.asked_service.proofs.OfUnitInputs.Texts.{text_as, text_then}
 use Rattle.judge_command.specs.Answers.{Denied, Open}
 use Rattle.judge_command.specs.Asked.{IsAsked, answer_text, asked_text, folder_text, is_named, launch_in, world_in}
@@ -102,6 +102,9 @@ module _ (asked : Asked) where
   pub named_text : (row : Row) → is_named asked row ≡ true → blind_line row.path ≡ folder_text asked row
   named_text row e = sym (ap (λ b. if b then blind_line row.path else []) e)
 
+  pub unnamed_text : (row : Row) → is_named asked row ≡ false → [] ≡ folder_text asked row
+  unnamed_text row e = sym (ap (λ b. if b then blind_line row.path else []) e)
+
   one_folder : (row : Row) (b : Bool) → (if b then blind_line row.path else []) ≡ flat_map blind_line (if_so b row.path)
   one_folder row true = sym (append-nil (blind_line row.path))
   one_folder row false = refl
@@ -118,18 +121,21 @@ module _ (asked : Asked) where
       → IfOk line (λ put. put.items ≡ launched_line own) → IfOk line (λ put. put.items ≡ launch_part asked)
   launch_told own line same tells = subst (λ one. IfOk line (λ put. put.items ≡ launched_line one)) same tells
 
-  pub answers_put : (a b : Option (List ℕ)) (list : List Question) (put : Result (Unit {0}) SinkError) → IsAsked asked
-      → list ≡ asked.questions.items → TakesText a b (flat_map (answer_text asked) list) put → TakesText a b (answers_part asked) put
-  answers_put a b list put is same takes = text_as a b (flat_map (answer_text asked) list) (answers_part asked) put
-      (ap (flat_map (answer_text asked)) same ∙ answers_text is) takes
+  module _ {S : Type 0} {taken : S → Option (List ℕ)} {puts : S → Put → S → Type 0} where
+    pub answers_put : (a b : S) (list : List Question) (put : Result (Unit {0}) SinkError) → IsAsked asked
+        → list ≡ asked.questions.items → PrintsLines taken puts a b (flat_map (answer_text asked) list) put
+        → PrintsLines taken puts a b (answers_part asked) put
+    answers_put a b list put is same prints = text_as a b (flat_map (answer_text asked) list) (answers_part asked) put
+        (ap (flat_map (answer_text asked)) same ∙ answers_text is) prints
 
-  pub folders_put : (a b : Option (List ℕ)) (rows : List Row) (put : Result (Unit {0}) SinkError) → rows ≡ (world_in asked).site.rows
-      → TakesText a b (flat_map (folder_text asked) rows) put → TakesText a b (folders_part asked) put
-  folders_put a b rows put same takes = text_as a b (flat_map (folder_text asked) rows) (folders_part asked) put
-      (ap (flat_map (folder_text asked)) same ∙ folders_text (world_in asked).site.rows) takes
+    pub folders_put : (a b : S) (rows : List Row) (put : Result (Unit {0}) SinkError) → rows ≡ (world_in asked).site.rows
+        → PrintsLines taken puts a b (flat_map (folder_text asked) rows) put → PrintsLines taken puts a b (folders_part asked) put
+    folders_put a b rows put same prints = text_as a b (flat_map (folder_text asked) rows) (folders_part asked) put
+        (ap (flat_map (folder_text asked)) same ∙ folders_text (world_in asked).site.rows) prints
 
-  -- and what comes behind the launch
-  pub behind_launch : (a b c : Option (List ℕ)) (put : Result (Unit {0}) SinkError) → Grew a b (launch_part asked)
-      → TakesText b c (answers_part asked ++ (folders_part asked ++ count_part asked)) put → TakesText a c (asked_text asked) put
-  behind_launch a b c put launched takes = text_then a b c (launch_part asked)
-      (answers_part asked ++ (folders_part asked ++ count_part asked)) put launched takes
+    -- and what comes behind the launch
+    pub behind_launch : (a b c : S) (put : Result (Unit {0}) SinkError) → PrintsAll taken puts a b (launch_part asked)
+        → PrintsLines taken puts b c (answers_part asked ++ (folders_part asked ++ count_part asked)) put
+        → PrintsLines taken puts a c (asked_text asked) put
+    behind_launch a b c put launched prints = text_then a b c (launch_part asked)
+        (answers_part asked ++ (folders_part asked ++ count_part asked)) put launched prints

@@ -1,13 +1,13 @@
 //! The answers to questions, found and printed one by one.
 ghost use Rattle.std.specs.Prelude.{◌≡◌, Contains, IfOk, OnOk, flat_map};
-ghost use Rattle.asked_service.specs.unit_inputs.command_answers.Printing.{HasWriteCause, TakesText};
+ghost use Rattle.asked_service.specs.unit_inputs.command_answers.Printing.{HasWriteCause, PrintsLines};
 ghost use Rattle.asked_service.specs.kernel_laws.Questions.{questions};
 ghost use Rattle.judge_command.specs.Asked.{IsAsked, IsVerdict, answer_text, denied_among};
 ghost use Rattle.judge_command.specs.Lent.{IsServiceOf};
 
 use crate::asking::Asked;
 use crate::counting::denied_once;
-use asked_service::{open_lines, put_lines, verdict, verdict_line};
+use asked_service::{open_lines, put_line, verdict, verdict_line};
 use host_io::{Sink, SinkError};
 use open_calls::{Service, calls};
 use questions::{Question, Verdict};
@@ -52,13 +52,10 @@ fn print_answer<K: Sink>(
     requires listed { Contains (questions asked.now.bounded.service.world.calls asked.now.bounded.service.world.site) question.now }
     requires found { IsVerdict asked.now question.now found }
     requires its_service { IsServiceOf asked.now service.now }
-    ensures takes_the_text { TakesText (K.taken out.old) (K.taken out.new) (answer_text asked.now question.now) result }
+    ensures prints_the_text { PrintsLines K.taken K.puts out.old out.new (answer_text asked.now question.now) result }
     ensures fault_rose { HasWriteCause (K.faults out.old) (K.faults out.new) result }
 {
-    match answer_lines(alloc, asked, service, question, found) {
-        Ok(text) => put_lines(out, text.as_slice()),
-        Err(_) => Err(SinkError::Memory),
-    }
+    put_line(out, answer_lines(alloc, asked, service, question, found))
 }
 
 /// Asks these questions, all that are asked of the service, and prints the answer to each as it is found; then `denied` is how
@@ -72,7 +69,7 @@ pub fn print_answers<K: Sink>(
 ) -> Result<(), SinkError>
     requires asked { IsAsked asked.now }
     requires all { list.now ≡ questions asked.now.bounded.service.world.calls asked.now.bounded.service.world.site }
-    ensures takes_the_text { TakesText (K.taken out.old) (K.taken out.new) (flat_map (answer_text asked.now) list.now) result }
+    ensures prints_the_text { PrintsLines K.taken K.puts out.old out.new (flat_map (answer_text asked.now) list.now) result }
     ensures counts { OnOk result (denied.new ≡ denied_among asked.now list.now) }
     ensures fault_rose { HasWriteCause (K.faults out.old) (K.faults out.new) result }
 {

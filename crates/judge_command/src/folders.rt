@@ -1,6 +1,6 @@
 //! The folders that are blind, found and printed one by one.
 ghost use Rattle.std.specs.Prelude.{◌≡◌, IfOk, flat_map};
-ghost use Rattle.asked_service.specs.unit_inputs.command_answers.Printing.{HasWriteCause, TakesText};
+ghost use Rattle.asked_service.specs.unit_inputs.command_answers.Printing.{HasWriteCause, PrintsLines};
 ghost use Rattle.asked_service.specs.report_text.Answers.{blind_line};
 ghost use Rattle.judge_command.specs.Asked.{IsAsked, IsRowIn, folder_text, is_named};
 
@@ -40,7 +40,7 @@ fn print_folder<K: Sink>(
 ) -> Result<(), SinkError>
     requires asked { IsAsked asked.now }
     requires row { IsRowIn asked.now row.now }
-    ensures takes_the_text { TakesText (K.taken out.old) (K.taken out.new) (folder_text asked.now row.now) result }
+    ensures prints_the_text { PrintsLines K.taken K.puts out.old out.new (folder_text asked.now row.now) result }
     ensures fault_rose { HasWriteCause (K.faults out.old) (K.faults out.new) result }
 {
     if is_named(asked, row) {
@@ -59,7 +59,7 @@ pub fn print_folders<K: Sink>(
 ) -> Result<(), SinkError>
     requires asked { IsAsked asked.now }
     requires all { rows.now ≡ asked.now.bounded.service.world.site.rows }
-    ensures takes_the_text { TakesText (K.taken out.old) (K.taken out.new) (flat_map (folder_text asked.now) rows.now) result }
+    ensures prints_the_text { PrintsLines K.taken K.puts out.old out.new (flat_map (folder_text asked.now) rows.now) result }
     ensures fault_rose { HasWriteCause (K.faults out.old) (K.faults out.new) result }
 {
     for row in rows {

@@ -1,6 +1,6 @@
 //! Reports, printed line by line.
 ghost use Rattle.std.specs.Prelude.{flat_map};
-ghost use Rattle.asked_service.specs.unit_inputs.command_answers.Printing.{HasWriteCause, TakesText};
+ghost use Rattle.asked_service.specs.unit_inputs.command_answers.Printing.{HasWriteCause, PrintsLines};
 ghost use Rattle.asked_service.specs.report_text.Notes.{note_line};
 ghost use Rattle.judge_command.specs.Asked.{IsAsked, asked_text};
 ghost use Rattle.judge_command.specs.Prepared.{settings_in, unit_in};
@@ -26,7 +26,7 @@ fn print_notes<K: Sink>(
     notes: &[FileNote],
     out: &mut K,
 ) -> Result<(), SinkError>
-    ensures takes_the_text { TakesText (K.taken out.old) (K.taken out.new) (flat_map (note_line unit.now.files) notes.now) result }
+    ensures prints_the_text { PrintsLines K.taken K.puts out.old out.new (flat_map (note_line unit.now.files) notes.now) result }
     ensures fault_rose { HasWriteCause (K.faults out.old) (K.faults out.new) result }
 {
     for note in notes {
@@ -38,7 +38,7 @@ fn print_notes<K: Sink>(
 // Prints a launched service: its launch, the answers, the folders that are blind, and the count.
 fn print_asked<K: Sink>(alloc: Global, asked: &Asked<'_>, out: &mut K) -> Result<(), SinkError>
     requires asked { IsAsked asked.now }
-    ensures takes_the_text { TakesText (K.taken out.old) (K.taken out.new) (asked_text asked.now) result }
+    ensures prints_the_text { PrintsLines K.taken K.puts out.old out.new (asked_text asked.now) result }
     ensures fault_rose { HasWriteCause (K.faults out.old) (K.faults out.new) result }
 {
     let questions = asked.questions.as_slice();
@@ -57,7 +57,7 @@ fn print_outcome<K: Sink>(
     out: &mut K,
 ) -> Result<(), SinkError>
     requires can_be_told { CanBeTold outcome.now }
-    ensures takes_the_text { TakesText (K.taken out.old) (K.taken out.new) (told_text outcome.now) result }
+    ensures prints_the_text { PrintsLines K.taken K.puts out.old out.new (told_text outcome.now) result }
     ensures fault_rose { HasWriteCause (K.faults out.old) (K.faults out.new) result }
 {
     match outcome {
@@ -76,7 +76,7 @@ fn print_parts<K: Sink>(
     out: &mut K,
 ) -> Result<(), SinkError>
     requires can_be_told { CanBeTold outcome.now }
-    ensures takes_the_text { TakesText (K.taken out.old) (K.taken out.new) (report_text name.now unit.now.files notes.now (told_text outcome.now)) result }
+    ensures prints_the_text { PrintsLines K.taken K.puts out.old out.new (report_text name.now unit.now.files notes.now (told_text outcome.now)) result }
     ensures fault_rose { HasWriteCause (K.faults out.old) (K.faults out.new) result }
 {
     put_line(out, unit_line(alloc, name))?;
@@ -93,7 +93,7 @@ pub fn print_report<K: Sink>(
     out: &mut K,
 ) -> Result<(), SinkError>
     requires can_be_told { CanBeTold outcome.now }
-    ensures takes_the_text { TakesText (K.taken out.old) (K.taken out.new) (report_text name.now (unit_in unit.now).files (settings_in unit.now).notes.items (told_text outcome.now)) result }
+    ensures prints_the_text { PrintsLines K.taken K.puts out.old out.new (report_text name.now (unit_in unit.now).files (settings_in unit.now).notes.items (told_text outcome.now)) result }
     ensures fault_rose { HasWriteCause (K.faults out.old) (K.faults out.new) result }
 {
     let notes = unit.settings.notes.as_slice();

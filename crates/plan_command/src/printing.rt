@@ -1,6 +1,6 @@
 //! Mounts, printed line by line.
 ghost use Rattle.std.specs.Prelude.{flat_map};
-ghost use Rattle.unit_inputs.specs.command_answers.Printing.{HasWriteCause, TakesText};
+ghost use Rattle.unit_inputs.specs.command_answers.Printing.{HasWriteCause, PrintsLines};
 ghost use Rattle.plan_command.specs.Lines.{mount_line};
 
 use crate::lines::mount_line;
@@ -15,7 +15,7 @@ pub fn print_mounts<K: Sink>(
     steps: &[MountStep],
     out: &mut K,
 ) -> Result<(), SinkError>
-    ensures takes_the_text { TakesText (K.taken out.old) (K.taken out.new) (flat_map mount_line steps.now) result }
+    ensures prints_the_text { PrintsLines K.taken K.puts out.old out.new (flat_map mount_line steps.now) result }
     ensures fault_rose { HasWriteCause (K.faults out.old) (K.faults out.new) result }
 {
     for step in steps {

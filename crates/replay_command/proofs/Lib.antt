@@ -1,3 +1,4 @@
+pub mod Ends
 pub mod RunTexts
 pub mod Steps
 pub mod Runs

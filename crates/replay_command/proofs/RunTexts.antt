@@ -6,10 +6,11 @@ use Rattle.std.proofs.Math.Seq.{drop-cons}
 use Rattle.std.proofs.lemmas.List.{take_more, take-append-drop}
 use Rattle.std.proofs.lemmas.List.Concat.{flat_map-append}
 use Rattle.asked_service.specs.call_table.Table.{Table}
+use Rattle.asked_service.specs.host_io.Puts.{Put}
 use Rattle.asked_service.specs.host_io.Writing.{Grew}
 use Rattle.asked_service.specs.host_io.declared.writing.SinkError.{SinkError}
-use Rattle.asked_service.specs.unit_inputs.command_answers.Printing.{TakesText}
-use Rattle.asked_service.proofs.OfUnitInputs.Texts.{text_as, text_cut, text_then}
+use Rattle.asked_service.specs.unit_inputs.command_answers.Printing.{PrintsAll, PrintsSome, TakesFront}
+use Rattle.asked_service.proofs.OfUnitInputs.Texts.{grew_then, text_as, text_cut, text_then}
 use Rattle.asked_service.specs.kernel_model.declared.kernel_calls.call.Call.{Call}
 use Rattle.asked_service.specs.kernel_model.Runs.{moment_at, moments, run}
 use Rattle.asked_service.specs.kernel_model.Step.{step}
@@ -66,34 +67,35 @@ module _ (table : Table) where
         ∙ sym (text_behind world (take i script) (call ∷ drop (suc i) script))
         ∙ ap (run_text table world) (whole lt is)
 
-    module _ (a b c : Option (List ℕ)) where
-      -- one line more was taken
-      pub grew_more : i < length script → call ≡ get_or script i d → Grew a b (run_text table world (take i script))
-          → Grew b c (moment_line table (moment_at (run world (take i script)) call))
-          → Grew a c (run_text table world (take (i + 1) script))
-      grew_more lt is f g =
-          subst (Grew a c) (one_more_text lt is)
+    module _ {S : Type 0} {taken : S → Option (List ℕ)} {puts : S → Put → S → Type 0} (a b c : S) where
+      -- one line more was printed
+      pub printed_more : i < length script → call ≡ get_or script i d → PrintsAll taken puts a b (run_text table world (take i script))
+          → PrintsAll taken puts b c (moment_line table (moment_at (run world (take i script)) call))
+          → PrintsAll taken puts a c (run_text table world (take (i + 1) script))
+      printed_more lt is f g =
+          subst (PrintsAll taken puts a c) (one_more_text lt is)
           (text_then a b c (run_text table world (take i script)) (moment_line table (moment_at (run world (take i script)) call))
-          (Ok _) f g)
+          (Ok tt) f g)
 
       -- its line was cut
       pub text_cut_there : (error : SinkError) → i < length script → call ≡ get_or script i d
-          → Grew a b (run_text table world (take i script)) → TakesText b c
-          (moment_line table (moment_at (run world (take i script)) call)) (Err error)
-          → TakesText a c (run_text table world script) (Err error)
-      text_cut_there error lt is f takes =
+          → PrintsAll taken puts a b (run_text table world (take i script)) → PrintsSome taken puts b c
+          (moment_line table (moment_at (run world (take i script)) call)) error
+          → PrintsSome taken puts a c (run_text table world script) error
+      text_cut_there error lt is f prints =
           text_as a c _ (run_text table world script) (Err error) (text_of_rest lt is)
           (text_cut a c (run_text table world (take i script) ++ moment_line table (moment_at (run world (take i script)) call))
           (run_text table (step (run world (take i script)) call).1 (drop (suc i) script)) error
           (text_then a b c (run_text table world (take i script)) (moment_line table (moment_at (run world (take i script)) call))
-          (Err error) f takes))
+          (Err error) f prints))
 
+    module _ (a b c : Option (List ℕ)) where
       -- the call was made
-      cut_behind_it : (error : SinkError) (left : World) → i < length script → call ≡ get_or script i d
-          → Grew a b (run_text table world (take i script)) → TakesText b c
-          (moment_line table (moment_at (run world (take i script)) call)) (Err error) → left ≡ (step (run world (take i script)) call).1
+      cut_behind_it : (left : World) → i < length script → call ≡ get_or script i d
+          → Grew a b (run_text table world (take i script)) → TakesFront b c
+          (moment_line table (moment_at (run world (take i script)) call)) → left ≡ (step (run world (take i script)) call).1
           → IsCut table world script a c left
-      cut_behind_it error left lt is f (front, behind, line, grew) made = record {
+      cut_behind_it left lt is f (front, behind, line, grew) made = record {
         told = take i script;
         more = call ∷ [];
         rest = drop (suc i) script;
@@ -103,7 +105,7 @@ module _ (table : Table) where
         front = front;
         behind = behind;
         of_its_line = line ∙ text_of_one (run world (take i script)) call;
-        taken = text_then a b c (run_text table world (take i script)) front (Ok _) f grew;
+        taken = grew_then a b c (run_text table world (take i script)) front f grew;
       }
 
       -- or not
@@ -124,41 +126,44 @@ module _ (table : Table) where
       }
 
       pub cut_there : (error : SinkError) (left : World) → i < length script → call ≡ get_or script i d
-          → Grew a b (run_text table world (take i script)) → TakesText b c
-          (moment_line table (moment_at (run world (take i script)) call)) (Err error)
+          → Grew a b (run_text table world (take i script)) → TakesFront b c
+          (moment_line table (moment_at (run world (take i script)) call))
           → Makes (run world (take i script)) call b c (Err error) left → IsCut table world script a c left
-      cut_there error left lt is f takes (inl made) = cut_behind_it error left lt is f takes made
+      cut_there error left lt is f takes (inl made) = cut_behind_it left lt is f takes made
       cut_there error left lt is f takes (inr (same, untouched)) = cut_before_it left lt is f same untouched
 
   -- the same, said of the world that stands there
-  module _ (world now : World) (script : List Call) (i : ℕ) (d call : Call) (a b c : Option (List ℕ)) where
-    pub more_taken : i < length script → call ≡ get_or script i d → now ≡ run world (take i script)
-        → Grew a b (run_text table world (take i script)) → Grew b c (moment_line table (moment_at now call))
-        → Grew a c (run_text table world (take (i + 1) script))
-    more_taken lt is stands f g = grew_more world script i d call a b c lt is f
-        (subst (λ w. Grew b c (moment_line table (moment_at w call))) stands g)
+  module _ (world now : World) (script : List Call) (i : ℕ) (d call : Call) where
+    module _ {S : Type 0} {taken : S → Option (List ℕ)} {puts : S → Put → S → Type 0} (a b c : S) where
+      pub more_printed : i < length script → call ≡ get_or script i d → now ≡ run world (take i script)
+          → PrintsAll taken puts a b (run_text table world (take i script)) → PrintsAll taken puts b c (moment_line table (moment_at now call))
+          → PrintsAll taken puts a c (run_text table world (take (i + 1) script))
+      more_printed lt is stands f g = printed_more world script i d call a b c lt is f
+          (subst (λ w. PrintsAll taken puts b c (moment_line table (moment_at w call))) stands g)
 
-    pub more_made : (left : World) → i < length script → call ≡ get_or script i d → now ≡ run world (take i script)
-        → left ≡ (step now call).1 → left ≡ run world (take (i + 1) script)
-    more_made left lt is stands made = made ∙ ap (λ w. (step w call).1) stands ∙ one_more_run world script i d call lt is
+      pub printed_till : (error : SinkError) → i < length script → call ≡ get_or script i d → now ≡ run world (take i script)
+          → PrintsAll taken puts a b (run_text table world (take i script))
+          → PrintsSome taken puts b c (moment_line table (moment_at now call)) error
+          → PrintsSome taken puts a c (run_text table world script) error
+      printed_till error lt is stands f prints = text_cut_there world script i d call a b c error lt is f
+          (subst (λ w. PrintsSome taken puts b c (moment_line table (moment_at w call)) error) stands prints)
 
-    pub taken_till : (error : SinkError) → i < length script → call ≡ get_or script i d → now ≡ run world (take i script)
-        → Grew a b (run_text table world (take i script)) → TakesText b c (moment_line table (moment_at now call)) (Err error)
-        → TakesText a c (run_text table world script) (Err error)
-    taken_till error lt is stands f takes = text_cut_there world script i d call a b c error lt is f
-        (subst (λ w. TakesText b c (moment_line table (moment_at w call)) (Err error)) stands takes)
+    module _ (a b c : Option (List ℕ)) where
+      pub more_made : (left : World) → i < length script → call ≡ get_or script i d → now ≡ run world (take i script)
+          → left ≡ (step now call).1 → left ≡ run world (take (i + 1) script)
+      more_made left lt is stands made = made ∙ ap (λ w. (step w call).1) stands ∙ one_more_run world script i d call lt is
 
-    cut_till : (error : SinkError) (left : World) → i < length script → call ≡ get_or script i d → now ≡ run world (take i script)
-        → Grew a b (run_text table world (take i script)) → TakesText b c (moment_line table (moment_at now call)) (Err error)
-        → Makes now call b c (Err error) left → IsCut table world script a c left
-    cut_till error left lt is stands f takes makes =
-        cut_there world script i d call a b c error left lt is f
-        (subst (λ w. TakesText b c (moment_line table (moment_at w call)) (Err error)) stands takes)
-        (subst (λ w. Makes w call b c (Err error) left) stands makes)
+      cut_till : (error : SinkError) (left : World) → i < length script → call ≡ get_or script i d → now ≡ run world (take i script)
+          → Grew a b (run_text table world (take i script)) → TakesFront b c (moment_line table (moment_at now call))
+          → Makes now call b c (Err error) left → IsCut table world script a c left
+      cut_till error left lt is stands f takes makes =
+          cut_there world script i d call a b c error left lt is f
+          (subst (λ w. TakesFront b c (moment_line table (moment_at w call))) stands takes)
+          (subst (λ w. Makes w call b c (Err error) left) stands makes)
 
-    pub performed_till : (error : SinkError) (put : Result (Unit {0}) SinkError) (left : World) → IsErr put → i < length script
-        → call ≡ get_or script i d → now ≡ run world (take i script) → Grew a b (run_text table world (take i script))
-        → TakesText b c (moment_line table (moment_at now call)) (Err error) → Makes now call b c (Err error) left
-        → Performs table world script a c put left
-    performed_till error (Ok u) left is_err lt is stands f takes makes = cc
-    performed_till error (Err other) left is_err lt is stands f takes makes = cut_till error left lt is stands f takes makes
+      pub performed_till : (error : SinkError) (put : Result (Unit {0}) SinkError) (left : World) → IsErr put → i < length script
+          → call ≡ get_or script i d → now ≡ run world (take i script) → Grew a b (run_text table world (take i script))
+          → TakesFront b c (moment_line table (moment_at now call)) → Makes now call b c (Err error) left
+          → Performs table world script a c put left
+      performed_till error (Ok u) left is_err lt is stands f takes makes = cc
+      performed_till error (Err other) left is_err lt is stands f takes makes = cut_till error left lt is stands f takes makes

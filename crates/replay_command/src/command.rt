@@ -4,6 +4,7 @@ ghost use Rattle.asked_service.specs.unit_names.Cutting.{name_of};
 ghost use Rattle.asked_service.specs.unit_inputs.Asking.{AsksInOrder, asks_with_file};
 ghost use Rattle.asked_service.specs.unit_inputs.command_answers.Asking.{course_of_run};
 ghost use Rattle.asked_service.specs.unit_inputs.command_answers.Laws.{laws_over};
+ghost use Rattle.asked_service.specs.unit_inputs.command_answers.Printing.{output_of};
 ghost use Rattle.asked_service.specs.unit_inputs.command_answers.Runs.{IsRun};
 ghost use Rattle.replay_command.specs.Prepared.{CanBeStarted};
 ghost use Rattle.replay_command.specs.Prints.{replay_laws};
@@ -18,7 +19,7 @@ use std::alloc::Global;
 // Launches what is prepared and prints its replay.
 fn answer_prepared<K: Sink>(alloc: Global, prepared: &Prepared, out: &mut K) -> Ending
     requires can_be_started { CanBeStarted prepared.now }
-    ensures finishes { FinishesStarted prepared.now result (record { faults_before = K.faults out.old; faults_after = K.faults out.new; taken_before = K.taken out.old; taken_after = K.taken out.new }) }
+    ensures finishes { FinishesStarted prepared.now result (output_of K.faults K.taken K.puts out.old out.new) }
 {
     match start(alloc, prepared) {
         Ok(replay) => finish(alloc, Ok(replay), out),
@@ -37,7 +38,7 @@ pub fn answer<S: Shelf, K: Sink>(
     out: &mut K,
 ) -> Ending
     ensures runs { IsRun (laws_over (S.told shelf.old) (replay_laws unit.now script.now)) result
-        (record { shelf_before = S.faults shelf.old; shelf_after = S.faults shelf.new; sink = record { faults_before = K.faults out.old; faults_after = K.faults out.new; taken_before = K.taken out.old; taken_after = K.taken out.new } }) }
+        (record { shelf_before = S.faults shelf.old; shelf_after = S.faults shelf.new; sink = output_of K.faults K.taken K.puts out.old out.new }) }
     ensures asks_in_order { AsksInOrder S.asks (S.told shelf.old) (λ files. asks_with_file files unit.now script.now) shelf.old shelf.new (course_of_run result) }
     ensures unread_without_a_name { (IsSome (name_of unit.now) → ⊥) → shelf.new ≡ shelf.old }
     ensures map_stays { S.told shelf.new ≡ S.told shelf.old }

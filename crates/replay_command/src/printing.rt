@@ -1,5 +1,5 @@
 //! Replays, made and printed line by line.
-ghost use Rattle.asked_service.specs.unit_inputs.command_answers.Printing.{HasWriteCause, TakesText};
+ghost use Rattle.asked_service.specs.unit_inputs.command_answers.Printing.{HasWriteCause, PrintsLines};
 ghost use Rattle.replay_command.specs.Texts.{replay_text, service_text};
 
 use crate::lines::count_line;
@@ -17,7 +17,7 @@ fn print_service<K: Sink>(
     calls: &CallTable,
     out: &mut K,
 ) -> Result<(), SinkError>
-    ensures takes_the_text { TakesText (K.taken out.old) (K.taken out.new) (service_text calls.now script.now service.old) result }
+    ensures prints_the_text { PrintsLines K.taken K.puts out.old out.new (service_text calls.now script.now service.old) result }
     ensures fault_rose { HasWriteCause (K.faults out.old) (K.faults out.new) result }
 {
     put_line(out, launched_line(alloc, told(service)))?;
@@ -33,7 +33,7 @@ pub fn print_replay<K: Sink>(
     calls: &CallTable,
     out: &mut K,
 ) -> Result<(), SinkError>
-    ensures takes_the_text { TakesText (K.taken out.old) (K.taken out.new) (replay_text calls.now script.now launch.old) result }
+    ensures prints_the_text { PrintsLines K.taken K.puts out.old out.new (replay_text calls.now script.now launch.old) result }
     ensures fault_rose { HasWriteCause (K.faults out.old) (K.faults out.new) result }
 {
     match launch {

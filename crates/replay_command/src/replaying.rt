@@ -1,6 +1,6 @@
 //! The calls of a script, made one behind the other.
 ghost use Rattle.std.specs.Prelude.{◌≡◌};
-ghost use Rattle.asked_service.specs.unit_inputs.command_answers.Printing.{HasWriteCause, TakesText};
+ghost use Rattle.asked_service.specs.unit_inputs.command_answers.Printing.{HasWriteCause, PrintsLines};
 ghost use Rattle.asked_service.specs.kernel_model.Runs.{moment_at};
 ghost use Rattle.replay_command.specs.Lines.{moment_line, run_text};
 ghost use Rattle.replay_command.specs.Performed.{Makes, Performs};
@@ -18,7 +18,7 @@ fn make_call<K: Sink>(
     calls: &CallTable,
     out: &mut K,
 ) -> Result<(), SinkError>
-    ensures takes_the_line { TakesText (K.taken out.old) (K.taken out.new) (moment_line calls.now (moment_at world.old call.now)) result }
+    ensures prints_the_line { PrintsLines K.taken K.puts out.old out.new (moment_line calls.now (moment_at world.old call.now)) result }
     ensures fault_rose { HasWriteCause (K.faults out.old) (K.faults out.new) result }
     ensures makes_it { Makes world.old call.now (K.taken out.old) (K.taken out.new) result world.new }
 {
@@ -36,7 +36,7 @@ fn make_calls<K: Sink>(
     calls: &CallTable,
     out: &mut K,
 ) -> Result<(), SinkError>
-    ensures takes_the_lines { TakesText (K.taken out.old) (K.taken out.new) (run_text calls.now world.old script.now) result }
+    ensures prints_the_lines { PrintsLines K.taken K.puts out.old out.new (run_text calls.now world.old script.now) result }
     ensures fault_rose { HasWriteCause (K.faults out.old) (K.faults out.new) result }
     ensures performs { Performs calls.now world.old script.now (K.taken out.old) (K.taken out.new) result world.new }
 {
@@ -61,7 +61,7 @@ pub fn replay<K: Sink>(
     calls: &CallTable,
     out: &mut K,
 ) -> Result<(), SinkError>
-    ensures takes_the_lines { TakesText (K.taken out.old) (K.taken out.new) (run_text calls.now launched.old.world script.now) result }
+    ensures prints_the_lines { PrintsLines K.taken K.puts out.old out.new (run_text calls.now launched.old.world script.now) result }
     ensures fault_rose { HasWriteCause (K.faults out.old) (K.faults out.new) result }
     ensures performs { Performs calls.now launched.old.world script.now (K.taken out.old) (K.taken out.new) result launched.new.world }
     ensures rest_stays { launched.new ≡ record launched.old { world = launched.new.world } }

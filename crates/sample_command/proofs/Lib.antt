@@ -1,3 +1,4 @@
+pub mod Ends
 pub mod Prepared
 pub mod Accepted
 pub mod Counted

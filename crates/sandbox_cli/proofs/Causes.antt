@@ -2,6 +2,7 @@
 use Rattle.std.proofs.Common.{◌≡◌, ℕ, ◌<◌, ◌≤◌, List, Option, inl, inr, ap, sym, ◌∙◌, arith}
 use Rattle.std.specs.declared.process.ExitCode.{ExitCode}
 use Rattle.top_call.specs.host_io.Calls.{ShelfCall}
+use Rattle.top_call.specs.host_io.Puts.{Put}
 use Rattle.top_call.specs.unit_inputs.command_answers.Runs.{HasFaultCause}
 use Rattle.top_call.specs.unit_inputs.declared.command_answers.ending.Ending.{Ending}
 use Rattle.top_call.specs.unit_inputs.declared.command_answers.ending.Ending.TheVariants.{OutOfMemory, ReadFault, WriteFault}
@@ -21,10 +22,10 @@ stays_later before after e = omega arith
 never_grew : (before after : ℕ) → after ≡ before → before < after → ⊥
 never_grew before after e lt = absurd (omega arith)
 
-module _ {S K : Type 0} (asks : S → ShelfCall → S → Type 0) (asked : Asked) (shelf_faults : S → ℕ) (sink_faults : K → ℕ) (taken : K → Option (List ℕ)) (before after : S) (old new : K) where
+module _ {S K : Type 0} (asks : S → ShelfCall → S → Type 0) (asked : Asked) (shelf_faults : S → ℕ) (sink_faults : K → ℕ) (taken : K → Option (List ℕ)) (puts : K → Put → K → Type 0) (before after : S) (old new : K) where
   causes : (ending : Ending)
-      → EndsWords asks asked (around shelf_faults sink_faults taken before after old new) before after old new ending
-      → HasFaultCause ending (around shelf_faults sink_faults taken before after old new)
+      → EndsWords asks asked (around shelf_faults sink_faults taken puts before after old new) before after old new ending
+      → HasFaultCause ending (around shelf_faults sink_faults taken puts before after old new)
   causes ending (inl ran) = ran.faults_have_causes
   causes ending (inr (is, same, same')) = record {
     shelf_later = stays_later (shelf_faults before) (shelf_faults after) (ap shelf_faults same);
@@ -37,6 +38,6 @@ module _ {S K : Type 0} (asks : S → ShelfCall → S → Type 0) (asked : Asked
   }
 
   pub exits_by_causes : (code : ExitCode)
-      → ExitsBy (EndsWords asks asked (around shelf_faults sink_faults taken before after old new) before after old new) code
-      → ExitsBy (λ ending. HasFaultCause ending (around shelf_faults sink_faults taken before after old new)) code
+      → ExitsBy (EndsWords asks asked (around shelf_faults sink_faults taken puts before after old new) before after old new) code
+      → ExitsBy (λ ending. HasFaultCause ending (around shelf_faults sink_faults taken puts before after old new)) code
   exits_by_causes code exits = (exits.0, causes exits.0 exits.1, exits.2)

@@ -1,2 +1,3 @@
 mod SameWords
 mod Causes
+mod Exits

@@ -33,6 +33,10 @@ EndsWords asks asked outside shelf_before shelf_after sink_before sink_after end
 abbrev pub ExitsBy : (Ending → Type 0) → ExitCode → Type 0
 ExitsBy Ends code = (ending : Ending) × Ends ending × (exit_status code ≡ code_of ending)
 
+-- it is that of some ending
+abbrev pub IsExit : ExitCode → Type 0
+IsExit code = ExitsBy (λ ending. Unit {0}) code
+
 -- the exit status that there is, or that of want of memory
 abbrev pub ExitsUnlessMemory : {E : Type 0} → Result ExitCode E → ExitCode → Type 0
 ExitsUnlessMemory (Ok made) code = code ≡ made

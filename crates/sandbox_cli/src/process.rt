@@ -1,7 +1,7 @@
 //! The process around a run: its arguments, the current folder and the standard output. Of what these hold nothing is known.
 
-ghost use Rattle.std.specs.Prelude.{◌≡◌};
-ghost use Rattle.sandbox_cli.specs.Running.{ExitsUnlessMemory};
+ghost use Rattle.std.specs.Prelude.{◌≡◌, IfOk};
+ghost use Rattle.sandbox_cli.specs.Running.{ExitsUnlessMemory, IsExit};
 
 use crate::running::exit_code;
 use crate::stored::run_with_tests;
@@ -18,9 +18,12 @@ fn arguments<R: Env + AllocGlobal>(rt: &R) -> io::Result<Vec<String>> {
     Ok(all)
 }
 
+// Runs them. Without memory for the tests and the wish there is no exit status.
 fn run_arguments<R: Env + Files + Print + AllocGlobal + Clone + Drop>(
     rt: &R,
-) -> Result<ExitCode, AllocError> {
+) -> Result<ExitCode, AllocError>
+    ensures exits_by_an_ending { IfOk result IsExit }
+{
     let mut shelf = DirShelf::new(rt.clone()?);
     let mut sink = StdSink::new(rt.clone()?);
     run_with_tests(rt.alloc(), &arguments(rt), &mut shelf, &mut sink)
@@ -37,6 +40,8 @@ fn or_out_of_memory(made: Result<ExitCode, AllocError>) -> ExitCode
 }
 
 /// Runs the words of the process over the current folder and the standard output, and answers the status that it ends with.
-pub fn run_process<R: Env + Files + Print + AllocGlobal + Clone + Drop>(rt: &R) -> ExitCode {
+pub fn run_process<R: Env + Files + Print + AllocGlobal + Clone + Drop>(rt: &R) -> ExitCode
+    ensures exits_by_an_ending { IsExit result }
+{
     or_out_of_memory(run_arguments(rt))
 }

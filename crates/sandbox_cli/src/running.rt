@@ -52,7 +52,7 @@ fn run_words<S: Shelf, K: Sink>(
 ) -> Status
     ensures ends_as_the_words_run { EndsWords S.asks
         (asked_by (map string_bytes words.now) (S.told shelf.old) (⟦<CustomTest as Stored>⟧.stored tests.items) (⟦<StoredWish as Wished>⟧.wished wishes.items))
-        (around S.faults K.faults K.taken shelf.old shelf.new out.old out.new)
+        (around S.faults K.faults K.taken K.puts shelf.old shelf.new out.old out.new)
         shelf.old shelf.new out.old out.new result }
     ensures map_stays { S.told shelf.new ≡ S.told shelf.old }
 {
@@ -73,7 +73,7 @@ fn run_arguments<S: Shelf, K: Sink>(
 ) -> Status
     ensures ends_as_the_words_run { EndsWords S.asks
         (asked_by (words_behind arguments.now) (S.told shelf.old) (⟦<CustomTest as Stored>⟧.stored tests.items) (⟦<StoredWish as Wished>⟧.wished wishes.items))
-        (around S.faults K.faults K.taken shelf.old shelf.new out.old out.new)
+        (around S.faults K.faults K.taken K.puts shelf.old shelf.new out.old out.new)
         shelf.old shelf.new out.old out.new result }
     ensures map_stays { S.told shelf.new ≡ S.told shelf.old }
 {
@@ -100,7 +100,7 @@ pub fn run_here<S: Shelf, K: Sink>(
     requires the_programs_wishes { AreProgramWishes (λ wish. string_bytes wish.id) (λ wish. wish.must_open) (λ wish. ⟦<Box<dyn Fn(&[VerdictRow]) -> bool> as Fn(&[VerdictRow]) -> bool>⟧.post wish.test) wishes.items }
     ensures exits_as_the_words_run { ExitsBy (EndsWords S.asks
         (asked_by (words_behind arguments.now) (S.told shelf.old) (⟦<CustomTest as Stored>⟧.stored tests.items) (⟦<StoredWish as Wished>⟧.wished wishes.items))
-        (around S.faults K.faults K.taken shelf.old shelf.new out.old out.new)
+        (around S.faults K.faults K.taken K.puts shelf.old shelf.new out.old out.new)
         shelf.old shelf.new out.old out.new) result }
     ensures map_stays { S.told shelf.new ≡ S.told shelf.old }
 {

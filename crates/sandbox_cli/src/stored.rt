@@ -27,7 +27,7 @@ pub fn run_with_tests<S: Shelf, K: Sink>(
     out: &mut K,
 ) -> Result<ExitCode, AllocError>
     ensures faults_have_causes { IfOk result (ExitsBy (λ ending. HasFaultCause ending
-        (around S.faults K.faults K.taken shelf.old shelf.new out.old out.new))) }
+        (around S.faults K.faults K.taken K.puts shelf.old shelf.new out.old out.new))) }
     ensures map_stays { S.told shelf.new ≡ S.told shelf.old }
 
     // Without memory for the tests and the wish nothing is read or written.

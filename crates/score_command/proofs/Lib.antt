@@ -1,3 +1,4 @@
+pub mod Ends
 pub mod Steps
 pub mod Prepared
 pub mod OfUnitInputs

@@ -2,6 +2,7 @@
 pub use Rattle.unit_inputs.proofs.Asking as Asking
 pub use Rattle.unit_inputs.proofs.Ended as Ended
 pub use Rattle.unit_inputs.proofs.FileCommands as FileCommands
+pub use Rattle.unit_inputs.proofs.Lines as Lines
 pub use Rattle.unit_inputs.proofs.Ordering as Ordering
 pub use Rattle.unit_inputs.proofs.Reading as Reading
 pub use Rattle.unit_inputs.proofs.ReadyTexts as ReadyTexts

@@ -1,6 +1,6 @@
 //! Scores, printed line by line.
 ghost use Rattle.std.specs.Prelude.{flat_map};
-ghost use Rattle.unit_inputs.specs.command_answers.Printing.{HasWriteCause, TakesText};
+ghost use Rattle.unit_inputs.specs.command_answers.Printing.{HasWriteCause, PrintsLines};
 ghost use Rattle.report_text.specs.Scores.{score_line};
 ghost use Rattle.score_command.specs.Texts.{score_text};
 
@@ -11,7 +11,7 @@ use unit_inputs::command_answers::put_line;
 
 // Prints what each test of the policy came to.
 fn print_rows<K: Sink>(alloc: Global, rows: &[ScoreRow], out: &mut K) -> Result<(), SinkError>
-    ensures takes_the_text { TakesText (K.taken out.old) (K.taken out.new) (flat_map score_line rows.now) result }
+    ensures prints_the_text { PrintsLines K.taken K.puts out.old out.new (flat_map score_line rows.now) result }
     ensures fault_rose { HasWriteCause (K.faults out.old) (K.faults out.new) result }
 {
     for row in rows {
@@ -27,7 +27,7 @@ pub fn print_score<K: Sink>(
     threshold: u32,
     out: &mut K,
 ) -> Result<(), SinkError>
-    ensures takes_the_text { TakesText (K.taken out.old) (K.taken out.new) (score_text score.now threshold) result }
+    ensures prints_the_text { PrintsLines K.taken K.puts out.old out.new (score_text score.now threshold) result }
     ensures fault_rose { HasWriteCause (K.faults out.old) (K.faults out.new) result }
 {
     print_rows(alloc, score.rows.list(), out)?;

@@ -9,12 +9,13 @@ use Rattle.derive_command.specs.unit_inputs.Asking.{AsksInOrder}
 use Rattle.top_call.specs.Asked.{Accepts, Asked, Prints, ReadsFiles, asks_of, laws_of}
 
 -- A run of what is asked, with the shelf and the sink around it, that ended with this status. Where the status stands for a whole
--- text, the sink took one that is admitted; at any status what it took is nothing, or goes on to one. The inputs decide how it ends,
--- no fault comes without its cause, and accepted inputs without a fault are answered. The shelf's calls are those that the files want,
--- in their order, and none where no files are read for it.
+-- text, the sink took one that is admitted, and was handed each of its lines, with the line feed, as one piece. At any status it was
+-- handed nothing; or it took a prefix of an admitted text, and was handed the lines of that, each as one piece, up to where the run
+-- stopped. The inputs decide how it ends, no fault comes without its cause, and accepted inputs without a fault are answered. The
+-- shelf's calls are those that the files want, in their order, and none where no files are read for it.
 pub record DoesWhatIsAsked {S : Type 0} (asks : S → ShelfCall → S → Type 0) (asked : Asked) (outside : Outside) (before after : S) (status : Ending) : Type 0 where
-  pub prints_the_whole_text : IsTrue (is_whole status) → WroteWhole (Prints asked status) outside.sink.taken_before outside.sink.taken_after
-  pub prints_a_prefix : WrotePrefix (Prints asked) outside.sink.taken_before outside.sink.taken_after
+  pub prints_the_whole_text : IsTrue (is_whole status) → WroteWhole (Prints asked status) outside.sink
+  pub prints_a_prefix : WrotePrefix (Prints asked) outside.sink
   pub ends_by_the_inputs : EndsBy (laws_of asked) status
   pub faults_have_causes : HasFaultCause status outside
   pub completes : Completes (Accepts asked) status outside

@@ -79,7 +79,7 @@ help_text = text_of_lines help_lines
 
 -- what stands ready, and how a run ends behind it
 abbrev pub text_of : Fixed → List ℕ
-text_of fixed = flat_map (λ line. line.now) fixed.lines.now
+text_of fixed = fixed.text.now
 
 abbrev pub ending_of : Fixed → Ending
 ending_of fixed = fixed.ending

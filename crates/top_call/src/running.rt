@@ -29,7 +29,7 @@ fn answer_request<S: Shelf, K: Sink>(
 ) -> Ending
     requires numbered { IsNumbered request }
     ensures runs { IsRun (laws_for (request_of request.entry) (S.told shelf.old) (⟦<CustomTest as Stored>⟧.stored tests.now) (⟦<StoredWish as Wished>⟧.wished wishes.now))
-        result (around S.faults K.faults K.taken shelf.old shelf.new out.old out.new) }
+        result (around S.faults K.faults K.taken K.puts shelf.old shelf.new out.old out.new) }
     ensures reads_in_order { AsksInOrder S.asks (S.told shelf.old) (asks_for (request_of request.entry) (⟦<CustomTest as Stored>⟧.stored tests.now))
         shelf.old shelf.new (course_of_run result) }
     ensures reads_only_for_it { ((laws_for (request_of request.entry) (S.told shelf.old) (⟦<CustomTest as Stored>⟧.stored tests.now) (⟦<StoredWish as Wished>⟧.wished wishes.now)).reads → ⊥)
@@ -96,7 +96,7 @@ fn answer<S: Shelf, K: Sink>(
 ) -> Ending
     requires numbered { IfSome request IsNumbered }
     ensures runs { IsRun (laws_by (option_map request_of request.entry) (S.told shelf.old) (⟦<CustomTest as Stored>⟧.stored tests.now) (⟦<StoredWish as Wished>⟧.wished wishes.now))
-        result (around S.faults K.faults K.taken shelf.old shelf.new out.old out.new) }
+        result (around S.faults K.faults K.taken K.puts shelf.old shelf.new out.old out.new) }
     ensures reads_in_order { AsksInOrder S.asks (S.told shelf.old) (asks_by (option_map request_of request.entry) (⟦<CustomTest as Stored>⟧.stored tests.now))
         shelf.old shelf.new (course_of_run result) }
     ensures reads_only_for_it { ((laws_by (option_map request_of request.entry) (S.told shelf.old) (⟦<CustomTest as Stored>⟧.stored tests.now) (⟦<StoredWish as Wished>⟧.wished wishes.now)).reads → ⊥)
@@ -113,7 +113,7 @@ fn answer<S: Shelf, K: Sink>(
 ///
 /// The words are those behind the program's name, the tests those that a score may ask beside the settings, and the wishes those
 /// that a tightened unit has to grant. The status says how it ended: with 0, 1, 2, 3, 7 and 8 a whole text was printed, with 4
-/// nothing, and with 5 and 6 a prefix of one.
+/// nothing, and with 5 and 6 a prefix of one. The sink is handed each line, with its line feed, as one piece.
 ///
 /// Over files that the shelf tells, exactly the calls of the command are made, in their order, up to the first that
 /// is refused or fails. Each answer is judged before the next call.
@@ -127,7 +127,7 @@ pub fn run<S: Shelf, K: Sink>(
 ) -> Status
     ensures does_what_is_asked { DoesWhatIsAsked S.asks
         (asked words.now (S.told shelf.old) (⟦<CustomTest as Stored>⟧.stored tests.items) (⟦<StoredWish as Wished>⟧.wished wishes.items))
-        (around S.faults K.faults K.taken shelf.old shelf.new out.old out.new)
+        (around S.faults K.faults K.taken K.puts shelf.old shelf.new out.old out.new)
         shelf.old shelf.new result }
     ensures map_stays { S.told shelf.new ≡ S.told shelf.old }
 {

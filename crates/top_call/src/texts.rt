@@ -1,14 +1,13 @@
 //! Texts that are printed as they stand.
-ghost use Rattle.std.specs.Prelude.{◌≡◌, flat_map};
-ghost use Rattle.derive_command.specs.unit_inputs.command_answers.Printing.{HasWriteCause, TakesText};
+ghost use Rattle.std.specs.Prelude.{◌≡◌};
 ghost use Rattle.top_call.specs.Texts.{help_text, text_of, version_text, words_line};
 
 use host_io::{Sink, SinkError};
-use plan_command::{Ending, Ready, put_piece};
+use plan_command::{Ending, Ready, put_lines};
 use std::alloc::Global;
 
 /// What the program is for, its words, the files that it reads, and its statuses.
-const HELP: &[&str] = &[
+const HELP: &str = concat!(
     "Lentsheep judges the sandbox of a systemd service without starting it.\n",
     "\n",
     "usage: lentsheep COMMAND UNIT [NAME] [FILE [THRESHOLD]]\n",
@@ -63,19 +62,19 @@ const HELP: &[&str] = &[
     "\n",
     "lentsheep --root / COMMAND UNIT judges a service of this machine; --root --help says more.\n",
     "The manual is lentsheep(1). In a checkout the command is ./sandbox, and the manual README.md.\n",
-];
+);
 
 /// The name and the version.
-const VERSION: &[&str] = &["lentsheep 0.1.0\n"];
+const VERSION: &str = "lentsheep 0.1.0\n";
 
 /// Words that are no command.
-const NO_COMMAND: &[&str] = &["refused words\n"];
+const NO_COMMAND: &str = "refused words\n";
 
 /// A text that is printed as it stands.
 #[derive(Drop)]
 pub struct Fixed {
     ending: Ending,
-    lines: &'static [&'static str],
+    text: &'static str,
 }
 
 impl Ready for Fixed {
@@ -90,19 +89,8 @@ impl Ready for Fixed {
     }
 
     fn print<K: Sink>(&mut self, _alloc: Global, out: &mut K) -> Result<(), SinkError> {
-        print_lines(self.lines, out)
+        put_lines(out, self.text.as_bytes())
     }
-}
-
-// Prints lines, one behind the other.
-fn print_lines<K: Sink>(lines: &[&str], out: &mut K) -> Result<(), SinkError>
-    ensures takes_the_text { TakesText (K.taken out.old) (K.taken out.new) (flat_map (λ line. line.now) lines.now) result }
-    ensures fault_rose { HasWriteCause (K.faults out.old) (K.faults out.new) result }
-{
-    for line in lines {
-        put_piece(out, line.as_bytes())?;
-    }
-    Ok(())
 }
 
 /// What the program is for, and its words.
@@ -112,7 +100,7 @@ pub fn help() -> Fixed
 {
     Fixed {
         ending: Ending::Done,
-        lines: HELP,
+        text: HELP,
     }
 }
 
@@ -123,7 +111,7 @@ pub fn version() -> Fixed
 {
     Fixed {
         ending: Ending::Done,
-        lines: VERSION,
+        text: VERSION,
     }
 }
 
@@ -134,6 +122,6 @@ pub fn no_command() -> Fixed
 {
     Fixed {
         ending: Ending::NoCommand,
-        lines: NO_COMMAND,
+        text: NO_COMMAND,
     }
 }

@@ -7,6 +7,7 @@ pub mod CommandAnswersEnded
 pub mod FileCommands
 pub mod ReadyTexts
 pub mod Refusing
+pub mod Lines
 pub mod Texts
 pub mod Runs
 pub mod Stopped

@@ -1,14 +1,12 @@
 -- What was prepared and what was printed, put together: the same for all commands.
-use Rattle.std.proofs.Common.{◌≡◌, ℕ, ◌≤◌, List, [], Result, Ok, Err, refl, sym, ◌∙◌, subst, arith, append-nil, inl, inr}
+use Rattle.std.proofs.Common.{◌≡◌, ℕ, ◌≤◌, List, Result, Ok, Err, refl, sym, ap, subst, arith, inl, inr}
 use Rattle.std.specs.Prelude.{IsTrue, IsErrOf}
 use Rattle.exec_settings.specs.host_io.Causes.{Rose}
-use Rattle.exec_settings.specs.host_io.Writing.{Grew}
 use Rattle.exec_settings.specs.host_io.declared.writing.SinkError.{SinkError}
 use Rattle.exec_settings.specs.host_io.declared.writing.SinkError.TheVariants as sink
-use Rattle.exec_settings.proofs.OfHostIo.Growth.{append_known-nil}
 use Rattle.unit_inputs.specs.command_answers.Endings.{is_whole}
 use Rattle.unit_inputs.specs.command_answers.Laws.{GoTogether, IsAdmitted, Laws}
-use Rattle.unit_inputs.specs.command_answers.Printing.{Finishes, HasWriteCause, IsUntouched, PrintsText, TakesText, ending_of_put}
+use Rattle.unit_inputs.specs.command_answers.Printing.{Finishes, HasWriteCause, IsUntouched, PrintsText, PutsText, ending_of_put}
 use Rattle.unit_inputs.specs.command_answers.Runs.{IsRun, Outside, WrotePrefix}
 use Rattle.unit_inputs.specs.command_answers.Stops.{HasReadCause}
 use Rattle.unit_inputs.specs.declared.command_answers.ending.Ending.{Ending}
@@ -21,19 +19,16 @@ not_whole : (ending : Ending) (kind : Ending) → IsTrue (is_whole ending) → e
 not_whole ending kind whole e = subst (λ k. IsTrue (is_whole k)) e whole
 
 module _ (laws : Laws) (together : GoTogether laws) (outside : Outside) where
-  wrote_nothing : outside.sink.taken_after ≡ outside.sink.taken_before
-      → WrotePrefix laws.admits outside.sink.taken_before outside.sink.taken_after
-  wrote_nothing e = ([], [], e ∙ sym (append_known-nil outside.sink.taken_before), λ some. absurd (omega arith))
-
   -- a whole text that is admitted
-  ran_whole : (ending : Ending) (text : List ℕ) → laws.admits ending text → Grew outside.sink.taken_before outside.sink.taken_after text
-      → outside.shelf_after ≡ outside.shelf_before → outside.sink.faults_after ≡ outside.sink.faults_before → IsRun laws ending outside
-  ran_whole ending text admitted grew shelf put =
+  ran_whole : (ending : Ending) (text : List ℕ) → laws.admits ending text
+      → PutsText outside.sink.taken outside.sink.puts outside.sink.before outside.sink.after text (Ok tt)
+      → outside.shelf_after ≡ outside.shelf_before → outside.sink.faults outside.sink.after ≡ outside.sink.faults outside.sink.before → IsRun laws ending outside
+  ran_whole ending text admitted puts shelf put =
       let ends = together.ends ending text admitted in
       let whole = together.whole ending ends in
       record {
-        prints_the_whole_text = λ w. (text, admitted, grew);
-        prints_a_prefix = (text, [], grew, λ some. (ending, subst (laws.admits ending) (sym (append-nil text)) admitted));
+        prints_the_whole_text = λ w. (text, admitted, puts);
+        prints_a_prefix = inr (ending, text, Ok tt, admitted, puts);
         ends_by_the_inputs = record { whole = λ w. ends; failed_read = λ e. (let f = not_whole ending ReadFault whole e in cc) };
         faults_have_causes = record {
           shelf_later = omega (arith, shelf);
@@ -47,16 +42,10 @@ module _ (laws : Laws) (together : GoTogether laws) (outside : Outside) where
         completes = λ accepted shelf_fault sink_fault. inl (together.answers accepted ending ends);
       }
 
-  -- a text that is cut at an error
-  cut_text : (ending : Ending) (text : List ℕ) (error : SinkError) → laws.admits ending text
-      → TakesText outside.sink.taken_before outside.sink.taken_after text (Err error)
-      → WrotePrefix laws.admits outside.sink.taken_before outside.sink.taken_after
-  cut_text ending text error admitted (front, rest, is, grew) =
-      (front, rest, grew, λ some. (ending, subst (laws.admits ending) (sym is) admitted))
-
   -- a write that failed
-  ran_cut : WrotePrefix laws.admits outside.sink.taken_before outside.sink.taken_after → outside.shelf_after ≡ outside.shelf_before
-      → outside.sink.faults_before ≤ outside.sink.faults_after → Rose outside.sink.faults_before outside.sink.faults_after
+  ran_cut : WrotePrefix laws.admits outside.sink → outside.shelf_after ≡ outside.shelf_before
+      → outside.sink.faults outside.sink.before ≤ outside.sink.faults outside.sink.after
+      → Rose (outside.sink.faults outside.sink.before) (outside.sink.faults outside.sink.after)
       → IsRun laws WriteFault outside
   ran_cut prefix shelf later rose = record {
     prints_the_whole_text = λ w. cc;
@@ -75,8 +64,8 @@ module _ (laws : Laws) (together : GoTogether laws) (outside : Outside) where
   }
 
   -- memory ran out
-  ran_out : WrotePrefix laws.admits outside.sink.taken_before outside.sink.taken_after → outside.shelf_after ≡ outside.shelf_before
-      → outside.sink.faults_after ≡ outside.sink.faults_before → IsRun laws OutOfMemory outside
+  ran_out : WrotePrefix laws.admits outside.sink → outside.shelf_after ≡ outside.shelf_before
+      → outside.sink.faults outside.sink.after ≡ outside.sink.faults outside.sink.before → IsRun laws OutOfMemory outside
   ran_out prefix shelf put = record {
     prints_the_whole_text = λ w. cc;
     prints_a_prefix = prefix;
@@ -98,34 +87,36 @@ module _ (laws : Laws) (together : GoTogether laws) (outside : Outside) where
       → Rose outside.shelf_before outside.shelf_after → IsRun laws ReadFault outside
   ran_unread reads untouched later rose = record {
     prints_the_whole_text = λ w. cc;
-    prints_a_prefix = wrote_nothing untouched.taken;
+    prints_a_prefix = inl untouched;
     ends_by_the_inputs = record { whole = λ w. cc; failed_read = λ e. reads };
     faults_have_causes = record {
       shelf_later = later;
-      sink_later = omega (arith, untouched.faults);
+      sink_later = omega (arith, ap outside.sink.faults untouched);
       read_fault = λ e. rose;
-      nothing_written = λ e. untouched.taken;
+      nothing_written = λ e. untouched;
       write_fault = λ e. cc;
       shelf_grew = λ lt. refl;
-      sink_grew = λ lt. absurd (omega (arith, untouched.faults, lt));
+      sink_grew = λ lt. absurd (omega (arith, ap outside.sink.faults untouched, lt));
     };
     completes = λ accepted shelf_fault sink_fault. absurd (shelf_fault rose);
   }
 
   -- by how the text was put
   ran_by_put : (ending : Ending) (text : List ℕ) (put : Result (Unit {0}) SinkError) → laws.admits ending text
-      → TakesText outside.sink.taken_before outside.sink.taken_after text put → outside.shelf_after ≡ outside.shelf_before
-      → HasWriteCause outside.sink.faults_before outside.sink.faults_after put → IsRun laws (ending_of_put put ending) outside
+      → PutsText outside.sink.taken outside.sink.puts outside.sink.before outside.sink.after text put → outside.shelf_after ≡ outside.shelf_before
+      → HasWriteCause (outside.sink.faults outside.sink.before) (outside.sink.faults outside.sink.after) put
+      → IsRun laws (ending_of_put put ending) outside
   ran_by_put ending text (Ok u) admitted takes shelf cause = ran_whole ending text admitted takes shelf cause.no_other_fault
   ran_by_put ending text (Err sink.Failed) admitted takes shelf cause =
-      ran_cut (cut_text ending text sink.Failed admitted takes) shelf cause.later (cause.failed refl)
+      ran_cut (inr (ending, text, Err sink.Failed, admitted, takes)) shelf cause.later (cause.failed refl)
   ran_by_put ending text (Err sink.Memory) admitted takes shelf cause =
-      ran_out (cut_text ending text sink.Memory admitted takes) shelf (cause.no_other_fault (λ e. cc))
+      ran_out (inr (ending, text, Err sink.Memory, admitted, takes)) shelf (cause.no_other_fault (λ e. cc))
 
   ran_text : (ending : Ending) (text : List ℕ) (ended : Ending) → laws.admits ending text → PrintsText ending text ended outside.sink
       → outside.shelf_after ≡ outside.shelf_before → IsRun laws ended outside
   ran_text ending text ended admitted printed shelf =
-      subst (λ e. IsRun laws e outside) (sym printed.ends) (ran_by_put ending text printed.put admitted printed.takes shelf printed.cause)
+      subst (λ e. IsRun laws e outside) (sym printed.ends)
+      (ran_by_put ending text printed.put admitted printed.puts_the_text shelf printed.cause)
 
   -- a command that is prepared and then finished runs by its laws
   pub ran : {R : Type 0} (behind : R → Ending) (text : R → List ℕ) (prepared : Result R Stop) (ended : Ending)
@@ -140,4 +131,4 @@ module _ (laws : Laws) (together : GoTogether laws) (outside : Outside) where
       subst (λ e. IsRun laws e outside) (sym finished.0) (ran_unread (reads refl) finished.1 cause.later (cause.failed refl))
   ran behind text (Err stop.Memory) ended admitted reads cause finished =
       subst (λ e. IsRun laws e outside) (sym finished.0)
-      (ran_out (wrote_nothing finished.1.taken) (cause.no_other_fault (λ e. cc)) finished.1.faults)
+      (ran_out (inl finished.1) (cause.no_other_fault (λ e. cc)) (ap outside.sink.faults finished.1))

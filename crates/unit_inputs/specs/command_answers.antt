@@ -1,6 +1,7 @@
 pub mod Asking
 pub mod Endings
 pub mod Laws
+pub mod Lines
 pub mod Printing
 pub mod ReadFiles
 pub mod ReadyTexts

@@ -22,7 +22,7 @@ pub use ending::Ending;
 pub use files::{FileRead, TABLE_PATH, read_file};
 pub use finishing::{ending_after, finish, finish_stop};
 pub use lines::put_lines;
-pub use printing::{put_line, put_piece};
+pub use printing::put_line;
 pub use ready::Ready;
 pub use ready_text::ReadyText;
 pub use refusals::refused_line;

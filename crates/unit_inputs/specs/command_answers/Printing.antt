@@ -1,18 +1,50 @@
 -- A text that is printed line by line, and how a run ends behind it.
-use Rattle.std.specs.Prelude.{◌≡◌, ℕ, List, ◌++◌, ◌≤◌, IsErrOf, Option, Result, Ok, Err}
+use Rattle.std.specs.Prelude.{◌≡◌, ◌⊎◌, ℕ, List, ◌++◌, ◌≤◌, IsErrOf, Option, Result, Ok, Err}
 use Rattle.exec_settings.specs.host_io.Causes.{Rose, StaysUnless}
+use Rattle.exec_settings.specs.host_io.Puts.{Put}
 use Rattle.exec_settings.specs.host_io.Writing.{Grew}
 use Rattle.exec_settings.specs.host_io.declared.writing.SinkError.{SinkError}
 use Rattle.exec_settings.specs.host_io.declared.writing.SinkError.TheVariants as sink
+use Rattle.unit_inputs.specs.command_answers.Lines.{HandsLast, HandsLines, HandsSome, HandsText}
 use Rattle.unit_inputs.specs.declared.command_answers.ending.Ending.{Ending}
 use Rattle.unit_inputs.specs.declared.command_answers.ending.Ending.TheVariants.{Refused, ReadFault, WriteFault, OutOfMemory}
 use Rattle.unit_inputs.specs.declared.command_answers.stop.Stop.{Stop}
 use Rattle.unit_inputs.specs.declared.command_answers.stop.Stop.TheVariants as stop
 
--- what the sink has taken has grown by the text, or at an error by a front of it
-abbrev pub TakesText : Option (List ℕ) → Option (List ℕ) → List ℕ → Result (Unit {0}) SinkError → Type 0
-TakesText old new text (Ok u) = Grew old new text
-TakesText old new text (Err error) = (front rest : List ℕ) × (front ++ rest ≡ text) × Grew old new front
+-- what the sink has taken has grown by a front of the text
+abbrev pub TakesFront : Option (List ℕ) → Option (List ℕ) → List ℕ → Type 0
+TakesFront old new text = (front rest : List ℕ) × (front ++ rest ≡ text) × Grew old new front
+
+module _ {S : Type 0} (taken : S → Option (List ℕ)) (puts : S → Put → S → Type 0) (before now : S) (text : List ℕ) where
+  -- a text of whole lines was printed: the sink took it, and was handed each line as one piece
+  pub record PrintsAll : Type 0 where
+    pub takes : Grew (taken before) (taken now) text
+    pub hands : HandsLines puts before now text
+
+  -- a front of it was printed, line by line, up to an error
+  pub record PrintsSome (error : SinkError) : Type 0 where
+    pub takes : TakesFront (taken before) (taken now) text
+    pub hands : HandsSome puts before now text error
+
+  -- this is how the printing of a text of whole lines ended
+  abbrev pub PrintsLines : Result (Unit {0}) SinkError → Type 0
+  PrintsLines (Ok u) = PrintsAll
+  PrintsLines (Err error) = PrintsSome error
+
+  -- a text was put: the sink took it, and was handed each line as one piece, and what stands behind the last one as one
+  pub record PutsAll : Type 0 where
+    pub takes : Grew (taken before) (taken now) text
+    pub hands : HandsText puts before now text
+
+  -- a front of it was put, line by line, up to an error
+  pub record PutsSome (error : SinkError) : Type 0 where
+    pub takes : TakesFront (taken before) (taken now) text
+    pub hands : HandsSome puts before now text error ⊎ HandsLast puts before now text error
+
+  -- this is how the putting of a text ended
+  abbrev pub PutsText : Result (Unit {0}) SinkError → Type 0
+  PutsText (Ok u) = PutsAll
+  PutsText (Err error) = PutsSome error
 
 -- the sink's count does not fall, a fault is answered only where it rose, and nothing else where it did
 pub record HasWriteCause (before now : ℕ) (result : Result (Unit {0}) SinkError) : Type 0 where
@@ -26,23 +58,28 @@ ending_of_put (Ok u) ending = ending
 ending_of_put (Err sink.Failed) ending = WriteFault
 ending_of_put (Err sink.Memory) ending = OutOfMemory
 
--- the sink around a run: how often it failed, and what it took
-pub record Output : Type 0 where
-  pub faults_before : ℕ
-  pub faults_after : ℕ
-  pub taken_before : Option (List ℕ)
-  pub taken_after : Option (List ℕ)
+-- the sink around a run, with its meanings: how often it failed, what it took, and what a put does to it
+pub record Output : Type 1 where
+  pub State : Type 0
+  pub faults : State → ℕ
+  pub taken : State → Option (List ℕ)
+  pub puts : State → Put → State → Type 0
+  pub before : State
+  pub after : State
+
+abbrev pub output_of : {K : Type 0} → (K → ℕ) → (K → Option (List ℕ)) → (K → Put → K → Type 0) → K → K → Output
+output_of {K} faults taken puts before after =
+    record { State = K; faults = faults; taken = taken; puts = puts; before = before; after = after }
 
 -- nothing was put
-pub record IsUntouched (output : Output) : Type 0 where
-  pub faults : output.faults_after ≡ output.faults_before
-  pub taken : output.taken_after ≡ output.taken_before
+abbrev pub IsUntouched : Output → Type 0
+IsUntouched output = output.after ≡ output.before
 
 -- a text was printed, and the run ended as the printing did
 pub record PrintsText (ending : Ending) (text : List ℕ) (ended : Ending) (output : Output) : Type 0 where
   pub put : Result (Unit {0}) SinkError
-  pub takes : TakesText output.taken_before output.taken_after text put
-  pub cause : HasWriteCause output.faults_before output.faults_after put
+  pub puts_the_text : PutsText output.taken output.puts output.before output.after text put
+  pub cause : HasWriteCause (output.faults output.before) (output.faults output.after) put
   pub ends : ended ≡ ending_of_put put ending
 
 -- the line of a refusal is printed, and a stop without a line prints nothing

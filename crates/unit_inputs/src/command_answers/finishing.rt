@@ -1,9 +1,9 @@
 // How a run goes on behind what a command prepared.
 ghost use Rattle.std.specs.Prelude.{◌≡◌};
-ghost use Rattle.unit_inputs.specs.command_answers.Printing.{Finishes, FinishesStop, ending_of_put};
+ghost use Rattle.unit_inputs.specs.command_answers.Printing.{Finishes, FinishesStop, ending_of_put, output_of};
 
 use crate::command_answers::ending::Ending;
-use crate::command_answers::printing::put_line;
+use crate::command_answers::lines::put_lines;
 use crate::command_answers::ready::Ready;
 use crate::command_answers::stop::Stop;
 use host_io::{Sink, SinkError};
@@ -22,11 +22,11 @@ pub fn ending_after(put: Result<(), SinkError>, ending: Ending) -> Ending
 
 /// Prints the line of what stopped a command, if it has one, and says how the run ends.
 pub fn finish_stop<K: Sink>(stop: Stop, out: &mut K) -> Ending
-    ensures finishes { FinishesStop stop result (record { faults_before = K.faults out.old; faults_after = K.faults out.new; taken_before = K.taken out.old; taken_after = K.taken out.new }) }
+    ensures finishes { FinishesStop stop result (output_of K.faults K.taken K.puts out.old out.new) }
 {
     match stop {
         Stop::Refused(line) => {
-            let put = put_line(out, Ok(line));
+            let put = put_lines(out, line.as_slice());
             ending_after(put, Ending::Refused)
         }
         Stop::ReadFault => Ending::ReadFault,
@@ -36,7 +36,7 @@ pub fn finish_stop<K: Sink>(stop: Stop, out: &mut K) -> Ending
 
 /// Prints what a command has ready, or the line of its refusal, and says how the run ends.
 pub fn finish<R: Ready, K: Sink>(alloc: Global, prepared: Result<R, Stop>, out: &mut K) -> Ending
-    ensures finishes { Finishes R.ending R.text prepared result (record { faults_before = K.faults out.old; faults_after = K.faults out.new; taken_before = K.taken out.old; taken_after = K.taken out.new }) }
+    ensures finishes { Finishes R.ending R.text prepared result (output_of K.faults K.taken K.puts out.old out.new) }
 {
     match prepared {
         Ok(mut ready) => {

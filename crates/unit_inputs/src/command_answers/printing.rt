@@ -1,25 +1,20 @@
 // A text that is printed line by line.
 ghost use Rattle.std.specs.Prelude.{ℕ, List, IfOk, ◌≡◌};
-ghost use Rattle.unit_inputs.specs.command_answers.Printing.{HasWriteCause, TakesText};
+ghost use Rattle.unit_inputs.specs.command_answers.Lines.{IsOfLines};
+ghost use Rattle.unit_inputs.specs.command_answers.Printing.{HasWriteCause, PrintsLines, PutsText};
 
-use host_io::{Sink, SinkError, write_whole};
+use crate::command_answers::lines::put_lines;
+use host_io::{Sink, SinkError};
 use std::alloc::AllocError;
 
-/// Prints a piece: a whole line, with its line feed.
-pub fn put_piece<K: Sink>(out: &mut K, piece: &[u8]) -> Result<(), SinkError>
-    ensures takes_the_piece { TakesText (K.taken out.old) (K.taken out.new) piece.now result }
-    ensures fault_rose { HasWriteCause (K.faults out.old) (K.faults out.new) result }
-{
-    write_whole(out, piece)
-}
-
-/// Prints a line, with its line feed, as one piece. Nothing is printed where there was no memory for it.
+/// Prints a line, or lines, each with its line feed as one piece. Nothing is printed where there was no memory for them.
 pub fn put_line<K: Sink>(out: &mut K, line: Result<Vec<u8>, AllocError>) -> Result<(), SinkError>
-    ensures takes_the_line { (text : List ℕ) → IfOk line (λ line. line.items ≡ text) → TakesText (K.taken out.old) (K.taken out.new) text result }
+    ensures puts_the_text { (text : List ℕ) → IfOk line (λ line. line.items ≡ text) → PutsText K.taken K.puts out.old out.new text result }
+    ensures prints_the_line { (text : List ℕ) → IfOk line (λ line. line.items ≡ text) → IsOfLines text → PrintsLines K.taken K.puts out.old out.new text result }
     ensures fault_rose { HasWriteCause (K.faults out.old) (K.faults out.new) result }
 {
     match line {
-        Ok(line) => put_piece(out, line.as_slice()),
+        Ok(line) => put_lines(out, line.as_slice()),
         Err(_) => Err(SinkError::Memory),
     }
 }

@@ -1,6 +1,6 @@
 // What a command has ready for printing.
 ghost use Rattle.std.specs.Prelude.{ℕ, List, ◌≡◌};
-ghost use Rattle.unit_inputs.specs.command_answers.Printing.{HasWriteCause, TakesText};
+ghost use Rattle.unit_inputs.specs.command_answers.Printing.{HasWriteCause, PutsText};
 ghost use Rattle.unit_inputs.specs.declared.command_answers.ending.Ending.{Ending};
 
 use crate::command_answers::ending::Ending;
@@ -19,9 +19,10 @@ pub trait Ready: Drop {
     fn ending(&self) -> Ending
         ensures ends_so { result ≡ ending self.now };
 
-    /// Prints the text, line by line. At an error a prefix of it was taken. What is ready may be used up by it: a text whose
-    /// lines come of steps that are made while it is printed is printed once.
+    /// Prints the text: the sink is handed each line with its line feed as one piece, and so what stands behind the last one.
+    /// At an error a prefix of it was taken, line by line. What is ready may be used up by it: a text whose lines come of steps
+    /// that are made while it is printed is printed once.
     fn print<K: Sink>(&mut self, alloc: Global, out: &mut K) -> Result<(), SinkError>
-        ensures takes_the_text { TakesText (K.taken out.old) (K.taken out.new) (text self.old) result }
+        ensures puts_the_text { PutsText K.taken K.puts out.old out.new (text self.old) result }
         ensures fault_rose { HasWriteCause (K.faults out.old) (K.faults out.new) result };
 }

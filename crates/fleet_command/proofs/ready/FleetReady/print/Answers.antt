@@ -1,0 +1,10 @@
+use Rattle.std.proofs.Common.{ap}
+use Rattle.score_command.proofs.OfUnitInputs.Texts.{printed_text, text_as}
+use Rattle.fleet_command.specs.Texts.{fleet_text}
+use Rattle.fleet_command.proofs.ready.FleetReady.print.Goals as goal
+
+pub returns-clause-puts_the_text : goal.returns-clause-puts_the_text
+returns-clause-puts_the_text g c =
+    printed_text _ _ _ c.print_fleet.result
+    (text_as _ _ (fleet_text c.deref.result.now) _ c.print_fleet.result (ap fleet_text c.deref.ensures.value)
+    c.print_fleet.ensures.prints_the_text)

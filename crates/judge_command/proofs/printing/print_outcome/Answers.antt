@@ -1,0 +1,17 @@
+use Rattle.std.proofs.Common.{ap, sym}
+use Rattle.asked_service.proofs.OfUnitInputs.Texts.{text_as}
+use Rattle.asked_service.specs.unit_launch.Refusals.{refusal_line}
+use Rattle.judge_command.specs.Asked.{asked_text}
+use Rattle.judge_command.specs.Started.{told_text}
+use Rattle.judge_command.proofs.Ends.{refusal_ends}
+use Rattle.judge_command.proofs.printing.print_outcome.Goals as goal
+
+pub returns-in-Asked-clause-prints_the_text : goal.returns-in-Asked-clause-prints_the_text
+returns-in-Asked-clause-prints_the_text g c =
+    text_as _ _ (asked_text c.in-Asked.asked.now) (told_text c.args.outcome.now) c.print_asked.result (ap told_text (sym c.in-Asked.is))
+    c.print_asked.ensures.prints_the_text
+
+pub returns-in-Refused-clause-prints_the_text : goal.returns-in-Refused-clause-prints_the_text
+returns-in-Refused-clause-prints_the_text g c =
+    text_as _ _ (refusal_line c.in-Refused.refusal.now) (told_text c.args.outcome.now) c.put_line.result (ap told_text (sym c.in-Refused.is))
+    (c.put_line.ensures.prints_the_line _ c.refusal_line.ensures.tells_the_refusal (refusal_ends c.in-Refused.refusal.now))

@@ -1,0 +1,8 @@
+use Rattle.std.proofs.Common.{subst}
+use Rattle.unit_inputs.specs.command_answers.Printing.{PutsText}
+use Rattle.unit_inputs.proofs.command_answers.ready_text.ReadyTextReady.print.Goals as goal
+
+pub returns-clause-puts_the_text : goal.returns-clause-puts_the_text
+returns-clause-puts_the_text g c =
+    subst (λ text. PutsText g.K.Sink.taken g.K.Sink.puts c.args.out.now c.put_lines.new.out text c.put_lines.result)
+    c.as_slice.ensures.value c.put_lines.ensures.puts_the_text
