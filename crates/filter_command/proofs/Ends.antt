@@ -1,5 +1,5 @@
 -- Each line ends in a line feed.
-use Rattle.std.proofs.Common.{inr, ℕ, List, length, codes}
+use Rattle.std.proofs.Common.{inr, ℕ, length, codes}
 use Rattle.std.specs.Prelude.{flat_map}
 use Rattle.std.specs.Fmt.{decimal}
 use Rattle.launcher.specs.bpf_code.Reading.{bytes_of_insn}

@@ -5,7 +5,7 @@ use Rattle.score_command.specs.text_forms.Escaped.{escaped_word}
 use Rattle.score_command.specs.unit_names.Names.{text_of}
 use Rattle.score_command.specs.unit_inputs.SettingsRefusals.{settings_cause}
 use Rattle.score_command.specs.unit_inputs.UnitRefusals.{text_cause, unit_line}
-use Rattle.score_command.specs.unit_inputs.command_answers.Lines.{EndsLine, IsOfLines}
+use Rattle.score_command.specs.unit_inputs.command_answers.Lines.{IsOfLines}
 use Rattle.score_command.specs.unit_inputs.command_answers.Refusals.{refused_line}
 use Rattle.score_command.specs.dropin_merge.declared.errors.ResolveError.{ResolveError}
 use Rattle.score_command.specs.dropin_merge.declared.errors.ResolveError.TheVariants as resolve

@@ -35,7 +35,8 @@ launched_ends launched =
     (ends_behind (codes " steps ") _ (ends_behind (decimal launched.steps) _ ends_feed))))))))
 
 pub refusal_ends : (refusal : LaunchRefusal) → IsOfLines (refusal_line refusal)
-refusal_ends (Privileged program) = inr (ends_behind (codes "launch privileged ") _ (ends_behind (escaped_word (text_of program)) _ ends_feed))
+refusal_ends (Privileged program) = inr (ends_behind (codes "launch privileged ") _
+    (ends_behind (escaped_word (text_of program)) _ ends_feed))
 refusal_ends (Refused step errno) =
     inr (ends_behind (codes "launch refused step ") _ (ends_behind (decimal step) _
     (ends_behind (codes " errno ") _ (ends_behind (decimal errno) _ ends_feed))))

@@ -121,18 +121,19 @@ module _ (asked : Asked) where
       → IfOk line (λ put. put.items ≡ launched_line own) → IfOk line (λ put. put.items ≡ launch_part asked)
   launch_told own line same tells = subst (λ one. IfOk line (λ put. put.items ≡ launched_line one)) same tells
 
-  module _ {S : Type 0} {taken : S → Option (List ℕ)} {puts : S → Put → S → Type 0} where
+  module _ {S : Type 0} (taken : S → Option (List ℕ)) (puts : S → Put → S → Type 0) where
     pub answers_put : (a b : S) (list : List Question) (put : Result (Unit {0}) SinkError) → IsAsked asked
         → list ≡ asked.questions.items → PrintsLines taken puts a b (flat_map (answer_text asked) list) put
         → PrintsLines taken puts a b (answers_part asked) put
-    answers_put a b list put is same prints = text_as a b (flat_map (answer_text asked) list) (answers_part asked) put
+    answers_put a b list put is same prints = text_as taken puts a b (flat_map (answer_text asked) list) (answers_part asked) put
         (ap (flat_map (answer_text asked)) same ∙ answers_text is) prints
 
     pub folders_put : (a b : S) (rows : List Row) (put : Result (Unit {0}) SinkError) → rows ≡ (world_in asked).site.rows
         → PrintsLines taken puts a b (flat_map (folder_text asked) rows) put → PrintsLines taken puts a b (folders_part asked) put
-    folders_put a b rows put same prints = text_as a b (flat_map (folder_text asked) rows) (folders_part asked) put
+    folders_put a b rows put same prints = text_as taken puts a b (flat_map (folder_text asked) rows) (folders_part asked) put
         (ap (flat_map (folder_text asked)) same ∙ folders_text (world_in asked).site.rows) prints
 
+  module _ {S : Type 0} {taken : S → Option (List ℕ)} {puts : S → Put → S → Type 0} where
     -- and what comes behind the launch
     pub behind_launch : (a b c : S) (put : Result (Unit {0}) SinkError) → PrintsAll taken puts a b (launch_part asked)
         → PrintsLines taken puts b c (answers_part asked ++ (folders_part asked ++ count_part asked)) put

@@ -1,5 +1,5 @@
 -- Each line ends in a line feed.
-use Rattle.std.proofs.Common.{List, ℕ, codes, inr}
+use Rattle.std.proofs.Common.{ℕ, codes, inr}
 use Rattle.std.specs.Fmt.{decimal}
 use Rattle.asked_service.specs.abs_path.Paths.{text_of}
 use Rattle.asked_service.specs.text_forms.Escaped.{escaped_word}
@@ -24,7 +24,8 @@ launched_ends launched =
     (ends_behind (codes " steps ") _ (ends_behind (decimal launched.steps) _ ends_feed))))))))
 
 pub refusal_ends : (refusal : LaunchRefusal) → IsOfLines (refusal_line refusal)
-refusal_ends (Privileged program) = inr (ends_behind (codes "launch privileged ") _ (ends_behind (escaped_word (text_of program)) _ ends_feed))
+refusal_ends (Privileged program) = inr (ends_behind (codes "launch privileged ") _
+    (ends_behind (escaped_word (text_of program)) _ ends_feed))
 refusal_ends (Refused step errno) =
     inr (ends_behind (codes "launch refused step ") _ (ends_behind (decimal step) _
     (ends_behind (codes " errno ") _ (ends_behind (decimal errno) _ ends_feed))))

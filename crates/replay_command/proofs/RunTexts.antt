@@ -83,7 +83,7 @@ module _ (table : Table) where
           (moment_line table (moment_at (run world (take i script)) call)) error
           → PrintsSome taken puts a c (run_text table world script) error
       text_cut_there error lt is f prints =
-          text_as a c _ (run_text table world script) (Err error) (text_of_rest lt is)
+          text_as taken puts a c _ (run_text table world script) (Err error) (text_of_rest lt is)
           (text_cut a c (run_text table world (take i script) ++ moment_line table (moment_at (run world (take i script)) call))
           (run_text table (step (run world (take i script)) call).1 (drop (suc i) script)) error
           (text_then a b c (run_text table world (take i script)) (moment_line table (moment_at (run world (take i script)) call))
@@ -136,7 +136,8 @@ module _ (table : Table) where
   module _ (world now : World) (script : List Call) (i : ℕ) (d call : Call) where
     module _ {S : Type 0} {taken : S → Option (List ℕ)} {puts : S → Put → S → Type 0} (a b c : S) where
       pub more_printed : i < length script → call ≡ get_or script i d → now ≡ run world (take i script)
-          → PrintsAll taken puts a b (run_text table world (take i script)) → PrintsAll taken puts b c (moment_line table (moment_at now call))
+          → PrintsAll taken puts a b (run_text table world (take i script)) → PrintsAll taken puts b c (moment_line table
+          (moment_at now call))
           → PrintsAll taken puts a c (run_text table world (take (i + 1) script))
       more_printed lt is stands f g = printed_more world script i d call a b c lt is f
           (subst (λ w. PrintsAll taken puts b c (moment_line table (moment_at w call))) stands g)

@@ -22,7 +22,8 @@ stays_later before after e = omega arith
 never_grew : (before after : ℕ) → after ≡ before → before < after → ⊥
 never_grew before after e lt = absurd (omega arith)
 
-module _ {S K : Type 0} (asks : S → ShelfCall → S → Type 0) (asked : Asked) (shelf_faults : S → ℕ) (sink_faults : K → ℕ) (taken : K → Option (List ℕ)) (puts : K → Put → K → Type 0) (before after : S) (old new : K) where
+module _ {S K : Type 0} (asks : S → ShelfCall → S → Type 0) (asked : Asked) (shelf_faults : S → ℕ) (sink_faults : K → ℕ)
+    (taken : K → Option (List ℕ)) (puts : K → Put → K → Type 0) (before after : S) (old new : K) where
   causes : (ending : Ending)
       → EndsWords asks asked (around shelf_faults sink_faults taken puts before after old new) before after old new ending
       → HasFaultCause ending (around shelf_faults sink_faults taken puts before after old new)

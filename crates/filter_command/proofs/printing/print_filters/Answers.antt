@@ -21,4 +21,5 @@ returns-in_err-print_filter-clause-prints_the_text g c =
     c.in_err-print_filter.ensures.prints_the_text)
 
 pub returns-clause-prints_the_text : goal.returns-clause-prints_the_text
-returns-clause-prints_the_text g c = items_all filter_text c.args.filters.now c.loop-filter.filter-index _ _ (omega arith) c.loop-filter.invariant.printed
+returns-clause-prints_the_text g c = items_all filter_text c.args.filters.now c.loop-filter.filter-index _ _ (omega arith)
+    c.loop-filter.invariant.printed

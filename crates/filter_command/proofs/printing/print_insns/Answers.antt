@@ -26,4 +26,5 @@ returns-in_err-put_line-clause-prints_the_text g c =
     (insn_ends (get_or c.args.insns.now c.loop-insn.insn-index (record { code = 0; jt = 0; jf = 0; k = 0 })))))
 
 pub returns-clause-prints_the_text : goal.returns-clause-prints_the_text
-returns-clause-prints_the_text g c = items_all insn_line c.args.insns.now c.loop-insn.insn-index _ _ (omega arith) c.loop-insn.invariant.printed
+returns-clause-prints_the_text g c = items_all insn_line c.args.insns.now c.loop-insn.insn-index _ _ (omega arith)
+    c.loop-insn.invariant.printed

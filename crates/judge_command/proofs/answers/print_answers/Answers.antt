@@ -56,4 +56,5 @@ pub returns-in_default-clause-prints_the_text : goal.returns-in_default-clause-p
 returns-in_default-clause-prints_the_text g c = not_printed c.args.out.now (flat_map (answer_text c.args.asked.now) c.args.list.now)
 
 pub returns-clause-prints_the_text : goal.returns-clause-prints_the_text
-returns-clause-prints_the_text g c = items_all (answer_text c.args.asked.now) c.args.list.now c.loop-question.question-index _ _ (omega arith) c.loop-question.invariant.printed
+returns-clause-prints_the_text g c = items_all (answer_text c.args.asked.now) c.args.list.now c.loop-question.question-index _ _
+    (omega arith) c.loop-question.invariant.printed

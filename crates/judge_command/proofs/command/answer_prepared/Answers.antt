@@ -10,7 +10,7 @@ returns-in-Ok g c = record {
     started = c.in-Ok.ensures.starts;
     prints = record {
       put = c.print_report-put.result;
-      puts_the_text = printed_text _ _ _ c.print_report-put.result c.print_report-put.ensures.prints_the_text;
+      puts_the_text = printed_text g.K.Sink.taken g.K.Sink.puts _ _ _ c.print_report-put.result c.print_report-put.ensures.prints_the_text;
       cause = c.print_report-put.ensures.fault_rose;
       ends = c.ending_after.ensures.as_it_was_put ∙ ap (ending_of_put c.print_report-put.result) c.ending_behind-ending.ensures.ends_so;
     };

@@ -8,7 +8,7 @@ use Rattle.judge_command.proofs.folders.print_folder.Goals as goal
 
 pub returns-then-is_named-clause-prints_the_text : goal.returns-then-is_named-clause-prints_the_text
 returns-then-is_named-clause-prints_the_text g c =
-    text_as c.args.out.now c.put_line.new.out (blind_line c.args.row.now.path)
+    text_as g.K.Sink.taken g.K.Sink.puts c.args.out.now c.put_line.new.out (blind_line c.args.row.now.path)
     (folder_text c.args.asked.now c.args.row.now) c.put_line.result
     (named_text c.args.asked.now c.args.row.now (sym c.is_named.ensures.by_the_rule ∙ c.if-is_named.true))
     (c.put_line.ensures.prints_the_line (blind_line c.args.row.now.path) c.blind_line.ensures.names_the_folder
@@ -16,6 +16,6 @@ returns-then-is_named-clause-prints_the_text g c =
 
 pub returns-else-is_named-clause-prints_the_text : goal.returns-else-is_named-clause-prints_the_text
 returns-else-is_named-clause-prints_the_text g c =
-    text_as c.args.out.now c.args.out.now [] (folder_text c.args.asked.now c.args.row.now) (Ok tt)
+    text_as g.K.Sink.taken g.K.Sink.puts c.args.out.now c.args.out.now [] (folder_text c.args.asked.now c.args.row.now) (Ok tt)
     (unnamed_text c.args.asked.now c.args.row.now (sym c.is_named.ensures.by_the_rule ∙ c.if-is_named.false))
     (nothing_printed c.args.out.now)

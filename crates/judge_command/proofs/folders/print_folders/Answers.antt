@@ -20,4 +20,5 @@ returns-in_err-print_folder-clause-prints_the_text g c =
     c.in_err-print_folder.field-0.0 (omega arith) c.row-item.is c.loop-row.invariant.printed c.in_err-print_folder.ensures.prints_the_text)
 
 pub returns-clause-prints_the_text : goal.returns-clause-prints_the_text
-returns-clause-prints_the_text g c = items_all (folder_text c.args.asked.now) c.args.rows.now c.loop-row.row-index _ _ (omega arith) c.loop-row.invariant.printed
+returns-clause-prints_the_text g c = items_all (folder_text c.args.asked.now) c.args.rows.now c.loop-row.row-index _ _ (omega arith)
+    c.loop-row.invariant.printed

@@ -37,7 +37,7 @@ returns-in_err-print_answers-clause-prints_the_text g c =
     (launched_ends (told_of (world_in asked) asked.bounded.service.steps)))
     (text_short _ _ (answers_part asked) (folders_part asked ++ count_part asked) error c.from_residual-in_err-print_answers.result
     c.from_residual-in_err-print_answers.ensures.1
-    (answers_put asked c.put_line.new.out c.print_answers.new.out c.as_slice-questions.result.now
+    (answers_put asked g.K.Sink.taken g.K.Sink.puts c.put_line.new.out c.print_answers.new.out c.as_slice-questions.result.now
     (Err error) c.requires.asked c.as_slice-questions.ensures.value c.in_err-print_answers.ensures.prints_the_text))
 
 pub returns-in_err-print_folders-clause-prints_the_text : goal.returns-in_err-print_folders-clause-prints_the_text
@@ -51,11 +51,11 @@ returns-in_err-print_folders-clause-prints_the_text g c =
     (launched_ends (told_of (world_in asked) asked.bounded.service.steps)))
     (text_then c.put_line.new.out c.print_answers.new.out _ (answers_part asked)
     (folders_part asked ++ count_part asked) c.from_residual-in_err-print_folders.result
-    (answers_put asked c.put_line.new.out c.print_answers.new.out c.as_slice-questions.result.now
+    (answers_put asked g.K.Sink.taken g.K.Sink.puts c.put_line.new.out c.print_answers.new.out c.as_slice-questions.result.now
     (Ok tt) c.requires.asked c.as_slice-questions.ensures.value c.in_ok-print_answers.ensures.prints_the_text)
     (text_short _ _ (folders_part asked) (count_part asked) error c.from_residual-in_err-print_folders.result
     c.from_residual-in_err-print_folders.ensures.1
-    (folders_put asked c.print_answers.new.out c.print_folders.new.out c.rows-rows.result.now
+    (folders_put asked g.K.Sink.taken g.K.Sink.puts c.print_answers.new.out c.print_folders.new.out c.rows-rows.result.now
     (Err error) (c.rows-rows.ensures.rows ∙ ap (λ site. site.rows) c.site_table.ensures.told)
     c.in_err-print_folders.ensures.prints_the_text)))
 
@@ -69,11 +69,11 @@ returns-clause-prints_the_text g c =
     (launched_ends (told_of (world_in asked) asked.bounded.service.steps)))
     (text_then c.put_line.new.out c.print_answers.new.out _ (answers_part asked)
     (folders_part asked ++ count_part asked) c.put_line-2.result
-    (answers_put asked c.put_line.new.out c.print_answers.new.out c.as_slice-questions.result.now
+    (answers_put asked g.K.Sink.taken g.K.Sink.puts c.put_line.new.out c.print_answers.new.out c.as_slice-questions.result.now
     (Ok tt) c.requires.asked c.as_slice-questions.ensures.value c.in_ok-print_answers.ensures.prints_the_text)
     (text_then c.print_answers.new.out c.print_folders.new.out _ (folders_part asked)
     (count_part asked) c.put_line-2.result
-    (folders_put asked c.print_answers.new.out c.print_folders.new.out c.rows-rows.result.now (Ok tt)
+    (folders_put asked g.K.Sink.taken g.K.Sink.puts c.print_answers.new.out c.print_folders.new.out c.rows-rows.result.now (Ok tt)
     (c.rows-rows.ensures.rows ∙ ap (λ site. site.rows) c.site_table.ensures.told) c.in_ok-print_folders.ensures.prints_the_text)
     (c.put_line-2.ensures.prints_the_line (count_part asked)
     (subst (λ own. IfOk c.summary_line.result (λ put. put.items ≡ own))

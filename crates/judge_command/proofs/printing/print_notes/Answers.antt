@@ -14,7 +14,8 @@ loop-note-preserved g c = record {
       (record { place = record { file = 0; line = 0 }; cause = NoSection })
       (get_or c.args.notes.now c.loop-note.note-index (record { place = record { file = 0; line = 0 }; cause = NoSection })) _ _ _
       (omega arith) refl c.loop-note.invariant.printed (c.in_ok-put_line.ensures.prints_the_line _ c.note_line.ensures.tells_where_and_why
-      (note_ends c.args.unit.now.files (get_or c.args.notes.now c.loop-note.note-index (record { place = record { file = 0; line = 0 }; cause = NoSection }))));
+      (note_ends c.args.unit.now.files (get_or c.args.notes.now c.loop-note.note-index
+      (record { place = record { file = 0; line = 0 }; cause = NoSection }))));
   same = c.in_ok-put_line.ensures.fault_rose.no_other_fault ∙ c.loop-note.invariant.same;
 }
 
@@ -26,7 +27,9 @@ returns-in_err-put_line-clause-prints_the_text g c =
     (get_or c.args.notes.now c.loop-note.note-index (record { place = record { file = 0; line = 0 }; cause = NoSection })) _ _ _
     c.in_err-put_line.field-0.0 (omega arith) refl c.loop-note.invariant.printed
     (c.in_err-put_line.ensures.prints_the_line _ c.note_line.ensures.tells_where_and_why
-    (note_ends c.args.unit.now.files (get_or c.args.notes.now c.loop-note.note-index (record { place = record { file = 0; line = 0 }; cause = NoSection })))))
+    (note_ends c.args.unit.now.files (get_or c.args.notes.now c.loop-note.note-index
+    (record { place = record { file = 0; line = 0 }; cause = NoSection })))))
 
 pub returns-clause-prints_the_text : goal.returns-clause-prints_the_text
-returns-clause-prints_the_text g c = items_all (note_line c.args.unit.now.files) c.args.notes.now c.loop-note.note-index _ _ (omega arith) c.loop-note.invariant.printed
+returns-clause-prints_the_text g c = items_all (note_line c.args.unit.now.files) c.args.notes.now c.loop-note.note-index _ _ (omega arith)
+    c.loop-note.invariant.printed

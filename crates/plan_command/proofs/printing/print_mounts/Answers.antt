@@ -23,4 +23,5 @@ returns-in_err-put_line-clause-prints_the_text g c =
     (c.in_err-put_line.ensures.prints_the_line _ c.mount_line.ensures.tells_the_mount (mount_ends c.step-item.result)))
 
 pub returns-clause-prints_the_text : goal.returns-clause-prints_the_text
-returns-clause-prints_the_text g c = items_all mount_line c.args.steps.now c.loop-step.step-index _ _ (omega arith) c.loop-step.invariant.printed
+returns-clause-prints_the_text g c = items_all mount_line c.args.steps.now c.loop-step.step-index _ _ (omega arith)
+    c.loop-step.invariant.printed

@@ -1,4 +1,4 @@
-use Rattle.std.proofs.Common.{arith, refl, ◌∙◌, take, subst}
+use Rattle.std.proofs.Common.{arith, refl, ◌∙◌, subst}
 use Rattle.std.proofs.lemmas.List.{take_all}
 use Rattle.asked_service.specs.unit_inputs.command_answers.Printing.{PrintsAll}
 use Rattle.asked_service.proofs.OfUnitInputs.Texts.{nothing_printed, text_at_error}
@@ -37,5 +37,6 @@ returns-in_err-make_call-clause-performs g c =
 
 pub returns-clause-prints_the_lines : goal.returns-clause-prints_the_lines
 returns-clause-prints_the_lines g c =
-    subst (λ these. PrintsAll g.K.Sink.taken g.K.Sink.puts c.args.out.now c.loop-call.out (run_text c.args.calls.now c.args.world.now these))
+    subst (λ these. PrintsAll g.K.Sink.taken g.K.Sink.puts c.args.out.now c.loop-call.out (run_text c.args.calls.now
+    c.args.world.now these))
     (take_all c.loop-call.call-index c.args.script.now (omega arith)) c.loop-call.invariant.printed

@@ -5,6 +5,6 @@ use Rattle.fleet_command.proofs.ready.FleetReady.print.Goals as goal
 
 pub returns-clause-puts_the_text : goal.returns-clause-puts_the_text
 returns-clause-puts_the_text g c =
-    printed_text _ _ _ c.print_fleet.result
-    (text_as _ _ (fleet_text c.deref.result.now) _ c.print_fleet.result (ap fleet_text c.deref.ensures.value)
+    printed_text g.K.Sink.taken g.K.Sink.puts _ _ _ c.print_fleet.result
+    (text_as g.K.Sink.taken g.K.Sink.puts _ _ (fleet_text c.deref.result.now) _ c.print_fleet.result (ap fleet_text c.deref.ensures.value)
     c.print_fleet.ensures.prints_the_text)
