@@ -21,13 +21,15 @@ use Rattle.asked_service.specs.site_table.Table.{Site}
 use Rattle.asked_service.specs.started_units.Starting.{StartsAs, first_start, given, start_refusals}
 use Rattle.asked_service.specs.unit_inputs.Inputs.{Inputs}
 use Rattle.asked_service.specs.declared.unit_launch.launching.UnitLaunch.{UnitLaunch}
-use Rattle.asked_service.specs.declared.unit_launch.launching.UnitLaunch.TheVariants.{Launched}
+use Rattle.asked_service.specs.declared.unit_launch.launching.UnitLaunch.TheVariants.{Launched, Refused}
+use Rattle.asked_service.specs.declared.unit_launch.refusal.LaunchRefusal.{LaunchRefusal}
+use Rattle.asked_service.specs.unit_launch.Refusals.{refusal_line}
 use Rattle.deciding_lines.specs.unit_lines.Without.{without}
 use Rattle.asked_service.specs.dropin_merge.declared.unit_values.value.Place.{Place}
-use Rattle.deciding_lines.specs.Deciding.{IsLineOf, IsReasonAt, unit_refused as not_settled}
-use Rattle.deciding_lines.specs.Tried.{IsDeniedWithout, IsOpenWithout, IsRefusal, IsSaid, TellsOpen, Tried, denied, inputs_without}
-use Rattle.deciding_lines.specs.Tried.{unit_refused}
-use Rattle.deciding_lines.specs.declared.reason.Reason.{Reason}
+use Rattle.deciding_lines.specs.Tried.{IsDeniedWithout, IsNotLaunched, IsOpenWithout, IsSaid, TellsOpen, Tried, denied, inputs_without}
+use Rattle.deciding_lines.specs.Tried.{IsStarted, TellsLaunch, TellsStop, launch_refused, unit_refused}
+use Rattle.deciding_lines.specs.declared.starting.Started.{Started}
+use Rattle.deciding_lines.specs.declared.starting.Started.TheVariants as started
 
 -- a verdict by the rule says so
 said_exactly : (world : World) (question : Question) (answer : Bool) → IsExact world question
@@ -70,38 +72,44 @@ module _ (inputs : Inputs) (service : Service) (starts : StartsAs inputs (Launch
       subst (λ (table : calls.Table). Contains (asked.questions table service.world.site) question) (sym own_calls)
       (subst (λ (site : Site). Contains (asked.questions inputs.calls site) question) (sym own_site) is)
 
-module _ (tried : Tried) (places : List Place) (less : Resolved) (is : less ≡ without places tried.inputs.unit) where
-  pub as_without : (P : Inputs → Type 0) → P (given less tried.inputs.calls tried.inputs.site) → P (inputs_without tried.inputs places)
-  as_without P holds = subst (λ (own : Resolved). P (given own tried.inputs.calls tried.inputs.site)) is holds
+-- what a unit starts as without some of its lines
+module _ (name : List ℕ) (inputs : Inputs) (places : List Place) (less : Resolved) (is : less ≡ without places inputs.unit) where
+  as_without : (P : Inputs → Type 0) → P (given less inputs.calls inputs.site) → P (inputs_without inputs places)
+  as_without P holds = subst (λ (own : Resolved). P (given own inputs.calls inputs.site)) is holds
 
-  -- what is started is the unit without them
-  pub starts_without : (launch : UnitLaunch) → Prepares (StartsAs (given less tried.inputs.calls tried.inputs.site))
-      (start_refusals tried.name (given less tried.inputs.calls tried.inputs.site)) (Ok launch)
-      → StartsAs (inputs_without tried.inputs places) launch
-  starts_without launch prepared = as_without (λ inputs. StartsAs inputs launch) prepared.1
+  starts_without : (service : Service) → Prepares (StartsAs (given less inputs.calls inputs.site))
+      (start_refusals name (given less inputs.calls inputs.site)) (Ok (Launched service))
+      → StartsAs (inputs_without inputs places) (Launched service)
+  starts_without service prepared = as_without (λ own. StartsAs own (Launched service)) prepared.1
 
-  pub refused_without : (line : Vec ℕ Global) → Prepares (StartsAs (given less tried.inputs.calls tried.inputs.site))
-      (start_refusals tried.name (given less tried.inputs.calls tried.inputs.site)) (Err (stop.Refused line))
-      → first_start tried.name (inputs_without tried.inputs places) ≡ Some line.items
-  refused_without line refused = as_without (λ inputs. first_start tried.name inputs ≡ Some line.items) refused
+  refuses_launch : (refusal : LaunchRefusal) (line : List ℕ) → line ≡ refusal_line refusal
+      → Prepares (StartsAs (given less inputs.calls inputs.site)) (start_refusals name (given less inputs.calls inputs.site))
+      (Ok (Refused refusal)) → IsNotLaunched name (inputs_without inputs places) line
+  refuses_launch refusal line says prepared = subst (IsNotLaunched name (inputs_without inputs places)) (sym says)
+      (launch_refused refusal (as_without (λ own. StartsAs own (Refused refusal)) prepared.1))
 
-  pub tells_stop : (why : Stop) → Prepares {T = UnitLaunch} (StartsAs (given less tried.inputs.calls tried.inputs.site))
-      (start_refusals tried.name (given less tried.inputs.calls tried.inputs.site)) (Err why)
-      → (result : Result Bool AllocError) → IfOk result (λ open'. (open' ≡ false) × IsRefusal why) → IfOk result (TellsOpen tried places)
-  tells_stop why refused (Err none) is = tt
-  tells_stop (stop.Refused line) refused (Ok answer) is = subst (TellsOpen tried places) (sym is.0)
-      (unit_refused line.items (refused_without line refused))
-  tells_stop stop.ReadFault refused (Ok answer) is = absurd is.1
-  tells_stop stop.Memory refused (Ok answer) is = absurd is.1
+  refuses_unit : (line : Vec ℕ Global) → Prepares {T = UnitLaunch} (StartsAs (given less inputs.calls inputs.site))
+      (start_refusals name (given less inputs.calls inputs.site)) (Err (stop.Refused line))
+      → IsNotLaunched name (inputs_without inputs places) line.items
+  refuses_unit line refuses = unit_refused line.items (as_without (λ own. first_start name own ≡ Some line.items) refuses)
 
-  pub reason_of_stop : (why : Stop) → Prepares {T = UnitLaunch} (StartsAs (given less tried.inputs.calls tried.inputs.site))
-      (start_refusals tried.name (given less tried.inputs.calls tried.inputs.site)) (Err why)
-      → (result : Result Reason AllocError) → IfOk result (IsLineOf why) → IfOk result (IsReasonAt tried places)
-  reason_of_stop why refused (Err none) is = tt
-  reason_of_stop (stop.Refused line) refused (Ok told) is = subst (IsReasonAt tried places) (sym is)
-      (not_settled line.items (refused_without line refused))
-  reason_of_stop stop.ReadFault refused (Ok told) is = absurd is
-  reason_of_stop stop.Memory refused (Ok told) is = absurd is
+  pub starts_as : (launch : UnitLaunch) → Prepares (StartsAs (given less inputs.calls inputs.site))
+      (start_refusals name (given less inputs.calls inputs.site)) (Ok launch) → (result : Result Started AllocError)
+      → IfOk result (TellsLaunch launch) → IfOk result (IsStarted name (inputs_without inputs places))
+  starts_as launch prepared (Err none) told = tt
+  starts_as (Launched service) prepared (Ok made) told =
+      subst (IsStarted name (inputs_without inputs places)) (sym told) (starts_without service prepared)
+  starts_as (Refused refusal) prepared (Ok (started.Launched service)) told = absurd told
+  starts_as (Refused refusal) prepared (Ok (started.Refused line)) told = refuses_launch refusal line.items told prepared
+
+  pub stops_as : (why : Stop) → Prepares {T = UnitLaunch} (StartsAs (given less inputs.calls inputs.site))
+      (start_refusals name (given less inputs.calls inputs.site)) (Err why) → (result : Result Started AllocError)
+      → IfOk result (TellsStop why) → IfOk result (IsStarted name (inputs_without inputs places))
+  stops_as why refuses (Err none) told = tt
+  stops_as (stop.Refused line) refuses (Ok made) told =
+      subst (IsStarted name (inputs_without inputs places)) (sym told) (refuses_unit line refuses)
+  stops_as stop.ReadFault refuses (Ok made) told = absurd told
+  stops_as stop.Memory refuses (Ok made) told = absurd told
 
 -- what is told of a launch without them
 module _ (tried : Tried) (places : List Place) where

@@ -1,2 +1,4 @@
-pub mod Searched
+pub mod Parts
+pub mod LeftOut
 pub mod Asked
+pub mod Needed

@@ -1,5 +1,5 @@
 -- All assignments in force of a unit, but those that say what is launched (systemd.service(5), ExecStart=).
-use Rattle.std.specs.Prelude.{Bool, codes, if◌then◌else◌, List, [], ◌∷◌, flat_map}
+use Rattle.std.specs.Prelude.{◌&&◌, ◌||◌, not, Bool, codes, if◌then◌else◌, List, [], ◌∷◌, ◌++◌, flat_map}
 use Rattle.std.specs.Str.{bytes_eq}
 use Rattle.asked_service.specs.dropin_merge.declared.resolved.Resolved.{Resolved}
 use Rattle.deciding_lines.specs.unit_lines.Lines.{lines_of}
@@ -9,12 +9,31 @@ use Rattle.asked_service.specs.dropin_merge.declared.unit_values.value.Place.{Pl
 abbrev pub is_command : UnitLine → Bool
 is_command line = bytes_eq line.key (codes "ExecStart")
 
-abbrev pub place_unless_command : UnitLine → List Place
-place_unless_command line = if is_command line then [] else line.place ∷ []
+-- systemd.exec(5), USER/GROUP IDENTITY: as whom the service runs
+abbrev pub is_user : UnitLine → Bool
+is_user line =
+    ((bytes_eq line.key (codes "User") || bytes_eq line.key (codes "Group")) || bytes_eq line.key (codes "DynamicUser"))
+    || bytes_eq line.key (codes "SupplementaryGroups")
 
-abbrev pub places_of : List UnitLine → List Place
-places_of lines = flat_map place_unless_command lines
+-- systemd.exec(5), CAPABILITIES and SECURITY: which privileges it has or can get
+abbrev pub is_power : UnitLine → Bool
+is_power line =
+    (bytes_eq line.key (codes "NoNewPrivileges") || bytes_eq line.key (codes "CapabilityBoundingSet"))
+    || bytes_eq line.key (codes "AmbientCapabilities")
 
--- their places, in the order of files and lines
+abbrev pub is_identity : UnitLine → Bool
+is_identity line = is_user line || is_power line
+
+abbrev pub is_other : UnitLine → Bool
+is_other line = not (is_command line) && not (is_identity line)
+
+abbrev pub place_if : Bool → UnitLine → List Place
+place_if is_wanted line = if is_wanted then line.place ∷ [] else []
+
+-- the places of the lines that pass a test
+abbrev pub places_of : (UnitLine → Bool) → List UnitLine → List Place
+places_of test lines = flat_map (λ line. place_if (test line) line) lines
+
+-- in the order of files and lines, but those that say who the service is behind all others
 abbrev pub bare_places : Resolved → List Place
-bare_places unit = places_of (lines_of unit)
+bare_places unit = places_of is_other (lines_of unit) ++ places_of is_identity (lines_of unit)

@@ -1,16 +1,18 @@
 //! Why a question is denied of a unit.
 ghost use Rattle.std.specs.Prelude.{IfOk};
 ghost use Rattle.asked_service.specs.started_units.Starting.{StartsAs};
-ghost use Rattle.asked_service.specs.declared.unit_launch.launching.UnitLaunch.TheVariants.{Launched as Started};
-ghost use Rattle.deciding_lines.specs.Deciding.{IsLineOf, IsReason, IsReasonAt};
-ghost use Rattle.deciding_lines.specs.Tried.{CanBeTried, IsOpenWithout, inputs_without, tried_of};
+ghost use Rattle.asked_service.specs.declared.unit_launch.launching.UnitLaunch.TheVariants.{Launched as Service};
+ghost use Rattle.deciding_lines.specs.Deciding.{IsReason, IsReasonAt};
+ghost use Rattle.deciding_lines.specs.Searching.{DeniesWithout};
+ghost use Rattle.deciding_lines.specs.Tried.{CanBeTried, IsNotLaunched, inputs_without, tried_of};
 
 use crate::bare::bare_places;
+use crate::leaving_out::least;
+use crate::searching::Needs;
+use crate::starting::Started;
 use crate::trial::{Trial, is_open_of};
-use crate::unit_lines::without;
-use asked_service::started_units::start;
-use asked_service::unit_launch::{UnitLaunch, refusal_line};
-use asked_service::{Launched, Place, Stop};
+use crate::unit_lines::all_but;
+use asked_service::{Launched, Place};
 use std::alloc::{AllocError, Global};
 
 /// What denies a question that is denied.
@@ -20,80 +22,65 @@ pub enum Reason {
     Nothing,
     /// The assignments in force at these places.
     Lines(Vec<Place>),
-    /// Not told: without all but ExecStart= the unit has no settings, no plan of mounts or no launch, for which this is the line.
+    /// What the unit needs to be launched. Without all but ExecStart= it has no settings, no plan of mounts or no launch, for which
+    /// this is the line; and the question is denied also without all but ExecStart= and lines that it needs.
     NotLaunched(Vec<u8>),
 }
 
-// The line of a unit that is stopped before its launch.
-fn stopped(stop: Stop) -> Result<Reason, AllocError>
-    ensures { IfOk result (IsLineOf stop) }
-{
-    match stop {
-        Stop::Refused(line) => Ok(Reason::NotLaunched(line)),
-        Stop::ReadFault | Stop::Memory => Err(AllocError),
-    }
-}
-
-impl Trial<'_> {
-    // The lines that deny it, where it is open without all of these.
-    fn lines_of(&self, alloc: Global, places: Vec<Place>) -> Result<Reason, AllocError>
-        requires can_be_tried { CanBeTried self.now }
-        requires is_open { IsOpenWithout (tried_of self.now) places.items }
-        ensures { IfOk result (IsReasonAt (tried_of self.now) places.items) }
-    {
-        let found = self.fewest(alloc, places)?;
-        Ok(Reason::Lines(found))
-    }
-
-    // What denies it, by the service of the unit without all of these lines.
-    fn reason_of(
+impl<'a> Trial<'a> {
+    // What denies it: some of these lines, if it is open of the service of the unit without them; else the other answer.
+    fn denying(
         &self,
         alloc: Global,
-        places: Vec<Place>,
+        gone: Vec<Place>,
         service: Launched<'_>,
+        otherwise: Reason,
     ) -> Result<Reason, AllocError>
         requires can_be_tried { CanBeTried self.now }
-        requires starts { StartsAs (inputs_without (tried_of self.now).inputs places.items) (Started service) }
-        ensures { IfOk result (IsReasonAt (tried_of self.now) places.items) }
+        requires starts { StartsAs (inputs_without (tried_of self.now).inputs gone.items) (Service service) }
+        ensures { IfOk result (DeniesWithout (tried_of self.now) gone.items otherwise) }
     {
         let is_open = is_open_of(alloc, service, &self.question)?;
         if is_open {
-            self.lines_of(alloc, places)
+            let found = least(alloc, self, gone, ())?;
+            Ok(Reason::Lines(found.things))
         } else {
-            Ok(Reason::Nothing)
+            Ok(otherwise)
         }
     }
 
-    // The same, where it may not be launched.
-    fn reason_as(
+    // What denies it of a unit that is launched, but not without all of these lines: those that it needs stay.
+    fn denying_but_needed(
         &self,
         alloc: Global,
-        places: Vec<Place>,
-        launch: UnitLaunch<'_>,
+        lines: &[Place],
+        whole: Launched<'a>,
+        line: Vec<u8>,
     ) -> Result<Reason, AllocError>
         requires can_be_tried { CanBeTried self.now }
-        requires starts { StartsAs (inputs_without (tried_of self.now).inputs places.items) launch }
-        ensures { IfOk result (IsReasonAt (tried_of self.now) places.items) }
+        requires starts { StartsAs (tried_of self.now).inputs (Service whole) }
+        requires refused { IsNotLaunched (tried_of self.now).name (inputs_without (tried_of self.now).inputs lines.now) line.items }
+        ensures { IfOk result (IsReasonAt (tried_of self.now) lines.now) }
     {
-        match launch {
-            UnitLaunch::Launched(service) => self.reason_of(alloc, places, service),
-            UnitLaunch::Refused(refusal) => {
-                Ok(Reason::NotLaunched(refusal_line(alloc, &refusal)?))
-            }
-        }
+        let needs = Needs { trial: self, lines };
+        let all = Vec::from_slice(alloc, lines)?;
+        let kept = least(alloc, &needs, all, whole)?;
+        let gone = all_but(alloc, &kept.things, lines)?;
+        self.denying(alloc, gone, kept.found, Reason::NotLaunched(line))
     }
 
-    /// What denies the question: the lines without which it is open and of which each matters, found by taking all away but
-    /// ExecStart= and putting them back, from the last to the first, as long as it stays open.
-    pub fn reason(&self, alloc: Global) -> Result<Reason, AllocError>
+    /// Finds what denies the question, which is denied of this service of the unit: lines without which it is open and of which each
+    /// matters. All lines but ExecStart= are taken away, or, if the unit is not launched then, all but those that it needs. They are
+    /// put back from the last of the [`bare_places`] to the first, again and again, as long as the question stays open.
+    pub fn reason(&self, alloc: Global, whole: Launched<'a>) -> Result<Reason, AllocError>
         requires can_be_tried { CanBeTried self.now }
+        requires starts { StartsAs (tried_of self.now).inputs (Service whole) }
         ensures is_the_reason { IfOk result (IsReason (tried_of self.now)) }
     {
-        let places = bare_places(alloc, self.unit)?;
-        let bare = without(alloc, self.unit, &places)?;
-        match start(alloc, self.name, &bare, self.calls, self.site) {
-            Ok(launch) => self.reason_as(alloc, places, launch),
-            Err(stop) => stopped(stop),
+        let lines = bare_places(alloc, self.unit)?;
+        match self.start_without(alloc, &lines)? {
+            Started::Launched(service) => self.denying(alloc, lines, service, Reason::Nothing),
+            Started::Refused(line) => self.denying_but_needed(alloc, &lines, whole, line),
         }
     }
 }

@@ -1,16 +1,11 @@
 //! A unit without some of its lines, asked one question.
-ghost use Rattle.std.specs.Prelude.{◌≡◌, Contains, IfOk, false};
+ghost use Rattle.std.specs.Prelude.{◌≡◌, Contains, IfOk};
 ghost use Rattle.asked_service.specs.kernel_laws.Questions.{questions};
 ghost use Rattle.asked_service.specs.kernel_ways.Laws.{IsServedWorld};
-ghost use Rattle.asked_service.specs.started_units.Starting.{StartsAs};
-ghost use Rattle.deciding_lines.specs.Tried.{CanBeTried, IsRefusal, IsSaid, TellsOpen, inputs_without, tried_of};
+ghost use Rattle.deciding_lines.specs.Tried.{CanBeTried, IsSaid, StartsWithout, TellsOpen, tried_of};
 
-use crate::unit_lines::without;
-use asked_service::started_units::start;
-use asked_service::unit_launch::UnitLaunch;
-use asked_service::{
-    CallTable, Launched, Place, Question, Resolved, SiteTable, Stop, bound, openness,
-};
+use crate::starting::{Started, start_without};
+use asked_service::{CallTable, Launched, Place, Question, Resolved, SiteTable, bound, openness};
 use std::alloc::{AllocError, Global};
 
 /// What sets of lines are tried on, and what is asked.
@@ -44,32 +39,12 @@ pub fn is_open_of(
     Ok(bounded.is_open(question))
 }
 
-// Whether it is open of a unit that is stopped before its launch: it is not, unless memory ran out.
-fn is_open_at_stop(stop: Stop) -> Result<bool, AllocError>
-    ensures { IfOk result (λ answer. (answer ≡ false) × IsRefusal stop) }
-{
-    match stop {
-        Stop::Refused(_) => Ok(false),
-        Stop::ReadFault | Stop::Memory => Err(AllocError),
-    }
-}
-
-impl Trial<'_> {
-    // Whether it is open of the unit without some lines, which is launched to this.
-    fn is_open_as(
-        &self,
-        alloc: Global,
-        places: &[Place],
-        launch: UnitLaunch<'_>,
-    ) -> Result<bool, AllocError>
-        requires can_be_tried { CanBeTried self.now }
-        requires starts { StartsAs (inputs_without (tried_of self.now).inputs places.now) launch }
-        ensures { IfOk result (TellsOpen (tried_of self.now) places.now) }
+impl<'a> Trial<'a> {
+    /// What the unit without the assignments in force at these places starts as.
+    pub fn start_without(&self, alloc: Global, places: &[Place]) -> Result<Started<'a>, AllocError>
+        ensures starts { IfOk result (StartsWithout (tried_of self.now) places.now) }
     {
-        match launch {
-            UnitLaunch::Launched(service) => is_open_of(alloc, service, &self.question),
-            UnitLaunch::Refused(_) => Ok(false),
-        }
+        start_without(alloc, self.name, self.unit, self.calls, self.site, places)
     }
 
     /// Whether the question is open of the unit without the assignments in force at these places. Without settings, a plan or a
@@ -78,10 +53,9 @@ impl Trial<'_> {
         requires can_be_tried { CanBeTried self.now }
         ensures tells { IfOk result (TellsOpen (tried_of self.now) places.now) }
     {
-        let less = without(alloc, self.unit, places)?;
-        match start(alloc, self.name, &less, self.calls, self.site) {
-            Ok(launch) => self.is_open_as(alloc, places, launch),
-            Err(stop) => is_open_at_stop(stop),
+        match self.start_without(alloc, places)? {
+            Started::Launched(service) => is_open_of(alloc, service, &self.question),
+            Started::Refused(_) => Ok(false),
         }
     }
 }

@@ -10,6 +10,7 @@ mod less;
 mod line;
 mod listing;
 
+pub(crate) use less::all_but;
 pub use less::without;
 pub use line::UnitLine;
 pub use listing::lines;

@@ -88,12 +88,12 @@ module _ (bounded : Bounded) (maker : Maker) (is : (maker.world.now ≡ bounded.
       (says ∙ ap (λ one. answer_lines tried.inputs.calls tried.inputs.site (Open one list)) (sym same))
 
 -- a question that is denied is told with what denies it
-pub tells_denied : (tried : Tried) (bounded : Bounded) (question : Question) → tried.question ≡ question
-    → IsSo bounded.service.world question false → (told : Reason) → IsReason tried told
+pub tells_denied : (tried : Tried) (service : Service) (question : Question) → tried.question ≡ question
+    → IsSo service.world question false → (told : Reason) → IsReason tried told
     → (text : List ℕ) → text ≡ answer_lines tried.inputs.calls tried.inputs.site (Denied question) ++ reason_text tried.inputs.unit told
-    → TellsService tried bounded.service text
-tells_denied tried bounded question same so told reason text says =
-    denied_by told (subst (IsDenied bounded.service.world) (sym same) (so.0 refl)) reason
+    → TellsService tried service text
+tells_denied tried service question same so told reason text says =
+    denied_by told (subst (IsDenied service.world) (sym same) (so.0 refl)) reason
     (says ∙ ap (λ one. answer_lines tried.inputs.calls tried.inputs.site (Denied one) ++ reason_text tried.inputs.unit told) (sym same))
 
 -- what holds of a text holds of one that is the same
@@ -101,6 +101,10 @@ pub told_as : (P : List ℕ → Type 0) (wanted : List ℕ) → P wanted → (re
     → IfOk result (λ text. text.items ≡ wanted) → IfOk result (λ text. P text.items)
 told_as P wanted holds (Ok text) is = subst P (sym is) holds
 told_as P wanted holds (Err none) is = tt
+
+pub still_starts : (tried : Tried) (service own : Service) → own ≡ service → StartsAs tried.inputs (Launched service)
+    → StartsAs tried.inputs (Launched own)
+still_starts tried service own same starts = subst (λ (one : Service). StartsAs tried.inputs (Launched one)) (sym same) starts
 
 -- what is so of an answer that is found
 pub so_as : (world : World) (question : Question) (answer found : Bool) → found ≡ answer → IsSo world question found

@@ -1,35 +1,23 @@
 -- What the unit without a line comes to is what the line denies by itself.
-use Rattle.std.proofs.Common.{◌≡◌, ◌∙◌, List, [], ◌∷◌, Some, Result, Ok, Err, Vec, Global, ap, ap₂, subst, sym}
-use Rattle.std.specs.Prelude.{IfOk}
-use Rattle.std.specs.declared.alloc.AllocError.{AllocError}
+use Rattle.std.proofs.Common.{◌≡◌, ◌∙◌, List, [], ◌∷◌, Vec, Global, ap, ap₂, subst, sym}
 use Rattle.judge_command.specs.asked_service.declared.bounding.Bounded.{Bounded}
-use Rattle.judge_command.specs.unit_inputs.command_answers.Stops.{Prepares}
-use Rattle.judge_command.specs.unit_inputs.declared.command_answers.stop.Stop.{Stop}
-use Rattle.judge_command.specs.unit_inputs.declared.command_answers.stop.Stop.TheVariants as stop
 use Rattle.deciding_lines.proofs.Asked.{own_calls, own_site, served}
-use Rattle.deciding_lines.specs.Deciding.{launch_refused, unit_refused}
-use Rattle.deciding_lines.specs.Tried.{IsRefusal, inputs_without}
-use Rattle.judge_command.specs.dropin_merge.declared.resolved.Resolved.{Resolved}
+use Rattle.deciding_lines.specs.Tried.{inputs_without}
 use Rattle.judge_command.specs.Asked.{world_in}
 use Rattle.judge_command.specs.ByRule.{AnswersAreTrue}
 use Rattle.judge_command.specs.kernel_laws.Launched.{launch_of}
 use Rattle.judge_command.specs.kernel_laws.Questions.{questions}
 use Rattle.judge_command.specs.launcher.declared.launched.Launched.{Launched as Service}
 use Rattle.judge_command.specs.kernel_laws.declared.question_types.question.Question.{Question}
-use Rattle.judge_command.specs.asked_service.started_units.Starting.{StartsAs, first_start, given, start_refusals}
+use Rattle.judge_command.specs.asked_service.started_units.Starting.{StartsAs}
 use Rattle.judge_command.specs.unit_inputs.Inputs.{Inputs}
-use Rattle.judge_command.specs.asked_service.unit_launch.Refusals.{refusal_line}
-use Rattle.judge_command.specs.asked_service.declared.unit_launch.launching.UnitLaunch.{UnitLaunch}
-use Rattle.judge_command.specs.asked_service.declared.unit_launch.launching.UnitLaunch.TheVariants.{Launched, Refused}
-use Rattle.judge_command.specs.asked_service.declared.unit_launch.refusal.LaunchRefusal.{LaunchRefusal}
-use Rattle.deciding_lines.specs.unit_lines.Without.{without}
+use Rattle.judge_command.specs.asked_service.declared.unit_launch.launching.UnitLaunch.TheVariants.{Launched}
 use Rattle.judge_command.specs.dropin_merge.declared.unit_values.value.Place.{Place}
 use Rattle.why_command.proofs.Opening.{opens_exactly}
 use Rattle.why_command.specs.opening_lines.ByRule.{opened_by}
 use Rattle.why_command.specs.opening_lines.Judging.{IsAloneOf, IsJudged, inputs_in}
 use Rattle.why_command.specs.opening_lines.Opening.{OpensOf}
-use Rattle.why_command.specs.declared.opening_lines.alone.Alone.{Alone}
-use Rattle.why_command.specs.declared.opening_lines.alone.Alone.TheVariants.{Opens, Needed}
+use Rattle.why_command.specs.declared.opening_lines.alone.Alone.TheVariants.{Opens}
 use Rattle.why_command.specs.declared.opening_lines.judged.Judged.{Judged}
 
 module _ (judged : Judged) (is : IsJudged judged) (place : Place) where
@@ -78,27 +66,3 @@ module _ (judged : Judged) (is : IsJudged judged) (place : Place) where
           is.is_asked.bounded.served is.is_asked.program (served less service starts) starts.comes_to.runs_its_program before_calls
           before_site (own_calls less service starts) (own_site less service starts));
     }
-
-  -- its launch is refused
-  pub needs_it : (refusal : LaunchRefusal) → StartsAs less (Refused refusal) → IsAloneOf judged place Needed
-  needs_it refusal starts = (refusal_line refusal, launch_refused refusal starts)
-
-  -- a setting or a path of it is
-  module _ (own : Resolved) (same : own ≡ without (place ∷ []) judged.unit.now) where
-    abbrev tried : Inputs
-    tried = given own judged.calls.now judged.site.now
-
-    pub starts_less : (launch : UnitLaunch) → Prepares (StartsAs tried) (start_refusals judged.name.now tried) (Ok launch)
-        → StartsAs less launch
-    starts_less launch prepared = subst (λ (these : Resolved). StartsAs (given these judged.calls.now judged.site.now) launch) same
-        prepared.1
-
-    pub stops_less : (why : Stop) → Prepares {T = UnitLaunch} (StartsAs tried) (start_refusals judged.name.now tried) (Err why)
-        → (result : Result Alone AllocError) → IfOk result (λ alone. (alone ≡ Needed) × IsRefusal why)
-        → IfOk result (IsAloneOf judged place)
-    stops_less why refused (Err none) is = tt
-    stops_less (stop.Refused line) refused (Ok alone) is =
-        subst (IsAloneOf judged place) (sym is.0)
-        (line.items, unit_refused line.items (subst (λ (these : Resolved). first_start judged.name.now (given these judged.calls.now judged.site.now) ≡ Some line.items) same refused))
-    stops_less stop.ReadFault refused (Ok alone) is = absurd is.1
-    stops_less stop.Memory refused (Ok alone) is = absurd is.1

@@ -32,16 +32,17 @@ fn tell_open(alloc: Global, trial: &Trial<'_>, bounded: &Bounded<'_>) -> Result<
 }
 
 // A question that is denied, with what denies it.
-fn tell_denied(
+fn tell_denied<'a>(
     alloc: Global,
-    trial: &Trial<'_>,
-    bounded: &Bounded<'_>,
+    trial: &Trial<'a>,
+    service: Launched<'a>,
 ) -> Result<Vec<u8>, AllocError>
     requires can_be_tried { CanBeTried trial.now }
-    requires is_so { IsSo bounded.now.service.world trial.now.question false }
-    ensures { IfOk result (λ text. TellsService (tried_of trial.now) bounded.now.service text.items) }
+    requires starts { StartsAs (tried_of trial.now).inputs (Started service) }
+    requires is_so { IsSo service.world trial.now.question false }
+    ensures { IfOk result (λ text. TellsService (tried_of trial.now) service.entry text.items) }
 {
-    let reason = trial.reason(alloc)?;
+    let reason = trial.reason(alloc, service)?;
     denied_text(
         alloc,
         &trial.question,
@@ -53,10 +54,10 @@ fn tell_denied(
 }
 
 // What is told of a launched service.
-fn tell_service(
+fn tell_service<'a>(
     alloc: Global,
-    trial: &Trial<'_>,
-    service: Launched<'_>,
+    trial: &Trial<'a>,
+    service: Launched<'a>,
 ) -> Result<Vec<u8>, AllocError>
     requires can_be_tried { CanBeTried trial.now }
     requires starts { StartsAs (tried_of trial.now).inputs (Started service) }
@@ -66,12 +67,16 @@ fn tell_service(
     if bounded.is_open(&trial.question) {
         tell_open(alloc, trial, &bounded)
     } else {
-        tell_denied(alloc, trial, &bounded)
+        tell_denied(alloc, trial, bounded.service)
     }
 }
 
 // What is told of what a unit is launched to.
-fn tell_launch(alloc: Global, trial: &Trial<'_>, launch: UnitLaunch<'_>) -> Result<ReadyText, Stop>
+fn tell_launch<'a>(
+    alloc: Global,
+    trial: &Trial<'a>,
+    launch: UnitLaunch<'a>,
+) -> Result<ReadyText, Stop>
     requires can_be_tried { CanBeTried trial.now }
     requires starts { StartsAs (tried_of trial.now).inputs launch }
     ensures { IsReadyWith (TellsLaunch (tried_of trial.now) launch.entry) result }

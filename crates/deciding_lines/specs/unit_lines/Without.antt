@@ -14,6 +14,10 @@ is_place one other = one.file == other.file && one.line == other.line
 abbrev pub is_among : List Place → Place → Bool
 is_among places place = list_any (λ one. is_place one place) places
 
+-- these places, but for some of them
+abbrev pub all_but : List Place → List Place → List Place
+all_but some places = filter (λ place. not (is_among some place)) places
+
 -- an assignment of the file of this number, from 0, that is in force and stands at one of the places
 abbrev pub is_taken : List Place → ℕ → Assignment → Bool
 is_taken places number assignment = is_in_force assignment && is_among places (record { file = number; line = assignment.line })

@@ -3,7 +3,7 @@ ghost use Rattle.std.specs.Prelude.{◌≡◌, ◌++◌, ◌&&◌, [], filter, m
 ghost use Rattle.std.specs.List.{cons_option, enumerate_from, list_any};
 ghost use Rattle.std.specs.Str.{bytes_eq};
 ghost use Rattle.deciding_lines.specs.unit_lines.Lines.{is_in_force};
-ghost use Rattle.deciding_lines.specs.unit_lines.Without.{file_without, is_among, is_place, is_taken, kept_of, left_of, without};
+ghost use Rattle.deciding_lines.specs.unit_lines.Without.{all_but, file_without, is_among, is_place, is_taken, kept_of, left_of, without};
 
 use asked_service::{
     Assignment, Assignments, Place, Resolved, Text, UnitFile, UnitFiles, UnitText, is_judged,
@@ -29,6 +29,23 @@ fn is_among(places: &[Place], place: Place) -> bool
     ensures { result ≡ is_among places.now place }
 {
     places.iter().any(|one| is_place(*one, place))
+}
+
+/// These places, but for some of them.
+pub(crate) fn all_but(
+    alloc: Global,
+    some: &[Place],
+    places: &[Place],
+) -> Result<Vec<Place>, AllocError>
+    ensures the_others { IfOk result (λ others. others.items ≡ all_but some.now places.now) }
+{
+    let mut others = Vec::new(alloc);
+    for place in places {
+        if !is_among(some, *place) {
+            others.push(*place)?;
+        }
+    }
+    Ok(others)
 }
 
 // Whether an assignment of the file of this number is taken away.

@@ -1,8 +1,7 @@
 -- What an assignment in force of a unit denies by itself.
 use Rattle.std.specs.Prelude.{◌≡◌, ℕ, List, [], ◌∷◌, map}
 use Rattle.std.specs.List.{All}
-use Rattle.deciding_lines.specs.Deciding.{IsNotLaunched}
-use Rattle.deciding_lines.specs.Tried.{inputs_without}
+use Rattle.deciding_lines.specs.Tried.{IsNotLaunched, inputs_without}
 use Rattle.judge_command.specs.kernel_laws.Denied.{IsDenied}
 use Rattle.judge_command.specs.kernel_laws.Questions.{questions}
 use Rattle.judge_command.specs.kernel_model.World.{World}

@@ -11,7 +11,7 @@ pub returns : goal.returns
 returns c =
     let tried = tried_of c.args.trial.now in
     let told = c.in_ok-reason.reason in
-    told_as (TellsService tried c.args.bounded.now.service)
+    told_as (TellsService tried c.args.service)
     (answer_lines tried.inputs.calls tried.inputs.site (Denied tried.question) ++ reason_text tried.inputs.unit told)
-    (tells_denied tried c.args.bounded.now c.args.trial.now.question refl c.requires.is_so told c.in_ok-reason.ensures.is_the_reason _ refl)
+    (tells_denied tried c.args.service c.args.trial.now.question refl c.requires.is_so told c.in_ok-reason.ensures.is_the_reason _ refl)
     c.denied_text.result c.denied_text.ensures.verdict_and_reason

@@ -1,7 +1,7 @@
 use Rattle.std.proofs.Common.{false, sym, true, ◌∙◌}
 use Rattle.deciding_lines.specs.Tried.{tried_of}
 use Rattle.deciding_lines.proofs.Asked.{listed, listed_of, served}
-use Rattle.why_command.proofs.Told.{can_be_asked, so_as, told_of_it}
+use Rattle.why_command.proofs.Told.{can_be_asked, so_as, still_starts, told_of_it}
 use Rattle.why_command.proofs.answering.tell_service.Goals as goal
 
 pub bound-requires : goal.bound-requires
@@ -32,6 +32,8 @@ returns-then-is_open c = told_of_it (tried_of c.args.trial.now) c.args.service c
 pub tell_denied-requires : goal.tell_denied-requires
 tell_denied-requires c = record {
   can_be_tried = c.requires.can_be_tried;
+  starts = still_starts (tried_of c.args.trial.now) c.args.service c.in_ok-bounded.bounded.service c.in_ok-bounded.ensures.bounds.0
+      c.requires.starts;
   is_so = so_as c.in_ok-bounded.bounded.service.world c.args.trial.now.question false c.is_open.result c.if-is_open.false
       c.is_open.ensures.is_so;
 }

@@ -1,12 +1,7 @@
-use Rattle.why_command.proofs.Trying.{starts_less, stops_less}
 use Rattle.why_command.proofs.opening_lines.judged.Judged.alone.Goals as goal
 
-pub alone_as-requires-clause-starts : goal.alone_as-requires-clause-starts
-alone_as-requires-clause-starts c = starts_less c.args.self.now c.requires.judged c.args.place c.in_ok-less.less
-    c.in_ok-less.ensures.lacks_them c.in-Ok.launch c.in-Ok.ensures.starts
+pub opens-requires-clause-starts : goal.opens-requires-clause-starts
+opens-requires-clause-starts c = rw c.in-Launched.is at c.in_ok-service.ensures.starts
 
-pub returns : goal.returns
-returns c = record {
-  is_so = stops_less c.args.self.now c.requires.judged c.args.place c.in_ok-less.less c.in_ok-less.ensures.lacks_them c.in-Err.stop
-      c.in-Err.ensures.starts c.alone_at_stop.result c.alone_at_stop.ensures;
-}
+pub returns-in-Refused : goal.returns-in-Refused
+returns-in-Refused c = record { is_so = (c.in-Refused.field-0.items, rw c.in-Refused.is at c.in_ok-service.ensures.starts) }
