@@ -71,9 +71,9 @@ fn push_others(places: &mut Vec<Place>, lines: &[UnitLine]) -> Result<(), AllocE
     Ok(())
 }
 
-/// Lists the places of all assignments in force of a unit, but those to ExecStart=. Those that say who the service is and which
-/// privileges it has come last, since `why` puts lines back from the last to the first: what is left then names the setting that
-/// denies a question to this user, and not the user.
+/// Lists the places of all assignments in force of a unit, but those to ExecStart=. Last are
+/// those that say who the service is and which privileges it has, because `why` puts lines back from the last to the first.
+/// What is left then names the setting that denies a question to this user, and not the user.
 pub fn bare_places(alloc: Global, unit: &Resolved) -> Result<Vec<Place>, AllocError>
     ensures all_but_the_command { IfOk result (λ places. places.items ≡ bare_places unit.now) }
 {

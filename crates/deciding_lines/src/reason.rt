@@ -22,8 +22,8 @@ pub enum Reason {
     Nothing,
     /// The assignments in force at these places.
     Lines(Vec<Place>),
-    /// What the unit needs to be launched. Without all but ExecStart= it has no settings, no plan of mounts or no launch, for which
-    /// this is the line; and the question is denied also without all but ExecStart= and lines that it needs.
+    /// The unit without all lines but ExecStart= has no settings, no plan of mounts or no launch: this is the line of that refusal.
+    /// The question is denied also without all lines but ExecStart= and those that the unit needs.
     NotLaunched(Vec<u8>),
 }
 

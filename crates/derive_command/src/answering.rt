@@ -51,8 +51,8 @@ fn tell(alloc: Global, name: &str, path: &str, error: DeriveError) -> Result<Rea
     }
 }
 
-/// Derives the list for the calls of a script, or finds the first refusal behind the script: a call that asks to push a program,
-/// and then a setting or a path of the unit that allows every call.
+/// Derives the list for the calls of a script, or finds the first refusal after the script itself. A call that asks to push a
+/// program is refused first, and then a setting or a path of the unit that allows every call.
 pub fn answer(
     alloc: Global,
     name: &str,

@@ -12,8 +12,10 @@ use host_io::Shelf;
 use replay_command::{ReadyText, Stop, read_inputs, read_script};
 use std::alloc::Global;
 
-/// Prepares `derive`, the name of a unit and the path of a script: reads the unit, calls.txt, site.toml and the script, finds the
-/// first refusal of them, of the script's calls, and of the unit that allows every call, and derives the list.
+/// Prepares `derive`, the name of a unit and the path of a script.
+///
+/// It reads the unit, calls.txt, site.toml and the script. It finds the first refusal of them, of the script's calls, and of the
+/// unit that allows every call. Otherwise it derives the list.
 pub fn prepare<S: Shelf>(
     alloc: Global,
     shelf: &mut S,

@@ -13,8 +13,10 @@ use asked_service::{ReadyText, Stop, read_inputs};
 use host_io::Shelf;
 use std::alloc::Global;
 
-/// Prepares `tighten`, the name of a unit and the path of a file of questions: reads the unit, calls.txt, site.toml and the file,
-/// finds the first refusal of them, and tightens the unit as far as these questions and the wishes allow.
+/// Prepares `tighten`, the name of a unit and the path of a file of questions.
+///
+/// It reads the unit, calls.txt, site.toml and the file, and finds the first refusal of them. Otherwise it tightens the unit as
+/// far as these questions and the wishes allow.
 pub fn prepare<S: Shelf>(
     alloc: Global,
     shelf: &mut S,

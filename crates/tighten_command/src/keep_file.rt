@@ -53,8 +53,9 @@ fn keep_of_bytes(
     }
 }
 
-/// The questions that are to be kept, of the file at a path, or the line of its first refusal: it is there, has at most 1 MiB, is
-/// text, and each line that counts is a question of the list, of which there are at most 512.
+/// Reads the questions to be kept from the file at a path, or answers the line of its first refusal.
+///
+/// The file exists, has at most 1 MiB and is text. Each line that counts is a question of the list, and there are at most 512.
 pub fn read_keep<S: Shelf>(
     alloc: Global,
     shelf: &mut S,

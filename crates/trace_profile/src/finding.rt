@@ -86,14 +86,17 @@ fn calls_fit(script: &[Call])
     }
 }
 
-/// The least list of names with which the unit answers the calls of a script as with all names.
+/// Finds the least list of names with which the unit answers the calls of a script as with all names.
 ///
-/// With these names and `@default` allowed, and no other call, the unit is launched and each call of the script has the reply
-/// that it has where every call of the table is allowed. Without any of them it is not launched, or some reply is another. The
-/// list with these facts is the only one, and none of its names is in `@default`: so it is over each table that was read from a
-/// file, which has at most 1 MiB, and over any other whose names are plain.
-/// Seccomp tells the first call of the script that asks to push a program, before all else; Settings, Plan and Launch come, in
-/// this order, exactly where the unit that allows every call is refused so. Memory may come at any unit.
+/// With these names and `@default` allowed, and no other call, the unit is launched, and each call of the script has the reply
+/// that it has if every call of the table is allowed. Without any of them the unit is not launched, or some reply differs.
+///
+/// No other list has these facts, and none of its names is in `@default`. This holds for each table that was read from a file,
+/// which has at most 1 MiB, and for any other with plain names.
+///
+/// Answers Seccomp with the first call of the script that asks to push a program, before all else. Answers Settings, Plan or
+/// Launch exactly if the unit that allows every call is refused so, the first of them in this order. Memory may run out at any
+/// unit.
 pub fn derive(
     alloc: Global,
     unit: &Resolved,

@@ -14,8 +14,10 @@ use host_io::Shelf;
 use judge_command::{ReadyText, Stop, read_inputs};
 use std::alloc::Global;
 
-/// Prepares `why`, the name of a unit and the words of a question: reads the unit, calls.txt and site.toml, finds the first refusal
-/// of them, of the question and of the settings and paths of the unit, and tells the answer with what denies it.
+/// Prepares `why`, the name of a unit and the words of a question.
+///
+/// It reads the unit, calls.txt and site.toml. It finds the first refusal of them, of the question, and of the settings and paths
+/// of the unit. Otherwise it makes the text of the answer and of what denies it.
 pub fn prepare<S: Shelf>(
     alloc: Global,
     shelf: &mut S,

@@ -1,8 +1,7 @@
 //! What each line of a unit denies by itself.
 //!
-//! A unit that is launched is asked all questions of its tables, and so is the unit without one of its assignments in force: the
-//! line opens what is denied of the first and open of the second. It stands on `unit_lines` for the lines, on `started_units` for
-//! the launches, on `asked_service` for the verdicts, and on `judge_command` for all that is asked and why the answers are true.
+//! All questions of the tables are asked of a launched unit, and of the unit without one of its assignments in force. The line opens
+//! what the first denies and the second leaves open.
 //!
 //! `judged.each(alloc, &lines(alloc, &unit)?)?` has, for each line, the questions that it opens, or says that it is needed.
 

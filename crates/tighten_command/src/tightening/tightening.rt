@@ -73,9 +73,9 @@ fn tighten_trial<'a>(
 /// verdicts on all questions, so that its own questions are open. With any other of the seventeen items it does not. The items
 /// outside the set are tried from the last down, as long as one was added.
 ///
-/// Settings, Plan and Launch come, in this order, exactly where the unit itself is refused so; `Keep(n)` exactly where question n
-/// of `keep`, from 1, is the first that it denies; otherwise `Wish(n)` exactly where wish n is the first that answered false on
-/// its verdicts. Memory may come at any unit.
+/// Answers Settings, Plan or Launch exactly if the unit itself is refused so, the first of them in this order. Otherwise it answers
+/// `Keep(n)` exactly if question n of `keep`, from 1, is the first that the unit denies. Otherwise it answers `Wish(n)` exactly if
+/// wish n is the first that answered false on the unit's verdicts. Memory may run out at any unit.
 pub fn tighten(
     alloc: Global,
     unit: &Resolved,

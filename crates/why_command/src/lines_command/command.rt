@@ -11,8 +11,10 @@ use host_io::Shelf;
 use judge_command::{ReadyText, Stop, read_inputs};
 use std::alloc::Global;
 
-/// Prepares `why` and the name of a unit: reads the unit, calls.txt and site.toml, finds the first refusal of them and of the settings
-/// and paths of the unit, and tells each of its lines with what it denies by itself.
+/// Prepares `why` and the name of a unit.
+///
+/// It reads the unit, calls.txt and site.toml, and finds the first refusal of them and of the settings and paths of the unit.
+/// Otherwise it makes the text of each line and of what that denies by itself.
 pub fn prepare<S: Shelf>(alloc: Global, shelf: &mut S, unit: &str) -> Result<ReadyText, Stop>
     ensures prepares { IsAdmitted (laws_over (S.told shelf.old) (lines_laws unit.now)) ending_of text_of result }
     ensures asks_in_order { AsksInOrder S.asks (S.told shelf.old) (λ files. input_asks files unit.now) shelf.old shelf.new (course result) }
