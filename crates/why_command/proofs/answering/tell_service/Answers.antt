@@ -38,6 +38,6 @@ tell_denied-requires c = record {
       c.is_open.ensures.is_so;
 }
 
-pub returns : goal.returns
-returns c = told_of_it (tried_of c.args.trial.now) c.args.service c.in_ok-bounded.bounded c.in_ok-bounded.ensures.bounds.0
+pub returns-else-is_open : goal.returns-else-is_open
+returns-else-is_open c = told_of_it (tried_of c.args.trial.now) c.args.service c.in_ok-bounded.bounded c.in_ok-bounded.ensures.bounds.0
     c.tell_denied.result c.tell_denied.ensures

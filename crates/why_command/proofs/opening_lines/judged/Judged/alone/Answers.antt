@@ -3,5 +3,5 @@ use Rattle.why_command.proofs.opening_lines.judged.Judged.alone.Goals as goal
 pub opens-requires-clause-starts : goal.opens-requires-clause-starts
 opens-requires-clause-starts c = rw c.in-Launched.is at c.in_ok-service.ensures.starts
 
-pub returns-in-Refused : goal.returns-in-Refused
-returns-in-Refused c = record { is_so = (c.in-Refused.field-0.items, rw c.in-Refused.is at c.in_ok-service.ensures.starts) }
+pub returns : goal.returns
+returns c = record { is_so = (c.in-Refused.field-0.items, rw c.in-Refused.is at c.in_ok-service.ensures.starts) }
