@@ -1,5 +1,5 @@
 -- Each line ends in a line feed.
-use Rattle.std.proofs.Common.{List, ℕ, codes, inl, inr, refl}
+use Rattle.std.proofs.Common.{List, ℕ, ◌++◌, codes, inl, inr, refl}
 use Rattle.std.specs.Fmt.{decimal}
 use Rattle.score_command.specs.text_forms.Escaped.{escaped_word}
 use Rattle.score_command.specs.unit_names.Names.{text_of}
@@ -17,7 +17,7 @@ use Rattle.fleet_command.specs.declared.fleet_report.rows.FleetRow.{FleetRow}
 
 refused_ends : (what why : List ℕ) → IsOfLines (refused_line what why)
 refused_ends what why =
-    inr (ends_behind (codes "refused ") _ (ends_behind (escaped_word what) _ (ends_behind (codes " ") _ (ends_behind why _ ends_feed))))
+    inr (ends_behind (codes "refused " ++ escaped_word what ++ codes " " ++ why) _ ends_feed)
 
 unresolved_ends : (unit : List ℕ) (refusal : ResolveError) → IsOfLines (unit_line unit refusal)
 unresolved_ends unit resolve.BadName = refused_ends unit (codes "bad-name")
