@@ -8,12 +8,12 @@ use Rattle.judge_command.proofs.printing.print_outcome.Goals as goal
 
 pub returns-in-Asked-clause-prints_the_text : goal.returns-in-Asked-clause-prints_the_text
 returns-in-Asked-clause-prints_the_text g c =
-    text_as g.K.Sink.taken g.K.Sink.puts _ _ (asked_text c.in-Asked.asked.now) (told_text c.args.outcome.now) c.print_asked.result
+    text_as g.K.Sink.taken g.K.Sink.puts _ _ (asked_text c.in-Asked.asked) (told_text c.args.outcome.now) c.print_asked.result
     (ap told_text (sym c.in-Asked.is))
     c.print_asked.ensures.prints_the_text
 
 pub returns-in-Refused-clause-prints_the_text : goal.returns-in-Refused-clause-prints_the_text
 returns-in-Refused-clause-prints_the_text g c =
-    text_as g.K.Sink.taken g.K.Sink.puts _ _ (refusal_line c.in-Refused.refusal.now) (told_text c.args.outcome.now) c.put_line.result
+    text_as g.K.Sink.taken g.K.Sink.puts _ _ (refusal_line c.in-Refused.refusal) (told_text c.args.outcome.now) c.put_line.result
     (ap told_text (sym c.in-Refused.is))
-    (c.put_line.ensures.prints_the_line _ c.refusal_line.ensures.tells_the_refusal (refusal_ends c.in-Refused.refusal.now))
+    (c.put_line.ensures.prints_the_line _ c.refusal_line.ensures.tells_the_refusal (refusal_ends c.in-Refused.refusal))
