@@ -13,7 +13,7 @@ returns-in-Launched-clause-prints_the_text g c =
 
 pub returns-in-Refused-clause-prints_the_text : goal.returns-in-Refused-clause-prints_the_text
 returns-in-Refused-clause-prints_the_text g c =
-    text_as g.K.Sink.taken g.K.Sink.puts _ _ (refusal_line c.in-Refused.refusal.now) (replay_text c.args.calls.now c.args.script.now
+    text_as g.K.Sink.taken g.K.Sink.puts _ _ (refusal_line c.in-Refused.refusal) (replay_text c.args.calls.now c.args.script.now
     c.args.launch.now) c.put_line.result
     (ap (replay_text c.args.calls.now c.args.script.now) (sym c.in-Refused.is))
-    (c.put_line.ensures.prints_the_line _ c.refusal_line.ensures.tells_the_refusal (refusal_ends c.in-Refused.refusal.now))
+    (c.put_line.ensures.prints_the_line _ c.refusal_line.ensures.tells_the_refusal (refusal_ends c.in-Refused.refusal))
