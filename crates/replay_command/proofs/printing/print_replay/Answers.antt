@@ -7,7 +7,7 @@ use Rattle.replay_command.proofs.printing.print_replay.Goals as goal
 
 pub returns-in-Launched-clause-prints_the_text : goal.returns-in-Launched-clause-prints_the_text
 returns-in-Launched-clause-prints_the_text g c =
-    text_as g.K.Sink.taken g.K.Sink.puts _ _ (service_text c.args.calls.now c.args.script.now c.in-Launched.service.now)
+    text_as g.K.Sink.taken g.K.Sink.puts _ _ (service_text c.args.calls.now c.args.script.now c.in-Launched.service)
     (replay_text c.args.calls.now c.args.script.now c.args.launch.now) c.print_service.result
     (ap (replay_text c.args.calls.now c.args.script.now) (sym c.in-Launched.is)) c.print_service.ensures.prints_the_text
 
