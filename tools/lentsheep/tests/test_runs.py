@@ -25,6 +25,7 @@ from lentsheep.schema import faults, read_schema
 from lentsheep.table import read_table
 
 SANDBOX = TOP / "sandbox"
+COMMANDS = "filter, plan, judge, replay, derive, effect, tighten, why, score, check, fleet, sample"
 EXAMPLES = TOP / "examples"
 # A built program is run as it is, however old: a test starts no proof.
 BUILT = os.environ.get("LENTSHEEP_PROGRAM") or str(TOP / "crates/sandbox_cli/out/sandbox_cli")
@@ -333,13 +334,15 @@ class Runs(unittest.TestCase):
         for folder, status, words in [
             (hardened, 0, ["judge", "web.service"]), (hardened, 0, ["plan", "web.service"]), (hardened, 0, ["filter", "web.service"]),
             (hardened, 1, ["score", "web.service", "policy.json", "10"]), (hardened, 0, ["sample", "7"]),
-            (hardened, 3, ["judge", "no.service"]), (hardened, 2, ["judge"]),
+            (hardened, 3, ["judge", "no.service"]),
             (EXAMPLES / "replay", 0, ["replay", "web.service", "break-in.txt"]), (EXAMPLES / "dropin", 0, ["filter", "web.service"]),
         ]:  # fmt: skip
             ended, text = run(folder, "--json", *words)
             found, _ = json.JSONDecoder().raw_decode(text)  # what the command tells of wrong words comes behind it
             self.assertEqual((status, status, []), (ended, found["status"], faults(found, schema)), words)
             self.assertEqual((True, [], words), (found["whole"], found["unread"], found["words"]))
+        wrong = "refused words\nsandbox: write ./sandbox judge UNIT (./sandbox --help)\n"
+        self.assertEqual((2, wrong), run(hardened, "--json", "judge"))
 
     def test_json_has_all_that_was_printed(self):
         for example, unit in (("hardened", "web.service"), ("replay", "web.service"), ("first", "web.service"), ("ssh", "ssh.service")):
@@ -433,11 +436,11 @@ expectations 4 failed 2
         bad = self.write("bad", "denies write /etc\n")
         no_unit = "sandbox: no unit no.service is below this folder; web.service is\n"
         for words, status, text in [
-            (["--brief"], 2, "sandbox: --brief needs a command after it\n"),
+            (["--brief"], 2, f"refused words\nsandbox: name a command: {COMMANDS} (./sandbox --help)\n"),
             (["--brief", "plan", "web.service"], 2, "sandbox: --brief is a view of judge alone: write ./sandbox --brief judge UNIT; --json prints all of plan\n"),
             (["--expect", "none", "judge", "web.service"], 2, "sandbox: none: No such file or directory\n"),
             (["--expect", bad, "judge", "web.service"], 2, f"sandbox: {bad}: line 1 is no expectation: denies write /etc\n"),
-            (["--expect", bad], 2, "sandbox: --expect needs a file and a command after it\n"),
+            (["--expect", bad], 2, f"refused words\nsandbox: name a command: {COMMANDS} (./sandbox --help)\n"),
             (["--compare", bad], 2, "sandbox: --compare needs two reports after it\n"),
             (["--compare", bad, bad], 2, f"sandbox: {bad} is not a complete output of judge\n"),
             (["--brief", "judge", "no.service"], 3, f"refused no.service not-found\n{no_unit}"),
