@@ -1,5 +1,5 @@
--- mount(2), MS_BIND and MS_REC, once the source and the target have been found: what the mounts become, or why the call is
--- refused.
+-- mount(2), MS_BIND and MS_REC: the mounts after a bind, or the errno of a refused one. The source and the target have been
+-- found already.
 use Rattle.std.specs.Prelude.{ℕ, [], ◌∷◌, ◌++◌, ◌&&◌, Bool, true, false, not, filter, map, length, nat_lt, Option, Some, None, Result, Err}
 use Rattle.std.specs.Prelude.{if◌then◌else◌}
 use Rattle.std.specs.List.{list_any}
@@ -20,37 +20,37 @@ use Rattle.kern_mounts.specs.Push.{grown}
 abbrev pub moved : Path → Path → MountStep → MountStep
 moved source target entry = record entry { place = target ++ rest_of source entry.place }
 
--- a mount below the source, moved so; its lock and what it keeps go with it
+-- a mount below the source, moved in the same way; it keeps its lock and its kept flags
 abbrev pub moved_mount : Path → Path → Mount → Mount
 moved_mount source target mount = record mount { step = moved source target mount.step }
 
--- what a recursive bind copies, in its order: of the mounts later than the source's, those strictly below the source
+-- the copies of a recursive bind, in order: of the mounts after the source's, those strictly below the source
 abbrev pub copies : Bool → Path → Path → Mounts → Mounts
 copies recursive source target later = if recursive then map (moved_mount source target) (filter (stands_below source) later) else []
 
--- the text of a path has more than 512 bytes, which no path has here
+-- the path's text has more than 512 bytes, the limit for a path here
 abbrev pub is_long : Path → Bool
 is_long path = nat_lt 512 (length (text_of path))
 
--- no mount can stand at such a place
+-- the mount's place is too long for a mount
 abbrev pub is_too_long : Mount → Bool
 is_too_long mount = is_long mount.step.place
 
--- a recursive bind would copy the entry to such a place
+-- a recursive bind would copy the entry to a place that is too long
 abbrev pub goes_too_far : Path → Path → MountStep → Bool
 goes_too_far source target entry = is_below source entry && is_long (target ++ rest_of source entry.place)
 
--- the source's object: on a host entry what it shows at the source
+-- what the source shows: on a host entry, the host's path of the source
 abbrev pub object_at : Path → MountStep → What → What
 object_at source entry (Host host) = Host (host ++ rest_of entry.place source)
 object_at source entry Empty = Empty
 object_at source entry (Hidden directory) = Hidden directory
 
--- the entry at the target: the source's object, with the flags of the source's entry
+-- the entry at the target: it shows what the source shows, with the flags of the source's entry
 abbrev pub bound_entry : Path → Path → MountStep → MountStep
 bound_entry source target entry = record { place = target; what = object_at source entry entry.what; flags = entry.flags }
 
--- what stands at the target: that entry, with the flags that the source's mount keeps; it is not locked
+-- the mount at the target: that entry, not locked; it keeps the flags that the source's mount keeps
 abbrev pub bound_mount : Path → Path → Mount → Mount
 bound_mount source target mount = record { step = bound_entry source target mount.step; locked = false; kept = mount.kept }
 
@@ -58,9 +58,8 @@ bound_mount source target mount = record { step = bound_entry source target moun
 abbrev pub is_locked_below : Path → Mount → Bool
 is_locked_below source mount = mount.locked && stands_below source mount
 
--- EINVAL where a bind that is not recursive would uncover what a locked mount covers; ENAMETOOLONG where a copy's place is
--- too long, then ENOSPC where there would be too many mounts; else the new mount comes behind the others, and the copies
--- behind it
+-- EINVAL if a bind that is not recursive would uncover what a locked mount covers; then ENAMETOOLONG if a copy's place is too
+-- long; then ENOSPC if there would be too many mounts. Else the new mount is added after the others, followed by the copies
 abbrev pub bound : Mounts → Path → Path → Bool → Option (SplitOf Mount) → Result Mounts ℕ
 bound mounts source target recursive None = Err einval
 bound mounts source target recursive (Some split) =
@@ -71,7 +70,7 @@ bound mounts source target recursive (Some split) =
 abbrev pub after_bind : Mounts → Path → Path → Bool → Result Mounts ℕ
 after_bind mounts source target recursive = bound mounts source target recursive (mount_at source mounts)
 
--- what an entry shows at a path can be bound: it is not hidden, and where the host has it the path there is not too long
+-- an entry can be bound at a path: it is not hidden, and if the host has it, its path on the host is not too long
 abbrev pub can_show : What → Path → Path → Bool
 can_show (Host host) place path = not (is_long (host ++ rest_of place path))
 can_show Empty place path = true
@@ -81,6 +80,6 @@ abbrev pub can_show_at : Path → Option MountStep → Bool
 can_show_at path None = false
 can_show_at path (Some entry) = can_show entry.what entry.place path
 
--- the source can be bound, by the entry that it belongs to
+-- the entry of the source can be bound there
 abbrev pub can_bind : Table → Path → Bool
 can_bind table source = can_show_at source (entry_of table source)

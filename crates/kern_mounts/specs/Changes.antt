@@ -1,4 +1,4 @@
--- What the calls of processes that may mount make of the mounts of a namespace, and of its copies.
+-- The changes that processes with the right to mount can make to the mounts of a namespace and to its copies.
 use Rattle.std.specs.Prelude.{◌≡◌, Bool, Ok}
 use Rattle.abs_path.specs.Paths.{Path}
 use Rattle.kern_mounts.specs.declared.step.Flags.{Flags}
@@ -10,7 +10,7 @@ use Rattle.kern_mounts.specs.Push.{after_push}
 use Rattle.kern_mounts.specs.Bind.{after_bind}
 use Rattle.kern_mounts.specs.Copying.{locked_copy}
 
--- any calls, each of them done
+-- any number of successful calls, and of locked copies
 pub data Changes : Mounts → Mounts → Type 0 where
   still : {mounts : Mounts} → Changes mounts mounts
   then_bind : {mounts next last : Mounts} (source target : Path) (recursive : Bool)

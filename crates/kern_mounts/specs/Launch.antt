@@ -1,5 +1,5 @@
--- What a launch asks of a table of mounts, and what it makes of one: each step adds an entry at a place of its own, and none
--- is refused (mount(2), mount_namespaces(7)).
+-- The tables of mounts that a launch can make, and how it makes one: each step adds an entry at a new place, and none is
+-- refused (mount(2), mount_namespaces(7)).
 use Rattle.std.specs.Prelude.{◌≡◌, ◌≢◌, ◌≤◌, ◌⊎◌, ⊤, Bool, true, false, List, [], ◌∷◌, ◌++◌, length, map, Option, Some}
 use Rattle.std.specs.List.{AllByRecursion}
 use Rattle.abs_path.specs.Paths.{Path, text_of, is_normal, proc}
@@ -22,37 +22,37 @@ pub record HasShortPlace (step : MountStep) : Type 0 where
   pub normal : is_normal step.place ≡ true
   pub short : length (text_of step.place) ≤ 250
 
--- a fact of what is hidden
+-- the fact holds if the entry is hidden
 abbrev pub OnHidden : What → Type 0 → Type 0
 OnHidden (Host source) Fact = ⊤
 OnHidden Empty Fact = ⊤
 OnHidden (Hidden is_dir) Fact = Fact
 
--- what is hidden has no flags
+-- a hidden entry has no flags
 abbrev pub IsPlainIfHidden : MountStep → Type 0
 IsPlainIfHidden step = OnHidden step.what (step.flags ≡ no_flags)
 
--- set-user-id programs keep their effect there, mount(2), MS_NOSUID
+-- set-user-id programs keep their effect on this mount, mount(2), MS_NOSUID
 abbrev pub IsNotNoSuid : MountStep → Type 0
 IsNotNoSuid step = step.flags.no_suid ≡ false
 
--- what is found is a directory
+-- the lookup finds a directory
 abbrev pub IsDirectory : Found Bool → Type 0
 IsDirectory (row is_dir) = is_dir ≡ true
 IsDirectory empty_directory = ⊤
 IsDirectory (nothing errno) = ⊥
 
--- the path is the place of a hidden directory, and belongs to that entry
+-- the path is the place of its entry, which is a hidden directory
 abbrev pub IsHiddenDirectory : List MountStep → Path → Type 0
 IsHiddenDirectory table path = (step : MountStep) × (entry_of table path ≡ Some step) × (step.place ≡ path) × (step.what ≡ Hidden true)
 
--- it is found as a directory, or is the place of a hidden one; the rows of a site say whether they are directories
+-- /proc is found as a directory, or is the place of a hidden one; `rows` says whether a row of the site is a directory
 abbrev pub FindsProc : (Path → Option Bool) → List MountStep → Type 0
 FindsProc rows table = IsDirectory (finds rows table proc) ⊎ IsHiddenDirectory table proc
 
--- the first entry is the root on the host; the places are short, each stands in byte order behind those above it, and no two
--- are one; there are 160 of them at most beside the root; no entry takes privileges from programs, and what is hidden has no
--- flags; the folder of the processes is there, or is the place of a hidden one
+-- a table that a launch can mount. The first entry shows the host's root. The places are short, in ascending byte order, and
+-- all different. Besides the root there are at most 160 entries. No entry has nosuid, and a hidden entry has no flags. /proc is
+-- found as a directory, or is the place of a hidden directory
 pub record CanBeMounted (rows : Path → Option Bool) (table : List MountStep) : Type 0 where
   pub begins_at_root : BeginsAtRoot table
   pub places_are_short : AllByRecursion HasShortPlace table
@@ -62,17 +62,17 @@ pub record CanBeMounted (rows : Path → Option Bool) (table : List MountStep) :
   pub hidden_without_flags : AllByRecursion IsPlainIfHidden table
   pub finds_proc : FindsProc rows table
 
--- the host itself with these flags at its root
+-- the host itself, with these flags at its root
 abbrev pub start_with : Flags → List MountStep
 start_with flags = record { place = []; what = Host []; flags = flags } ∷ []
 
--- what a launch makes of a table: it gives the flags of the first entry to the table that it starts with, which is the host
--- itself, and adds each other entry behind it
+-- the table that a launch makes from a planned one. It starts with the host itself, gives that entry the flags of the first
+-- step, and adds each other step after it
 abbrev pub mounted : List MountStep → List MountStep
 mounted [] = start
 mounted (first ∷ steps) = start_with first.flags ++ steps
 
--- no path comes twice
+-- no path occurs twice
 abbrev pub NoneTwice : List Path → Type 0
 NoneTwice [] = Unit {0}
 NoneTwice (path ∷ paths) = AllByRecursion (λ other. path ≢ other) paths × NoneTwice paths

@@ -1,4 +1,4 @@
--- The mounts about the one that a path belongs to, the last whose place leads to it (mount_namespaces(7)).
+-- The mounts before and after the mount that a path belongs to: the last whose place leads to the path (mount_namespaces(7)).
 use Rattle.std.specs.Prelude.{Option}
 use Rattle.abs_path.specs.Paths.{Path}
 use Rattle.kern_mounts.specs.declared.step.Mount.{Mount}

@@ -1,4 +1,4 @@
--- The mounts of a namespace: the entries of its table, and what a less privileged namespace may not undo of them
+-- The mounts of a namespace: the entries of its table, and the restrictions that a less privileged namespace cannot undo
 -- (mount_namespaces(7), "Restrictions on mount namespaces").
 use Rattle.std.specs.Prelude.{◌≡◌, Bool, false, List, map}
 use Rattle.std.specs.List.{AllByRecursion}
@@ -13,7 +13,7 @@ use Rattle.kern_mounts.specs.Table.{no_flags, start}
 abbrev pub Mounts : Type 0
 Mounts = List Mount
 
--- what a path is looked up on
+-- the entries, on which a path is looked up
 abbrev pub steps_of : Mounts → Table
 steps_of mounts = map (λ mount. mount.step) mounts
 
@@ -21,22 +21,22 @@ steps_of mounts = map (λ mount. mount.step) mounts
 abbrev pub leads : Path → Mount → Bool
 leads path mount = leads_to path mount.step
 
--- the mount stands at the path
+-- the mount's place is the path
 abbrev pub stands_at : Path → Mount → Bool
 stands_at path mount = is_at path mount.step
 
--- the mount stands strictly below the path
+-- the mount's place is strictly below the path
 abbrev pub stands_below : Path → Mount → Bool
 stands_below path mount = is_below path mount.step
 
--- not locked, and nothing is kept
+-- a mount that is not locked and keeps no flags
 abbrev pub plain : MountStep → Mount
 plain step = record { step = step; locked = false; kept = no_flags }
 
 abbrev pub IsPlain : Mount → Type 0
 IsPlain mount = (mount.locked ≡ false) × (mount.kept ≡ no_flags)
 
--- no mount is locked, and none keeps a flag, as of the first user namespace's mounts
+-- no mount is locked and none keeps a flag, as in the first user namespace
 abbrev pub ArePlain : Mounts → Type 0
 ArePlain mounts = AllByRecursion IsPlain mounts
 

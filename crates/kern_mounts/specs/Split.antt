@@ -1,4 +1,4 @@
--- A mount table about one of its entries: the last of a kind, as the one that a path belongs to (mount_namespaces(7)).
+-- A list split at its last element of a kind, such as a mount table split at the entry of a path (mount_namespaces(7)).
 use Rattle.std.specs.Prelude.{Bool, true, false, List, [], ◌∷◌, Option, Some, None}
 use Rattle.abs_path.specs.Paths.{Path}
 use Rattle.abs_path.specs.Prefix.{is_same, is_below as is_path_below}
@@ -9,7 +9,7 @@ use Rattle.kern_mounts.specs.Entry.{leads_to}
 abbrev pub Table : Type 0
 Table = List MountStep
 
--- an entry, with what comes before it and what comes after it
+-- an entry, with the elements before it and after it
 pub record SplitOf (X : Type 0) : Type 0 where
   pub earlier : List X
   pub entry : X
@@ -18,25 +18,25 @@ pub record SplitOf (X : Type 0) : Type 0 where
 abbrev pub Split : Type 0
 Split = SplitOf MountStep
 
--- about an entry of the later ones, or else about this one where it is of the kind
+-- split at an entry of the later ones; failing that, at this entry if it is of the kind
 abbrev pub split_or : {X : Type 0} → Option (SplitOf X) → Bool → X → List X → Option (SplitOf X)
 split_or (Some split) own entry table = Some (record split { earlier = entry ∷ split.earlier })
 split_or None true entry table = Some (record { earlier = []; entry = entry; later = table })
 split_or None false entry table = None
 
--- about the last entry of this kind
+-- split at the last entry of this kind
 abbrev pub split_last : {X : Type 0} → (X → Bool) → List X → Option (SplitOf X)
 split_last p [] = None
 split_last p (entry ∷ table) = split_or (split_last p table) (p entry) entry table
 
--- about the entry that a path belongs to, the last whose place leads to it
+-- split at the entry that a path belongs to: the last whose place leads to the path
 abbrev pub split_at : Path → Table → Option Split
 split_at path table = split_last (leads_to path) table
 
--- the entry stands at this path
+-- the entry's place is this path
 abbrev pub is_at : Path → MountStep → Bool
 is_at path entry = is_same entry.place path
 
--- the entry stands strictly below this path, by whole parts
+-- the entry's place is strictly below this path, by whole parts
 abbrev pub is_below : Path → MountStep → Bool
 is_below path entry = is_path_below entry.place path

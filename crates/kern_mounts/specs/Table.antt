@@ -1,4 +1,4 @@
--- What every mount table has, the table that a namespace starts with, and when there is no room for another entry.
+-- What every mount table satisfies, the table that a namespace starts with, and when a table is full.
 use Rattle.std.specs.Prelude.{◌≡◌, ◌≤◌, ℕ, false, List, [], ◌∷◌, length, map, take, Result, Ok, Err, ⊤}
 use Rattle.abs_path.specs.Paths.{Path}
 use Rattle.linux_numbers.specs.Errnos.{enospc}
@@ -9,7 +9,7 @@ use Rattle.kern_mounts.specs.declared.step.MountStep.{MountStep}
 use Rattle.kern_mounts.specs.declared.error.MountError.{MountError}
 use Rattle.kern_mounts.specs.declared.error.MountError.TheVariants.{Errno, Memory}
 
--- written and executed, and with set-user-id programs, mount(2)
+-- no flags: files can be written and executed, and set-user-id programs have their effect, mount(2)
 abbrev pub no_flags : Flags
 no_flags = record { read_only = false; no_exec = false; no_suid = false }
 
@@ -22,12 +22,12 @@ abbrev pub StartsAtRoot : List MountStep → Type 0
 StartsAtRoot [] = ⊥
 StartsAtRoot (step ∷ steps) = step.place ≡ []
 
--- what holds of each table
+-- what every table satisfies
 pub record IsTable (table : List MountStep) : Type 0 where
   pub root : StartsAtRoot table
   pub few : length table ≤ mount_max
 
--- where a call is refused, there is no room for another entry, mount(2), or no memory
+-- if a call is refused, the table is full, mount(2), or memory ran out
 abbrev pub IsFullOrMemory : Result (Unit {0}) MountError → Type 0
 IsFullOrMemory (Ok done) = ⊤
 IsFullOrMemory (Err (Errno errno)) = errno ≡ enospc
@@ -37,11 +37,11 @@ IsFullOrMemory (Err Memory) = ⊤
 abbrev pub places_of : List MountStep → List Path
 places_of steps = map (λ step. step.place) steps
 
--- the places are those of the entries
+-- these are the entries' places
 abbrev pub HasPlaces : List MountStep → List Path → Type 0
 HasPlaces table places = places ≡ places_of table
 
--- the places are those of the first entries, this many
+-- these are the places of the first `count` entries
 pub record Knows (count : ℕ) (table : List MountStep) (places : List Path) : Type 0 where
   pub in_range : count ≤ length table
   pub first : HasPlaces (take count table) places

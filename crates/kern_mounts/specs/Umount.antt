@@ -1,4 +1,4 @@
--- umount2(2): what the mounts become, or why the call is refused.
+-- umount2(2): the mounts after an unmount, or the errno of a refused one.
 use Rattle.std.specs.Prelude.{ℕ, ◌++◌, ◌&&◌, not, Bool, filter, Option, Some, None, Result, Ok, Err, if◌then◌else◌}
 use Rattle.std.specs.List.{list_any}
 use Rattle.abs_path.specs.Paths.{Path, is_root}
@@ -8,9 +8,8 @@ use Rattle.kern_mounts.specs.Mounts.{Mounts, stands_at, stands_below}
 use Rattle.kern_mounts.specs.Split.{SplitOf}
 use Rattle.kern_mounts.specs.MountAt.{mount_at}
 
--- EINVAL where the path is not the place of the mount that it belongs to, or that mount is locked; EBUSY where later mounts
--- stand below it and the call does not detach them (MNT_DETACH); else the mount goes, and with it the later ones below it,
--- locked or not
+-- EINVAL if the path's mount has another place or is locked; then EBUSY if a later mount is strictly below the path and the
+-- call does not detach (MNT_DETACH). Else the mount is removed, and the later mounts strictly below it too, locked or not
 abbrev pub unmounted : Path → Bool → Option (SplitOf Mount) → Result Mounts ℕ
 unmounted path detach None = Err einval
 unmounted path detach (Some split) =

@@ -1,4 +1,4 @@
--- The definitions of `linux_numbers` that crates above take from here.
+-- The definitions of `linux_numbers` that crates above use through this crate.
 pub use Rattle.linux_numbers.specs.Actions as Actions
 pub use Rattle.linux_numbers.specs.Capabilities as Capabilities
 pub use Rattle.linux_numbers.specs.Errnos as Errnos

@@ -15,7 +15,7 @@ ghost use Rattle.kern_mounts.specs.Entry.{Belongs, entry_of};
 ghost use Rattle.kern_mounts.specs.Launch.{CanBeMounted, NoneTwice, mounted};
 ghost use Rattle.kern_mounts.specs.Finds.{host_place, finds, row_or_nothing, empty_directory, nothing};
 
-/// Each path belongs to exactly one entry of a table, and the entry is the one of that number.
+/// Each path belongs to exactly one entry of a table. `entry_of` gives that entry, and `Belongs` gives its number.
 pub fn entry_of_a_path()
     ensures has_one { (table : List MountStep) (path : Path)
         → IsTable table → (at : ℕ) × Belongs table path at }
@@ -27,7 +27,7 @@ pub fn entry_of_a_path()
         → entry_of table path ≡ Some step → (at : ℕ) × Belongs table path at }
 {}
 
-/// An entry that is added hides what the table showed at its place and below, and changes nothing elsewhere.
+/// A new entry covers what the table showed at its mount point and below, and changes nothing elsewhere.
 pub fn added_entries()
     ensures at_its_place_and_below { (table : List MountStep) (step : MountStep) (path : Path)
         → is_prefix step.place path ≡ true → entry_of (table ++ step ∷ []) path ≡ Some step }
@@ -36,7 +36,8 @@ pub fn added_entries()
         → entry_of (table ++ step ∷ []) path ≡ entry_of table path }
 {}
 
-/// The place of a path's entry leads to the path. Where the places ascend in byte order it is the longest that does.
+/// The mount point of a path's entry leads to the path. If the mount points are in ascending byte order, no longer one leads to
+/// it.
 pub fn places()
     ensures leads_to_the_path { (table : List MountStep) (path : Path) (step : MountStep)
         → entry_of table path ≡ Some step → is_prefix step.place path ≡ true }
@@ -46,7 +47,7 @@ pub fn places()
         → is_prefix other.place step.place ≡ true }
 {}
 
-/// What a path finds, with the rows of a site by their numbers.
+/// What a path lookup finds. `rows` gives the number of the site's row for a path of the host.
 pub fn finding()
     ensures the_host_at_the_start { (rows : Path → Option ℕ) (path : Path)
         → finds rows start path ≡ row_or_nothing (rows path) }
@@ -63,8 +64,8 @@ pub fn finding()
         → finds rows table path ≡ nothing eacces }
 {}
 
-/// A table that can be mounted is a table of the kernel, mounting it step by step makes the very table, and no step covers
-/// the place of another.
+/// A table that can be mounted is a table of the kernel. Mounting it step by step makes exactly this table, and no two steps
+/// use the same mount point.
 pub fn mounted_tables()
     ensures is_a_table { (rows : Path → Option Bool) (table : List MountStep)
         → CanBeMounted rows table → IsTable table }

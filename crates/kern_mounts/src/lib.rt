@@ -1,7 +1,7 @@
-//! The table of a mount namespace in a modelled Linux kernel: which of its entries a path belongs to, and what mount(2) and
-//! umount2(2) make of it (mount_namespaces(7)).
+//! The table of a mount namespace in a modelled Linux kernel (mount_namespaces(7)): its entries, the entry that a path belongs
+//! to, and the changes that mount(2) and umount2(2) make.
 //!
-//! A later mount hides what an earlier one shows, so a path belongs to the last entry whose place leads to it.
+//! A later mount covers an earlier one, so a path belongs to the last entry whose mount point leads to it.
 //! `MountTable::new(alloc)?` shows the host itself.
 #![tactic(auto)]
 

@@ -1,4 +1,4 @@
-//! One entry of a mount table: where it stands, what it shows there, and how that may be used.
+//! One entry of a mount table: its mount point, what it shows there, and its flags.
 
 ghost use Rattle.std.specs.Prelude.{◌≡◌, IfOk};
 ghost use Rattle.kern_mounts.specs.Mounts.{plain};
@@ -8,19 +8,19 @@ ghost use Rattle.kern_mounts.specs.Copying.{locked};
 use abs_path::AbsPath;
 use std::alloc::{AllocError, Global};
 
-/// How what a mount shows may be used, mount(2).
+/// The flags of a mount, which restrict the use of the files that it shows, mount(2).
 #[derive(Clone, Copy, Debug, Default, PartialEq, Eq)]
 pub struct Flags {
-    /// Nothing is written there, MS_RDONLY.
+    /// No file there can be written, MS_RDONLY.
     pub read_only: bool,
-    /// No program there is executed, MS_NOEXEC.
+    /// No program there can be executed, MS_NOEXEC.
     pub no_exec: bool,
-    /// Set-user-id, set-group-id and file capabilities count for nothing there, MS_NOSUID.
+    /// Set-user-id bits, set-group-id bits and file capabilities have no effect there, MS_NOSUID.
     pub no_suid: bool,
 }
 
 impl Flags {
-    // Tells whether one of these flags is not among the others.
+    // Whether `others` lacks one of these flags.
     pub(crate) fn lacks(self, others: Flags) -> bool
         ensures { result ≡ lacks self others }
     {
@@ -32,13 +32,13 @@ impl Flags {
 /// What a mount shows at its place and below.
 #[derive(Drop)]
 pub enum What {
-    /// What the host has at this path and below.
+    /// The host's file at this path, with all that is below it.
     Host(AbsPath),
     /// An empty file system: a directory with nothing in it.
     Empty,
-    /// Something that nobody may look at.
+    /// A file or directory that no process may look at.
     Hidden {
-        /// It is a directory, else a file.
+        /// True for a directory, false for a file.
         directory: bool,
     },
 }
@@ -61,7 +61,7 @@ impl What {
     }
 }
 
-/// An entry of a mount table, and the step that adds it.
+/// An entry of a mount table. It also describes the step that adds the entry.
 #[derive(Drop)]
 pub struct MountStep {
     /// The path of the mount point.
@@ -83,19 +83,19 @@ impl MountStep {
     }
 }
 
-/// A mount of a namespace: an entry of its table, and what a less privileged namespace may not undo of it
+/// A mount of a namespace: an entry of its table, and the restrictions that a less privileged namespace cannot undo
 /// (mount_namespaces(7), "Restrictions on mount namespaces").
 #[derive(Drop)]
 pub struct Mount {
     pub step: MountStep,
-    /// It came with others from a more privileged namespace, so it is not unmounted alone.
+    /// The mount was copied from a more privileged namespace, so it cannot be unmounted alone.
     pub locked: bool,
-    /// Flags that no remount takes from it.
+    /// Flags that no remount can clear.
     pub kept: Flags,
 }
 
 impl Mount {
-    // A mount that is not locked and keeps nothing.
+    // Makes a mount that is not locked and keeps no flags.
     pub(crate) fn plain(step: MountStep) -> Mount
         ensures plain { result ≡ plain step }
     {
@@ -117,7 +117,7 @@ impl Mount {
         })
     }
 
-    // The same again, locked, and with its flags kept.
+    // Copies the mount, locks the copy, and keeps its flags.
     pub(crate) fn locked_copy(&self, alloc: Global) -> Result<Mount, AllocError>
         ensures locked { IfOk result (λ mount. mount ≡ locked self.now) }
     {

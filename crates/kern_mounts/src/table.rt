@@ -1,7 +1,8 @@
-//! The type of a mount table: its start, its entries, the entry of a path, and tables that are copied or grow.
+//! A mount table: its first entry, lookups of entries, additions and copies.
 //!
-//! A contract sees a table as the list of its mounts. A tree over the parts of their places finds the entry of a path among the
-//! first, those that a launch makes. Those behind them are looked at one by one, so copies of many come and go without the tree.
+//! A contract sees a table as the list of its mounts. A tree over the parts of the mount points finds a path's entry among the
+//! first mounts, such as the mounts that a launch adds. Later mounts are searched one by one, so a recursive bind that copies
+//! many mounts leaves the tree as it is.
 
 mod bind;
 mod finding;
@@ -28,15 +29,15 @@ use linux_numbers::limits::MOUNT_MAX;
 use std::alloc::{AllocError, Global};
 use std::marker::Model;
 
-/// The mounts that the processes of a mount namespace see, mount_namespaces(7): the first at `/`, the later over the
-/// earlier, at most 4,096 of them.
+/// The mounts that the processes of a mount namespace see, mount_namespaces(7). The first is at `/`, and later mounts cover
+/// earlier ones. There are at most 4,096.
 #[derive(Drop)]
 pub struct MountTable {
     mounts: Vec<Mount>,
-    // the places of the first mounts, this many
+    // the mount points of the first `known` mounts
     places: PlaceTree,
     known: usize,
-    // no mount was taken away yet, so the places of mounts that are added may become known
+    // true until a mount is removed: only then may `places` still learn the mount points of new mounts
     only_grew: bool,
 }
 
@@ -54,7 +55,7 @@ impl Model for MountTable {
 }
 
 impl MountTable {
-    /// The table of the host itself: one entry at `/`, which shows the host's `/`, to be written and executed.
+    /// Makes the table of the host itself. Its one entry, at `/`, shows the host's `/` without flags.
     pub fn new(alloc: Global) -> Result<MountTable, AllocError>
         ensures shows_the_host { IfOk result (λ table. table ≡ first_mounts) }
     {
@@ -74,7 +75,7 @@ impl MountTable {
         })
     }
 
-    /// How many entries there are.
+    /// Returns the number of entries.
     pub fn len(&self) -> usize
         ensures number_of_entries { result ≡ length self.now }
         ensures holds_of_each_table { IsTable (steps_of self.now) }
@@ -82,7 +83,7 @@ impl MountTable {
         self.mounts.len()
     }
 
-    /// The entry of this number, below `len`; they are numbered from 0.
+    /// Returns the entry of this number, which is below `len`. The first is 0.
     pub fn entry(&self, at: usize) -> &MountStep
         requires in_range { at < length self.now }
         ensures entry { slice_get (steps_of self.now) at ≡ Some result.now }
@@ -90,8 +91,8 @@ impl MountTable {
         &self.mounts[at].step
     }
 
-    /// Tells whether the entry of this number, below `len`, is locked: it came with a copy for a less privileged user namespace,
-    /// and is not unmounted alone.
+    /// Whether the entry of this number, which is below `len`, is locked. A copy for a less privileged user namespace locks its
+    /// entries, and a locked entry cannot be unmounted alone.
     pub fn locked(&self, at: usize) -> bool
         requires in_range { at < length self.now }
         ensures of_the_mount { option_map (λ mount. mount.locked) (slice_get self.now at) ≡ Some result }
@@ -99,7 +100,7 @@ impl MountTable {
         self.mounts[at].locked
     }
 
-    /// The flags that no remount takes from the entry of this number, below `len`.
+    /// Returns the flags that no remount can clear from the entry of this number, which is below `len`.
     pub fn kept(&self, at: usize) -> Flags
         requires in_range { at < length self.now }
         ensures of_the_mount { option_map (λ mount. mount.kept) (slice_get self.now at) ≡ Some result }
@@ -107,7 +108,7 @@ impl MountTable {
         self.mounts[at].kept
     }
 
-    /// The number of the entry that the path belongs to, the last one whose place leads to the path. It takes no memory.
+    /// Returns the number of the entry that the path belongs to: the last whose place leads to the path. Takes no memory.
     pub fn resolve(&self, path: &AbsPath) -> usize
         ensures last_that_leads { Belongs (steps_of self.now) path.now result }
         ensures entry_of_the_path { slice_get (steps_of self.now) result ≡ entry_of (steps_of self.now) path.now }
@@ -118,7 +119,8 @@ impl MountTable {
         }
     }
 
-    /// Adds an entry behind the others, which is not locked and keeps nothing. A full table answers ENOSPC; on any error the table stays as it was.
+    /// Adds an entry after the others. It is not locked and keeps no flags. Returns ENOSPC if the table is full. On any error
+    /// the table is unchanged.
     pub fn push(&mut self, step: MountStep) -> Result<(), MountError>
         ensures appended { OnOk result (self.new ≡ self.old ++ plain step ∷ []) }
         ensures unchanged_on_error { OnErr result (self.new ≡ self.old) }
@@ -136,7 +138,7 @@ impl MountTable {
         Ok(())
     }
 
-    // Adds mounts behind the others, or where there is no memory none. Their places do not become known.
+    // Adds mounts after the others, or none if memory runs out. `places` does not learn their mount points.
     fn grow(&mut self, more: Vec<Mount>) -> Result<(), AllocError>
         requires few { length (self.old ++ more.items) ≤ mount_max }
         ensures appended { OnOk result (self.new ≡ self.old ++ more.items) }
@@ -145,7 +147,8 @@ impl MountTable {
         add_all(&mut self.mounts, more)
     }
 
-    // The place of the last mount becomes known, where all others are and none was taken away. Where there is no memory it does not.
+    // Adds the last mount's place to `places`, if all others are known and none was removed. If memory runs out, it stays
+    // unknown.
     fn learn(&mut self)
         ensures { self.new ≡ self.old }
     {
@@ -158,7 +161,7 @@ impl MountTable {
         }
     }
 
-    /// An equal table, as for a mount namespace that starts with the mounts of another, mount_namespaces(7).
+    /// Copies the table, for a mount namespace that starts with the mounts of another, mount_namespaces(7).
     pub fn copy(&self) -> Result<MountTable, AllocError>
         ensures equal { IfOk result (λ table. table ≡ self.now) }
     {
@@ -170,8 +173,8 @@ impl MountTable {
         })
     }
 
-    /// The same entries, each locked and with its flags kept, as for a mount namespace that belongs to another user namespace
-    /// than the one that it is copied from, mount_namespaces(7).
+    /// Copies the table, locks each entry and keeps its flags. A mount namespace starts with such a copy if it belongs to
+    /// another user namespace than the original, mount_namespaces(7).
     pub fn copy_locked(&self) -> Result<MountTable, AllocError>
         ensures each_locked { IfOk result (λ table. table ≡ locked_copy self.now) }
     {
@@ -184,7 +187,7 @@ impl MountTable {
     }
 }
 
-// The mounts behind the one of this number.
+// The mounts after the mount of this number.
 fn later_than(mounts: &[Mount], at: usize) -> &[Mount]
     requires in_range { at < length mounts.now }
     ensures behind { result.now ≡ drop (at + 1) mounts.now }
@@ -192,7 +195,7 @@ fn later_than(mounts: &[Mount], at: usize) -> &[Mount]
     &mounts[at + 1..]
 }
 
-// The same mounts again.
+// Copies these mounts.
 fn copied(alloc: Global, mounts: &[Mount]) -> Result<Vec<Mount>, AllocError>
     ensures same { IfOk result (λ copies. copies.items ≡ mounts.now) }
 {
@@ -203,7 +206,7 @@ fn copied(alloc: Global, mounts: &[Mount]) -> Result<Vec<Mount>, AllocError>
     Ok(copies)
 }
 
-// The same mounts again, each locked and with its flags kept.
+// Copies these mounts, each locked and with its flags kept.
 fn copied_locked(alloc: Global, mounts: &[Mount]) -> Result<Vec<Mount>, AllocError>
     ensures locked { IfOk result (λ copies. copies.items ≡ locked_copy mounts.now) }
 {
@@ -214,7 +217,7 @@ fn copied_locked(alloc: Global, mounts: &[Mount]) -> Result<Vec<Mount>, AllocErr
     Ok(copies)
 }
 
-// Adds mounts behind the others, or where there is no memory none.
+// Adds mounts after the others, or none if memory runs out.
 fn add_all(mounts: &mut Vec<Mount>, mut more: Vec<Mount>) -> Result<(), AllocError>
     ensures added { OnOk result (mounts.new.items ≡ mounts.old.items ++ more.items) }
     ensures stay { OnErr result (mounts.new.items ≡ mounts.old.items) }

@@ -1,4 +1,4 @@
-//! Laws of what the calls of a mount table make of it.
+//! Laws of the changes that mount(2) and umount2(2) make to a mount table.
 
 ghost use Rattle.std.specs.Prelude.{◌≡◌, ℕ, Bool, true, false, ◌∷◌, [], ◌++◌, map, option_map, if◌then◌else◌, Option, Some, Ok, Err};
 ghost use Rattle.abs_path.specs.Paths.{Path};
@@ -19,9 +19,12 @@ ghost use Rattle.kern_mounts.specs.Remount.{with_flags, after_remount};
 ghost use Rattle.kern_mounts.specs.Bind.{bound_entry, after_bind, is_long, can_bind};
 ghost use Rattle.kern_mounts.specs.Unmounts.{Unmounts, IsTrimmed, Removes, IsOrdered, Has, Uncovers};
 
-/// A bind hides what the mounts showed at the target and below, and changes nothing elsewhere. One that is not recursive
-/// shows the new entry alone there. A recursive one shows there, with the same flags, what the mounts showed at the source
-/// and below: what the host has, and what is found wherever the source is found. What is found can be bound.
+/// A bind covers what the mounts showed at the target and below, and changes nothing elsewhere. Without `recursive` only the
+/// new entry is visible there.
+///
+/// A recursive bind shows at the target what the mounts showed at the source, with the same flags: the same paths of the host.
+/// If the source is found, each path at or below the target finds what the same path at or below the source finds. A source
+/// that is found can be bound, provided that no row of the site has too long a path.
 pub fn bound_tables()
     ensures elsewhere { (mounts next : Mounts) (source target path : Path) (recursive : Bool)
         → after_bind mounts source target recursive ≡ Ok next → is_prefix target path ≡ false
@@ -45,7 +48,8 @@ pub fn bound_tables()
         → ((errno : ℕ) → finds rows table source ≡ nothing errno → ⊥) → can_bind table source ≡ true }
 {}
 
-/// A remount gives the flags to the mount at the place, to no other, and changes no path's entry but in its flags.
+/// A remount changes the flags of the mount at this place only. Each path belongs to the same entry as before, with the new
+/// flags if it belongs to that mount.
 pub fn remounted_tables()
     ensures flags_of_one_mount { (mounts next : Mounts) (place : Path) (flags : Flags)
         → after_remount mounts place flags ≡ Ok next
@@ -59,8 +63,10 @@ pub fn remounted_tables()
         (entry_of (steps_of mounts) path) }
 {}
 
-/// umount2 takes an entry and later ones below it. At the path and below, what stood before the entry shows again;
-/// elsewhere nothing changes. It never takes the first entry, at `/`: what any calls make is a part of the table.
+/// umount2 removes an entry and later entries below it. At the path and below, the earlier entries are visible again; elsewhere
+/// nothing changes.
+///
+/// umount2 never removes the first entry, at `/`. Any number of calls leaves a part of the table, in the same order.
 pub fn unmounted_tables()
     ensures removes { (mounts next : Mounts) (path : Path) (detach : Bool)
         → after_umount mounts path detach ≡ Ok next → Removes path (steps_of mounts) (steps_of next) }
@@ -79,8 +85,9 @@ pub fn unmounted_tables()
         → StartsAtRoot table → Unmounts table last → IsTrimmed last table }
 {}
 
-/// An entry of an ordered table, none of whose mounts is locked, is one that calls of umount2 let a path belong to exactly where it stands in the table,
-/// whatever the path has behind its place. A table whose places ascend in byte order is ordered.
+/// In an ordered table without locked mounts, calls of umount2 can make a path belong to an entry if and only if the table has
+/// that entry. This holds for each path at or below the entry's mount point. A table whose mount points are in ascending byte
+/// order is ordered.
 pub fn uncovered_entries()
     ensures uncovered_stands { (table : Table) (entry : MountStep) (rest : Path)
         → StartsAtRoot table → Uncovers table entry rest → Has table entry }

@@ -1,4 +1,4 @@
-//! Laws of locked mounts: what the calls of a less privileged namespace never show.
+//! Laws of locked mounts: what a less privileged namespace can never uncover, whatever calls its processes make.
 
 ghost use Rattle.std.specs.Prelude.{◌≡◌, ◌++◌, Bool, Some, Ok, true, map};
 ghost use Rattle.abs_path.specs.Paths.{Path};
@@ -19,8 +19,8 @@ ghost use Rattle.kern_mounts.specs.Copying.{locked_copy};
 ghost use Rattle.kern_mounts.specs.Backing.{Shows, Widens, AreBacked, AreShown};
 ghost use Rattle.kern_mounts.specs.Changes.{Changes};
 
-/// Where no mount is locked and none keeps a flag, as in the table of a launched service, each call that is done leaves it so.
-/// Such mounts are those of their entries.
+/// If no mount is locked and none keeps a flag, as in the table of a launched service, every successful call leaves it so. Such
+/// mounts are determined by their entries alone.
 pub fn plain_mounts()
     ensures umounted { (mounts next : Mounts) (path : Path) (detach : Bool)
         → ArePlain mounts → after_umount mounts path detach ≡ Ok next → ArePlain next }
@@ -34,7 +34,7 @@ pub fn plain_mounts()
     ensures plain_again { (mounts : Mounts) → ArePlain mounts → map plain (steps_of mounts) ≡ mounts }
 {}
 
-/// Each call that is done, and a copy, leaves mounts backed.
+/// Every successful call leaves the mounts backed, and so does a copy.
 pub fn backed_mounts()
     ensures umount { (shows : Shows) (mounts next : Mounts) (path : Path) (detach : Bool)
         → AreBacked shows mounts → after_umount mounts path detach ≡ Ok next → AreBacked shows next }
@@ -50,14 +50,15 @@ pub fn backed_mounts()
         → Widens shows → AreBacked shows mounts → Changes mounts last → AreBacked shows last }
 {}
 
-/// A locked copy has the same entries. That of an ordered table is backed by what the table shows.
+/// A locked copy has the same entries. If the table is ordered, its locked copy is backed by what the table shows.
 pub fn first_copies()
     ensures same_entries { (mounts : Mounts) → steps_of (locked_copy mounts) ≡ steps_of mounts }
     ensures backed { (shows : Shows) (table : Table)
         → IsOrdered table → AreShown shows table → AreBacked shows (locked_copy (map plain table)) }
 {}
 
-/// What a path of backed mounts shows of the host is shown with its mount's flags or fewer.
+/// If a path of backed mounts shows a path of the host, then `shows` is true of that host path with the flags of the path's
+/// mount.
 pub fn backed_paths()
     ensures shown { (shows : Shows) (mounts : Mounts) (path source : Path) (split : SplitOf Mount)
         → Widens shows → AreBacked shows mounts → mount_at path mounts ≡ Some split → split.entry.step.what ≡ Host source

@@ -1,4 +1,4 @@
-//! mount(2) with MS_BIND and MS_REC: what a path shows, at another path too.
+//! mount(2) with MS_BIND and MS_REC: shows what a path shows at another path too.
 
 ghost use Rattle.std.specs.Prelude.{◌≡◌, ◌&&◌, ◌+◌, ◌<◌, ◌++◌, ◌≤◌, [], true, false, not, length, take, drop, count_by, if◌then◌else◌, IfOk, IfSome, IsOk, Err, MatchOption, is_some};
 ghost use Rattle.std.specs.List.{list_any};
@@ -24,22 +24,27 @@ use std::alloc::{AllocError, Global};
 const LONGEST: usize = 512;
 
 impl MountTable {
-    /// Tells whether a bind of this source is one that `bind` makes: its entry is not hidden, and on a host entry the path that
-    /// it has on the host has at most 512 bytes. It takes no memory.
+    /// Whether `bind` can bind this source. The source's entry must not be hidden; if the host has it, its path on the host
+    /// must have at most 512 bytes. Takes no memory.
     pub fn can_bind(&self, source: &AbsPath) -> bool
         ensures by_the_entry { result ≡ can_bind (steps_of self.now) source.now }
     {
         can_show(&self.mounts[self.resolve(source)].step, source)
     }
 
-    /// Shows at the target what the table shows at the source, with the flags of the source's entry and those that it keeps,
-    /// mount(2) with MS_BIND: an entry behind the others, which is not locked. With `recursive` (MS_REC) copies of the entries
-    /// that are later than the source's entry and strictly below the source follow it in their order, at the same places below
-    /// the target, locked where those are, and with what those keep. The source is one for which `can_bind` is true.
+    /// Shows at the target what the table shows at the source, mount(2) with MS_BIND. `can_bind` must be true of the source.
     ///
-    /// EINVAL where the call is not `recursive` and an entry later than the source's is locked and strictly below the source;
-    /// then ENAMETOOLONG where the place of a copy would have more than 512 bytes; then ENOSPC where the table would have more
-    /// than 4,096 entries; Memory only where neither is. On any error the table stays as it was.
+    /// The new entry is added after the others. It has the flags of the source's entry, keeps the flags which that entry keeps,
+    /// and is not locked. With `recursive` (MS_REC), copies of some entries follow it in their order, at the same places below
+    /// the target: of the entries later than the source's and strictly below the source. A copy keeps the same flags and is
+    /// locked if its original is.
+    ///
+    /// Errors, in this order; the table is unchanged on any error:
+    ///
+    /// - EINVAL if the call is not `recursive` and a later entry than the source's is locked and strictly below the source
+    /// - ENAMETOOLONG if the place of a copy would have more than 512 bytes
+    /// - ENOSPC if the table would have more than 4,096 entries
+    /// - `Memory` if memory runs out
     pub fn bind(
         &mut self,
         source: &AbsPath,
@@ -57,8 +62,8 @@ impl MountTable {
     }
 }
 
-// Adds what a bind adds behind the mounts, or says why it is refused, and then they stay; the source belongs to the mount of
-// this number. Where not all that may be copied has room it is counted first, so that a bind without room copies nothing.
+// Adds the mounts of a bind, or returns why the bind is refused and leaves the mounts as they were. The source belongs to the
+// mount of this number. If all possible copies might not fit, they are counted first, so that a refused bind copies nothing.
 fn add_bound(
     mounts: &mut Vec<Mount>,
     at: usize,
@@ -96,7 +101,7 @@ fn add_bound(
     }
 }
 
-// The errno with which a bind is refused that uncovers nothing.
+// The errno of a bind that uncovers nothing, or None if it is not refused.
 fn refusal(
     mounts: &[Mount],
     at: usize,
@@ -121,8 +126,8 @@ fn refusal(
     }
 }
 
-// Adds the mount at the target, and copies of those behind the source's up to the end. False where one would have too long a
-// place; then, and where memory is wanting, some may be added.
+// Adds the mount at the target, and copies of the mounts from the source's to `end`. Returns false if a copy's place would be
+// too long. Then, or if memory runs out, some may have been added.
 fn push_bound(
     mounts: &mut Vec<Mount>,
     at: usize,
@@ -145,8 +150,8 @@ fn push_bound(
     push_copies(mounts, at + 1, end, source, target)
 }
 
-// Adds copies of those mounts of these numbers that stand strictly below the source. False where one would have too long a
-// place; then, and where memory is wanting, some may be added.
+// Adds copies of the mounts `from` to `end` that are strictly below the source. Returns false if a copy's place would be too
+// long. Then, or if memory runs out, some may have been added.
 fn push_copies(
     mounts: &mut Vec<Mount>,
     from: usize,
@@ -174,7 +179,7 @@ fn push_copies(
     Ok(true)
 }
 
-// Tells whether a bind that is not recursive would uncover what a locked mount, behind the one of this number, covers.
+// Whether a bind that is not recursive would uncover a path that a locked mount after this number covers.
 fn uncovers(mounts: &[Mount], at: usize, source: &AbsPath, recursive: bool) -> bool
     requires in_range { at < length mounts.now }
     ensures { result ≡ (not recursive && list_any (is_locked_below source.now) (drop (at + 1) mounts.now)) }
@@ -182,7 +187,7 @@ fn uncovers(mounts: &[Mount], at: usize, source: &AbsPath, recursive: bool) -> b
     !recursive && any_locked_below(later_than(mounts, at), source)
 }
 
-// Tells whether one of these mounts is locked and stands strictly below the source.
+// Whether one of these mounts is locked and strictly below the source.
 fn any_locked_below(later: &[Mount], source: &AbsPath) -> bool
     ensures { result ≡ list_any (is_locked_below source.now) later.now }
 {
@@ -191,7 +196,7 @@ fn any_locked_below(later: &[Mount], source: &AbsPath) -> bool
         .any(|mount| mount.locked && mount.step.place.is_below(source))
 }
 
-// The mounts that copies are looked for among: those behind the one of this number, or none.
+// The mounts that a bind may copy: the mounts after this number, or none.
 fn copied_among(mounts: &[Mount], at: usize, recursive: bool) -> &[Mount]
     requires in_range { at < length mounts.now }
     ensures { result.now ≡ (if recursive then drop (at + 1) mounts.now else []) }
@@ -203,7 +208,7 @@ fn copied_among(mounts: &[Mount], at: usize, recursive: bool) -> &[Mount]
     }
 }
 
-// Tells whether a path is too long with a rest behind it.
+// Whether a path followed by a rest is too long.
 fn is_long(onto: &AbsPath, rest: &str) -> bool
     requires is_rest { IsRest rest.now }
     ensures { result ≡ is_long (onto.now ++ parts_of rest.now) }
@@ -211,7 +216,7 @@ fn is_long(onto: &AbsPath, rest: &str) -> bool
     onto.tail_len() + rest.len() > LONGEST
 }
 
-// Tells whether what the entry shows at the source can be bound.
+// Whether a bind can bind what the entry shows at the source.
 fn can_show(entry: &MountStep, source: &AbsPath) -> bool
     requires leads { is_prefix entry.now.place source.now ≡ true }
     ensures { result ≡ can_show entry.now.what entry.now.place source.now }
@@ -241,7 +246,7 @@ fn object_at(alloc: Global, entry: &MountStep, source: &AbsPath) -> Result<What,
     }
 }
 
-// What the place of a mount strictly below the source has behind the source.
+// The rest of the mount's place after the source, or None if the mount is not strictly below the source.
 fn rest_below<'a>(mount: &'a Mount, source: &AbsPath) -> Option<&'a str>
     ensures below { is_some result ≡ stands_below source.now mount.now }
     ensures behind { IfSome result (λ rest. parts_of rest.now ≡ rest_of source.now mount.now.step.place) }
@@ -251,7 +256,7 @@ fn rest_below<'a>(mount: &'a Mount, source: &AbsPath) -> Option<&'a str>
     if rest.is_empty() { None } else { Some(rest) }
 }
 
-// How many of these are copied, or None where a copy would have too long a place.
+// The number of copies, or None if the place of a copy would be too long.
 fn count_copies(later: &[Mount], source: &AbsPath, target: &AbsPath) -> Option<usize>
     ensures { MatchOption result
         (list_any (λ mount. goes_too_far source.now target.now mount.step) later.now ≡ true)
@@ -270,7 +275,7 @@ fn count_copies(later: &[Mount], source: &AbsPath, target: &AbsPath) -> Option<u
     Some(copies)
 }
 
-// The path with a rest behind it, where that is not too long: only memory may be wanting.
+// The path followed by a rest. The result must not be too long, so only memory can run out.
 fn joined(alloc: Global, path: &AbsPath, rest: &str) -> Result<AbsPath, AllocError>
     requires is_rest { IsRest rest.now }
     requires short { is_long (path.now ++ parts_of rest.now) ≡ false }
@@ -279,7 +284,7 @@ fn joined(alloc: Global, path: &AbsPath, rest: &str) -> Result<AbsPath, AllocErr
     path.join(alloc, rest).or(Err(AllocError))
 }
 
-// The copy of an entry whose place has this rest behind the source.
+// The copy of an entry. Its place after the source is this rest.
 fn moved(
     alloc: Global,
     entry: &MountStep,
@@ -315,7 +320,7 @@ fn bound_entry(
     })
 }
 
-// The copy of a mount whose place has this rest behind the source.
+// The copy of a mount. Its place after the source is this rest.
 fn moved_mount(
     alloc: Global,
     mount: &Mount,

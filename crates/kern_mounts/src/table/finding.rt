@@ -1,4 +1,4 @@
-//! The last mount whose place leads to a path: by the tree among those that it knows, one by one among those behind them.
+//! Finds the last mount whose place leads to a path. Mounts that the tree does not know are searched first, one by one.
 
 ghost use Rattle.std.specs.Prelude.{◌≡◌, ◌≤◌, false, length, MatchOption};
 ghost use Rattle.std.specs.List.{AllWithin};
@@ -11,7 +11,7 @@ use crate::step::Mount;
 use abs_path::AbsPath;
 use abs_path::place_tree::PlaceTree;
 
-// The number of the last mount that leads to the path, of those behind the first, this many.
+// The number of the last mount that leads to the path, among the mounts after the first `known`.
 fn last_behind(mounts: &[Mount], known: usize, path: &AbsPath) -> Option<usize>
     requires { known ≤ length mounts.now }
     ensures { MatchOption result
@@ -26,7 +26,7 @@ fn last_behind(mounts: &[Mount], known: usize, path: &AbsPath) -> Option<usize>
     None
 }
 
-/// The number of the last mount that leads to the path, where the tree knows the first, this many.
+/// Returns the number of the last mount that leads to the path. The tree has the places of the first `known` mounts.
 pub(crate) fn last_leading(
     mounts: &[Mount],
     places: &PlaceTree,

@@ -1,4 +1,4 @@
-//! mount(2) with MS_REMOUNT and MS_BIND: other flags for an entry.
+//! mount(2) with MS_REMOUNT and MS_BIND: changes the flags of an entry.
 
 ghost use Rattle.std.specs.Prelude.{◌≡◌};
 ghost use Rattle.kern_mounts.specs.Answer.{Becomes};
@@ -10,11 +10,10 @@ use abs_path::AbsPath;
 use linux_numbers::errnos::{EINVAL, EPERM};
 
 impl MountTable {
-    /// Gives the entry that stands at the place these flags in place of those that it had, mount(2) with MS_REMOUNT and
-    /// MS_BIND. It takes no memory.
+    /// Replaces the flags of the entry at this place, mount(2) with MS_REMOUNT and MS_BIND. Takes no memory.
     ///
-    /// EINVAL where the place is not that of the entry that it belongs to; then EPERM where these flags lack one that the
-    /// entry keeps. On either the table stays as it was.
+    /// Returns EINVAL if the path's entry has another place, then EPERM if the entry keeps a flag that is not given. On either
+    /// error the table is unchanged.
     pub fn remount(&mut self, place: &AbsPath, flags: Flags) -> Result<(), u32>
         ensures remounts { Becomes self.old self.new result (after_remount self.old place.now flags) }
     {
@@ -29,8 +28,8 @@ impl MountTable {
         Ok(())
     }
 
-    /// Gives the first entry, which stands at `/`, these flags in place of those that it had, whatever it keeps: a step of a
-    /// launcher, and no call of a process. It takes no memory.
+    /// Replaces the flags of the first entry, at `/`, whatever flags it keeps. A launcher takes this step; no call of a process
+    /// does. Takes no memory.
     pub fn set_root_flags(&mut self, flags: Flags)
         ensures sets { self.new ≡ with_root_flags flags self.old }
     {

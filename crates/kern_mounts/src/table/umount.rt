@@ -1,4 +1,4 @@
-//! umount2(2): an entry goes, and with MNT_DETACH the later ones below it.
+//! umount2(2): removes an entry, and with MNT_DETACH the later entries below it.
 
 ghost use Rattle.std.specs.Prelude.{◌≡◌, ◌+◌, ◌<◌, ◌≤◌, ◌++◌, length, take, drop, filter, not};
 ghost use Rattle.std.specs.List.{list_any};
@@ -14,15 +14,15 @@ use abs_path::AbsPath;
 use abs_path::place_tree::PlaceTree;
 use linux_numbers::errnos::{EBUSY, EINVAL};
 
-// How many places are known at most once one of those was taken away, which numbers what is left of them anew.
+// The most places that the tree keeps when one of them is removed: it renumbers each place that it keeps.
 const MOST_LEFT: usize = 256;
 
 impl MountTable {
-    /// Takes away the entry that stands at the path, and with `detach` (MNT_DETACH) the later ones strictly below it,
-    /// umount2(2). It takes no memory.
+    /// Removes the entry at the path, and with `detach` (MNT_DETACH) the later entries strictly below it, umount2(2). Takes no
+    /// memory.
     ///
-    /// EINVAL where the path is `/`, or not the place of the entry that it belongs to, or that entry is locked; then EBUSY where
-    /// later entries stand below it and `detach` is false. On either the table stays as it was.
+    /// Returns EINVAL if the path is `/`, if the path's entry has another place, or if that entry is locked. Then returns EBUSY
+    /// if `detach` is false and a later entry is strictly below the path. On either error the table is unchanged.
     pub fn umount(&mut self, path: &AbsPath, detach: bool) -> Result<(), u32>
         ensures unmounts { Becomes self.old self.new result (after_umount self.old path.now detach) }
     {
@@ -46,7 +46,7 @@ impl MountTable {
     }
 }
 
-// How many places are known still, once the mount of this number and maybe later ones went.
+// Returns how many places are still known once the mount of this number is removed, and perhaps later mounts too.
 fn known_still(places: &mut PlaceTree, known: usize, at: usize) -> usize
     ensures knows_those { (table rest : Table) → Knows known table places.old → at ≤ length table → Knows result (take at table ++ rest) places.new }
 {
@@ -58,14 +58,14 @@ fn known_still(places: &mut PlaceTree, known: usize, at: usize) -> usize
     left
 }
 
-// Tells whether one of these mounts stands strictly below the path.
+// Whether one of these mounts is strictly below the path.
 fn any_below(mounts: &[Mount], path: &AbsPath) -> bool
     ensures { result ≡ list_any (stands_below path.now) mounts.now }
 {
     mounts.iter().any(|mount| mount.step.place.is_below(path))
 }
 
-// Takes away the mount of this number, and the later ones strictly below the path.
+// Removes the mount of this number, and the later mounts strictly below the path.
 fn take_away(mounts: &mut Vec<Mount>, at: usize, path: &AbsPath)
     requires in_range { at < length mounts.old.items }
     ensures the_mount_and_below { mounts.new.items
