@@ -1,4 +1,4 @@
--- All calls that change credentials, as one type, for what holds of each of them.
+-- All calls that change credentials, as one type, for laws of every call.
 use Rattle.std.specs.Prelude.{ℕ, Bool, List, Result, Ok}
 use Rattle.kern_creds.specs.Setuid.{after_setuid, after_setgid}
 use Rattle.kern_creds.specs.Setresuid.{after_setresuid, after_setresgid}
@@ -25,7 +25,7 @@ pub data Call : Type 0 where
   SetNoNewPrivs : Call
   Exec : FileCreds → Bool → Call
 
--- what a call answers
+-- the result of a call
 abbrev pub after : Creds → Call → Result Creds ℕ
 after creds (Setuid id) = after_setuid creds id
 after creds (Setgid id) = after_setgid creds id

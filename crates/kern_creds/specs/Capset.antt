@@ -5,15 +5,16 @@ use Rattle.kern_creds.specs.declared.creds.Creds.{Creds}
 use Rattle.cap_sets.specs.linux_numbers.Errnos.{eperm}
 use Rattle.cap_sets.specs.linux_numbers.Capabilities.{cap_setpcap}
 
--- the new permitted set is a subset of the old one, the new effective set of the new permitted one, the new
--- inheritable set of the old one with the bounding set and, without CAP_SETPCAP, of the old one with the old permitted set
+-- the new permitted set is within the old one, and the new effective set is within it. The new inheritable set is within the
+-- old inheritable and bounding sets together; without CAP_SETPCAP it is also within the old inheritable and permitted sets
+-- together
 abbrev pub may_capset : Creds → ℕ → ℕ → ℕ → Bool
 may_capset creds permitted effective inheritable =
     (within permitted creds.permitted && within effective permitted)
     && (within inheritable (union creds.inheritable creds.bounding)
     && (has creds.effective cap_setpcap || within inheritable (union creds.inheritable creds.permitted)))
 
--- an ambient capability that is no longer both permitted and inheritable is lowered
+-- an ambient capability stays only if it is still permitted and inheritable
 abbrev pub with_sets : Creds → ℕ → ℕ → ℕ → Creds
 with_sets creds permitted effective inheritable =
     record creds {

@@ -1,4 +1,5 @@
--- What a process is once it is in a user namespace of its own, user_namespaces(7), "Capabilities": it has every capability there.
+-- The credentials of a process that enters a user namespace of its own, user_namespaces(7), "Capabilities": it has every
+-- capability there.
 use Rattle.std.specs.Prelude.{false}
 use Rattle.cap_sets.specs.Sets.{none, all}
 use Rattle.kern_creds.specs.declared.creds.Creds.{Creds}

@@ -1,4 +1,4 @@
--- Who may take other ids: setuid(2), setresuid(2), setgroups(2) and the set-id bits of execve(2).
+-- When a process may take other ids: setuid(2), setresuid(2), setgroups(2) and the set-id bits of execve(2).
 use Rattle.std.specs.Prelude.{◌≡◌, Bool, true, false, ◌&&◌}
 use Rattle.kern_creds.specs.Ids.{is_one_of}
 use Rattle.kern_creds.specs.Exec.{honours, is_set_id}

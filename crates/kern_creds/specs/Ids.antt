@@ -1,4 +1,4 @@
--- Real, effective and saved ids: credentials(7), and what setresuid(2) and setresgid(2) ask of an id.
+-- Real, effective and saved ids: credentials(7), and which ids setresuid(2) and setresgid(2) accept.
 use Rattle.std.specs.Prelude.{ℕ, Bool, if◌then◌else◌, ◌==◌, ◌&&◌, ◌||◌}
 use Rattle.kern_creds.specs.declared.ids.Ids.{Ids}
 use Rattle.cap_sets.specs.linux_numbers.Limits.{no_id}
@@ -7,7 +7,7 @@ use Rattle.cap_sets.specs.linux_numbers.Limits.{no_id}
 abbrev pub is_one_of : Ids → ℕ → Bool
 is_one_of ids id = (id == ids.real || id == ids.effective) || id == ids.saved
 
--- without a capability an id may be left alone (-1), or be one of the three
+-- without a capability, a new id is -1 (the old id stays) or one of the three
 abbrev pub may_take : Ids → ℕ → Bool
 may_take ids id = id == no_id || is_one_of ids id
 

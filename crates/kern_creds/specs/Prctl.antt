@@ -5,21 +5,21 @@ use Rattle.kern_creds.specs.declared.creds.Creds.{Creds}
 use Rattle.cap_sets.specs.linux_numbers.Errnos.{eperm, einval}
 use Rattle.cap_sets.specs.linux_numbers.Capabilities.{cap_setpcap, cap_last_cap}
 
--- PR_CAPBSET_DROP: the capability leaves the bounding set
+-- PR_CAPBSET_DROP: removes the capability from the bounding set
 abbrev pub after_drop_bounding : Creds → ℕ → Result Creds ℕ
 after_drop_bounding creds cap =
     if nat_lt cap_last_cap cap then Err einval
     else if not (has creds.effective cap_setpcap) then Err eperm
     else Ok (record creds { bounding = minus creds.bounding (single cap) })
 
--- PR_CAP_AMBIENT_RAISE: the capability has to be permitted and inheritable
+-- PR_CAP_AMBIENT_RAISE: adds the capability, which must be permitted and inheritable, to the ambient set
 abbrev pub after_raise : Creds → ℕ → Result Creds ℕ
 after_raise creds cap =
     if nat_lt cap_last_cap cap then Err einval
     else if not (has creds.permitted cap && has creds.inheritable cap) then Err eperm
     else Ok (record creds { ambient = union creds.ambient (single cap) })
 
--- PR_CAP_AMBIENT_LOWER
+-- PR_CAP_AMBIENT_LOWER: removes the capability from the ambient set
 abbrev pub after_lower : Creds → ℕ → Result Creds ℕ
 after_lower creds cap =
     if nat_lt cap_last_cap cap then Err einval

@@ -8,8 +8,8 @@ use Rattle.kern_creds.specs.declared.creds.Creds.{Creds}
 abbrev pub has_root : Ids → Bool
 has_root ids = (ids.real == 0 || ids.effective == 0) || ids.saved == 0
 
--- rule 1: where one or more uids were 0 and now all are not, the ambient set is cleared, and so are
--- the permitted and the effective set unless keepcaps is on
+-- rule 1: if one or more uids were 0 and now none is, the ambient set is cleared; the permitted and the effective set are
+-- cleared too, unless keepcaps is on
 abbrev pub after_leaving_root : Bool → Creds → Creds
 after_leaving_root true creds =
     record creds {
@@ -19,8 +19,8 @@ after_leaving_root true creds =
     }
 after_leaving_root false creds = creds
 
--- rules 2 and 3: where the effective uid changes from 0, the effective set is cleared; where it changes to 0,
--- the permitted set is copied to it. The first word says whether it was 0, the second whether it is.
+-- rules 2 and 3: if the effective uid changes from 0, the effective set is cleared; if it changes to 0, the permitted set is
+-- copied to it. The first argument says whether it was 0, the second whether it is.
 abbrev pub after_switch : Bool → Bool → Creds → Creds
 after_switch true true creds = creds
 after_switch true false creds = record creds { effective = none }

@@ -1,4 +1,4 @@
--- setgroups(2): EPERM without CAP_SETGID, EINVAL above NGROUPS_MAX ids; else the supplementary groups are these.
+-- setgroups(2): EPERM without CAP_SETGID, EINVAL for more than NGROUPS_MAX ids; else these become the supplementary groups.
 use Rattle.std.specs.Prelude.{ℕ, List, length, Result, Ok, Err, if◌then◌else◌, not, nat_lt}
 use Rattle.cap_sets.specs.Sets.{has}
 use Rattle.kern_creds.specs.declared.creds.Creds.{Creds}

@@ -1,5 +1,5 @@
--- setresuid(2) and setresgid(2). A privileged caller sets the ids to any values, another each to one of its three;
--- an id of -1 stays; EPERM where an unprivileged caller asks for another id.
+-- setresuid(2) and setresgid(2). A privileged caller sets the ids to any values; another caller sets each to one of its three.
+-- An id of -1 stays. EPERM if an unprivileged caller asks for another id.
 use Rattle.std.specs.Prelude.{ℕ, Bool, Result, Ok, Err, if◌then◌else◌, ◌||◌}
 use Rattle.cap_sets.specs.Sets.{has}
 use Rattle.cap_sets.specs.linux_numbers.Errnos.{eperm}
@@ -9,7 +9,7 @@ use Rattle.kern_creds.specs.RootChange.{with_uids}
 use Rattle.kern_creds.specs.declared.ids.Ids.{Ids}
 use Rattle.kern_creds.specs.declared.creds.Creds.{Creds}
 
--- what the new ids make, by whether the caller is privileged and by its old ids
+-- `made` applied to the new ids, if the caller may set them
 abbrev pub set_all_ids : {X : Type 0} → (Ids → X) → Bool → Ids → ℕ → ℕ → ℕ → Result X ℕ
 set_all_ids made privileged old real effective saved =
     if privileged || may_take_all old real effective saved then Ok (made (kept_ids old real effective saved)) else Err eperm

@@ -1,4 +1,5 @@
--- setuid(2) and setgid(2). A privileged caller sets all three ids, another the effective one to its real or saved one.
+-- setuid(2) and setgid(2). A privileged caller sets all three ids; another caller sets the effective id to its real or saved
+-- one.
 use Rattle.std.specs.Prelude.{ℕ, Bool, Result, Ok, Err, if◌then◌else◌, ◌==◌, ◌||◌}
 use Rattle.cap_sets.specs.Sets.{has}
 use Rattle.cap_sets.specs.linux_numbers.Errnos.{eperm, einval}
@@ -9,8 +10,7 @@ use Rattle.kern_creds.specs.RootChange.{with_uids}
 use Rattle.kern_creds.specs.declared.ids.Ids.{Ids}
 use Rattle.kern_creds.specs.declared.creds.Creds.{Creds}
 
--- what the new ids make, by whether the caller is privileged and by its old ids: EINVAL where the id is -1, which is
--- none; EPERM where an unprivileged caller asks for another id
+-- `made` applied to the new ids. EINVAL for the id -1; EPERM if an unprivileged caller asks for another id
 abbrev pub set_id : {X : Type 0} → (Ids → X) → Bool → Ids → ℕ → Result X ℕ
 set_id made privileged old id =
     if id == no_id then Err einval

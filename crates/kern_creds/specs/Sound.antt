@@ -1,9 +1,9 @@
--- What capabilities(7) says of the sets of every thread.
+-- The property that capabilities(7) states of the sets of every thread.
 use Rattle.cap_sets.specs.Sets.{IsWithin}
 use Rattle.kern_creds.specs.declared.creds.Creds.{Creds}
 
--- "Thread capability sets": the permitted set is a limiting superset of the effective one, and no capability is ever
--- ambient that is not both permitted and inheritable
+-- "Thread capability sets": the effective set is within the permitted set, and each ambient capability is both permitted and
+-- inheritable
 pub record IsSound (creds : Creds) : Type 0 where
   pub effective_is_permitted : IsWithin creds.effective creds.permitted
   pub ambient_is_permitted : IsWithin creds.ambient creds.permitted

@@ -1,4 +1,5 @@
--- The credentials of the first process, capabilities(7): root, with every capability but no inheritable and no ambient one.
+-- The credentials of the first process, capabilities(7): it is root and has every capability. Its inheritable and ambient sets
+-- are empty.
 use Rattle.std.specs.Prelude.{[], false}
 use Rattle.cap_sets.specs.Sets.{none, all}
 use Rattle.kern_creds.specs.declared.ids.Ids.{Ids}

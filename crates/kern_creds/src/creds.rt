@@ -1,4 +1,4 @@
-//! The credentials of a process: what they are, those of the first process, and their parts.
+//! The credentials of a process, and the credentials that the first process starts with.
 
 ghost use Rattle.std.specs.Prelude.{◌≡◌, IfOk};
 ghost use Rattle.kern_creds.specs.Start.{start};
@@ -26,7 +26,8 @@ pub struct Creds {
 }
 
 impl Creds {
-    /// The credentials of the first process: all ids 0, no groups, and the permitted, effective and bounding sets full.
+    /// Makes the credentials of the first process: all ids are 0, there are no groups, and the permitted, effective and
+    /// bounding sets are full.
     pub fn start(alloc: Global) -> Creds
         ensures as_at_the_start { result ≡ start }
     {
@@ -44,7 +45,7 @@ impl Creds {
         }
     }
 
-    /// Equal credentials.
+    /// Copies the credentials.
     pub fn copy(&self) -> Result<Creds, AllocError>
         ensures same { IfOk result (λ creds. creds ≡ self.now) }
     {
@@ -62,7 +63,7 @@ impl Creds {
         })
     }
 
-    /// The real, the effective and the saved uid.
+    /// Returns the real, the effective and the saved uid.
     pub fn uids(&self) -> Ids
         ensures real { result.real ≡ self.now.uids.real }
         ensures effective { result.effective ≡ self.now.uids.effective }
@@ -71,7 +72,7 @@ impl Creds {
         self.uids
     }
 
-    /// The real, the effective and the saved gid.
+    /// Returns the real, the effective and the saved gid.
     pub fn gids(&self) -> Ids
         ensures real { result.real ≡ self.now.gids.real }
         ensures effective { result.effective ≡ self.now.gids.effective }
@@ -80,64 +81,64 @@ impl Creds {
         self.gids
     }
 
-    /// The supplementary groups.
+    /// Returns the supplementary groups.
     pub fn groups(&self) -> &[u32]
         ensures as_held { result.now ≡ self.now.groups }
     {
         self.groups.ids()
     }
 
-    /// The permitted set: the most that the process can make effective.
+    /// Returns the permitted set: the capabilities that the process can make effective.
     pub fn permitted(&self) -> CapSet
         ensures as_held { result ≡ self.now.permitted }
     {
         self.permitted
     }
 
-    /// The effective set: what the kernel asks for.
+    /// Returns the effective set: the capabilities that the kernel checks.
     pub fn effective(&self) -> CapSet
         ensures as_held { result ≡ self.now.effective }
     {
         self.effective
     }
 
-    /// The inheritable set.
+    /// Returns the inheritable set.
     pub fn inheritable(&self) -> CapSet
         ensures as_held { result ≡ self.now.inheritable }
     {
         self.inheritable
     }
 
-    /// The bounding set: the most that execve gives.
+    /// Returns the bounding set, which limits the capabilities that execve gives.
     pub fn bounding(&self) -> CapSet
         ensures as_held { result ≡ self.now.bounding }
     {
         self.bounding
     }
 
-    /// The ambient set: what stays over an execve of a file that is not privileged.
+    /// Returns the ambient set, which a process keeps when it executes a file that is not privileged.
     pub fn ambient(&self) -> CapSet
         ensures as_held { result ≡ self.now.ambient }
     {
         self.ambient
     }
 
-    /// Tells whether execve can give no new privileges, PR_GET_NO_NEW_PRIVS of prctl(2).
+    /// Whether execve can give no new privileges, PR_GET_NO_NEW_PRIVS of prctl(2).
     pub fn no_new_privs(&self) -> bool
         ensures as_held { result ≡ self.now.no_new_privs }
     {
         self.no_new_privs
     }
 
-    /// Tells whether the permitted set stays when the last uid 0 goes, PR_GET_KEEPCAPS of prctl(2).
+    /// Whether the process keeps its permitted set when none of its uids is 0 any more, PR_GET_KEEPCAPS of prctl(2).
     pub fn keepcaps(&self) -> bool
         ensures as_held { result ≡ self.now.keepcaps }
     {
         self.keepcaps
     }
 
-    /// The process enters a user namespace of its own, user_namespaces(7): the permitted, effective and bounding sets are full, the
-    /// inheritable and ambient ones empty, and keepcaps is cleared. The ids, the groups and no_new_privs stay.
+    /// Moves the process into a user namespace of its own, user_namespaces(7). The permitted, effective and bounding sets
+    /// become full, the inheritable and ambient sets empty, and keepcaps is cleared. The ids, the groups and no_new_privs stay.
     pub fn enter(&mut self)
         ensures entered { self.new ≡ entered self.old }
     {
@@ -149,7 +150,7 @@ impl Creds {
         self.keepcaps = false;
     }
 
-    // Takes these uids, with what follows for the sets.
+    // Takes these uids, and changes the sets as capabilities(7) says for a change of uids.
     pub(crate) fn take_uids(&mut self, uids: Ids)
         ensures { self.new ≡ with_uids self.old uids }
     {

@@ -1,6 +1,6 @@
-//! What becomes of credentials when a process runs a file: execve(2) and capabilities(7).
+//! The credentials of a process after it executes a file: execve(2) and capabilities(7).
 //!
-//! Each part of the rule is a function of its own, named as in `specs/Exec.antt`.
+//! Each part of the rule is a function of its own, with its name in `specs/Exec.antt`.
 
 ghost use Rattle.std.specs.Prelude.{◌≡◌};
 ghost use Rattle.kern_creds.specs.Answer.{Becomes};
@@ -14,7 +14,7 @@ use cap_sets::CapSet;
 use cap_sets::linux_numbers::errnos::EPERM;
 
 impl FileCreds {
-    // Tells whether there is a set-id bit that can count, or a capability.
+    // Whether the file has a capability, or a set-id bit that can count.
     fn is_privileged(&self, newer: bool) -> bool
         ensures { result ≡ is_privileged_in newer self.now }
     {
@@ -23,7 +23,7 @@ impl FileCreds {
 }
 
 impl Ids {
-    // The ids after a file with this owner, where set-id bits count.
+    // The ids after a file with this owner is executed. `honoured` says whether its set-id bit counts.
     fn after_exec(self, honoured: bool, owner: Option<u32>) -> Ids
         ensures { result ≡ exec_ids honoured self owner }
     {
@@ -117,11 +117,12 @@ impl Creds {
         }
     }
 
-    /// execve(2) of a file with these marks, from a mount with or without nosuid.
+    /// execve(2): executes a file with these marks, from a mount with or without nosuid.
     ///
-    /// EPERM where the mount has not nosuid, the file's effective bit is on and the bounding set lacks one of its
-    /// capabilities; else the credentials change by the rules of capabilities(7). In a newer user namespace, user_namespaces(7),
-    /// set-id bits count for nothing and root is a user as others.
+    /// Returns EPERM if the mount does not have nosuid, the file's effective bit is on, and the bounding set lacks one of the
+    /// file's capabilities. Else the credentials change by the rules of capabilities(7).
+    ///
+    /// In a newer user namespace, user_namespaces(7), set-id bits have no effect, and root is a user like others.
     pub fn exec(&mut self, file: &FileCreds, nosuid: bool, newer: bool) -> Result<(), u32>
         ensures by_the_file { Becomes self.old self.new result (exec_in newer self.old file.now nosuid) }
     {

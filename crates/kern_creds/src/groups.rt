@@ -1,6 +1,6 @@
-//! Supplementary groups, setgroups(2): a list of gids, in the order in which they were given.
+//! Supplementary groups, setgroups(2): a list of gids in the order in which the process set them.
 //!
-//! Equal lists are held once: processes that have their groups from one parent share them until one sets others.
+//! Processes share a list that they inherit from one parent, until one of them sets other groups.
 
 ghost use Rattle.std.specs.Prelude.{◌≡◌, [], IfOk};
 
@@ -12,7 +12,7 @@ use std::rc::RcSlice;
 #[derive(Drop)]
 pub struct Groups {
     alloc: Global,
-    // none: no groups were set
+    // None until groups are set
     ids: Option<RcSlice<u32>>,
 }
 
@@ -27,14 +27,14 @@ impl Model for Groups {
 }
 
 impl Groups {
-    /// No groups.
+    /// Makes an empty list.
     pub fn new(alloc: Global) -> Groups
         ensures empty { result ≡ [] }
     {
         Groups { alloc, ids: None }
     }
 
-    // These ids as groups, with memory from where these groups have theirs.
+    // Makes a list of these ids, in memory of the same allocator.
     pub(crate) fn with(&self, ids: &[u32]) -> Result<Groups, AllocError>
         ensures { IfOk result (λ groups. groups ≡ ids.now) }
     {
@@ -44,7 +44,7 @@ impl Groups {
         })
     }
 
-    /// The groups in order.
+    /// Returns the groups in order.
     pub fn ids(&self) -> &[u32]
         ensures in_order { result.now ≡ self.now }
     {
@@ -54,7 +54,7 @@ impl Groups {
         }
     }
 
-    /// Equal groups, which these and the new ones share.
+    /// Copies the list; the copy shares its memory.
     pub fn copy(&self) -> Result<Groups, AllocError>
         ensures same { IfOk result (λ groups. groups ≡ self.now) }
     {

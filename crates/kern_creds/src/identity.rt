@@ -47,9 +47,9 @@ impl Ids {
 }
 
 impl Creds {
-    /// setuid(2): all three uids with CAP_SETUID; without it the effective one, to the real or the saved one.
+    /// setuid(2): with CAP_SETUID, sets all three uids. Without it, sets the effective uid to the real or the saved one.
     ///
-    /// EINVAL of the id -1, EPERM of another id that is not to be had.
+    /// Returns EINVAL for the id -1, and EPERM for any other id that the caller may not take.
     pub fn setuid(&mut self, id: u32) -> Result<(), u32>
         ensures by_the_rule { Becomes self.old self.new result (after_setuid self.old id) }
     {
@@ -58,7 +58,7 @@ impl Creds {
         Ok(())
     }
 
-    /// setgid(2): as `setuid`, of the gids and with CAP_SETGID.
+    /// setgid(2): like `setuid`, for gids and with CAP_SETGID.
     pub fn setgid(&mut self, id: u32) -> Result<(), u32>
         ensures by_the_rule { Becomes self.old self.new result (after_setgid self.old id) }
     {
@@ -67,9 +67,9 @@ impl Creds {
         Ok(())
     }
 
-    /// setresuid(2): the real, the effective and the saved uid; -1 leaves one as it is.
+    /// setresuid(2): sets the real, the effective and the saved uid. -1 leaves a uid unchanged.
     ///
-    /// EPERM without CAP_SETUID, where one of them is none of the three old ones.
+    /// Returns EPERM if the caller lacks CAP_SETUID and a new uid is not one of its three old ones.
     pub fn setresuid(&mut self, real: u32, effective: u32, saved: u32) -> Result<(), u32>
         ensures by_the_rule { Becomes self.old self.new result (after_setresuid self.old real effective saved) }
     {
@@ -79,7 +79,7 @@ impl Creds {
         Ok(())
     }
 
-    /// setresgid(2): as `setresuid`, of the gids and with CAP_SETGID.
+    /// setresgid(2): like `setresuid`, for gids and with CAP_SETGID.
     pub fn setresgid(&mut self, real: u32, effective: u32, saved: u32) -> Result<(), u32>
         ensures by_the_rule { Becomes self.old self.new result (after_setresgid self.old real effective saved) }
     {
@@ -89,9 +89,10 @@ impl Creds {
         Ok(())
     }
 
-    /// setgroups(2): these supplementary groups, in place of the old ones.
+    /// setgroups(2): replaces the supplementary groups.
     ///
-    /// EPERM without CAP_SETGID; EINVAL of more than 65,536 ids; Memory, and then nothing changes.
+    /// Returns EPERM without CAP_SETGID, EINVAL for more than 65,536 ids, and `Memory` if memory runs out. On any error nothing
+    /// changes.
     pub fn setgroups(&mut self, ids: &[u32]) -> Result<(), CredError>
         ensures by_the_rule { BecomesOrMemory self.old self.new result (after_setgroups self.old ids.now) }
     {

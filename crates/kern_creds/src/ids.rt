@@ -1,4 +1,4 @@
-//! The three ids of a process, and what an unprivileged process may make of them: credentials(7), setresuid(2).
+//! The three ids of a process, and which of them an unprivileged process may take: credentials(7), setresuid(2).
 
 ghost use Rattle.std.specs.Prelude.{◌≡◌};
 ghost use Rattle.kern_creds.specs.Ids.{may_take, may_take_all, kept_id, kept_ids, all_of};
@@ -6,14 +6,14 @@ ghost use Rattle.kern_creds.specs.RootChange.{has_root};
 
 use cap_sets::linux_numbers::limits::NO_ID;
 
-/// Real, effective and saved id: three of a user, or three of a group.
+/// The real, the effective and the saved id, of a user or of a group.
 #[derive(Clone, Copy)]
 pub struct Ids {
-    /// Whose process it is.
+    /// The id of the user or group that owns the process.
     pub real: u32,
-    /// Whose permissions it has.
+    /// The id that the kernel checks for permissions.
     pub effective: u32,
-    /// Whose permissions it can take again.
+    /// An id that the process can make effective again.
     pub saved: u32,
 }
 
@@ -24,7 +24,7 @@ fn kept_id(old: u32, id: u32) -> u32
 }
 
 impl Ids {
-    // All three are this one.
+    // Makes all three ids this one.
     pub(crate) fn all_of(id: u32) -> Ids
         ensures { result ≡ all_of id }
     {
@@ -35,7 +35,7 @@ impl Ids {
         }
     }
 
-    // Tells whether one of them is 0.
+    // Whether one of the three ids is 0.
     pub(crate) fn has_root(&self) -> bool
         ensures { result ≡ has_root self.now }
     {
@@ -48,14 +48,14 @@ impl Ids {
         id == NO_ID || (id == self.real || id == self.effective || id == self.saved)
     }
 
-    // Tells whether each of the three new ids is -1 or one of these.
+    // Whether each of the three new ids is -1 or one of the old ones.
     pub(crate) fn may_take_all(&self, real: u32, effective: u32, saved: u32) -> bool
         ensures { result ≡ may_take_all self.now real effective saved }
     {
         self.may_take(real) && self.may_take(effective) && self.may_take(saved)
     }
 
-    // These ids, each but -1 in place of the old one.
+    // Replaces each id by the new one, unless that is -1.
     pub(crate) fn with(&self, real: u32, effective: u32, saved: u32) -> Ids
         ensures { result ≡ kept_ids self.now real effective saved }
     {

@@ -1,6 +1,6 @@
-//! Laws of credentials over every call, each the contract of a function that does nothing.
+//! Laws of credentials, for every call. Each law is the contract of a function that does nothing.
 //!
-//! They speak of the definitions that the calls' contracts name, for any file that is executed.
+//! The laws use the definitions of the calls' contracts. They hold for every file that a process executes.
 
 ghost use Rattle.std.specs.Prelude.{◌≡◌, ◌≢◌, ℕ, ◌&&◌, Bool, true, false, Ok, Some};
 ghost use Rattle.cap_sets.specs.Sets.{has, union, cut, none, IsWithin};
@@ -15,20 +15,21 @@ ghost use Rattle.kern_creds.specs.Sound.{IsSound};
 ghost use Rattle.kern_creds.specs.Guarded.{AreAmong, is_set_user, is_set_group};
 ghost use Rattle.kern_creds.specs.Steps.{Leads, Reaches, may_gain};
 
-/// What is effective is permitted, and what is ambient is permitted and inheritable: at the start, and after each call.
+/// Each effective capability is permitted, and each ambient capability is permitted and inheritable. This holds at the start
+/// and after each call.
 pub fn sets_stay_sound()
     ensures at_the_start { IsSound start }
     ensures kept_by_each_call { (creds now : Creds) (call : Call) → IsSound creds → Leads creds call now → IsSound now }
     ensures held_by_all_that_starts { (now : Creds) → Reaches start now → IsSound now }
 {}
 
-/// The bounding set never grows.
+/// No call extends the bounding set.
 pub fn bounding_never_grows()
     ensures by_a_call { (creds now : Creds) (call : Call) → Leads creds call now → IsWithin now.bounding creds.bounding }
     ensures by_any_calls { (creds now : Creds) → Reaches creds now → IsWithin now.bounding creds.bounding }
 {}
 
-/// What is inheritable was inheritable or in the bounding set.
+/// An inheritable capability was inheritable before, or was in the bounding set.
 pub fn inheritable_stays_bounded()
     ensures by_a_call { (creds now : Creds) (call : Call) → Leads creds call now
         → IsWithin now.inheritable (union creds.inheritable creds.bounding) }
@@ -36,7 +37,7 @@ pub fn inheritable_stays_bounded()
         → IsWithin now.inheritable (union creds.inheritable creds.bounding) }
 {}
 
-/// The mark no_new_privs never goes off, and where it is on no execve widens the permitted set; nor does another call.
+/// No call clears no_new_privs. While it is set, neither execve nor any other call extends the permitted set.
 pub fn no_new_privs_holds()
     ensures stays_on { (creds now : Creds) → Reaches creds now → creds.no_new_privs ≡ true → now.no_new_privs ≡ true }
     ensures execve_gives_nothing { (creds now : Creds) (file : FileCreds) (nosuid : Bool) → creds.no_new_privs ≡ true
@@ -45,7 +46,7 @@ pub fn no_new_privs_holds()
         → IsWithin now.permitted creds.permitted }
 {}
 
-/// Only execve without no_new_privs widens the permitted set, and by no more than the inheritable and the bounding set.
+/// Only execve without no_new_privs extends the permitted set. The result is within the inheritable and the bounding set.
 pub fn permitted_grows_by_execve()
     ensures by_nothing_else { (creds now : Creds) (call : Call) → Leads creds call now → may_gain creds call ≡ false
         → IsWithin now.permitted creds.permitted }
@@ -53,8 +54,8 @@ pub fn permitted_grows_by_execve()
         → after_exec creds file nosuid ≡ Ok now → IsWithin now.permitted (union creds.inheritable creds.bounding) }
 {}
 
-/// A process without CAP_SETUID keeps to its own uids, and one without CAP_SETGID to its own gids and groups, whatever it
-/// calls, but for the owner and the group of a set-id file that it executes.
+/// Without CAP_SETUID a process keeps to its own uids; without CAP_SETGID it keeps to its own gids and its groups. This holds
+/// for each call. Exception: executing a set-id file gives it the file's owner or group.
 pub fn ids_are_guarded()
     ensures own_uids { (creds now : Creds) (call : Call) → has creds.effective cap_setuid ≡ false → is_set_user creds call ≡ false
         → Leads creds call now → AreAmong now.uids creds.uids }
@@ -64,8 +65,8 @@ pub fn ids_are_guarded()
         → Leads creds call now → now.groups ≡ creds.groups }
 {}
 
-/// Every execve turns keepcaps off and makes the saved ids the effective ones; the real ids, the groups, the inheritable
-/// and the bounding set and no_new_privs stay.
+/// Each execve clears keepcaps and copies the effective ids to the saved ones. It keeps the real ids, the groups, the
+/// inheritable set, the bounding set and no_new_privs.
 pub fn execve_leaves_by_rule()
     ensures keepcaps_is_cleared { (creds now : Creds) (file : FileCreds) (nosuid : Bool) → after_exec creds file nosuid ≡ Ok now
         → now.keepcaps ≡ false }
@@ -82,8 +83,8 @@ pub fn execve_leaves_by_rule()
         × (now.inheritable ≡ creds.inheritable) × (now.bounding ≡ creds.bounding) × (now.no_new_privs ≡ creds.no_new_privs) }
 {}
 
-/// What execve gives whoever then is root, by real or effective uid: the inheritable and the bounding set, of which only
-/// what was permitted is left under no_new_privs.
+/// If the real or the effective uid is 0 after execve, the process gets the inheritable and the bounding set as its permitted
+/// set. With no_new_privs, only capabilities that were permitted before are left of it.
 pub fn execve_gives_root()
     ensures all_without_no_new_privs { (creds now : Creds) (file : FileCreds) (nosuid : Bool) → creds.no_new_privs ≡ false
         → after_exec creds file nosuid ≡ Ok now → runs_as_root now.uids ≡ true
@@ -95,8 +96,11 @@ pub fn execve_gives_root()
         → after_exec creds file nosuid ≡ Ok now → now.uids.effective ≡ 0 → now.effective ≡ now.permitted }
 {}
 
-/// What execve gives whoever is not root then: what the file gives of the bounding set, where its marks count, with the
-/// ambient set, which a privileged file empties; and of these the effective ones by the file's bit.
+/// If neither the real nor the effective uid is 0 after execve, the permitted set has the ambient set and, if the file's marks
+/// count, the file's capabilities within the bounding set. A privileged file empties the ambient set if its marks count.
+///
+/// With no_new_privs, only capabilities that were permitted before are left. If the file's effective bit is on and counts,
+/// every permitted capability is effective; otherwise only the ambient ones are.
 pub fn execve_gives_others()
     ensures by_the_file { (creds now : Creds) (file : FileCreds) (nosuid : Bool) → honours creds nosuid ≡ true
         → after_exec creds file nosuid ≡ Ok now → runs_as_root now.uids ≡ false
@@ -115,8 +119,8 @@ pub fn execve_gives_others()
         → after_exec creds file nosuid ≡ Ok now → now.ambient ≡ creds.ambient }
 {}
 
-/// A process that enters a user namespace of its own has every capability there, and keeps its ids, its groups and no_new_privs. In a
-/// newer user namespace execve takes no id from a set-id bit, and gives root no more than others.
+/// A process that enters a user namespace of its own gets every capability there, and keeps its ids, its groups and
+/// no_new_privs. In a newer user namespace, execve ignores set-id bits and gives root no more than other users.
 pub fn user_namespaces()
     ensures entering_is_sound { (creds : Creds) → IsSound (entered creds) }
     ensures entering_keeps { (creds : Creds) → ((entered creds).uids ≡ creds.uids) × ((entered creds).gids ≡ creds.gids)

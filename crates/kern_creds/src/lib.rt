@@ -1,7 +1,7 @@
 //! Credentials of processes in a modelled Linux kernel, and the calls that change them (credentials(7), capabilities(7)).
 //!
-//! Each call follows its rule in the manual. It changes the credentials, or answers an errno and changes nothing.
-//! `Creds::start(alloc).setuid(33)` leaves a process that has no capability.
+//! Each call follows its rule in the manual: it changes the credentials, or returns an errno and changes nothing. After
+//! `Creds::start(alloc)` and `setuid(33)`, a process has no capability.
 #![tactic(auto)]
 
 mod creds;

@@ -22,11 +22,15 @@ impl Creds {
                     || inheritable.within(self.inheritable.union(self.permitted))))
     }
 
-    /// capset(2): the permitted, the effective and the inheritable set. The ambient set is cut to what is still
+    /// capset(2): sets the permitted, the effective and the inheritable set. Ambient capabilities stay only if they are still
     /// permitted and inheritable.
     ///
-    /// EPERM unless permitted is within the old set, effective within permitted, and inheritable within the old one
-    /// with the bounding set and, without CAP_SETPCAP, within the old one with the old permitted set.
+    /// Returns EPERM unless all of these hold:
+    ///
+    /// - The permitted set is within the old permitted set.
+    /// - The effective set is within the new permitted set.
+    /// - The inheritable set is within the old inheritable set and the bounding set together.
+    /// - The inheritable set is within the old inheritable and permitted sets together, or the caller has CAP_SETPCAP.
     pub fn capset(
         &mut self,
         permitted: CapSet,
@@ -45,9 +49,9 @@ impl Creds {
         Ok(())
     }
 
-    /// PR_CAPBSET_DROP: takes a capability from the bounding set.
+    /// PR_CAPBSET_DROP: removes a capability from the bounding set.
     ///
-    /// EINVAL above 40, then EPERM without CAP_SETPCAP.
+    /// Returns EINVAL above 40, then EPERM without CAP_SETPCAP.
     pub fn drop_bounding(&mut self, cap: u32) -> Result<(), u32>
         ensures by_the_rule { Becomes self.old self.new result (after_drop_bounding self.old cap) }
     {
@@ -61,9 +65,9 @@ impl Creds {
         Ok(())
     }
 
-    /// PR_CAP_AMBIENT_RAISE: puts a capability into the ambient set.
+    /// PR_CAP_AMBIENT_RAISE: adds a capability to the ambient set.
     ///
-    /// EINVAL above 40, then EPERM unless it is permitted and inheritable.
+    /// Returns EINVAL above 40, then EPERM unless the capability is permitted and inheritable.
     pub fn raise(&mut self, cap: u32) -> Result<(), u32>
         ensures by_the_rule { Becomes self.old self.new result (after_raise self.old cap) }
     {
@@ -78,9 +82,9 @@ impl Creds {
         Ok(())
     }
 
-    /// PR_CAP_AMBIENT_LOWER: takes a capability from the ambient set.
+    /// PR_CAP_AMBIENT_LOWER: removes a capability from the ambient set.
     ///
-    /// EINVAL above 40.
+    /// Returns EINVAL above 40.
     pub fn lower(&mut self, cap: u32) -> Result<(), u32>
         ensures by_the_rule { Becomes self.old self.new result (after_lower self.old cap) }
     {
@@ -98,7 +102,7 @@ impl Creds {
         self.ambient = CapSet::empty();
     }
 
-    /// PR_SET_KEEPCAPS: whether the permitted set stays when the last uid 0 goes.
+    /// PR_SET_KEEPCAPS: whether the process keeps its permitted set when none of its uids is 0 any more.
     pub fn set_keepcaps(&mut self, on: bool)
         ensures as_asked { self.new ≡ after_set_keepcaps self.old on }
     {

@@ -1,4 +1,4 @@
-// Two small words on sets of capabilities that the calls share.
+// Two small functions on sets of capabilities, which several calls use.
 
 ghost use Rattle.std.specs.Prelude.{◌≡◌, ◌≤◌, ◌==◌};
 ghost use Rattle.cap_sets.specs.Sets.{none, single};
