@@ -1,4 +1,4 @@
--- What a call comes to, said of the calling process and its mount table alone: its rule, with the errors in their order.
+-- The effect of a call on its caller and the caller's mount table: the call's rule, with the errors in their order.
 use Rattle.std.specs.Prelude.{ℕ, ◌+◌, ◌==◌, ◌&&◌, ◌||◌, not, nat_lt, nat_le, Bool, true, false, List, length, Option, Some, None, Result}
 use Rattle.std.specs.Prelude.{Ok, Err, if◌then◌else◌}
 use Rattle.bpf_code.specs.declared.machine.Insn.{Insn}
@@ -35,35 +35,35 @@ pub data Effect : Type 0 where
   Refuse : ℕ → Effect
   -- a value, and nothing changes
   Answer : ℕ → Effect
-  -- 0, and the caller has these credentials
+  -- 0, and these become the caller's credentials
   SetCreds : Creds → Effect
-  -- 0, and the table of the caller's namespace is this
+  -- 0, and this becomes the table of the caller's namespace
   SetTable : Table → Effect
-  -- 0, and the caller has this program above its others
+  -- 0, and the caller has this program on top of its others
   Push : List Insn → Effect
-  -- a copy of the caller, if there is room for a process; in a namespace of its own where true
+  -- a copy of the caller, if there is room for a process; `true` asks for a namespace of its own
   Child : Bool → Effect
-  -- 0, and the caller is in a namespace of its own, if there is room for one
+  -- 0, and the caller moves to a namespace of its own, if there is room for one
   OwnTable : Effect
-  -- a copy of the caller in a user namespace of its own, if there is room for one and for a process; in a mount namespace of its
-  -- own, too, where true
+  -- a copy of the caller in a user namespace of its own, if there is room for both; `true` asks for a mount namespace of its
+  -- own, too
   UserChild : Bool → Effect
-  -- 0, and the caller is in a user namespace of its own, if there is room for one; in a mount namespace of its own, too, where true
+  -- 0, and the caller moves to a user namespace of its own, if there is room; `true` asks for a mount namespace of its own, too
   OwnUser : Bool → Effect
   -- 0, and the caller ends
   End : Effect
 
--- what the caller and its namespace are; programs stand with the oldest first
+-- the caller's credentials, programs (the oldest first), mount table and namespaces
 pub record Caller : Type 0 where
   pub creds : Creds
   pub stack : List (List Insn)
   pub table : Table
-  -- it is in another user namespace than the first
+  -- its user namespace is not the first
   pub newer : Bool
   -- its mount namespace belongs to its user namespace
   pub owns : Bool
 
--- what a kernel is told: the rows of the host, and the families of sockets
+-- the host: its rows, and the families of sockets
 pub record Host : Type 0 where
   pub rows : Path → Option Row
   pub families : List CallLine
@@ -83,7 +83,7 @@ abbrev pub table_effect : Result Table ℕ → Effect
 table_effect (Ok table) = SetTable table
 table_effect (Err errno) = Refuse errno
 
--- EPERM where the capability is not effective, capabilities(7); else the rule's effect
+-- EPERM if the capability is not effective, capabilities(7); else the rule's effect
 abbrev pub with_cap : ℕ → Creds → Effect → Effect
 with_cap cap creds effect = if has creds.effective cap then effect else Refuse eperm
 
@@ -91,30 +91,31 @@ abbrev pub with_cap_of : Option ℕ → Creds → Effect → Effect
 with_cap_of None creds effect = effect
 with_cap_of (Some cap) creds effect = with_cap cap creds effect
 
--- CAP_SYS_ADMIN is asked for
+-- the call needs CAP_SYS_ADMIN
 abbrev pub with_admin : Creds → Effect → Effect
 with_admin creds effect = with_cap cap_sys_admin creds effect
 
--- a capability counts for what belongs to the first user namespace there alone, user_namespaces(7), "Capabilities"
+-- a capability counts for resources of the first user namespace only if the process is in it, user_namespaces(7),
+-- "Capabilities"
 abbrev pub first_alone : Bool → Option ℕ → Effect → Effect
 first_alone false cap effect = effect
 first_alone true None effect = effect
 first_alone true (Some cap) effect = Refuse eperm
 
--- and for mounts of a mount namespace in the user namespace that it belongs to
+-- a capability counts for the mounts of a mount namespace only in the user namespace that owns it
 abbrev pub with_own : Bool → Effect → Effect
 with_own owns effect = if owns then effect else Refuse eperm
 
--- setuid(2), setgid(2) and the like in a newer user namespace, whose ids are not mapped: EINVAL
+-- setuid(2) and setgid(2) in a newer user namespace, whose ids are not mapped: EINVAL
 abbrev pub with_mapped : Bool → Effect → Effect
 with_mapped newer effect = if newer then Refuse einval else effect
 
--- setresuid(2) and setresgid(2) there leave alone an id that is -1
+-- setresuid(2) and setresgid(2) there: only -1 is valid, and leaves an id unchanged
 abbrev pub with_mapped_ids : Bool → ℕ → ℕ → ℕ → Effect → Effect
 with_mapped_ids newer real effective saved effect =
     if newer then (if (real == no_id && effective == no_id) && saved == no_id then Answer 0 else Refuse einval) else effect
 
--- setgroups(2) is refused there, where /proc/pid/setgroups is not written
+-- setgroups(2) there: EPERM, because its group ids are not mapped
 abbrev pub with_groups : Bool → Effect → Effect
 with_groups newer effect = if newer then Refuse eperm else effect
 
@@ -122,18 +123,18 @@ with_groups newer effect = if newer then Refuse eperm else effect
 abbrev pub is_policy : ℕ → Bool
 is_policy policy = nat_lt policy 4 || policy == 5
 
--- sched_setscheduler(2): EINVAL of another policy
+-- sched_setscheduler(2): EINVAL for an unknown policy
 abbrev pub schedule_answer : ℕ → Result ℕ ℕ
 schedule_answer policy = if is_policy policy then Ok 0 else Err einval
 
--- socket(2): EAFNOSUPPORT of a family that the table lacks; else the family's capability is asked for, and the value is 3, the
--- first descriptor behind the three standard ones
+-- socket(2): EAFNOSUPPORT if the table lacks the family; then the call needs the family's capability. Its value is 3, the first
+-- descriptor after the three standard ones
 abbrev pub socket_effect : Bool → Creds → Option CallLine → Effect
 socket_effect newer creds None = Refuse eafnosupport
 socket_effect newer creds (Some line) = first_alone newer line.cap (with_cap_of line.cap creds (Answer 3))
 
--- socketcall(2): SYS_SOCKET, which is 1, is as socket(2); the other operations, from SYS_BIND, which is 2, to SYS_SENDMMSG, which is
--- 20, are done; EINVAL of any other
+-- socketcall(2): SYS_SOCKET (1) is like socket(2). The other operations, from SYS_BIND (2) to SYS_SENDMMSG (20), succeed.
+-- EINVAL for any other
 abbrev pub socketcall_effect : Bool → Creds → ℕ → Option CallLine → Effect
 socketcall_effect newer creds operation line =
     if operation == 1 then socket_effect newer creds line
@@ -157,12 +158,12 @@ newuser = 0x1000_0000
 abbrev pub other_spaces : ℕ
 other_spaces = 0x6e02_0000
 
--- the 25 bits of no namespace
+-- the 25 bits that name no namespace
 abbrev pub no_spaces : ℕ
 no_spaces = 0x81fd_ffff
 
--- clone(2): threads are not modelled (EINVAL); a user namespace is made first, and gives what other namespaces ask for; without one
--- they ask for CAP_SYS_ADMIN
+-- clone(2): threads are not modelled (EINVAL). A new user namespace is made first and gives the capability that other
+-- namespaces need; without one, they need CAP_SYS_ADMIN
 abbrev pub clone_effect : Creds → ℕ → Effect
 clone_effect creds flags =
     if has_some thread_flag flags then Refuse einval
@@ -170,7 +171,7 @@ clone_effect creds flags =
     else if has_some other_spaces flags then with_admin creds (Child (has_some newns flags))
     else Child false
 
--- unshare(2), of namespaces alone: EINVAL of another flag; then as clone
+-- unshare(2), of namespaces only: EINVAL for another flag; then like clone
 abbrev pub unshare_effect : Creds → ℕ → Effect
 unshare_effect creds flags =
     if has_some no_spaces flags then Refuse einval
@@ -178,7 +179,7 @@ unshare_effect creds flags =
     else if has_some other_spaces flags then with_admin creds (if has_some newns flags then OwnTable else Answer 0)
     else Answer 0
 
--- PR_CAP_AMBIENT_IS_SET: EINVAL above the last capability; else whether the capability is ambient
+-- PR_CAP_AMBIENT_IS_SET: EINVAL above the last capability; else 1 if the capability is ambient and 0 if not
 abbrev pub is_set_effect : Creds → ℕ → Effect
 is_set_effect creds cap = if nat_lt cap_last_cap cap then Refuse einval else Answer (if has creds.ambient cap then 1 else 0)
 
@@ -192,16 +193,16 @@ ambient_effect creds operation cap =
     else if operation == 4 then SetCreds (after_clear_ambient creds)
     else Refuse einval
 
--- PR_SET_NO_NEW_PRIVS: EINVAL of another value than 1
+-- PR_SET_NO_NEW_PRIVS: EINVAL for any value but 1
 abbrev pub no_new_privs_effect : Creds → ℕ → Effect
 no_new_privs_effect creds value = if value == 1 then SetCreds (after_set_no_new_privs creds) else Refuse einval
 
--- PR_SET_KEEPCAPS: EINVAL of another value than 0 and 1
+-- PR_SET_KEEPCAPS: EINVAL for any value but 0 and 1
 abbrev pub keepcaps_effect : Creds → ℕ → Effect
 keepcaps_effect creds value = if nat_lt value 2 then SetCreds (after_set_keepcaps creds (value == 1)) else Refuse einval
 
--- prctl(2): PR_SET_NO_NEW_PRIVS 38, PR_GET_NO_NEW_PRIVS 39, PR_SET_KEEPCAPS 8, PR_CAPBSET_DROP 24 and PR_CAP_AMBIENT 47; EINVAL of
--- another option
+-- prctl(2): PR_SET_NO_NEW_PRIVS 38, PR_GET_NO_NEW_PRIVS 39, PR_SET_KEEPCAPS 8, PR_CAPBSET_DROP 24 and PR_CAP_AMBIENT 47; EINVAL
+-- for any other option
 abbrev pub prctl_effect : Creds → ℕ → ℕ → ℕ → Effect
 prctl_effect creds option value third =
     if option == 38 then no_new_privs_effect creds value
@@ -211,8 +212,8 @@ prctl_effect creds option value third =
     else if option == 47 then ambient_effect creds value third
     else Refuse einval
 
--- EINVAL where the bytes are no program; ENOMEM where the programs would be too long together, each but the newest counted with
--- 4 instructions more
+-- EINVAL if the bytes are no program; ENOMEM if the programs would be too long together, where each but the newest counts 4
+-- instructions more
 abbrev pub push_effect : List (List Insn) → Option (List Insn) → Effect
 push_effect stack None = Refuse einval
 push_effect stack (Some program) = if nat_le (room_of stack + length program) max_insns_per_path then Push program else Refuse enomem
@@ -224,7 +225,7 @@ seccomp_effect creds stack operation flags bytes =
     else if not (creds.no_new_privs || has creds.effective cap_sys_admin) then Refuse eacces
     else push_effect stack (program_of bytes)
 
--- what a call that the caller's programs let through comes to, by what it asks for
+-- the effect of what a call asks for, once the caller's programs let the call through
 abbrev pub effect_of : Host → Caller → Doing → Effect
 effect_of host caller (See path) = looks (see_answer 0 (finds host.rows (steps_of caller.table) path))
 effect_of host caller (Open flags path) =

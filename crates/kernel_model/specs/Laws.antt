@@ -20,7 +20,7 @@ use Rattle.kernel_model.specs.Worlds.{IsKernel}
 abbrev pub StepsByCases : Type 0
 StepsByCases = (world : World) (call : Call) → StepCase world call (step world call)
 
--- and each case is the step
+-- each case gives the result of the step
 abbrev pub CasesAreSteps : Type 0
 CasesAreSteps = (world : World) (call : Call) (out : Reply × World) → StepCase world call out → out ≡ step world call
 
@@ -28,33 +28,33 @@ CasesAreSteps = (world : World) (call : Call) (out : Reply × World) → StepCas
 abbrev pub RefusedChangesNothing : Type 0
 RefusedChangesNothing = (world : World) (call : Call) (errno : ℕ) → (step world call).0 ≡ Refused errno → (step world call).1 ≡ world
 
--- a call that kills ends its caller and changes nothing else
+-- a call for which the caller is killed ends the caller and changes nothing else
 abbrev pub KilledEndsTheCaller : Type 0
 KilledEndsTheCaller = (world : World) (call : Call) → (step world call).0 ≡ Killed
     → (process : Process) × (living_of world call.pid ≡ Some process) × ((step world call).1 ≡ with_process world call.pid (ended process))
 
--- programs are the oldest of a process
+-- these programs are the oldest of the process
 abbrev pub StandsOn : List (List Insn) → Process → Type 0
 StandsOn programs process = (newer : List (List Insn)) × (process.stack ≡ programs ++ newer)
 
 abbrev pub OfEach : (Process → Type 0) → World → Type 0
 OfEach P world = AllByRecursion P world.processes
 
--- programs that are the oldest of every process, as those of a launch are, stay so whatever calls follow
+-- if these programs are the oldest of every process, like the programs of a launch, they stay so whatever calls follow
 abbrev pub ProgramsStay : Type 0
 ProgramsStay = (programs : List (List Insn)) (world : World) → OfEach (StandsOn programs) world → (calls : List Call)
     → OfEach (StandsOn programs) (run world calls)
 
--- what holds of a world holds of each that calls make of it
+-- if a world has the properties of every world, it still has them after any calls
 abbrev pub WorldsStay : Type 0
 WorldsStay = (world : World) → IsKernel world.processes world.tables → (calls : List Call)
     → IsKernel (run world calls).processes (run world calls).tables
 
--- what the kernel was told stays
+-- the kernel's tables of calls and files stay
 abbrev pub ToldStays : Type 0
 ToldStays = (world : World) (calls : List Call) → ((run world calls).calls ≡ world.calls) × ((run world calls).site ≡ world.site)
 
--- after fork(2) the child is as its parent, in the parent's namespace, so that both have one table from then on
+-- after fork(2) the child equals its parent and is in the parent's namespace, so both share one table
 pub record IsForked (world : World) (pid : ℕ) (process : Process) (value : ℕ) (after : World) : Type 0 where
   pub parent : process_of after pid ≡ Some process
   pub child : process_of after value ≡ Some process
@@ -66,8 +66,8 @@ ForkShares = (world : World) (call : Call) (process : Process) (value : ℕ)
     → living_of world call.pid ≡ Some process → asked_of world.calls call ≡ Does Fork → (step world call).0 ≡ Done value
     → IsForked world call.pid process value (step world call).1
 
--- after clone(2) with CLONE_NEWNS alone the child is as its parent but for its namespace, which is a new one of its user namespace,
--- with an equal table where the parent's belonged to that, too, and with a locked one otherwise
+-- after clone(2) with CLONE_NEWNS alone, the child equals its parent but is in a new mount namespace of its user namespace. The
+-- new table is a copy of the parent's; the copy is locked if the parent's mount namespace belongs to another user namespace
 pub record IsCloned (world : World) (pid : ℕ) (process : Process) (value : ℕ) (after : World) : Type 0 where
   pub parent : process_of after pid ≡ Some process
   pub child : process_of after value ≡ Some (record process { namespace = length world.tables + 1 })
@@ -83,7 +83,8 @@ CloneGivesACopy = (world : World) (call : Call) (process : Process) (flags value
     → has_some newns flags ≡ true → (step world call).0 ≡ Done value
     → IsCloned world call.pid process value (step world call).1
 
--- after unshare(2) with CLONE_NEWNS alone the caller is as before but for its namespace, which is a new one as after clone(2)
+-- after unshare(2) with CLONE_NEWNS alone, the caller is unchanged but is in a new mount namespace, whose table is as after
+-- clone(2)
 pub record IsUnshared (world : World) (pid : ℕ) (process : Process) (after : World) : Type 0 where
   pub caller : process_of after pid ≡ Some (record process { namespace = length world.tables + 1 })
   pub own_table : mounts_of after (length world.tables + 1) ≡ copied (not (owner_of world process.namespace == process.user))

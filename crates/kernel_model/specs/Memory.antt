@@ -1,5 +1,5 @@
--- Which calls may need memory: those that make a process, a namespace, a mount, a program or a list of groups. A seccomp call,
--- a setgroups call and a mount call that is no remount count among them also where their rules refuse them.
+-- The calls that may need memory: those that make a process, a namespace, a mount, a program or a list of groups. seccomp,
+-- setgroups and mount (unless it remounts) count as such calls even if their rules refuse them.
 use Rattle.std.specs.Prelude.{ℕ, ◌&&◌, ◌||◌, not, nat_lt, Bool, true, false, length, Option, Some, None}
 use Rattle.bpf_code.specs.declared.decision.Decision.{Decision}
 use Rattle.bpf_code.specs.declared.decision.Decision.TheVariants as decision
@@ -13,14 +13,15 @@ use Rattle.kernel_model.specs.Effects.{effect_of}
 use Rattle.kernel_model.specs.World.{World, living_of, host_of, caller_of}
 use Rattle.kernel_model.specs.Step.{most_processes, most_namespaces, has_user_left, decision_of}
 
--- a mount, a program or a list of groups is asked for
+-- the call asks for a mount, a program or a list of groups
 abbrev pub asks_for_room : Doing → Bool
 asks_for_room (Mount source target flags) = not (has_all ms_remount_bind flags)
 asks_for_room (Setgroups ids) = true
 asks_for_room (Seccomp operation flags bytes) = true
 asks_for_room doing = false
 
--- a process or a mount namespace is made: there is room for it among so many, and for a user namespace where one is made, too
+-- the effect makes a process or a mount namespace. There is room for it besides those that exist, and for a user namespace if
+-- it makes one
 abbrev pub makes_one : Bool → ℕ → ℕ → Effect → Bool
 makes_one user processes namespaces (Child own) = nat_lt processes most_processes && (not own || nat_lt namespaces most_namespaces)
 makes_one user processes namespaces OwnTable = nat_lt namespaces most_namespaces
@@ -43,7 +44,7 @@ takes_asked world process Lacking = false
 takes_asked world process Misformed = false
 takes_asked world process (Does doing) = takes_doing world process doing
 
--- what the caller's programs do not let through takes none
+-- a call that the caller's programs do not let through needs no memory
 abbrev pub takes_decided : World → Call → Process → Decision → Bool
 takes_decided world call process decision.Pass = takes_asked world process (asked_of world.calls call)
 takes_decided world call process (decision.Errno errno) = false

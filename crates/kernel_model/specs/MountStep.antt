@@ -1,5 +1,5 @@
--- A mount step, which a launcher makes for a process: no rule of mount(2) is asked. At `/` it gives the first entry of the
--- process's table its flags, and everywhere else it puts its entry behind the others.
+-- A mount step, which a launcher makes for a process; the rules of mount(2) do not apply. At `/` the step changes the flags of
+-- the first entry of the process's table. Elsewhere it adds its entry after the others.
 use Rattle.std.specs.Prelude.{ℕ, ◌<◌, [], ◌∷◌, ◌++◌, length, Option, Some, None, if◌then◌else◌}
 use Rattle.site_table.specs.abs_path.Paths.{is_root}
 use Rattle.kern_mounts.specs.linux_numbers.Limits.{mount_max}

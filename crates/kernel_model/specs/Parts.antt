@@ -1,4 +1,4 @@
--- What an effect makes of the calling process and its table, and what is left to be made of the world.
+-- The change of an effect to the calling process and its table, and the work that remains.
 use Rattle.std.specs.Prelude.{◌≡◌, ℕ, [], ◌∷◌, ◌++◌, Bool}
 use Rattle.kern_mounts.specs.Mounts.{Mounts as Table}
 use Rattle.kernel_model.specs.declared.process.Process.{Process}
@@ -19,7 +19,7 @@ parts process table = record { process = process; table = table }
 abbrev pub caller_by : Process → Table → Bool → Caller
 caller_by process table owns = record { creds = process.creds; stack = process.stack; table = table; newer = is_newer process; owns = owns }
 
--- the reply, or what is to be made, and the parts then
+-- the reply or the remaining work, and the changed parts
 abbrev pub done_here : Parts → Effect → Outcome × Parts
 done_here old (Refuse errno) = (Replied (Refused errno), old)
 done_here old (Answer value) = (Replied (Done value), old)
@@ -32,11 +32,12 @@ done_here old (UserChild own) = (MakesUserChild own, old)
 done_here old (OwnUser own) = (MakesOwnUser own, old)
 done_here old End = (Replied (Done 0), parts (ended old.process) old.table)
 
--- the outcome of an effect that changes nothing of the caller
+-- the outcome of an effect that leaves the caller and its table unchanged
 abbrev pub Leaves : Outcome → Effect → Type 0
 Leaves outcome effect = (old : Parts) → (outcome, old) ≡ done_here old effect
 
--- the world with the parts put back, once they have this outcome: the reply is that of the effect, or the effect is what is left
+-- the world after this outcome: the effect is done and this is its reply, or the effect is the remaining work and the world is
+-- unchanged
 abbrev pub Left : World → ℕ → Process → Outcome → World → Effect → Type 0
 Left world pid process (Replied reply) after effect = (reply, after) ≡ applied world pid process effect
 Left world pid process (MakesChild own) after effect = (effect ≡ Child own) × (after ≡ world)
@@ -44,7 +45,7 @@ Left world pid process MakesTable after effect = (effect ≡ OwnTable) × (after
 Left world pid process (MakesUserChild own) after effect = (effect ≡ UserChild own) × (after ≡ world)
 Left world pid process (MakesOwnUser own) after effect = (effect ≡ OwnUser own) × (after ≡ world)
 
--- what holds where a process or a namespace is still to be made
+-- a fact that holds if a process or a namespace is still to be made
 abbrev pub UnlessReplied : Outcome → Type 0 → Type 0
 UnlessReplied (Replied reply) Fact = Unit {0}
 UnlessReplied (MakesChild own) Fact = Fact

@@ -1,4 +1,4 @@
--- The replies to rules that change at most one thing, each said of that thing alone.
+-- The replies of rules that change at most one thing, stated for that thing alone.
 use Rattle.std.specs.Prelude.{◌≡◌, ℕ, List, [], ◌∷◌, ◌++◌, Result, Ok, Err}
 use Rattle.bpf_code.specs.declared.machine.Insn.{Insn}
 use Rattle.kern_creds.specs.declared.creds.Creds.{Creds}
@@ -15,7 +15,7 @@ abbrev pub zero_reply : Result (Unit {0}) ℕ → Reply
 zero_reply (Ok done) = Done 0
 zero_reply (Err errno) = Refused errno
 
--- the reply to a call with this effect, which changes nothing
+-- the reply of a call with this effect, which changes nothing
 abbrev pub Answers : Reply → Effect → Type 0
 Answers reply (Refuse errno) = reply ≡ Refused errno
 Answers reply (Answer value) = reply ≡ Done value
@@ -28,7 +28,7 @@ Answers reply (UserChild own) = ⊥
 Answers reply (OwnUser own) = ⊥
 Answers reply End = ⊥
 
--- the reply to a call with this effect, and what the old credentials become
+-- the reply of a call with this effect, and the credentials after it
 abbrev pub Changes : Creds → Reply → Creds → Effect → Type 0
 Changes old reply new (Refuse errno) = (reply ≡ Refused errno) × (new ≡ old)
 Changes old reply new (Answer value) = (reply ≡ Done value) × (new ≡ old)
@@ -41,7 +41,7 @@ Changes old reply new (UserChild own) = ⊥
 Changes old reply new (OwnUser own) = ⊥
 Changes old reply new End = ⊥
 
--- and what the old table becomes
+-- the same, for the table after the call
 abbrev pub Mounts : Table → Reply → Table → Effect → Type 0
 Mounts old reply new (Refuse errno) = (reply ≡ Refused errno) × (new ≡ old)
 Mounts old reply new (SetTable table) = (reply ≡ Done 0) × (new ≡ table)
@@ -54,7 +54,7 @@ Mounts old reply new (UserChild own) = ⊥
 Mounts old reply new (OwnUser own) = ⊥
 Mounts old reply new End = ⊥
 
--- and what the old programs become
+-- the same, for the programs after the call
 abbrev pub Pushes : List (List Insn) → Reply → List (List Insn) → Effect → Type 0
 Pushes old reply new (Refuse errno) = (reply ≡ Refused errno) × (new ≡ old)
 Pushes old reply new (Push program) = (reply ≡ Done 0) × (new ≡ old ++ program ∷ [])

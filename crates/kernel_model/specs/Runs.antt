@@ -1,4 +1,4 @@
--- Runs: lists of calls from a world on, whichever processes make them.
+-- Runs: lists of calls, which any processes make from a world on.
 use Rattle.std.specs.Prelude.{List, [], ◌∷◌}
 use Rattle.std.specs.List.{AllByRecursion}
 use Rattle.kernel_model.specs.declared.kernel_calls.call.Call.{Call}
@@ -17,7 +17,7 @@ pub record Moment : Type 0 where
 abbrev pub moment_at : World → Call → Moment
 moment_at world call = record { before = world; call = call; reply = (step world call).0; after = (step world call).1 }
 
--- the moments of a run: each call is made in the world that the ones before it leave
+-- the moments of a run: each call is made in the world after the calls before it
 abbrev pub moments : World → List Call → List Moment
 moments world [] = []
 moments world (call ∷ calls) = moment_at world call ∷ moments (step world call).1 calls
@@ -37,6 +37,6 @@ IsDone (Done value) = Unit {0}
 IsDone (Refused errno) = ⊥
 IsDone Killed = ⊥
 
--- every call of the run is done
+-- every call of the run succeeds
 abbrev pub AllDone : List Moment → Type 0
 AllDone ms = AllByRecursion (λ moment. IsDone moment.reply) ms

@@ -1,4 +1,4 @@
--- The processes and mount tables that were made, apart from what the kernel is told.
+-- The processes and mount tables of a world, without the kernel's tables of calls and files.
 use Rattle.std.specs.Prelude.{◌≡◌, ℕ, ◌-◌, ◌==◌, ◌<◌, not, if◌then◌else◌, List, slice_get, Option, Some, None, option_map}
 use Rattle.call_table.specs.Table as calls
 use Rattle.site_table.specs.Table.{Site, row_at}
@@ -12,7 +12,7 @@ use Rattle.kernel_model.specs.Effects.{Effect, Host, effect_of}
 use Rattle.kernel_model.specs.World.{World, if_alive, host_of, caller_of}
 use Rattle.kernel_model.specs.Step.{applied}
 
--- number n stands at the place n - 1
+-- number n is at place n - 1
 pub record State : Type 0 where
   pub processes : List Process
   pub tables : List Table
@@ -36,26 +36,26 @@ host_with told = host_by told.calls.now told.site.now
 abbrev pub effect_in : World → Process → Doing → Effect
 effect_in world process doing = effect_of (host_of world) (caller_of world process) doing
 
--- where the living process with this number stands
+-- the place of the living process with this number
 abbrev pub place_of : List Process → ℕ → Option ℕ
 place_of processes pid = if pid == 0 then None else option_map (λ process. pid - 1) (if_alive (slice_get processes (pid - 1)))
 
--- the process that stands at a place makes a call, and it comes to this
+-- a fact of the process at this place, for each number that has this place
 abbrev pub AtPlace : State → ℕ → (ℕ → Process → Type 0) → Type 0
 AtPlace state place Fact = (pid : ℕ) (process : Process) → place ≡ pid - 1 → slice_get state.processes place ≡ Some process
     → Fact pid process
 
--- with this effect, whatever the kernel is told
+-- the reply and the state after this effect, for any tables of calls and files
 abbrev pub Applies : State → ℕ → Effect → Reply → State → Type 0
 Applies old place effect reply new = (calls : calls.Table) (site : Site)
     → AtPlace old place (λ pid process. (reply, world_of calls site new) ≡ applied (world_of calls site old) pid process effect)
 
--- the same where the kernel is told this site
+-- the same, for this site and any table of calls
 abbrev pub AppliesAt : Site → State → ℕ → Effect → Reply → State → Type 0
 AppliesAt site old place effect reply new = (calls : calls.Table)
     → AtPlace old place (λ pid process. (reply, world_of calls site new) ≡ applied (world_of calls site old) pid process effect)
 
--- and where it allows one more user namespace
+-- the same, for every site that allows one more user namespace
 abbrev pub AppliesUser : State → ℕ → Effect → Reply → State → Type 0
 AppliesUser old place effect reply new = (site : Site) → old.users < site.user_namespaces → AppliesAt site old place effect reply new
 

@@ -1,4 +1,4 @@
--- One step: one call of one process, the reply to it, and the world after it.
+-- One step: one call of one process, its reply, and the world after it.
 use Rattle.std.specs.Prelude.{ℕ, ◌+◌, nat_lt, Bool, true, false, [], ◌∷◌, ◌++◌, length, Option, Some, None, if◌then◌else◌}
 use Rattle.bpf_code.specs.declared.machine.CallData.{CallData}
 use Rattle.bpf_code.specs.declared.decision.Decision.{Decision}
@@ -16,16 +16,16 @@ use Rattle.kernel_model.specs.Effects.{effect_of}
 use Rattle.kernel_model.specs.World.{World, living_of, with_process, with_table, with_child, with_copy, with_user, entered_by, moved_to}
 use Rattle.kernel_model.specs.World.{ended, host_of, caller_of}
 
--- at most 1,024 processes are made in a world, those that ended among them
+-- a world can make at most 1,024 processes, including ended ones
 abbrev pub most_processes : ℕ
 most_processes = 1024
 
--- and at most 64 mount namespaces
+-- a world can make at most 64 mount namespaces
 abbrev pub most_namespaces : ℕ
 most_namespaces = 64
 
--- fork(2): the child is as the caller, in the caller's namespace; clone(2) with CLONE_NEWNS: in a namespace of its own, whose
--- table is a copy of the caller's; ENOSPC where no namespace is left. The value is the child's number
+-- fork(2): the child equals the caller and is in its namespace. clone(2) with CLONE_NEWNS: the child is in a namespace of its
+-- own, with a copy of the caller's table; ENOSPC if no namespace is left. The value is the child's number
 abbrev pub child_in : World → World → Process → Bool → Reply × World
 child_in old world child false = (Done (length world.processes + 1), with_child world child)
 child_in old world child true =
@@ -36,7 +36,7 @@ child_in old world child true =
 abbrev pub child_of : World → Process → Bool → Reply × World
 child_of world process own = child_in world world process own
 
--- the process, in a mount namespace of its own where that is asked for
+-- the process, moved to a mount namespace of its own if the call asks for that
 abbrev pub moved_in : World → World → ℕ → Process → Bool → Reply × World
 moved_in old world pid process false = (Done 0, with_process world pid process)
 moved_in old world pid process true =
@@ -48,8 +48,8 @@ moved_in old world pid process true =
 abbrev pub has_user_left : World → Bool
 has_user_left world = nat_lt world.users world.site.user_namespaces
 
--- what an effect makes of the world, and the reply: EAGAIN where no process is left, ENOSPC where no namespace is; a refusal
--- changes nothing
+-- the reply and the world after an effect: EAGAIN if no process is left, ENOSPC if no namespace is left. A refusal changes
+-- nothing
 abbrev pub applied : World → ℕ → Process → Effect → Reply × World
 applied world pid process (Refuse errno) = (Refused errno, world)
 applied world pid process (Answer value) = (Done value, world)
@@ -68,18 +68,18 @@ applied world pid process (OwnUser own) =
     if has_user_left world then moved_in world (with_user world) pid (entered_by process world.users) own else (Refused enospc, world)
 applied world pid process End = (Done 0, with_process world pid (ended process))
 
--- ENOSYS where the kernel lacks the call, then EFAULT where the payload is not of its form, then the call's rule
+-- ENOSYS if the kernel lacks the call, then EFAULT if the payload does not have its form; else the call's rule decides
 abbrev pub answered : World → ℕ → Process → Asked → Reply × World
 answered world pid process Lacking = (Refused enosys, world)
 answered world pid process Misformed = (Refused efault, world)
 answered world pid process (Does doing) = applied world pid process (effect_of (host_of world) (caller_of world process) doing)
 
--- what the stack is asked, struct seccomp_data of seccomp(2): the number, the architecture of the call's ABI, no instruction
--- pointer and the six words
+-- the input of the stack of programs, struct seccomp_data of seccomp(2): the call's number, its ABI's architecture, no
+-- instruction pointer, and the six words
 abbrev pub data_of : World → Call → CallData
 data_of world call = record { nr = call.nr; arch = arch_of world.calls call.abi; ip = 0; args = call.args }
 
--- ENOSYS where the table lacks the ABI; else the stack decides
+-- ENOSYS if the table lacks the ABI; else the stack of programs decides
 abbrev pub decision_by : Call → Process → Option Abi → Decision
 decision_by call process None = decision.Errno enosys
 decision_by call process (Some abi) = decision_on process.stack (record { nr = call.nr; arch = abi.arch; ip = 0; args = call.args })
@@ -87,13 +87,13 @@ decision_by call process (Some abi) = decision_on process.stack (record { nr = c
 abbrev pub decision_of : World → Call → Process → Decision
 decision_of world call process = decision_by call process (abi_at world.calls call.abi)
 
--- what the stack lets through is looked at; an errno of the stack answers the call; or the caller is killed
+-- the stack lets the call through, refuses it with an errno, or has the caller killed
 abbrev pub decided : World → Call → Process → Decision → Reply × World
 decided world call process decision.Pass = answered world call.pid process (asked_of world.calls call)
 decided world call process (decision.Errno errno) = (Refused errno, world)
 decided world call process decision.Kill = (Killed, with_process world call.pid (ended process))
 
--- ESRCH where no living process makes the call
+-- ESRCH if no living process has the call's number
 abbrev pub step_by : World → Call → Option Process → Reply × World
 step_by world call None = (Refused esrch, world)
 step_by world call (Some process) = decided world call process (decision_of world call process)

@@ -1,4 +1,4 @@
--- The step by its cases: each reply, the world after it, and why it came.
+-- The cases of a step: each reply, the world after it, and its reason.
 use Rattle.std.specs.Prelude.{◌≡◌, ℕ, ◌+◌, ◌<◌, ◌≤◌, Bool, true, false, Some, None, [], ◌∷◌, ◌++◌, length, List}
 use Rattle.bpf_code.specs.declared.machine.Insn.{Insn}
 use Rattle.bpf_code.specs.declared.decision.Decision.TheVariants.{Pass, Errno, Kill}
@@ -21,7 +21,7 @@ pub record Passes (world : World) (call : Call) (process : Process) : Type 0 whe
   pub living : living_of world call.pid ≡ Some process
   pub passes : decision_of world call process ≡ Pass
 
--- what an effect comes to, by its cases
+-- the cases of an effect
 pub data EffectCase (world : World) (pid : ℕ) (process : Process) : Effect → Reply × World → Type 0 where
   refuses : (errno : ℕ) → EffectCase world pid process (Refuse errno) (Refused errno, world)
   answers : (value : ℕ) → EffectCase world pid process (Answer value) (Done value, world)
@@ -63,8 +63,9 @@ pub data EffectCase (world : World) (pid : ℕ) (process : Process) : Effect →
       → EffectCase world pid process (OwnUser true) (Done 0, with_process (with_copy (with_user world) process.namespace (world.users + 2)) pid (moved_to (entered_by process world.users) (length world.tables)))
   ends : EffectCase world pid process End (Done 0, with_process world pid (ended process))
 
--- nobody makes the call; the table lacks its ABI (ENOSYS) or its caller's stack refuses it; the stack has the caller killed; the
--- kernel lacks it; its payload is not of its form; or it is asked for something, which comes to what its effect comes to
+-- the cases of a call. No living process makes it. The table lacks its ABI (ENOSYS), or the caller's stack refuses it. The
+-- stack has the caller killed. The kernel lacks the call. Its payload does not have its form. Or it asks for something, and the
+-- effect's case gives the result
 pub data StepCase (world : World) (call : Call) : Reply × World → Type 0 where
   absent : living_of world call.pid ≡ None → StepCase world call (Refused esrch, world)
   filtered : (process : Process) (errno : ℕ) → living_of world call.pid ≡ Some process → decision_of world call process ≡ Errno errno

@@ -11,24 +11,24 @@ use Rattle.kern_mounts.specs.Mounts.{Mounts as Table, steps_of, first_mounts}
 use Rattle.kernel_model.specs.declared.process.Process.{Process}
 use Rattle.kernel_model.specs.Effects.{Caller, Host}
 
--- the tables that the kernel is told, and the processes and mount tables that were made: number n stands at the place n - 1
+-- the kernel's tables of calls and files, and the processes and mount tables; number n is at place n - 1
 pub record World : Type 0 where
   pub calls : calls.Table
   pub site : Site
   pub processes : List Process
   pub tables : List Table
-  -- the user namespace that each mount namespace belongs to, and how many user namespaces were made beside the first
+  -- the user namespace of each mount namespace, and the number of user namespaces besides the first
   pub owners : List ℕ
   pub users : ℕ
 
--- things numbered from 1
+-- elements numbered from 1
 abbrev pub of_number : {X : Type 0} → List X → ℕ → Option X
 of_number xs number = if number == 0 then None else slice_get xs (number - 1)
 
 abbrev pub put_number : {X : Type 0} → List X → ℕ → X → List X
 put_number xs number x = slice_set xs (number - 1) x
 
--- the process that was made with this number, credentials(7)
+-- the process with this number, living or ended, credentials(7)
 abbrev pub process_of : World → ℕ → Option Process
 process_of world pid = of_number world.processes pid
 
@@ -36,7 +36,7 @@ abbrev pub if_alive : Option Process → Option Process
 if_alive None = None
 if_alive (Some process) = if process.alive then Some process else None
 
--- the same, while it lives
+-- the same process, if it lives
 abbrev pub living_of : World → ℕ → Option Process
 living_of world pid = if_alive (process_of world pid)
 
@@ -62,11 +62,11 @@ with_table world namespace table = record world { tables = put_number world.tabl
 abbrev pub ended : Process → Process
 ended process = record process { alive = false }
 
--- what the kernel is told, as a rule sees it
+-- the tables of the host, as a rule sees them
 abbrev pub host_of : World → Host
 host_of world = record { rows = row_at world.site.rows; families = world.calls.families }
 
--- the user namespace that a mount namespace belongs to
+-- the user namespace that owns a mount namespace
 abbrev pub owner_or : Option ℕ → ℕ
 owner_or None = 0
 owner_or (Some user) = user
@@ -74,7 +74,7 @@ owner_or (Some user) = user
 abbrev pub owner_of : World → ℕ → ℕ
 owner_of world namespace = owner_or (of_number world.owners namespace)
 
--- the process is in another user namespace than the first
+-- the process's user namespace is not the first
 abbrev pub is_newer : Process → Bool
 is_newer process = not (process.user == 1)
 
@@ -88,30 +88,30 @@ caller_of world process = record {
   owns = owner_of world process.namespace == process.user;
 }
 
--- one process more
+-- the world with one more process
 abbrev pub with_child : World → Process → World
 with_child world child = record world { processes = world.processes ++ child ∷ [] }
 
--- one namespace more, which belongs to this user namespace, with the table of another one
+-- the world with one more mount namespace, which belongs to this user namespace; its table is a copy of another's
 abbrev pub with_copy : World → ℕ → ℕ → World
 with_copy world namespace user = record world {
   tables = world.tables ++ copied (not (owner_of world namespace == user)) (mounts_of world namespace) ∷ [];
   owners = world.owners ++ user ∷ [];
 }
 
--- one user namespace more
+-- the world with one more user namespace
 abbrev pub with_user : World → World
 with_user world = record world { users = world.users + 1 }
 
--- the process in the newest of so many user namespaces beside the first, and one more
+-- the process in a new user namespace, where `users` counts the earlier ones besides the first
 abbrev pub entered_by : Process → ℕ → Process
 entered_by process users = record process { creds = entered process.creds; user = users + 2 }
 
--- the process in the newest of so many namespaces and one more
+-- the process in a new mount namespace, where `count` counts the earlier ones
 abbrev pub moved_to : Process → ℕ → Process
 moved_to process count = record process { namespace = count + 1 }
 
--- process 1 alone, as the kernel starts it: root, without programs, in the first mount namespace and the first user namespace
+-- the first process: root, without programs, in the first mount namespace and the first user namespace
 abbrev pub first_process : Process
 first_process = record { creds = creds.start; stack = []; namespace = 1; user = 1; alive = true }
 

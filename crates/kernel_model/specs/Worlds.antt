@@ -1,4 +1,4 @@
--- What holds of every world, whatever was called.
+-- The properties of every world, whatever calls its processes make.
 use Rattle.std.specs.Prelude.{◌≡◌, ℕ, ◌≤◌, false, List, [], ◌∷◌, length}
 use Rattle.std.specs.List.{AllByRecursion}
 use Rattle.site_table.specs.abs_path.Paths.{is_root}
@@ -7,7 +7,7 @@ use Rattle.kern_mounts.specs.Mounts.{Mounts as Table, steps_of}
 use Rattle.kernel_model.specs.declared.process.Process.{Process}
 use Rattle.kernel_model.specs.Step.{most_processes, most_namespaces}
 
--- the process is in one of so many namespaces
+-- the process's mount namespace is one of the first `count`
 pub record HasSpace (count : ℕ) (process : Process) : Type 0 where
   pub numbered : 1 ≤ process.namespace
   pub within : process.namespace ≤ count

@@ -1,4 +1,4 @@
--- The definitions of `call_table` that crates above take from here.
+-- The definitions of `call_table` that crates above use through this crate.
 pub use Rattle.call_table.specs.Causes as Causes
 pub use Rattle.call_table.specs.Facts as Facts
 pub use Rattle.call_table.specs.Faults as Faults

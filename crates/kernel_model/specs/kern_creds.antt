@@ -1,4 +1,4 @@
--- The definitions of `kern_creds` that crates above take from here.
+-- The definitions of `kern_creds` that crates above use through this crate.
 pub use Rattle.kern_creds.specs.Capset as Capset
 pub use Rattle.kern_creds.specs.Enter as Enter
 pub use Rattle.kern_creds.specs.Exec as Exec

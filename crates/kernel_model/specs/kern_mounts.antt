@@ -1,4 +1,4 @@
--- The definitions of `kern_mounts` that crates above take from here.
+-- The definitions of `kern_mounts` that crates above use through this crate.
 pub use Rattle.kern_mounts.specs.Answer as Answer
 pub use Rattle.kern_mounts.specs.Backing as Backing
 pub use Rattle.kern_mounts.specs.Bind as Bind

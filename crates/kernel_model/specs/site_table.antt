@@ -1,4 +1,4 @@
--- The definitions of `site_table` that crates above take from here.
+-- The definitions of `site_table` that crates above use through this crate.
 pub use Rattle.site_table.specs.Exact as Exact
 pub use Rattle.site_table.specs.Ids as Ids
 pub use Rattle.site_table.specs.Keys as Keys

@@ -1,4 +1,4 @@
-//! What the calls of a process come to, once its programs have let them through.
+//! Performs a call of a process, once the process's filter programs let it through.
 
 ghost use Rattle.std.specs.Prelude.{◌≡◌, ◌<◌, false, length, IfOk, IsOk, OnErr};
 ghost use Rattle.std.specs.List.{AllByRecursion};
@@ -18,7 +18,7 @@ use crate::told::Told;
 use std::alloc::{AllocError, Global};
 
 impl State {
-    // What the process at this place asks for, as far as it and its table change.
+    // Performs the part of a call that changes only the process at this place and its table.
     fn perform_there(
         &mut self,
         alloc: Global,
@@ -48,7 +48,7 @@ impl State {
         )
     }
 
-    /// What the process at this place asks for.
+    /// Performs a call of the process at this place.
     pub fn perform(
         &mut self,
         alloc: Global,

@@ -1,4 +1,4 @@
-//! What clone(2) and unshare(2) ask for, by their flags.
+//! The effects of clone(2) and unshare(2), which their flags decide.
 
 ghost use Rattle.kernel_model.specs.Effects.{clone_effect, unshare_effect};
 ghost use Rattle.kernel_model.specs.Parts.{Leaves};
@@ -21,10 +21,11 @@ const CLONE_NEWUSER: u32 = 0x1000_0000;
 // CLONE_NEWNS, CLONE_NEWCGROUP, CLONE_NEWUTS, CLONE_NEWIPC, CLONE_NEWPID and CLONE_NEWNET, namespaces(7).
 const OTHER_SPACES: u32 = 0x6e02_0000;
 
-// The bits of no namespace.
+// The bits that name no namespace.
 const NO_SPACES: u32 = !(OTHER_SPACES | CLONE_NEWUSER);
 
-/// clone(2): EINVAL of a thread, EPERM of a namespace without a user namespace and without CAP_SYS_ADMIN.
+/// clone(2). Returns EINVAL for a thread. Returns EPERM if the caller asks for another namespace but no user namespace, and
+/// lacks CAP_SYS_ADMIN.
 pub(crate) fn clone(creds: &Creds, flags: u32) -> Outcome
     ensures { Leaves result (clone_effect creds.now flags) }
 {
@@ -47,7 +48,8 @@ pub(crate) fn clone(creds: &Creds, flags: u32) -> Outcome
     }
 }
 
-/// unshare(2): EINVAL of a flag of no namespace, EPERM of one without a user namespace and without CAP_SYS_ADMIN.
+/// unshare(2). Returns EINVAL for a flag that names no namespace. Returns EPERM if the caller asks for another namespace but no
+/// user namespace, and lacks CAP_SYS_ADMIN.
 pub(crate) fn unshare(creds: &Creds, flags: u32) -> Outcome
     ensures { Leaves result (unshare_effect creds.now flags) }
 {

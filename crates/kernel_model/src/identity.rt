@@ -1,4 +1,4 @@
-//! Calls that change credentials, but for prctl: execve(2), setgroups(2). The others stand in `kern_creds` as they are.
+//! execve(2) and setgroups(2). `kern_creds` has the other calls that change credentials, except prctl(2).
 
 ghost use Rattle.std.specs.Prelude.{◌≡◌, IfOk, OnErr};
 ghost use Rattle.site_table.specs.Table.{row_at};
@@ -21,7 +21,7 @@ use kern_mounts::linux_numbers::errnos::EPERM;
 use std::alloc::AllocError;
 
 impl<'a> Told<'a> {
-    /// execve(2): the program is looked at on the table, and its marks change the credentials.
+    /// execve(2): looks the program up on the table and changes the credentials by its marks.
     pub fn execute(
         &self,
         creds: &mut Creds,

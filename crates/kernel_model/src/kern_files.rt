@@ -1,8 +1,8 @@
-//! What calls that name paths answer in a modelled Linux kernel, over a mount table and the rows of a site
-//! (path_resolution(7), stat(2), open(2), execve(2), mount(2), umount2(2)).
+//! Calls that name paths in a modelled Linux kernel, on a mount table and the rows of a site (path_resolution(7), stat(2),
+//! open(2), execve(2), mount(2), umount2(2)).
 //!
-//! Nothing here looks at capabilities: the kernel asks before whether the caller may make the call.
-//! `see(&table, &site, &path)?` is `()` where the path is there.
+//! This module does not check capabilities: the kernel checks before whether the caller may make the call. `see(&table, &site,
+//! &path)?` returns `()` if the path exists and is not hidden.
 
 mod find;
 mod flags;

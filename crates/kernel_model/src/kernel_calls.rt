@@ -1,8 +1,8 @@
-//! Calls as processes make them, and the rule that a table gives each number.
+//! Calls as processes make them, and the rule that a table gives each call number.
 //!
-//! A call is a number, six words and what its pointers point to, syscall(2). `Rules` says once for each call of a
-//! `CallTable` what the kernel does for it, and `asked` says what a call asks for.
-//! Where a table has the line `call getpid 39`, `rules.rule(&table, 0, 39)` is `Some(Rule::Plain(None))`.
+//! A call has a number, six words, and the data that its pointers point to, syscall(2). `Rules` finds once, for each call of a
+//! `CallTable`, what the kernel does for it. `Rules::asked` returns what a call asks for. If the table has the line `call
+//! getpid 39`, `rules.rule(&table, 0, 39)` is `Some(Rule::Plain(None))`.
 
 mod asked;
 mod call;

@@ -1,5 +1,5 @@
-//! Calls that change nothing: stat(2) and its like, open(2), creat(2), truncate(2), socket(2), socketcall(2),
-//! sched_setscheduler(2), and those of which nothing is asked but a capability. None takes memory.
+//! Calls that change nothing: stat(2) and similar calls, open(2), creat(2), truncate(2), socket(2), socketcall(2),
+//! sched_setscheduler(2), and calls that only check a capability. None of them takes memory.
 
 ghost use Rattle.std.specs.Prelude.{◌≡◌, option_copied};
 ghost use Rattle.call_table.specs.Lookups.{numbered};
@@ -19,13 +19,13 @@ use kern_creds::Creds;
 use kern_mounts::MountTable;
 use kern_mounts::linux_numbers::errnos::{EAFNOSUPPORT, EINVAL, EPERM};
 
-// The first descriptor behind the three standard ones.
+// The first descriptor after the three standard ones.
 const DESCRIPTOR: u64 = 3;
 
 // The operation of socketcall(2) that makes a socket, linux/net.h.
 const SYS_SOCKET: u32 = 1;
 
-// The first and the last of its other operations.
+// The first and the last of socketcall's other operations.
 const SYS_BIND: u32 = 2;
 
 const SYS_SENDMMSG: u32 = 20;
@@ -33,7 +33,7 @@ const SYS_SENDMMSG: u32 = 20;
 // SCHED_OTHER, SCHED_FIFO, SCHED_RR, SCHED_BATCH and SCHED_IDLE, sched(7).
 const POLICIES: [u32; 5] = [0, 1, 2, 3, 5];
 
-// The reply with this value, unless the rule refuses.
+// Returns this value in a reply, unless the rule refuses.
 fn done(value: u64, outcome: Result<(), u32>) -> Reply
     ensures { result ≡ value_reply (valued value outcome) }
 {
@@ -44,21 +44,21 @@ fn done(value: u64, outcome: Result<(), u32>) -> Reply
 }
 
 impl<'a> Told<'a> {
-    /// stat(2), access(2) and their like: the path is found.
+    /// stat(2), access(2) and other calls that only look a path up.
     pub fn see(&self, table: &MountTable, path: &AbsPath) -> Reply
         ensures by_the_place { result ≡ value_reply (see_answer 0 (finds (row_at self.now.site.now.rows) (steps_of table.now) path.now)) }
     {
         done(0, see(table, self.site, path))
     }
 
-    /// open(2) and openat(2), for what the flags say.
+    /// open(2) and openat(2), with these flags.
     pub fn open(&self, table: &MountTable, path: &AbsPath, flags: u32) -> Reply
         ensures by_the_place { result ≡ value_reply (open_answer flags (flags_at (steps_of table.now) path.now) (finds (row_at self.now.site.now.rows) (steps_of table.now) path.now)) }
     {
         value_reply(open_file(table, self.site, path, flags))
     }
 
-    /// creat(2) of a file that is there: it is opened for writing.
+    /// creat(2) of a file that exists: opens it for writing.
     pub fn create(&self, table: &MountTable, path: &AbsPath) -> Reply
         ensures by_the_place { result ≡ value_reply (write_answer 3 (flags_at (steps_of table.now) path.now) (finds (row_at self.now.site.now.rows) (steps_of table.now) path.now)) }
     {
@@ -72,7 +72,7 @@ impl<'a> Told<'a> {
         done(0, write_file(table, self.site, path))
     }
 
-    /// socket(2): EAFNOSUPPORT of a family that the table lacks, EPERM without the family's capability.
+    /// socket(2). Returns EAFNOSUPPORT if the table lacks the family, and EPERM without the family's capability.
     pub fn socket(&self, creds: &Creds, newer: bool, family: u32) -> Reply
         ensures by_the_family { Answers result (socket_effect newer creds.now (numbered family self.now.calls.now.families)) }
     {
@@ -82,7 +82,7 @@ impl<'a> Told<'a> {
         }
     }
 
-    /// socketcall(2): as socket(2) for SYS_SOCKET, and EINVAL of an operation that there is not.
+    /// socketcall(2): like socket(2) for SYS_SOCKET. Returns EINVAL for an unknown operation.
     pub fn socketcall(&self, creds: &Creds, newer: bool, operation: u32, family: u32) -> Reply
         ensures by_the_family { Answers result (socketcall_effect newer creds.now operation (numbered family self.now.calls.now.families)) }
     {
@@ -100,15 +100,15 @@ fn line_numbered(lines: &[CallLine], number: u32) -> Option<&CallLine>
     lines.iter().find(|line| line.number == number)
 }
 
-// The family of this number.
+// Returns the line of the family with this number.
 fn family_of(calls: &CallTable, number: u32) -> Option<&CallLine>
     ensures { option_copied result ≡ numbered number calls.now.families }
 {
     line_numbered(calls.families(), number)
 }
 
-/// A call that asks for a capability, if for any, and has this value: EPERM where the capability is not effective in the first user
-/// namespace.
+/// The reply to a call that needs this capability, or none, and has this value. Returns EPERM unless the capability is
+/// effective in the first user namespace.
 pub(crate) fn with_cap_of(cap: Option<u8>, creds: &Creds, newer: bool, value: u64) -> Reply
     ensures { Answers result (first_alone newer cap (with_cap_of cap creds.now (Answer value))) }
 {
@@ -118,7 +118,7 @@ pub(crate) fn with_cap_of(cap: Option<u8>, creds: &Creds, newer: bool, value: u6
     }
 }
 
-/// sched_setscheduler(2): EINVAL of a policy that there is not.
+/// sched_setscheduler(2). Returns EINVAL for an unknown policy.
 pub(crate) fn schedule(policy: u32) -> Reply
     ensures { result ≡ value_reply (schedule_answer policy) }
 {

@@ -18,14 +18,15 @@ use kern_mounts::MountTable;
 use kern_mounts::linux_numbers::errnos::{EAGAIN, ENOSPC};
 use std::alloc::AllocError;
 
-/// The most processes that are made, those that ended among them.
+/// The most processes that a world can make, including ended ones.
 const MAX_PROCESSES: usize = 1_024;
 
-/// The most mount namespaces that are made.
+/// The most mount namespaces that a world can make.
 const MAX_NAMESPACES: usize = 64;
 
 impl State {
-    // A copy of the table at this place for a user namespace: locked where its own namespace belongs to another one.
+    // Copies the table at this place for a user namespace. The copy is locked if the table's mount namespace belongs to another
+    // user namespace.
     fn table_for(&self, at: usize, user: u32) -> Result<MountTable, AllocError>
         requires there { at < length self.now.tables }
         requires owned { length self.now.owners ≡ length self.now.tables }
@@ -38,7 +39,7 @@ impl State {
         }
     }
 
-    // A copy of the process at this place, in its namespace.
+    // Adds a copy of the process at this place, in the same mount namespace.
     fn make_sharing(&mut self, place: usize) -> Result<Reply, AllocError>
         requires there { place < length self.old.processes }
         requires room { length self.old.processes < most_processes }
@@ -50,7 +51,7 @@ impl State {
         Ok(Reply::Done(self.processes.len() as u64))
     }
 
-    // A copy of the process at this place, in a namespace of its own with a copy of the table.
+    // Adds a copy of the process at this place, in a mount namespace of its own with a copy of the table.
     fn make_apart(&mut self, place: usize) -> Result<Reply, AllocError>
         requires there { place < length self.old.processes }
         requires spaces { AllByRecursion (HasSpace (length self.old.tables)) self.old.processes }
@@ -77,7 +78,7 @@ impl State {
         }
     }
 
-    /// A copy of the process at this place, if there is room: in a namespace of its own where that is asked for.
+    /// Adds a copy of the process at this place, if there is room. `own` asks for a mount namespace of its own.
     pub fn make_child(&mut self, place: usize, own: bool) -> Result<Reply, AllocError>
         requires there { place < length self.old.processes }
         requires spaces { AllByRecursion (HasSpace (length self.old.tables)) self.old.processes }
@@ -98,7 +99,7 @@ impl State {
         self.make_apart(place)
     }
 
-    // A namespace with a copy of the table, and the process at this place in it.
+    // Adds a mount namespace with a copy of the table, and moves the process at this place into it.
     fn move_apart(&mut self, place: usize) -> Result<(), AllocError>
         requires there { place < length self.old.processes }
         requires spaces { AllByRecursion (HasSpace (length self.old.tables)) self.old.processes }
@@ -121,7 +122,7 @@ impl State {
         }
     }
 
-    /// A namespace with a copy of the table, if there is room, and the process at this place in it.
+    /// Adds a mount namespace with a copy of the table, if there is room, and moves the process at this place into it.
     pub fn make_table(&mut self, place: usize) -> Result<Reply, AllocError>
         requires there { place < length self.old.processes }
         requires spaces { AllByRecursion (HasSpace (length self.old.tables)) self.old.processes }
@@ -137,7 +138,7 @@ impl State {
         Ok(Reply::Done(0))
     }
 
-    // A copy of the process at this place in a user namespace of its own, in the same mount namespace.
+    // Adds a copy of the process at this place in a user namespace of its own, in the same mount namespace.
     fn make_user_sharing(&mut self, place: usize) -> Result<Reply, AllocError>
         requires there { place < length self.old.processes }
         requires few { self.old.users < most_spaces }
@@ -153,7 +154,7 @@ impl State {
         Ok(Reply::Done(self.processes.len() as u64))
     }
 
-    // A copy of the process at this place in a user namespace of its own, which a mount namespace of its own belongs to.
+    // Adds a copy of the process at this place in a user namespace of its own, and in a mount namespace that belongs to it.
     fn make_user_apart(&mut self, place: usize) -> Result<Reply, AllocError>
         requires there { place < length self.old.processes }
         requires spaces { AllByRecursion (HasSpace (length self.old.tables)) self.old.processes }
@@ -184,8 +185,8 @@ impl State {
         }
     }
 
-    /// A copy of the process at this place in a user namespace of its own, if there is room: in a mount namespace of its own, too,
-    /// where that is asked for.
+    /// Adds a copy of the process at this place in a user namespace of its own, if there is room. `own` asks for a mount
+    /// namespace of its own, too.
     pub fn make_user_child(
         &mut self,
         told: &Told<'_>,
@@ -214,7 +215,7 @@ impl State {
         self.make_user_apart(place)
     }
 
-    // The process at this place is in a user namespace of its own, and in the same mount namespace.
+    // Moves the process at this place into a user namespace of its own. It stays in its mount namespace.
     fn enter(&mut self, place: usize)
         requires there { place < length self.old.processes }
         requires few { self.old.users < most_spaces }
@@ -227,7 +228,7 @@ impl State {
         self.users += 1;
     }
 
-    // The process at this place is in a user namespace of its own, which a mount namespace of its own belongs to.
+    // Moves the process at this place into a user namespace of its own, and into a mount namespace that belongs to it.
     fn enter_apart(&mut self, place: usize) -> Result<(), AllocError>
         requires there { place < length self.old.processes }
         requires spaces { AllByRecursion (HasSpace (length self.old.tables)) self.old.processes }
@@ -255,8 +256,8 @@ impl State {
         }
     }
 
-    /// The process at this place in a user namespace of its own, if there is room: in a mount namespace of its own, too, where that
-    /// is asked for.
+    /// Moves the process at this place into a user namespace of its own, if there is room. `own` asks for a mount namespace of
+    /// its own, too.
     pub fn make_own_user(
         &mut self,
         told: &Told<'_>,

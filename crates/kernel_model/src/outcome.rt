@@ -1,27 +1,27 @@
-//! What is left of a call once its caller and its caller's table have changed.
+//! The work that remains of a call after the change to its caller and the caller's table.
 
 use crate::reply::Reply;
 
-/// What is left of a call.
+/// The remaining work of a call.
 #[derive(Clone, Copy)]
 pub(crate) enum Outcome {
-    /// Nothing but the reply.
+    /// No work remains: this is the reply.
     Replied(Reply),
-    /// A copy of the caller is to be made.
+    /// Make a copy of the caller.
     MakesChild {
-        /// It is in a mount namespace of its own.
+        /// The copy gets a mount namespace of its own.
         own_mounts: bool,
     },
-    /// The caller is to be moved to a namespace of its own.
+    /// Move the caller to a mount namespace of its own.
     MakesTable,
-    /// A copy of the caller is to be made in a user namespace of its own.
+    /// Make a copy of the caller in a user namespace of its own.
     MakesUserChild {
-        /// It is in a mount namespace of its own too.
+        /// The copy also gets a mount namespace of its own.
         own_mounts: bool,
     },
-    /// The caller is to be moved to a user namespace of its own.
+    /// Move the caller to a user namespace of its own.
     MakesOwnUser {
-        /// And to a mount namespace of its own.
+        /// The caller also gets a mount namespace of its own.
         own_mounts: bool,
     },
 }

@@ -1,4 +1,4 @@
-//! The rules of all calls, on the caller and its table alone.
+//! The rules of all calls, applied to the caller and its table only.
 
 ghost use Rattle.std.specs.Prelude.{◌≡◌, true, false, IfOk, IsOk, OnErr};
 ghost use Rattle.kernel_model.specs.kernel_calls.Seen.{seen};
@@ -30,10 +30,10 @@ use std::alloc::{AllocError, Global};
 // The number of the first user namespace.
 const FIRST_USER: u32 = 1;
 
-// The id that is none, setresuid(2).
+// The id -1, which leaves an id unchanged, setresuid(2).
 const NO_ID: u32 = 4_294_967_295;
 
-// Of a call without a value of its own nothing is left.
+// The outcome of a call without a value of its own: only the reply.
 fn left(outcome: Result<(), u32>) -> Outcome
     ensures { result ≡ Replied (zero_reply outcome) }
 {
@@ -49,7 +49,7 @@ fn end(caller: &mut Process) -> Outcome
     Replied(Reply::Done(0))
 }
 
-// setresuid(2) and setresgid(2) where ids are not mapped: an id that is -1 stays, and there is no other.
+// setresuid(2) and setresgid(2) in a user namespace whose ids are not mapped: only -1 is valid, and leaves an id unchanged.
 fn unmapped(real: u32, effective: u32, saved: u32) -> Reply
     ensures { Answers result (with_mapped_ids true real effective saved (Answer 0)) }
 {
@@ -60,7 +60,7 @@ fn unmapped(real: u32, effective: u32, saved: u32) -> Reply
     }
 }
 
-/// Does what a call asks for, as far as it is the caller and its table that change.
+/// Performs the part of a call that changes only the caller and its table.
 #[tactic(auto, using(crate::proofs::Outcomes::looked, crate::proofs::Outcomes::answered, crate::proofs::Outcomes::changed, crate::proofs::Outcomes::became, crate::proofs::Outcomes::mounted, crate::proofs::Outcomes::pushed))]
 pub(crate) fn perform(
     alloc: Global,

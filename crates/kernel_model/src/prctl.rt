@@ -1,4 +1,4 @@
-//! prctl(2): the operations that are modelled, by their numbers.
+//! prctl(2): the operations that the kernel models.
 
 ghost use Rattle.kernel_model.specs.Effects.{is_set_effect, ambient_effect, no_new_privs_effect, keepcaps_effect, prctl_effect};
 ghost use Rattle.kernel_model.specs.Replies.{Answers, Changes};
@@ -28,7 +28,7 @@ const PR_CAP_AMBIENT_LOWER: u32 = 3;
 
 const PR_CAP_AMBIENT_CLEAR_ALL: u32 = 4;
 
-// PR_CAP_AMBIENT_IS_SET: EINVAL above 40.
+// PR_CAP_AMBIENT_IS_SET. Returns EINVAL above 40.
 fn is_ambient(creds: &Creds, cap: u32) -> Reply
     ensures { Answers result (is_set_effect creds.now cap) }
 {
@@ -38,7 +38,7 @@ fn is_ambient(creds: &Creds, cap: u32) -> Reply
     Reply::Done(creds.ambient().contains(cap as u8).into())
 }
 
-// PR_CAP_AMBIENT: EINVAL of another operation.
+// PR_CAP_AMBIENT. Returns EINVAL for an unknown operation.
 fn ambient(creds: &mut Creds, operation: u32, cap: u32) -> Reply
     ensures { Changes creds.old result creds.new (ambient_effect creds.old operation cap) }
 {
@@ -54,7 +54,7 @@ fn ambient(creds: &mut Creds, operation: u32, cap: u32) -> Reply
     }
 }
 
-// PR_SET_NO_NEW_PRIVS: EINVAL of another value than 1.
+// PR_SET_NO_NEW_PRIVS. Returns EINVAL for any value but 1.
 fn set_no_new_privs(creds: &mut Creds, value: u32) -> Reply
     ensures { Changes creds.old result creds.new (no_new_privs_effect creds.old value) }
 {
@@ -65,7 +65,7 @@ fn set_no_new_privs(creds: &mut Creds, value: u32) -> Reply
     Reply::Done(0)
 }
 
-// PR_SET_KEEPCAPS: EINVAL of another value than 0 and 1.
+// PR_SET_KEEPCAPS. Returns EINVAL for any value but 0 and 1.
 fn set_keepcaps(creds: &mut Creds, value: u32) -> Reply
     ensures { Changes creds.old result creds.new (keepcaps_effect creds.old value) }
 {
@@ -76,7 +76,7 @@ fn set_keepcaps(creds: &mut Creds, value: u32) -> Reply
     Reply::Done(0)
 }
 
-/// prctl(2), with the option and the first two arguments behind it: EINVAL of another option.
+/// prctl(2), with the option and the next two arguments. Returns EINVAL for an unknown option.
 pub(crate) fn prctl(creds: &mut Creds, option: u32, value: u32, third: u32) -> Reply
     ensures { Changes creds.old result creds.new (prctl_effect creds.old option value third) }
 {

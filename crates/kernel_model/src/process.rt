@@ -1,4 +1,4 @@
-//! A process: what it may do, the programs that decide about its calls, and the namespace that it is in.
+//! A process: its credentials, its filter programs and its namespaces.
 
 ghost use Rattle.std.specs.Prelude.{◌≡◌, IfOk};
 ghost use Rattle.kernel_model.specs.World.{first_process};
@@ -7,23 +7,23 @@ use bpf_code::Stack;
 use kern_creds::Creds;
 use std::alloc::{AllocError, Global};
 
-/// A process that was made.
+/// A process of a world.
 #[derive(Drop)]
 pub struct Process {
     /// Its credentials, credentials(7).
     pub creds: Creds,
-    /// Its programs, seccomp(2), the oldest first.
+    /// Its filter programs, seccomp(2), the oldest first.
     pub stack: Stack,
     /// The number of its mount namespace, from 1, mount_namespaces(7).
     pub namespace: u32,
     /// The number of its user namespace, from 1, user_namespaces(7).
     pub user: u32,
-    /// It lives.
+    /// True until the process ends.
     pub alive: bool,
 }
 
 impl Process {
-    /// The first process, living, as root and without programs.
+    /// Makes the first process. It lives, runs as root, and has no filter programs.
     pub(crate) fn first(alloc: Global) -> Process
         ensures { result ≡ first_process }
     {
@@ -36,7 +36,7 @@ impl Process {
         }
     }
 
-    /// An equal process.
+    /// Copies the process.
     pub(crate) fn copy(&self) -> Result<Process, AllocError>
         ensures { IfOk result (λ process. process ≡ self.now) }
     {

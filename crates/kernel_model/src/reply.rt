@@ -1,20 +1,20 @@
-//! What a call comes to for its caller.
+//! The result of a call for its caller.
 
 ghost use Rattle.std.specs.Prelude.{◌≡◌};
 ghost use Rattle.kernel_model.specs.Replies.{value_reply, zero_reply};
 
-/// What a call comes to.
+/// The result of a call.
 #[derive(Clone, Copy, Debug, PartialEq, Eq)]
 pub enum Reply {
-    /// It is performed, with this value.
+    /// The call succeeds and returns this value.
     Done(u64),
-    /// It is not performed, with this errno, errno(3).
+    /// The call fails with this errno, errno(3).
     Refused(u32),
-    /// The caller's programs kill the caller, seccomp(2).
+    /// The caller's filter programs kill the caller, seccomp(2).
     Killed,
 }
 
-/// The reply with a value, or with the errno of a rule that refuses.
+/// Makes the reply of a rule that returns a value or an errno.
 pub(crate) fn value_reply(answer: Result<u64, u32>) -> Reply
     ensures { result ≡ value_reply answer }
 {
@@ -24,7 +24,7 @@ pub(crate) fn value_reply(answer: Result<u64, u32>) -> Reply
     }
 }
 
-/// The reply of a call without a value of its own, which is 0.
+/// Makes the reply of a call without a value of its own: the value is 0.
 pub(crate) fn zero_reply(outcome: Result<(), u32>) -> Reply
     ensures { result ≡ zero_reply outcome }
 {

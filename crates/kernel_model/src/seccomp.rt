@@ -1,4 +1,4 @@
-//! seccomp(2): a process installs a program above its others.
+//! seccomp(2): a process installs a filter program on top of its others.
 
 ghost use Rattle.std.specs.Prelude.{◌≡◌, IfOk, OnErr};
 ghost use Rattle.bpf_code.specs.ProgramOf.{program_of};
@@ -15,7 +15,7 @@ use std::alloc::{AllocError, Global};
 // The operation that installs a program.
 const SECCOMP_SET_MODE_FILTER: u32 = 1;
 
-// Puts the program that the bytes are above the others.
+// Installs the program with these bytes on top of the others.
 fn install(alloc: Global, stack: &mut Stack, bytes: &[u8]) -> Result<Reply, AllocError>
     ensures installs { IfOk result (λ reply. Pushes stack.old reply stack.new (push_effect stack.old (program_of bytes.now))) }
     ensures stays { OnErr result (stack.new ≡ stack.old) }
@@ -32,10 +32,12 @@ fn install(alloc: Global, stack: &mut Stack, bytes: &[u8]) -> Result<Reply, Allo
     }
 }
 
-/// seccomp(2).
+/// seccomp(2). Returns, in this order:
 ///
-/// EINVAL of another operation and of flags, then EACCES without no_new_privs and without CAP_SYS_ADMIN, then EINVAL where the
-/// bytes are no program, then ENOMEM where the programs would be too long together.
+/// - EINVAL for another operation or any flag
+/// - EACCES if the caller has neither no_new_privs nor CAP_SYS_ADMIN
+/// - EINVAL if the bytes are no program
+/// - ENOMEM if the programs would be too long together
 pub(crate) fn seccomp(
     alloc: Global,
     creds: &Creds,

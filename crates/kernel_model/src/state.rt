@@ -1,4 +1,4 @@
-//! The processes and mount tables that were made, each under its number, from 1.
+//! The processes and mount tables of a world. They are numbered from 1.
 
 ghost use Rattle.std.specs.Prelude.{◌≡◌, ◌∷◌, [], ◌<◌, ◌-◌, ◌+◌, length, Some, IfOk, IfSome, option_map};
 ghost use Rattle.std.specs.List.{AllByRecursion};
@@ -15,14 +15,14 @@ use kern_mounts::MountTable;
 use std::alloc::{AllocError, Global};
 use std::marker::Model;
 
-/// What was made.
+/// The processes and the mount tables.
 #[derive(Drop)]
 pub(crate) struct State {
     pub(crate) processes: Vec<Process>,
     pub(crate) tables: Vec<MountTable>,
-    /// The user namespace that each mount namespace belongs to.
+    /// The user namespace of each mount namespace.
     pub(crate) owners: Vec<u32>,
-    /// How many user namespaces were made beside the first.
+    /// The number of user namespaces besides the first.
     pub(crate) users: u32,
 }
 
@@ -35,7 +35,7 @@ impl Model for State {
 }
 
 impl State {
-    /// The first process and the host's table.
+    /// Makes the first process and the host's table.
     pub fn first(alloc: Global) -> Result<State, AllocError>
         ensures one_process { IfOk result (λ state. state ≡ record { processes = first_process ∷ []; tables = first_mounts ∷ []; owners = 1 ∷ []; users = 0 }) }
     {
@@ -53,7 +53,7 @@ impl State {
         })
     }
 
-    /// The process with this number, whether it lives or not.
+    /// Returns the process with this number, living or ended.
     pub fn process(&self, pid: u32) -> Option<&Process>
         ensures by_number { option_map (λ process. process.now) result ≡ of_number self.now.processes pid }
     {
@@ -63,7 +63,7 @@ impl State {
         }
     }
 
-    /// The table of the namespace with this number.
+    /// Returns the table of the mount namespace with this number.
     pub fn table(&self, namespace: u32) -> Option<&MountTable>
         ensures by_number { option_map (λ table. table.now) result ≡ of_number self.now.tables namespace }
     {
@@ -73,7 +73,7 @@ impl State {
         }
     }
 
-    /// The user namespace that the mount namespace with this number belongs to.
+    /// Returns the user namespace of the mount namespace with this number.
     pub fn owner(&self, namespace: u32) -> Option<u32>
         ensures by_number { result ≡ of_number self.now.owners namespace }
     {
@@ -83,7 +83,7 @@ impl State {
         }
     }
 
-    /// The place of the living process with this number.
+    /// Returns the place of the living process with this number.
     pub fn living_place(&self, pid: u32) -> Option<usize>
         ensures place { result ≡ place_of self.now.processes pid }
         ensures there { IfSome result (λ place. place < length self.now.processes) }
@@ -101,7 +101,7 @@ impl State {
         }
     }
 
-    /// What the programs of the process at this place decide about a call.
+    /// Runs the filter programs of the process at this place on a call.
     pub fn decide(&self, place: usize, input: &CallData) -> Decision
         requires there { place < length self.now.processes }
         ensures by_its_programs { AtPlace self.now place (λ pid process. result ≡ decision_on process.stack input.now) }
@@ -117,7 +117,7 @@ impl State {
         self.processes[place].alive = false;
     }
 
-    /// The place of the table of the process at this place.
+    /// Returns the place of the table of the process at this place.
     pub fn table_place(&self, place: usize) -> usize
         requires there { place < length self.now.processes }
         requires spaces { AllByRecursion (HasSpace (length self.now.tables)) self.now.processes }

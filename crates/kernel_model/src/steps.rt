@@ -13,7 +13,8 @@ use crate::state::State;
 use kern_mounts::{MountError, MountStep, MountTable};
 use std::alloc::{AllocError, Global};
 
-/// Makes a mount step on a table with room: at `/` the first entry gets its flags, everywhere else it becomes the last entry.
+/// Makes a mount step on a table with room. At `/` it changes the flags of the first entry; elsewhere it adds an entry after
+/// the others.
 pub(crate) fn mount_step(
     alloc: Global,
     table: &mut MountTable,

@@ -1,9 +1,9 @@
-//! The tables that a kernel is told: they stay, whatever is called.
+//! The kernel's tables of calls and files. No call changes them.
 
 use call_table::CallTable;
 use site_table::SiteTable;
 
-/// The calls, families and files that there are.
+/// The calls, address families and files that the kernel knows.
 #[derive(Drop)]
 pub(crate) struct Told<'a> {
     pub calls: &'a CallTable,

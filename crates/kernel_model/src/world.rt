@@ -21,10 +21,10 @@ use site_table::SiteTable;
 use std::alloc::{AllocError, Global};
 use std::marker::Model;
 
-/// Processes that share mount tables, and the calls and files that they are told of.
+/// Processes that share mount tables, and the kernel's tables of calls and files.
 ///
-/// Contracts see a world as its table of calls, its site, and the lists of the processes and of the mount tables that were made:
-/// at most 1,024 and 64.
+/// Contracts see a world as its table of calls, its site, and the lists of its processes (at most 1,024) and of its mount
+/// tables (at most 64).
 #[derive(Drop)]
 pub struct World<'a> {
     told: Told<'a>,
@@ -47,7 +47,8 @@ impl<'a> Model for World<'a> {
 }
 
 impl<'a> World<'a> {
-    /// The start: process 1 alone, as root and without programs, in namespace 1, whose table is the host's.
+    /// Makes a world with process 1 only. It runs as root without filter programs, in mount namespace 1, whose table is the
+    /// host's.
     pub fn start(
         alloc: Global,
         calls: &'a CallTable,
@@ -62,12 +63,16 @@ impl<'a> World<'a> {
         })
     }
 
-    /// One call of one process, and its reply.
+    /// Makes one call of one process and returns its reply. These checks follow each other:
     ///
-    /// A process that does not live is refused with ESRCH, and an ABI that the table lacks with ENOSYS. Then its programs decide,
-    /// seccomp(2). Then a call that the ABI or the kernel lacks is refused with ENOSYS, and a payload that is not of the call's
-    /// form with EFAULT. Then the call's rule answers, which is its manual page's. A refused call changes nothing. Where memory
-    /// runs out the world stays as it was.
+    /// - ESRCH if no living process has the call's number.
+    /// - ENOSYS if the table lacks the call's ABI.
+    /// - The process's filter programs refuse the call or kill the process, seccomp(2).
+    /// - ENOSYS if the ABI or the kernel lacks the call.
+    /// - EFAULT if the payload does not have the call's form.
+    /// - The call's rule, from its manual page, decides.
+    ///
+    /// A refused call changes nothing. If memory runs out, the world is unchanged.
     pub fn step(&mut self, alloc: Global, call: &Call) -> Result<Reply, AllocError>
         ensures makes_the_step { IfOk result (λ reply. (reply, self.new) ≡ step self.old call.now) }
         ensures needs_no_memory { takes_memory self.old call.now ≡ false → IsOk result }
@@ -99,8 +104,8 @@ impl<'a> World<'a> {
         }
     }
 
-    /// A mount step for a process that lives and whose table has fewer than 4,096 entries: at `/` the first entry of the table
-    /// gets its flags, everywhere else it becomes the last entry. No rule of mount(2) is asked.
+    /// Makes a mount step for a living process whose table has fewer than 4,096 entries. At `/` it changes the flags of the
+    /// table's first entry; elsewhere it adds an entry after the others. The rules of mount(2) do not apply.
     pub fn mount_step(
         &mut self,
         alloc: Global,
@@ -118,28 +123,28 @@ impl<'a> World<'a> {
         }
     }
 
-    /// The process with this number, whether it lives or not.
+    /// Returns the process with this number, living or ended.
     pub fn process(&self, pid: u32) -> Option<&Process>
         ensures process_of_the_number { option_map (λ process. process.now) result ≡ process_of self.now pid }
     {
         self.state.process(pid)
     }
 
-    /// The mount table of the namespace with this number.
+    /// Returns the mount table of the mount namespace with this number.
     pub fn table(&self, namespace: u32) -> Option<&MountTable>
         ensures table_of_the_number { option_map (λ table. table.now) result ≡ of_number self.now.tables namespace }
     {
         self.state.table(namespace)
     }
 
-    /// The user namespace that the mount namespace with this number belongs to, user_namespaces(7).
+    /// Returns the user namespace to which the mount namespace with this number belongs, user_namespaces(7).
     pub fn owner(&self, namespace: u32) -> Option<u32>
         ensures owner_of_the_number { result ≡ of_number self.now.owners namespace }
     {
         self.state.owner(namespace)
     }
 
-    /// The calls and families that the kernel is told.
+    /// Returns the kernel's table of calls and families.
     pub fn call_table(&self) -> &'a CallTable
         ensures told { result.now ≡ self.now.calls }
         ensures holds_of_each_world { IsKernel self.now.processes self.now.tables }
@@ -147,7 +152,7 @@ impl<'a> World<'a> {
         self.told.calls
     }
 
-    /// The files, users and groups that the kernel is told.
+    /// Returns the kernel's table of files, users and groups.
     pub fn site_table(&self) -> &'a SiteTable
         ensures told { result.now ≡ self.now.site }
     {

@@ -1,11 +1,11 @@
--- Flags of calls are tested by masks.
+-- Tests of a call's flags by masks.
 use Rattle.std.specs.Prelude.{ℕ, ◌==◌, not, Bool}
 use Rattle.std.specs.Int.RustNames.{bit_and}
 
--- some bit of the mask is on
+-- some bit of the mask is set
 abbrev pub has_some : ℕ → ℕ → Bool
 has_some mask flags = not (bit_and flags mask == 0)
 
--- every bit of the mask is on
+-- every bit of the mask is set
 abbrev pub has_all : ℕ → ℕ → Bool
 has_all mask flags = bit_and flags mask == mask

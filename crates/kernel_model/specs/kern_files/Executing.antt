@@ -1,4 +1,5 @@
--- What execve(2) answers by what its path finds and by the flags of the mount that it is on, and the credentials after it.
+-- The result of execve(2): it depends on the row at the path and on the flags of the path's mount, and gives the new
+-- credentials.
 use Rattle.std.specs.Prelude.{ℕ, Bool, false, not, Result, Ok, Err, if◌then◌else◌}
 use Rattle.kern_mounts.specs.linux_numbers.Errnos.{eacces}
 use Rattle.site_table.specs.declared.row.Row.{Row}
@@ -14,7 +15,7 @@ use Rattle.kernel_model.specs.declared.kern_files.program.Program.{Program}
 abbrev pub marks_of : Row → FileCreds
 marks_of found = record { setuid = found.setuid; setgid = found.setgid; caps = found.caps; effective = found.effective }
 
--- EACCES where the file is no regular one with leave to execute, and where the mount is noexec
+-- EACCES if the file is not an executable regular file, and if its mount is noexec
 abbrev pub program_answer : Flags → Found Row → Result Program ℕ
 program_answer flags (row found) =
     if not (is_exe found.kind) then Err eacces
@@ -23,7 +24,8 @@ program_answer flags (row found) =
 program_answer flags empty_directory = Err eacces
 program_answer flags (nothing errno) = Err errno
 
--- the program's marks change the credentials, by whether the process is in a newer user namespace, or execve is refused for them
+-- the program's marks change the credentials, or execve is refused; `newer` says whether the process is in a newer user
+-- namespace
 abbrev pub executed_in : Bool → Creds → Result Program ℕ → Result Creds ℕ
 executed_in newer creds (Ok program) = exec_in newer creds program.file program.no_suid
 executed_in newer creds (Err errno) = Err errno

@@ -1,4 +1,4 @@
--- What calls that look at a path answer, by what the path finds and by the flags of the mount that it is on
+-- The results of calls that look at a path: they depend on the row at the path and on the flags of the path's mount
 -- (path_resolution(7), stat(2), open(2), truncate(2)).
 use Rattle.std.specs.Prelude.{ℕ, ◌==◌, ◌||◌, Bool, List, Option, Some, None, Result, Ok, Err, if◌then◌else◌}
 use Rattle.std.specs.Int.RustNames.{bit_and}
@@ -20,26 +20,25 @@ flags_by (Some step) = step.flags
 abbrev pub flags_at : List MountStep → Path → Flags
 flags_at table path = flags_by (entry_of table path)
 
--- a call without a value of its own, where it is not refused: this value
+-- this value, if the rule does not refuse the call
 abbrev pub valued : ℕ → Result (Unit {0}) ℕ → Result ℕ ℕ
 valued value (Ok done) = Ok value
 valued value (Err errno) = Err errno
 
--- stat(2), access(2), and open(2) for reading: what is found is seen, and what is not is refused
+-- stat(2), access(2), and open(2) for reading: they succeed if the lookup finds something
 abbrev pub see_answer : ℕ → Found Row → Result ℕ ℕ
 see_answer value (row found) = Ok value
 see_answer value empty_directory = Ok value
 see_answer value (nothing errno) = Err errno
 
--- open(2) for writing, creat(2), truncate(2): a directory is never written (EISDIR), and nothing on a mount that is
--- read-only (EROFS)
+-- open(2) for writing, creat(2), truncate(2): EISDIR for a directory, then EROFS on a read-only mount
 abbrev pub write_answer : ℕ → Flags → Found Row → Result ℕ ℕ
 write_answer value flags (row found) =
     if is_dir found.kind then Err eisdir else if flags.read_only then Err erofs else Ok value
 write_answer value flags empty_directory = Err eisdir
 write_answer value flags (nothing errno) = Err errno
 
--- O_ACCMODE: O_RDONLY is 0, O_WRONLY 1 and O_RDWR 2; 3 is no mode
+-- O_ACCMODE: O_RDONLY is 0, O_WRONLY 1 and O_RDWR 2; 3 is not valid
 abbrev pub access_mode : ℕ → ℕ
 access_mode flags = bit_and flags 3
 
@@ -49,7 +48,7 @@ is_reading flags = access_mode flags == 0 || access_mode flags == 2
 abbrev pub is_writing : ℕ → Bool
 is_writing flags = access_mode flags == 1 || access_mode flags == 2
 
--- open(2): EINVAL where the mode is none; else 3, the first descriptor behind the three standard ones
+-- open(2): EINVAL if the mode is not valid; else 3, the first descriptor after the three standard ones
 abbrev pub open_answer : ℕ → Flags → Found Row → Result ℕ ℕ
 open_answer flags entry found =
     if access_mode flags == 3 then Err einval

@@ -22,23 +22,23 @@ use Rattle.kernel_model.specs.kern_files.Bits.{has_some, has_all}
 abbrev pub ms_rdonly : ℕ
 ms_rdonly = 1
 
--- MS_NOSUID: set-id bits and file capabilities count for nothing there
+-- MS_NOSUID: set-id bits and file capabilities have no effect there
 abbrev pub ms_nosuid : ℕ
 ms_nosuid = 2
 
--- MS_NOEXEC: no program there is executed
+-- MS_NOEXEC: no program there can be executed
 abbrev pub ms_noexec : ℕ
 ms_noexec = 8
 
--- MS_REMOUNT: a mount is given other flags
+-- MS_REMOUNT: changes the flags of a mount
 abbrev pub ms_remount : ℕ
 ms_remount = 32
 
--- MS_BIND: what is seen at the source is seen at the target too
+-- MS_BIND: shows at the target what the source shows
 abbrev pub ms_bind : ℕ
 ms_bind = 4096
 
--- MS_REC: and what is mounted below the source
+-- MS_REC: includes the mounts below the source
 abbrev pub ms_rec : ℕ
 ms_rec = 16384
 
@@ -50,18 +50,18 @@ ms_remount_bind = 4128
 abbrev pub has_other_kind : ℕ → Bool
 has_other_kind flags = has_some 0x1e_2000 flags
 
--- the flags of a mount that is made or remounted
+-- the flags of a new or remounted mount
 abbrev pub flags_of : ℕ → Flags
 flags_of flags =
     record { read_only = has_some ms_rdonly flags; no_exec = has_some ms_noexec flags; no_suid = has_some ms_nosuid flags }
 
--- what is found is a directory or not; or nothing is found, with the errno
+-- the lookup found a directory or a file; or nothing, with the errno
 abbrev pub kind_found : Found Row → Result Bool ℕ
 kind_found (row found) = Ok (is_dir found.kind)
 kind_found empty_directory = Ok true
 kind_found (nothing errno) = Err errno
 
--- the place of a hidden entry serves as a target too, though nobody may look at it
+-- the place of a hidden entry can be a target, although no process may look at it
 abbrev pub hidden_kind : Path → What → Path → Option Bool
 hidden_kind place (Hidden directory) path = if is_same place path then Some directory else None
 hidden_kind place (Host source) path = None
@@ -75,7 +75,7 @@ abbrev pub or_found : Option Bool → Result Bool ℕ → Result Bool ℕ
 or_found (Some directory) found = Ok directory
 or_found None found = found
 
--- whether the target is a directory, or the errno of what is not there
+-- the target is a directory or a file, or the errno if it is not found
 abbrev pub target_kind : (Path → Option Row) → Table → Path → Result Bool ℕ
 target_kind rows table path = or_found (hidden_at path (entry_of table path)) (kind_found (finds rows table path))
 
@@ -83,14 +83,14 @@ target_kind rows table path = or_found (hidden_at path (entry_of table path)) (k
 abbrev pub is_same_kind : Bool → Bool → Bool
 is_same_kind one other = (one && other) || (not one && not other)
 
--- MS_BIND of a source of which this is found: the errno of what is not there; ENOTDIR where just one of source and target
--- is a directory
+-- MS_BIND, given the lookup of the source: its errno if it is not found; ENOTDIR if only one of source and target is a
+-- directory
 abbrev pub bind_found : Mounts → Path → Path → Bool → Bool → Result Bool ℕ → Result Mounts ℕ
 bind_found mounts source target recursive directory (Err errno) = Err errno
 bind_found mounts source target recursive directory (Ok own) =
     if is_same_kind own directory then after_bind mounts source target recursive else Err enotdir
 
--- a mount on a target of which this is found: a bind, or an empty file system on a directory
+-- a mount, given the lookup of the target: a bind, or an empty file system on a directory
 abbrev pub mount_onto : (Path → Option Row) → Mounts → Path → Path → ℕ → Result Bool ℕ → Result Mounts ℕ
 mount_onto rows mounts source target flags (Err errno) = Err errno
 mount_onto rows mounts source target flags (Ok directory) =
@@ -99,8 +99,8 @@ mount_onto rows mounts source target flags (Ok directory) =
     else if not directory then Err enotdir
     else after_push mounts (record { place = target; what = Empty; flags = flags_of flags })
 
--- EINVAL where a kind is asked for that is not modelled; a remount, of a single mount alone (else EINVAL); EBUSY on the root;
--- else a mount on the target
+-- EINVAL for a kind of mount that is not modelled; a remount if MS_REMOUNT and MS_BIND are set (EINVAL without MS_BIND); EBUSY
+-- for the root; else a mount on the target
 abbrev pub after_mount : (Path → Option Row) → Mounts → Path → Path → ℕ → Result Mounts ℕ
 after_mount rows mounts source target flags =
     if has_other_kind flags then Err einval

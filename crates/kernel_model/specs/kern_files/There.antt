@@ -1,5 +1,4 @@
--- What stands at a path, in words of the host's files and of the mounts over them (path_resolution(7),
--- mount_namespaces(7)).
+-- The file at a path, described by the host's files and the mounts over them (path_resolution(7), mount_namespaces(7)).
 use Rattle.std.specs.Prelude.{◌≡◌, Bool, true, false, Option, Some}
 use Rattle.site_table.specs.abs_path.Paths.{Path}
 use Rattle.site_table.specs.declared.row.Row.{Row}
@@ -13,27 +12,27 @@ use Rattle.kernel_model.specs.kern_files.Looking.{flags_at}
 use Rattle.kernel_model.specs.kern_files.Executing.{marks_of}
 use Rattle.kernel_model.specs.declared.kern_files.program.Program.{Program}
 
--- the path shows a place of the host, and the host has this row there
+-- the path shows a path of the host, and the host has this row there
 pub record ShowsRow (rows : Path → Option Row) (table : Table) (path : Path) (found : Row) : Type 0 where
   pub place : Path
   pub on_host : host_place table path ≡ Some place
   pub stands : rows place ≡ Some found
 
--- the path is the place of the empty file system that it is on
+-- the path's mount is an empty file system, and the path is its place
 pub record IsEmptyPlace (table : Table) (path : Path) : Type 0 where
   pub step : MountStep
   pub entry : entry_of table path ≡ Some step
   pub empty : step.what ≡ Empty
   pub here : step.place ≡ path
 
--- the path is on a mount that hides what is there
+-- the path's mount hides what is there
 pub record IsHidden (table : Table) (path : Path) : Type 0 where
   pub step : MountStep
   pub directory : Bool
   pub entry : entry_of table path ≡ Some step
   pub hidden : step.what ≡ Hidden directory
 
--- a file that is no directory, on a mount that is not read-only
+-- a file that is not a directory, on a mount that is not read-only
 pub record IsWritableFile (rows : Path → Option Row) (table : Table) (path : Path) : Type 0 where
   pub found : Row
   pub shown : ShowsRow rows table path found

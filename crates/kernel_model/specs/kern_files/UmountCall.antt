@@ -1,11 +1,11 @@
--- umount2(2) of a process that may mount: EINVAL of flags other than none and MNT_DETACH; else the mounts after it.
+-- umount2(2) of a process that may mount: EINVAL for any flag but MNT_DETACH; else the mounts after the call.
 use Rattle.std.specs.Prelude.{ℕ, ◌==◌, ◌||◌, Result, Err, if◌then◌else◌}
 use Rattle.site_table.specs.abs_path.Paths.{Path}
 use Rattle.kern_mounts.specs.linux_numbers.Errnos.{einval}
 use Rattle.kern_mounts.specs.Mounts.{Mounts}
 use Rattle.kern_mounts.specs.Umount.{after_umount}
 
--- MNT_DETACH: what is mounted below goes too
+-- MNT_DETACH: removes the mounts below, too
 abbrev pub mnt_detach : ℕ
 mnt_detach = 2
 

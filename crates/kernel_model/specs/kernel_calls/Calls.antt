@@ -1,4 +1,4 @@
--- Calls as processes make them: a number, six words and what the pointers among them point to.
+-- Calls as processes make them: a number, six words, and the data that the pointers among them point to.
 use Rattle.std.specs.Prelude.{◌≡◌, ◌<◌, ◌≤◌, ◌^◌, true, List, length, All}
 use Rattle.std.specs.List.{AllByRecursion}
 use Rattle.site_table.specs.abs_path.Paths.{Path, text_of, is_normal}
@@ -23,7 +23,8 @@ pub record IsPath (path : Path) : Type 0 where
   pub normal : is_normal path ≡ true
   pub short : length (text_of path) ≤ 512
 
--- normal paths, sets of the capabilities 0 to 40 (capabilities(7)), ids of 32 bits (credentials(7)), families of 32 bits (socket(2)), bytes
+-- paths are normal and short, sets have the capabilities 0 to 40 (capabilities(7)), ids (credentials(7)) and families
+-- (socket(2)) have 32 bits, and bytes have 8
 abbrev pub FitsPayload : Payload → Type 0
 FitsPayload Nothing = Unit {0}
 FitsPayload (OnePath path) = IsPath path
@@ -33,7 +34,7 @@ FitsPayload (Ids ids) = AllByRecursion (λ id. id < 2 ^ 32) ids
 FitsPayload (Family family) = family < 2 ^ 32
 FitsPayload (Code bytes) = AllByRecursion (λ byte. byte < 2 ^ 8) bytes
 
--- the numbers are those that a call holds: six words of 64 bits (syscall(2))
+-- each number is in the range of its type, and there are six words of 64 bits (syscall(2))
 pub record IsCall (call : Call) : Type 0 where
   pub pid : call.pid < 2 ^ 32
   pub abi : call.abi < 2 ^ 8
@@ -42,6 +43,6 @@ pub record IsCall (call : Call) : Type 0 where
   pub args : All (λ arg. arg < 2 ^ 64) call.args
   pub payload : FitsPayload call.payload
 
--- each is one that a process can make
+-- each of these calls is one that a process can make
 abbrev pub AreCalls : List Call → Type 0
 AreCalls calls = AllByRecursion IsCall calls

@@ -1,4 +1,4 @@
--- What a call asks for: its rule, the words that the rule looks at, and its payload.
+-- What a call asks for: its rule, and the words and payload that the rule uses.
 use Rattle.std.specs.Prelude.{ℕ, List, Option, Some, None}
 use Rattle.site_table.specs.abs_path.Paths.{Path}
 use Rattle.call_table.specs.call_names.Known.{place_of}
@@ -13,9 +13,9 @@ use Rattle.kernel_model.specs.declared.kernel_calls.rule.Rule.TheVariants as rul
 use Rattle.kernel_model.specs.kernel_calls.Words.{low_word}
 use Rattle.kernel_model.specs.kernel_calls.Rules.{rule_at}
 
--- what a call asks for, with what its rule looks at; numbers are the low halves of words
+-- what a call asks for, with the arguments that its rule uses; numbers are the low halves of words
 pub data Doing : Type 0 where
-  -- stat(2), access(2) and their like find a path
+  -- stat(2), access(2) and similar calls, which look a path up
   See : Path → Doing
   -- open(2) and openat(2): the flags and the path
   Open : ℕ → Path → Doing
@@ -23,7 +23,7 @@ pub data Doing : Type 0 where
   Create : Path → Doing
   Truncate : Path → Doing
   Execve : Path → Doing
-  -- chmod(2), mkdir(2), mknod(2) and their like: the mode
+  -- chmod(2), mkdir(2), mknod(2) and similar calls: the mode
   SetMode : ℕ → Doing
   -- mmap(2) and mprotect(2): the protection; shmat(2): the flags
   Map : ℕ → Doing
@@ -59,7 +59,7 @@ pub data Doing : Type 0 where
   -- any other call: the capability of its line
   Plain : Option ℕ → Doing
 
--- a call without a payload; nothing where one is given
+-- a call without a payload; None if it has one
 abbrev pub bare : Doing → Payload → Option Doing
 bare doing Nothing = Some doing
 bare doing (OnePath path) = None
@@ -129,7 +129,7 @@ by_code doing (Sets permitted effective inheritable) = None
 by_code doing (Ids ids) = None
 by_code doing (Family family) = None
 
--- what a call of a known rule asks for; nothing where the payload is not of its form
+-- what a call of a known rule asks for; None if its payload does not have the rule's form
 abbrev pub known_doing : CallRule → List ℕ → Payload → Option Doing
 known_doing known.See args payload = by_path See payload
 known_doing (known.Open flags) args payload = by_path (Open (low_word args (place_of flags))) payload
@@ -165,7 +165,7 @@ abbrev pub doing_by : Rule → List ℕ → Payload → Option Doing
 doing_by (rule.Known call) args payload = known_doing call args payload
 doing_by (rule.Plain cap) args payload = bare (Plain cap) payload
 
--- the kernel lacks the call (ENOSYS, errno(3)), its payload has another form (EFAULT), or this is asked for
+-- the kernel lacks the call (ENOSYS, errno(3)), its payload does not have its form (EFAULT), or the call asks for this
 pub data Asked : Type 0 where
   Lacking : Asked
   Misformed : Asked
@@ -175,11 +175,11 @@ abbrev pub asked_if : Option Doing → Asked
 asked_if None = Misformed
 asked_if (Some doing) = Does doing
 
--- by the rule of its number
+-- what a call asks for, given the rule of its number
 abbrev pub asked_by : Option Rule → Call → Asked
 asked_by None call = Lacking
 asked_by (Some rule) call = asked_if (doing_by rule call.args call.payload)
 
--- what a call asks a kernel with this table for, by the calls of its ABI
+-- what a call asks for, in a kernel with this table; the calls of its ABI decide
 abbrev pub asked_of : Table → Call → Asked
 asked_of table call = asked_by (rule_at (calls_in table call.abi) call.nr) call

@@ -1,4 +1,4 @@
--- What the values of the code stand for.
+-- The calls that the code's values represent.
 use Rattle.kernel_model.specs.kernel_calls.Doing.{Doing, See, Open, Create, Truncate, Execve, SetMode, Map, Protect, Attach, Schedule}
 use Rattle.kernel_model.specs.kernel_calls.Doing.{Personality, Socket, Socketcall, Enter, Fork, Clone, Unshare, Exit, Mount, Umount, Setuid}
 use Rattle.kernel_model.specs.kernel_calls.Doing.{Setgid, Setresuid, Setresgid, Setgroups, Capset, Prctl, Seccomp, Plain, Asked, Lacking}
@@ -8,7 +8,7 @@ use Rattle.kernel_model.specs.declared.kernel_calls.doing.Doing.TheVariants as l
 use Rattle.kernel_model.specs.declared.kernel_calls.asked.Asked.{Asked as LentAsked}
 use Rattle.kernel_model.specs.declared.kernel_calls.asked.Asked.TheVariants as asked
 
--- a call's payload is borrowed
+-- the code borrows a call's payload
 abbrev pub seen : Lent → Doing
 seen (lent.See path) = See path.now
 seen (lent.Open flags path) = Open flags path.now

@@ -1,4 +1,4 @@
-//! What a path finds on a mount table (path_resolution(7)): no path is built, and no memory is taken.
+//! Looks a path up on a mount table (path_resolution(7)), without building paths and without taking memory.
 
 ghost use Rattle.std.specs.Prelude.{◌≡◌, option_map, true};
 ghost use Rattle.site_table.specs.abs_path.Prefix.{is_prefix};
@@ -13,14 +13,14 @@ use kern_mounts::linux_numbers::errnos::{EACCES, ENOENT};
 use kern_mounts::{MountStep, MountTable, What};
 use site_table::{Row, SiteTable};
 
-/// What is found at a path.
+/// The result of a path lookup.
 #[derive(Clone, Copy)]
 pub enum Found<'a> {
     /// A row of the site.
     Row(&'a Row),
     /// The directory of an empty file system.
     EmptyDirectory,
-    /// Nothing that may be looked at, with the errno.
+    /// Nothing that the process may look at, and the errno.
     Nothing(u32),
 }
 
@@ -30,7 +30,7 @@ fn row_or_nothing<'a>(row: Option<&'a Row>) -> Found<'a>
     row.map_or(Found::Nothing(ENOENT), Found::Row)
 }
 
-// what an entry shows at a path that its place leads to
+// looks up what an entry shows at a path to which its place leads
 fn found_by<'a>(site: &'a SiteTable, entry: &MountStep, path: &AbsPath) -> Found<'a>
     requires { is_prefix entry.now.place path.now ≡ true }
     ensures { shown result ≡ found_by (row_at site.now.rows) entry.now.what entry.now.place path.now }
@@ -43,7 +43,7 @@ fn found_by<'a>(site: &'a SiteTable, entry: &MountStep, path: &AbsPath) -> Found
     }
 }
 
-/// The entry that the path belongs to.
+/// Returns the entry that the path belongs to.
 pub fn entry_of<'a>(table: &'a MountTable, path: &AbsPath) -> &'a MountStep
     ensures entry { entry_of (steps_of table.now) path.now ≡ Some result.now }
     ensures leads { is_prefix result.now.place path.now ≡ true }
@@ -51,7 +51,7 @@ pub fn entry_of<'a>(table: &'a MountTable, path: &AbsPath) -> &'a MountStep
     table.entry(table.resolve(path))
 }
 
-/// What the path finds, by the entry that it belongs to.
+/// Looks the path up. The entry that the path belongs to decides.
 pub fn find<'a>(table: &MountTable, site: &'a SiteTable, path: &AbsPath) -> Found<'a>
     ensures by_the_entry { shown result ≡ finds (row_at site.now.rows) (steps_of table.now) path.now }
 {

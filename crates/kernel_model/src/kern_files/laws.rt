@@ -1,4 +1,4 @@
-//! Laws of calls on paths, each the contract of a function that does nothing.
+//! Laws of calls on paths. Each is the contract of a function that does nothing.
 
 ghost use Rattle.std.specs.Prelude.{◌≡◌, ◌↔◌, ◌⊎◌, ◌==◌, ◌||◌, ℕ, Bool, true, false, [], Option, Ok, Err};
 ghost use Rattle.site_table.specs.abs_path.Paths.{Path};
@@ -16,29 +16,31 @@ ghost use Rattle.kern_mounts.specs.Mounts.{Mounts, steps_of, ArePlain};
 ghost use Rattle.kern_mounts.specs.Changes.{Changes};
 ghost use Rattle.kernel_model.specs.kern_files.There.{ShowsRow, IsEmptyPlace, IsHidden, IsWritableFile, IsProgram};
 
-/// A path is seen exactly where it shows a file of the host, or is the place of an empty file system.
+/// A process can see a path if and only if the path shows a file of the host or is the place of an empty file system.
 pub fn what_is_seen()
     ensures files_and_empty_places { (rows : Path → Option Row) (table : Table) (path : Path) (value : ℕ)
         → (see_answer value (finds rows table path) ≡ Ok value)
         ↔ (((found : Row) × ShowsRow rows table path found) ⊎ IsEmptyPlace table path) }
 {}
 
-/// A path may be written exactly where it shows a file of the host that is no directory, on a mount that is not read-only.
+/// A process can write a path if and only if it shows a file of the host that is not a directory, on a mount that is not
+/// read-only.
 pub fn what_may_be_written()
     ensures files_on_writable_mounts { (rows : Path → Option Row) (table : Table) (path : Path) (value : ℕ)
         → (write_answer value (flags_at table path) (finds rows table path) ≡ Ok value)
         ↔ IsWritableFile rows table path }
 {}
 
-/// A path may be executed exactly where it shows an executable file of the host, on a mount that is not noexec; then
-/// execve(2) reads the marks of that file and the nosuid of that mount.
+/// A process can execute a path if and only if it shows an executable file of the host, on a mount without noexec. execve(2)
+/// then reads that file's marks and the mount's nosuid flag.
 pub fn what_may_be_executed()
     ensures programs_where_they_may_run { (rows : Path → Option Row) (table : Table) (path : Path) (program : Program)
         → (program_answer (flags_at table path) (finds rows table path) ≡ Ok program)
         ↔ IsProgram rows table path program }
 {}
 
-/// Whatever a hidden mount shows is refused with EACCES.
+/// A path of a hidden mount cannot be seen, opened, written, executed or bound elsewhere. The call fails with EACCES, unless
+/// its other arguments are wrong.
 pub fn what_is_hidden()
     ensures not_seen { (rows : Path → Option Row) (table : Table) (path : Path) (value : ℕ)
         → IsHidden table path → see_answer value (finds rows table path) ≡ Err eacces }
@@ -55,7 +57,7 @@ pub fn what_is_hidden()
         → after_mount rows mounts source target flags ≡ Err eacces }
 {}
 
-/// The errors of mount(2) that come before it looks at a path, in their order, and the kind of the target without MS_BIND.
+/// The errors of mount(2) before it looks at a path, in order; and ENOTDIR for a file system on a file.
 pub fn order_of_mount()
     ensures other_kinds_first { (rows : Path → Option Row) (mounts : Mounts) (source target : Path) (flags : ℕ)
         → has_other_kind flags ≡ true → after_mount rows mounts source target flags ≡ Err einval }
@@ -71,14 +73,14 @@ pub fn order_of_mount()
         → after_mount rows mounts source target flags ≡ Err enotdir }
 {}
 
-/// umount2(2) takes no flags but MNT_DETACH, and the root stays.
+/// umount2(2) accepts no flag but MNT_DETACH, and cannot unmount the root.
 pub fn limits_of_umount()
     ensures no_other_flags { (mounts : Mounts) (path : Path) (flags : ℕ)
         → (flags == 0 || flags == mnt_detach) ≡ false → umount_answer mounts path flags ≡ Err einval }
     ensures root_stays { (mounts : Mounts) (flags : ℕ) → umount_answer mounts [] flags ≡ Err einval }
 {}
 
-/// A call that is done on mounts is one of the changes that keep what they are backed by.
+/// Each successful call of mount(2) or umount2(2) is one of the changes that keep mounts backed.
 pub fn changes_of_mounts()
     ensures mount { (rows : Path → Option Row) (mounts next : Mounts) (source target : Path) (flags : ℕ)
         → after_mount rows mounts source target flags ≡ Ok next → Changes mounts next }
@@ -86,7 +88,7 @@ pub fn changes_of_mounts()
         → umount_answer mounts path flags ≡ Ok next → Changes mounts next }
 {}
 
-/// Where no mount is locked and none keeps a flag, as in the table of a launched service, a call that is done leaves it so.
+/// If no mount is locked and none keeps a flag, as in the table of a launched service, every successful call leaves it so.
 pub fn calls_on_plain_mounts()
     ensures mounted { (rows : Path → Option Row) (mounts next : Mounts) (source target : Path) (flags : ℕ) → ArePlain mounts
         → after_mount rows mounts source target flags ≡ Ok next → ArePlain next }

@@ -1,4 +1,4 @@
-//! The calls that look at a path: stat(2) and its like, open(2), creat(2), truncate(2). None takes memory.
+//! Calls that look at a path: stat(2) and similar calls, open(2), creat(2), truncate(2). None of them takes memory.
 
 ghost use Rattle.std.specs.Prelude.{◌≡◌, ℕ};
 ghost use Rattle.site_table.specs.Kinds.{is_dir};
@@ -14,28 +14,28 @@ use kern_mounts::MountTable;
 use kern_mounts::linux_numbers::errnos::{EINVAL, EISDIR, EROFS};
 use site_table::{RowKind, SiteTable};
 
-// O_ACCMODE, open(2): the bits of the flags that are the mode.
+// O_ACCMODE, open(2): the bits of the access mode.
 const O_ACCMODE: u32 = 3;
 
 // O_RDONLY, open(2).
 const O_RDONLY: u32 = 0;
 
-// O_WRONLY and O_RDWR together, which is no mode.
+// O_WRONLY and O_RDWR together, which is not a valid mode.
 const NO_MODE: u32 = 3;
 
-// The first descriptor behind the three standard ones.
+// The first descriptor after the three standard ones.
 const DESCRIPTOR: u64 = 3;
 
-/// Tells whether a row is a directory.
+/// Whether a row is a directory.
 pub(crate) fn is_dir(kind: RowKind) -> bool
     ensures { result ≡ is_dir kind }
 {
     matches!(kind, RowKind::Dir)
 }
 
-/// stat(2), access(2) and their like, and open(2) for reading: the path is found.
+/// stat(2), access(2) and similar calls, and open(2) for reading.
 ///
-/// ENOENT where there is nothing, EACCES where it is hidden.
+/// Returns ENOENT if there is nothing at the path, and EACCES if a mount hides it.
 pub fn see(table: &MountTable, site: &SiteTable, path: &AbsPath) -> Result<(), u32>
     ensures sees_what_is_found { (value : ℕ) → valued value result
         ≡ see_answer value (finds (row_at site.now.rows) (steps_of table.now) path.now) }
@@ -48,8 +48,8 @@ pub fn see(table: &MountTable, site: &SiteTable, path: &AbsPath) -> Result<(), u
 
 /// open(2) for writing, creat(2) and truncate(2).
 ///
-/// ENOENT where there is nothing, EACCES where it is hidden; then EISDIR of a directory; then EROFS on a mount that is
-/// read-only.
+/// Returns ENOENT if there is nothing at the path, and EACCES if a mount hides it. Then returns EISDIR for a directory, and
+/// EROFS if the mount is read-only.
 pub fn write_file(table: &MountTable, site: &SiteTable, path: &AbsPath) -> Result<(), u32>
     ensures writes_what_may_be_written { (value : ℕ) → valued value result
         ≡ write_answer value (flags_at (steps_of table.now) path.now) (finds (row_at site.now.rows) (steps_of table.now) path.now) }
@@ -63,9 +63,10 @@ pub fn write_file(table: &MountTable, site: &SiteTable, path: &AbsPath) -> Resul
     }
 }
 
-/// open(2): the descriptor, which is 3.
+/// open(2). Returns the descriptor, which is 3.
 ///
-/// EINVAL where the access mode is none; then as `write_file` for O_WRONLY and O_RDWR, and as `see` for O_RDONLY.
+/// Returns EINVAL if the access mode is not valid. Otherwise the errors are as of `write_file` for O_WRONLY and O_RDWR, and as
+/// of `see` for O_RDONLY.
 pub fn open_file(
     table: &MountTable,
     site: &SiteTable,

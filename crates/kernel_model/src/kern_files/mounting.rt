@@ -1,4 +1,4 @@
-//! mount(2) and umount2(2) of a process that may mount: the table is changed in place, or the call is refused.
+//! mount(2) and umount2(2) of a process that may mount. A call changes the table in place, or is refused.
 
 ghost use Rattle.std.specs.Prelude.{◌≡◌, false, IsErrOf};
 ghost use Rattle.site_table.specs.Table.{row_at};
@@ -22,16 +22,16 @@ use std::alloc::Global;
 // MS_RDONLY, mount(2): the mount is read-only.
 const MS_RDONLY: u32 = 1;
 
-// MS_NOSUID, mount(2): set-id bits and file capabilities count for nothing there.
+// MS_NOSUID, mount(2): set-id bits and file capabilities have no effect there.
 const MS_NOSUID: u32 = 2;
 
-// MS_NOEXEC, mount(2): no program there is executed.
+// MS_NOEXEC, mount(2): no program there can be executed.
 const MS_NOEXEC: u32 = 8;
 
-// MNT_DETACH, umount2(2): what is mounted below goes too.
+// MNT_DETACH, umount2(2): removes the mounts below, too.
 const MNT_DETACH: u32 = 2;
 
-// The flags of a mount that is made or remounted.
+// The flags of a new or remounted mount.
 fn flags_of(flags: u32) -> Flags
     ensures { result ≡ flags_of flags }
 {
@@ -73,15 +73,21 @@ fn mount_empty(
     })
 }
 
-/// mount(2), of a process with CAP_SYS_ADMIN: the source is bound at the target, an empty file system is mounted there, or
-/// the mount there is given other flags.
+/// mount(2), of a process with CAP_SYS_ADMIN: binds the source at the target, mounts an empty file system there, or changes the
+/// flags of the mount there.
 ///
-/// EINVAL of a kind that is not modelled, of MS_REMOUNT without MS_BIND, and of a remount at a path that is not the place of
-/// the mount that it is on; EPERM of a remount without a flag that the mount keeps. Else EBUSY on the root; then the errno of a
-/// target that is not there, then of a source; ENOTDIR where just one of the two is a directory, and of an empty file system on
-/// what is none; EINVAL of a bind that is not recursive and would uncover what a locked mount covers; ENAMETOOLONG of a copy
-/// whose place is too long; then ENOSPC where the table would have too many entries. Memory only where none of these comes. On
-/// any error the table stays as it was.
+/// Errors, in this order; the table is unchanged on any error:
+///
+/// - EINVAL for a kind of mount that is not modelled, and for MS_REMOUNT without MS_BIND
+/// - For a remount: EINVAL if the target is not the place of its mount, then EPERM if a flag is missing that the mount keeps. A
+///   remount has no other error.
+/// - EBUSY if the target is the root
+/// - the errno of a target that is not found, then of a source that is not found
+/// - ENOTDIR if only one of source and target is a directory, or if the target of an empty file system is not one
+/// - EINVAL if a bind that is not recursive would uncover what a locked mount covers
+/// - ENAMETOOLONG if the place of a copy would be too long
+/// - ENOSPC if the table would have too many entries
+/// - `Memory` if memory runs out
 pub fn mount(
     alloc: Global,
     table: &mut MountTable,
@@ -102,11 +108,11 @@ pub fn mount(
     }
 }
 
-/// umount2(2), of a process with CAP_SYS_ADMIN: the mount at the path goes. It takes no memory.
+/// umount2(2), of a process with CAP_SYS_ADMIN: removes the mount at the path. Takes no memory.
 ///
-/// EINVAL of flags other than none and MNT_DETACH, of the root, of a path that is not the place of the mount that it is on, and
-/// of a locked mount; then EBUSY where later mounts stand below it, unless MNT_DETACH takes them too. On any error the table stays as it
-/// was.
+/// Returns EINVAL for any flag but MNT_DETACH, for the root, for a path that is not the place of its mount, and for a locked
+/// mount. Then returns EBUSY if a later mount is below it, unless MNT_DETACH removes that too. On any error the table is
+/// unchanged.
 pub fn umount(table: &mut MountTable, path: &AbsPath, flags: u32) -> Result<(), u32>
     ensures unmounts_by_the_rule { Becomes table.old table.new result (umount_answer table.old path.now flags) }
 {

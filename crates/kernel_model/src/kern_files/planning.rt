@@ -1,4 +1,4 @@
-//! What a call of mount(2) is to do, or why it is refused before the table is asked. It takes no memory.
+//! Decides what a call of mount(2) does, or why it is refused before the table changes. Takes no memory.
 
 ghost use Rattle.std.specs.Prelude.{◌≡◌, IfOk, true, Ok};
 ghost use Rattle.site_table.specs.Table.{row_at};
@@ -19,33 +19,33 @@ use kern_mounts::linux_numbers::errnos::{EBUSY, EINVAL, ENOTDIR};
 use kern_mounts::{MountStep, MountTable, What};
 use site_table::SiteTable;
 
-// MS_REMOUNT, mount(2): a mount is given other flags.
+// MS_REMOUNT, mount(2): changes the flags of a mount.
 const MS_REMOUNT: u32 = 32;
 
-// MS_BIND, mount(2): what is seen at the source is seen at the target too.
+// MS_BIND, mount(2): shows at the target what the source shows.
 const MS_BIND: u32 = 4096;
 
-// MS_REC, mount(2): and what is mounted below the source.
+// MS_REC, mount(2): includes the mounts below the source.
 const MS_REC: u32 = 16384;
 
 // MS_MOVE, MS_UNBINDABLE, MS_PRIVATE, MS_SLAVE and MS_SHARED, mount(2), which are not modelled.
 const OTHER_KINDS: u32 = 0x1e_2000;
 
-/// What a call of mount(2) is to do at its target.
+/// The change that a call of mount(2) makes at its target.
 #[derive(Clone, Copy)]
 pub enum Change {
-    /// The mount there is given other flags.
+    /// Changes the flags of the mount there.
     Remount,
-    /// What is seen at the source is seen there too.
+    /// Shows there what the source shows.
     Bind {
-        /// And what is mounted below the source, MS_REC.
+        /// Includes the mounts below the source, MS_REC.
         recursive: bool,
     },
-    /// An empty file system is mounted there.
+    /// Mounts an empty file system there.
     Empty,
 }
 
-// Tells whether what is found is a directory, or the errno of what is not there.
+// Whether the lookup found a directory, or the errno if it found nothing.
 fn kind_found(found: Found) -> Result<bool, u32>
     ensures { result ≡ kind_found (shown found.entry) }
 {
@@ -56,7 +56,7 @@ fn kind_found(found: Found) -> Result<bool, u32>
     }
 }
 
-// Tells whether a hidden entry that stands at the path is a directory.
+// Whether the hidden entry at this path is a directory; None for any other entry.
 fn hidden_kind(entry: &MountStep, path: &AbsPath) -> Option<bool>
     ensures { result ≡ hidden_kind entry.now.place entry.now.what path.now }
 {
@@ -66,7 +66,7 @@ fn hidden_kind(entry: &MountStep, path: &AbsPath) -> Option<bool>
     }
 }
 
-// Tells whether the target is a directory, or the errno of what is not there.
+// Whether the target is a directory, or the errno if it is not found.
 fn target_kind(table: &MountTable, site: &SiteTable, target: &AbsPath) -> Result<bool, u32>
     ensures { result ≡ target_kind (row_at site.now.rows) (steps_of table.now) target.now }
 {
@@ -76,17 +76,17 @@ fn target_kind(table: &MountTable, site: &SiteTable, target: &AbsPath) -> Result
     }
 }
 
-// Tells whether the source is a directory, or the errno of what is not there; what is there can be bound.
+// Whether the source is a directory, or the errno if it is not found. A source that is found can be bound.
 fn source_kind(table: &MountTable, site: &SiteTable, source: &AbsPath) -> Result<bool, u32>
     ensures kind { result ≡ kind_found (finds (row_at site.now.rows) (steps_of table.now) source.now) }
     ensures can_bind { IfOk result (λ directory. can_bind (steps_of table.now) source.now ≡ true) }
 {
-    // The rows are lent with what holds of each site: their paths are short.
+    // Borrowing the rows shows what every site guarantees: the paths of its rows are short.
     let _rows = site.rows();
     kind_found(find(table, site, source))
 }
 
-// What a call with these flags is to do at a target that is there; where true, the target is a directory.
+// Decides what a call with these flags does at a target that exists. `directory` says whether the target is a directory.
 fn planned_onto(
     table: &MountTable,
     site: &SiteTable,
@@ -114,11 +114,14 @@ fn planned_onto(
     Ok(Change::Empty)
 }
 
-/// What a call with these flags is to do.
+/// Decides what a call with these flags does. Errors, in this order:
 ///
-/// EINVAL of a kind that is not modelled, and of MS_REMOUNT without MS_BIND; EBUSY on the root; then the errno of a target
-/// that is not there, then of a source; ENOTDIR where just one of the two is a directory, and of an empty file system on
-/// what is none.
+/// - EINVAL for a kind of mount that is not modelled, and for MS_REMOUNT without MS_BIND
+/// - EBUSY if the target is the root
+/// - the errno of a target that is not found, then of a source that is not found
+/// - ENOTDIR if only one of source and target is a directory, or if the target of an empty file system is not one
+///
+/// A remount has none of the errors after the first line.
 pub fn planned(
     table: &MountTable,
     site: &SiteTable,

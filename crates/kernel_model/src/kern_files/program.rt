@@ -1,4 +1,4 @@
-//! execve(2): the program that a path finds, with what counts of its marks. It takes no memory.
+//! execve(2): finds the program at a path, and which of its marks count. Takes no memory.
 
 ghost use Rattle.std.specs.Prelude.{◌≡◌};
 ghost use Rattle.site_table.specs.Kinds.{is_exe};
@@ -16,12 +16,12 @@ use kern_mounts::MountTable;
 use kern_mounts::linux_numbers::errnos::EACCES;
 use site_table::{Row, RowKind, SiteTable};
 
-/// A program that may be executed: what execve(2) reads of it.
+/// A program that execve(2) may execute, and what execve(2) reads of it.
 #[derive(Clone, Copy)]
 pub struct Program {
     /// The set-id bits and the capabilities of the file.
     pub file: FileCreds,
-    /// The mount that it is on is nosuid.
+    /// Whether its mount is nosuid.
     pub no_suid: bool,
 }
 
@@ -42,10 +42,10 @@ fn marks_of(row: &Row) -> FileCreds
     }
 }
 
-/// The program at a path, for execve(2).
+/// Returns the program at a path, for execve(2).
 ///
-/// ENOENT where there is nothing; EACCES where it is hidden, is a directory or no executable file, or is on a mount that
-/// is noexec.
+/// Returns ENOENT if there is nothing at the path. Returns EACCES if a mount hides the path, if it is not an executable file,
+/// or if its mount is noexec.
 pub fn program_at(table: &MountTable, site: &SiteTable, path: &AbsPath) -> Result<Program, u32>
     ensures program_that_may_be_executed { result
         ≡ program_answer (flags_at (steps_of table.now) path.now) (finds (row_at site.now.rows) (steps_of table.now) path.now) }

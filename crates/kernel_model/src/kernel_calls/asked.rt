@@ -1,4 +1,4 @@
-//! What a call asks a kernel with a table for.
+//! What a call asks for, in a kernel with a table of calls.
 
 ghost use Rattle.std.specs.Prelude.{◌≡◌};
 ghost use Rattle.kernel_model.specs.kernel_calls.Doing.{asked_of};
@@ -13,16 +13,16 @@ use call_table::CallTable;
 /// What a call asks for.
 #[derive(Clone, Copy)]
 pub enum Asked<'a> {
-    /// The kernel lacks the call: it answers ENOSYS.
+    /// The kernel lacks the call, and returns ENOSYS.
     Lacking,
-    /// The payload is not of the form of the call: the kernel answers EFAULT.
+    /// The payload does not have the call's form. The kernel returns EFAULT.
     Misformed,
-    /// This is asked for.
+    /// The call asks for this.
     Does(Doing<'a>),
 }
 
 impl Rules {
-    /// What a call asks for, by its number in its ABI of the table that the rules are of. It takes no memory.
+    /// Returns what a call asks for. `calls` must be the table of these rules. Takes no memory.
     pub fn asked<'a>(&self, calls: &CallTable, call: &'a Call) -> Asked<'a>
         requires { self.now ≡ rules_of calls.now }
         ensures by_number_words_and_payload { asked_seen result ≡ asked_of calls.now call.now }

@@ -11,18 +11,18 @@ use crate::kernel_calls::words::low_word;
 pub struct Call {
     /// The number of the process that makes the call, from 1.
     pub pid: u32,
-    /// The ABI by which it is made: its position in the table of calls, from 0.
+    /// The ABI of the call: its position in the table of calls, from 0.
     pub abi: u8,
     /// The number of the call.
     pub nr: u32,
-    /// The six words that the call is given.
+    /// The six argument words.
     pub args: [u64; 6],
-    /// What the pointers among the words point to.
+    /// The data that the pointers among the words point to.
     pub payload: Payload,
 }
 
 impl Call {
-    /// The low 32 bits of the word at a place, counted from 0.
+    /// Returns the low 32 bits of the word at a place, counted from 0.
     pub fn word(&self, at: usize) -> u32
         requires { at < 6 }
         ensures low_half { result ≡ low_word self.now.args at }

@@ -1,4 +1,4 @@
-//! What a call asks for: its rule, the words that the rule looks at, and its payload.
+//! What a call asks for: its rule, and the words and payload that the rule uses.
 
 ghost use Rattle.std.specs.Prelude.{◌≡◌};
 ghost use Rattle.std.specs.Option.{option_map};
@@ -14,10 +14,10 @@ use abs_path::AbsPath;
 use call_table::call_names::CallRule;
 use site_table::CapSet;
 
-/// What a call asks for, with the words and the payload that its rule looks at.
+/// What a call asks for, with the words and the payload that its rule uses.
 #[derive(Clone, Copy)]
 pub enum Doing<'a> {
-    /// stat(2), access(2) and their like find a path.
+    /// stat(2), access(2) and similar calls, which look a path up.
     See(&'a AbsPath),
     /// open(2) and openat(2), with the flags.
     Open(u32, &'a AbsPath),
@@ -27,7 +27,7 @@ pub enum Doing<'a> {
     Truncate(&'a AbsPath),
     /// execve(2).
     Execve(&'a AbsPath),
-    /// chmod(2), mkdir(2), mknod(2) and their like, with the mode.
+    /// chmod(2), mkdir(2), mknod(2) and similar calls, with the mode.
     SetMode(u32),
     /// mmap(2), with the protection.
     Map(u32),
@@ -73,7 +73,7 @@ pub enum Doing<'a> {
     Prctl(u32, u32, u32),
     /// seccomp(2), with the operation, the flags and the bytes of the program.
     Seccomp(u32, u32, &'a [u8]),
-    /// A plain call, with the capability of its line.
+    /// Any other call, with the capability that its line in the table names.
     Plain(Option<u8>),
 }
 
@@ -155,7 +155,7 @@ fn known_doing<'a>(rule: CallRule, args: &[u64; 6], payload: &'a Payload) -> Opt
     }
 }
 
-// What a plain call asks for, which carries nothing.
+// What a plain call asks for. Its payload must be empty.
 fn plain_doing<'a>(cap: Option<u8>, payload: &Payload) -> Option<Doing<'a>>
     ensures { option_map seen result ≡ bare (Plain cap) payload.now }
 {
@@ -165,7 +165,7 @@ fn plain_doing<'a>(cap: Option<u8>, payload: &Payload) -> Option<Doing<'a>>
     }
 }
 
-/// What a call of this rule asks for; None where its payload is not of the rule's form. It takes no memory.
+/// Returns what a call of this rule asks for, or None if its payload does not have the rule's form. Takes no memory.
 pub fn doing_of(rule: Rule, call: &Call) -> Option<Doing<'_>>
     ensures by_rule_words_and_payload { option_map seen result ≡ doing_by rule call.now.args call.now.payload }
 {

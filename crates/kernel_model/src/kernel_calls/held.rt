@@ -1,4 +1,4 @@
-//! What every call that a program holds keeps: its numbers are those of their types.
+//! What every call in a program satisfies: each number is in the range of its type.
 
 ghost use Rattle.std.specs.Prelude.{◌<◌, ◌^◌, All};
 ghost use Rattle.kernel_model.specs.kernel_calls.Calls.{IsPath, FitsPayload, IsCall};
@@ -71,7 +71,7 @@ fn payload_fits(payload: &Payload)
     }
 }
 
-/// Every call that a program holds is one that a process can make. It looks at the call and changes nothing.
+/// Shows that a program's value of a call is a call that a process can make. The function changes nothing.
 pub fn fits(call: &Call)
     ensures within_registers { IsCall call.now }
 {

@@ -1,4 +1,4 @@
-//! Laws of rules and of what calls ask for, each the contract of a function that does nothing.
+//! Laws of rules and of what calls ask for. Each is the contract of a function that does nothing.
 
 ghost use Rattle.std.specs.Prelude.{◌≡◌, ◌↔◌, ◌<◌, ℕ, false, List, Option, Some, None, IsSome, slice_get};
 ghost use Rattle.call_table.specs.call_names.Known.{known_call, is_known};
@@ -15,9 +15,8 @@ ghost use Rattle.kernel_model.specs.kernel_calls.Doing.{doing_by, asked_of, Lack
 ghost use Rattle.kernel_model.specs.kernel_calls.Rules.{rule_of, rule_at, form_of_rule};
 ghost use Rattle.kernel_model.specs.kernel_calls.Words.{low_word};
 
-/// A table gives the number of each of its calls one rule, that of the call's line. The kernel lacks a call exactly where
-/// its name is that of an absent one, and a call is plain exactly where its name is not known: then its capability is
-/// that of its line.
+/// Each call of a table has exactly one rule, which its line gives. The kernel lacks a call if and only if `known_call` lists
+/// its name as absent. A call is plain if and only if its name is unknown; it then needs the capability of its line.
 pub fn each_call_has_one_rule()
     ensures by_its_line { (calls : List CallLine) (at : ℕ) (line : CallLine)
         → AreOnce calls → slice_get calls at ≡ Some line → rule_at calls line.number ≡ rule_of line }
@@ -29,7 +28,7 @@ pub fn each_call_has_one_rule()
         → ((asked_of table call ≡ Lacking) ↔ (known_call line.name ≡ Some Absent)) }
 {}
 
-/// The form of its payload decides whether a call that the kernel has asks for anything.
+/// If the kernel has a call, the call asks for something if and only if its payload has the rule's form.
 pub fn form_decides()
     ensures of_the_rule { (rule : Rule) (args : List ℕ) (payload : Payload)
         → ((form_of_payload payload ≡ form_of_rule rule) ↔ IsSome (doing_by rule args payload)) }
@@ -39,7 +38,7 @@ pub fn form_decides()
         → ((asked_of table call ≡ Misformed) ↔ (¬ (form_of_payload call.payload ≡ form_of_rule rule))) }
 {}
 
-/// Of the words of a call only the low halves matter, syscall(2).
+/// Only the low halves of a call's words matter, syscall(2).
 pub fn low_halves_decide()
     ensures same { (rule : Rule) (args other : List ℕ) (payload : Payload)
         → ((at : ℕ) → at < 6 → low_word args at ≡ low_word other at)

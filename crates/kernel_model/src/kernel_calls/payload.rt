@@ -1,4 +1,4 @@
-//! What the pointers among a call's words point to.
+//! The data that the pointers among a call's words point to.
 
 ghost use Rattle.std.specs.Prelude.{◌≡◌};
 ghost use Rattle.kernel_model.specs.kernel_calls.Calls.{form_of_payload};
@@ -8,13 +8,13 @@ use call_table::ItemList;
 use call_table::call_names::PayloadForm;
 use site_table::CapSet;
 
-/// Ids of groups, credentials(7), which contracts see as a list.
+/// Ids of groups, credentials(7). Contracts see a list.
 pub type IdList = ItemList<u32>;
 
-/// The bytes of a program, seccomp(2), which contracts see as a list.
+/// The bytes of a program, seccomp(2). Contracts see a list.
 pub type Bytes = ItemList<u8>;
 
-/// What a call carries beside its six words.
+/// The data of a call besides its six words.
 #[derive(Drop)]
 pub enum Payload {
     /// Nothing.
@@ -34,7 +34,7 @@ pub enum Payload {
 }
 
 impl Payload {
-    /// Its form, by which a rule takes it.
+    /// Returns its form, which a call's rule checks.
     pub fn form(&self) -> PayloadForm
         ensures form { result ≡ form_of_payload self.now }
     {

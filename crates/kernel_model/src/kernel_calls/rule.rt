@@ -1,4 +1,4 @@
-//! What the kernel does for a call of a table.
+//! The rule that the kernel follows for a call of a table.
 
 ghost use Rattle.std.specs.Prelude.{◌≡◌};
 ghost use Rattle.kernel_model.specs.kernel_calls.Rules.{rule_by, rule_of};
@@ -6,12 +6,12 @@ ghost use Rattle.kernel_model.specs.kernel_calls.Rules.{rule_by, rule_of};
 use call_table::CallLine;
 use call_table::call_names::{CallRule, KnownCall, known_call};
 
-/// What the kernel does for a call that it has.
+/// The rule of a call that the kernel has.
 #[derive(Clone, Copy)]
 pub enum Rule {
-    /// Its own rule.
+    /// The call has a rule of its own.
     Known(CallRule),
-    /// It asks for the capability of the call's line, if there is one, and changes nothing.
+    /// The call needs the capability of its line, if there is one, and changes nothing.
     Plain(Option<u8>),
 }
 
@@ -25,7 +25,7 @@ fn rule_by(known: Option<KnownCall>, cap: Option<u8>) -> Option<Rule>
     }
 }
 
-/// The rule of a line of a table, by its name; None where the kernel lacks the call.
+/// Returns the rule of a line of a table, which its name decides; None if the kernel lacks the call.
 #[tactic(auto, unfolding(crate::specs::kernel_calls::Rules::rule_of))]
 pub fn rule_of(line: &CallLine) -> Option<Rule>
     ensures by_its_name { result ≡ rule_of line.now }

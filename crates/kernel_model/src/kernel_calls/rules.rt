@@ -1,4 +1,4 @@
-//! The rules of the calls of a table, made once.
+//! The rules of the calls of a table, computed once.
 
 ghost use Rattle.std.specs.Prelude.{◌≡◌, IfOk, map};
 ghost use Rattle.call_table.specs.Lookups.{place_numbered};
@@ -10,7 +10,7 @@ use call_table::{CallLine, CallTable};
 use std::alloc::{AllocError, Global};
 use std::marker::Model;
 
-/// The rule of each call of a table, in the order of the table; None where the kernel lacks the call.
+/// The rule of each call of a table, in the table's order; None if the kernel lacks the call.
 #[derive(Drop)]
 pub struct Rules {
     native: Vec<Option<Rule>>,
@@ -36,7 +36,7 @@ fn rules_of(alloc: Global, lines: &[CallLine]) -> Result<Vec<Option<Rule>>, Allo
     Ok(rules)
 }
 
-// The position of the line of this number among those of an ABI.
+// The position of the line with this number among the lines of an ABI.
 fn place_numbered(calls: &CallTable, abi: u8, nr: u32) -> Option<usize>
     ensures { result ≡ place_numbered nr (calls_in calls.now abi) }
 {
@@ -48,7 +48,7 @@ fn place_numbered(calls: &CallTable, abi: u8, nr: u32) -> Option<usize>
 }
 
 impl Rules {
-    /// The rules of the calls of this table.
+    /// Computes the rules of the calls of this table.
     pub fn new(alloc: Global, calls: &CallTable) -> Result<Rules, AllocError>
         ensures of_each_line { IfOk result (λ rules. rules ≡ rules_of calls.now) }
     {
@@ -58,7 +58,7 @@ impl Rules {
         })
     }
 
-    // The rules of the calls of an ABI, in the table that the rules are of.
+    // The rules of the calls of an ABI. `calls` must be the table of these rules.
     fn rules_in(&self, calls: &CallTable, abi: u8) -> &[Option<Rule>]
         requires { self.now ≡ rules_of calls.now }
         ensures { result.now ≡ map rule_of (calls_in calls.now abi) }
@@ -70,8 +70,8 @@ impl Rules {
         }
     }
 
-    /// The rule of the call of this number in an ABI of the table that the rules are of; None where the kernel lacks the
-    /// call or the ABI has none of the number. It takes no memory.
+    /// Returns the rule of the call with this number in an ABI, or None if the kernel lacks the call or the ABI has no such
+    /// number. `calls` must be the table of these rules. Takes no memory.
     pub fn rule(&self, calls: &CallTable, abi: u8, nr: u32) -> Option<Rule>
         requires { self.now ≡ rules_of calls.now }
         ensures by_number { result ≡ rule_at (calls_in calls.now abi) nr }
