@@ -11,7 +11,7 @@ use Rattle.call_rules.specs.declared.rules.Case.{Case}
 use Rattle.call_rules.specs.declared.rules.CallRule.{CallRule}
 use Rattle.call_rules.specs.declared.rules.RuleSet.{RuleSet}
 
--- the word that a filter returns for an action (seccomp(2)); the number of an answer stands in its low 16 bits
+-- the word that a filter returns for an action (seccomp(2)); the errno of an answer is in its low 16 bits
 abbrev pub word_of : Action → ℕ
 word_of KillProcess = kill_process
 word_of (Errno number) = errno + number
