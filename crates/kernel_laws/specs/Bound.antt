@@ -79,7 +79,8 @@ caps_by launch uids power = if launch.creds.no_new_privs then launch.creds.effec
 abbrev pub caps_at : Launch → Power → ℕ
 caps_at launch power = caps_by launch (lets launch TakesUid) power
 
--- by whether CAP_SYS_ADMIN can be had on the launched table, whether mount passes, whether umount2 does
+-- the power over mount tables. The arguments say whether CAP_SYS_ADMIN can be gained on the launched table, whether mount
+-- passes the filters, and whether umount2 does
 abbrev pub power_by : Bool → Bool → Bool → Power
 power_by false mounts unmounts = Nowise
 power_by true true unmounts = Mounting
@@ -94,7 +95,7 @@ power_using launch uids = power_by (has (caps_by launch uids Nowise) cap_sys_adm
 abbrev pub power_of : Launch → Power
 power_of launch = power_using launch (lets launch TakesUid)
 
--- every id is had by the capability, where it may be used
+-- the capability can give every id, if the service may use it
 abbrev pub any_by : Bool → ℕ → ℕ → Bool
 any_by may number effective = has effective number && may
 
@@ -140,7 +141,7 @@ bounds_at launch power = bounds_by launch (lets launch TakesUid) (lets launch Ta
 abbrev pub ceiling : Launch → Bounds
 ceiling launch = bounds_at launch (power_of launch)
 
--- the capability that a call or a family asks for, if any, can be had
+-- the capability that a call or a family needs, if any, can be gained
 abbrev pub can_have_cap : Bounds → Option ℕ → Bool
 can_have_cap top None = true
 can_have_cap top (Some cap) = has top.effective cap
@@ -180,7 +181,7 @@ abbrev pub if_listed : {X : Type 0} → (X → Bool) → Option X → Bool
 if_listed p None = false
 if_listed p (Some x) = p x
 
--- a plain call of the name passes in some ABI, and its capability can be had
+-- a plain call with this name passes in some ABI, and its capability can be gained
 abbrev pub is_call_open : Launch → Bounds → CallLine → Bool
 is_call_open launch top line = list_any (λ other. bytes_eq line.name other.name && lets_line launch PlainCall other)
     (every_call launch.calls) && can_have_for top (rule_of line)

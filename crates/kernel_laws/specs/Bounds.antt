@@ -6,8 +6,8 @@ use Rattle.kernel_model.specs.kern_creds.declared.ids.Ids.{Ids}
 use Rattle.kernel_model.specs.kern_creds.declared.creds.Creds.{Creds}
 use Rattle.kernel_model.specs.kern_creds.declared.file.FileCreds.{FileCreds}
 
--- most of the capabilities of each set, capabilities(7); the uids and gids that can be had, credentials(7); and whether
--- no_new_privs is on for good, prctl(2)
+-- the most capabilities of each set, capabilities(7); the uids and gids that a process can get, credentials(7); and whether
+-- no_new_privs is set for good, prctl(2)
 pub record Bounds : Type 0 where
   pub no_new_privs : Bool
   pub bounding : ℕ
@@ -17,7 +17,7 @@ pub record Bounds : Type 0 where
   pub uid : ℕ → Bool
   pub gid : ℕ → Bool
 
--- the real, the effective and the saved id can be had
+-- a process can get the real, the effective and the saved id
 pub record IsIdsWithin (ids : Ids) (ok : ℕ → Bool) : Type 0 where
   pub real : ok ids.real ≡ true
   pub effective : ok ids.effective ≡ true

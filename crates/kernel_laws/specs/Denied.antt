@@ -31,8 +31,8 @@ use Rattle.kernel_laws.specs.declared.question_types.question.Question.TheVarian
 use Rattle.kernel_laws.specs.declared.question_types.question.Question.TheVariants.{Uid, Gid}
 use Rattle.kernel_laws.specs.Questions.{flag_of}
 
--- the path by which a call does what is wished: stat(2) and its like see, open(2) reads and writes by its access mode, creat(2)
--- and truncate(2) write, execve(2) executes
+-- the path that a call sees, reads, writes or executes, as wished: stat(2) and similar calls see, open(2) reads and writes by
+-- its access mode, creat(2) and truncate(2) write, execve(2) executes
 abbrev pub path_for : Wish → Doing → Option Path
 path_for ToSee (doing.See path) = Some path
 path_for ToRead (doing.Open flags path) = if is_reading flags then Some path else None

@@ -37,7 +37,7 @@ pub record Means (settings : FilterSettings) (table : calls.Table) (code : List 
   pub there : calls.abi_at table abi ≡ Some found
   pub answers : (input : CallData) → IsCallData input → answer_of code input ≡ word_of (wanted_action filter settings table abi input)
 
--- a launch by programs of the settings meets what is asked of first choices
+-- in a launch of programs that mean these settings, the first choice of a kind of call is the stated one
 abbrev pub SettingsChoose : Type 0
 SettingsChoose = (launch : Launch) (settings : FilterSettings) → ((abi : ℕ) → calls.arch_of launch.calls abi < 2 ^ 32)
     → IfSome launch.calls.second (λ second. second.arch == launch.calls.arch ≡ false)

@@ -1,4 +1,4 @@
--- What is asked of a launched service, and the list of all questions.
+-- The questions about a launched service, and the list of all questions.
 use Rattle.std.specs.Prelude.{◌≡◌, slice_get, ℕ, zero, suc, ◌+◌, ◌==◌, ◌&&◌, nat_lt, not, Bool, true, false, List, [], ◌∷◌, ◌++◌, map}
 use Rattle.std.specs.Prelude.{Option, Some, None, if◌then◌else◌}
 use Rattle.filter_settings.specs.call_table.declared.listed.CallLine.{CallLine}
@@ -18,7 +18,7 @@ use Rattle.kernel_model.specs.declared.kernel_calls.rule.Rule.{Rule}
 use Rattle.kernel_model.specs.declared.kernel_calls.rule.Rule.TheVariants.{Plain}
 use Rattle.kernel_model.specs.kernel_calls.Rules.{rule_of}
 
--- CLONE_NEWCGROUP and its like, clone(2)
+-- the flag of each namespace type: CLONE_NEWCGROUP and the others, clone(2)
 abbrev pub flag_of : NamespaceType → ℕ
 flag_of Cgroup = 0x200_0000
 flag_of Ipc = 0x800_0000
@@ -93,7 +93,7 @@ joined (ids ∷ lists) = ids ++ joined lists
 abbrev pub uids_of : Site → List ℕ
 uids_of site = ascending (0 ∷ site.dynamic_uid ∷ map (λ user. user.uid) site.users ++ some_ids (map (λ row. row.setuid) site.rows))
 
--- the group root, the dynamic group, the groups of the host, those of its users and of its set-group-id programs
+-- the group root, the dynamic group, the groups of the host, its users' groups, and the groups of its set-group-id programs
 abbrev pub gids_of : Site → List ℕ
 gids_of site = ascending (0 ∷ site.dynamic_uid ∷ map (λ group. group.gid) site.groups ++ map (λ user. user.gid) site.users ++ joined
     (map (λ user. user.groups) site.users) ++ some_ids (map (λ row. row.setgid) site.rows))

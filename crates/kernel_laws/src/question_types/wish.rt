@@ -1,4 +1,4 @@
-//! What is wanted of a file of the host.
+//! What a question asks about a file of the host: to see, read, write or execute it.
 
 /// What a process wants of a file, by a call whose path finds it.
 #[derive(Clone, Copy)]
