@@ -49,12 +49,12 @@ fn first_that_serves(table: &MountTable, row: &AbsPath, wish: Wish, uncover: boo
 
 /// Returns the number of the entry of a mount table that leads to a row of the host, with flags that allow the wish.
 ///
-/// Without power it is the first entry to which a path belongs that finds the row. With umount2(2) it is the first
-/// that shows the row at all, because the service can unmount what covers it. With mount(2) it is the first of the
-/// table, because the service can bind the host anew.
+/// Without power it is the first entry to which a path belongs that finds the row. With umount2(2) it is the first that shows
+/// the row at all, because the service can unmount what covers it. With mount(2) it is the first of the table, because the
+/// service can bind the host anew.
 ///
-/// For a table that a launch can mount and a row of the site, the answer is None exactly if no path finds the row on
-/// any table that the power makes of this one. The call takes no memory.
+/// For a table that a launch can mount and a row of the site, the function returns None exactly if no path finds the row on any
+/// table that the power makes of this one. The call takes no memory.
 pub fn reach(table: &MountTable, row: &AbsPath, wish: Wish, power: Power) -> Option<usize>
     ensures by_the_rule { result ≡ reach power (steps_of table.now) row.now wish }
     ensures first_that_leads_there { IsFirstByPower power (steps_of table.now) row.now wish result }

@@ -1,4 +1,4 @@
-//! What is wanted of a file of the host.
+//! What a question asks about a file of the host.
 
 ghost use Rattle.std.specs.Prelude.{◌≡◌};
 ghost use Rattle.kernel_laws.specs.Reach.{fits};
