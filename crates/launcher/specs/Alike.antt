@@ -24,7 +24,7 @@ use Rattle.kernel_laws.specs.kernel_model.Step.{step, decision_of}
 abbrev pub HasWordArchs : Table → Type 0
 HasWordArchs table = (abi : ℕ) → arch_of table abi < 2 ^ 32
 
--- the programs of the one list answer as those of the other, one by one
+-- the lists have equally many programs, and each program answers like its counterpart
 abbrev pub AnswerAlike : List (List Insn) → List (List Insn) → Type 0
 AnswerAlike [] [] = Unit {0}
 AnswerAlike (code ∷ one) (own ∷ other) = ((input : CallData) → IsCallData input → answer_of code input ≡ answer_of own input) ×
@@ -58,7 +58,7 @@ abbrev pub AlikeReplies : Type 0
 AlikeReplies = (one other : List (List Insn)) (world : World) (calls : List Call) → AnswerAlike one other → HasWordArchs world.calls
     → AreCalls calls → SameReplies (above one world) (above other world) calls
 
--- a living process asks to push a program above its own programs and those of the launch, and may
+-- a living process asks to push a program on top of its own programs and those of the launch, and may do so
 pub record Pushes (programs : List (List Insn)) (world : World) (call : Call) (process : Process) (code : List Insn) : Type 0 where
   pub lives : living_of world call.pid ≡ Some process
   pub passes : decision_of world call (over programs process) ≡ decision.Pass
@@ -67,7 +67,7 @@ pub record Pushes (programs : List (List Insn)) (world : World) (call : Call) (p
   pub may : (process.creds.no_new_privs || has process.creds.effective cap_sys_admin) ≡ true
   pub read : program_of bytes ≡ Some code
 
--- where its own programs alone have no room, there is none
+-- if the process's own programs alone leave no room, the push fails
 abbrev pub FullByOwn : Type 0
 FullByOwn = (programs : List (List Insn)) (world : World) (call : Call) (process : Process) (code : List Insn)
     → Pushes programs world call process code

@@ -1,5 +1,5 @@
--- A launch needs settings whose rule sets can be made programs, with room for all programs in one stack (seccomp(2)), and whose ids are
--- none that stands for no id (setresuid(2)).
+-- The settings that a launch needs: their rule sets compile to programs, all programs have room in one stack (seccomp(2)), and
+-- no id is -1 (setresuid(2)).
 use Rattle.std.specs.Prelude.{◌<◌, ◌≤◌}
 use Rattle.std.specs.List.{All}
 use Rattle.exec_settings.specs.call_rules.Sizes.{CanCompile}

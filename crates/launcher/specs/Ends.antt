@@ -36,7 +36,7 @@ RepliesTo reply number (Err (error.Killed at)) = (at ≡ number) × (reply ≡ K
 RepliesTo reply number (Err (error.PrivilegedProgram path)) = ⊥
 RepliesTo reply number (Err error.Memory) = ⊥
 
--- whatever steps follow these, the launch goes on with them in this world, or has ended before them
+-- whatever steps follow these, the launch continues in this world, or it has ended before
 abbrev pub Begins : World → List LaunchStep → Result ℕ LaunchError → World → Type 0
 Begins world first (Ok count) after = (rest : List LaunchStep) → launch_from world (first ++ rest) 0 ≡ launch_from after rest count
 Begins world first (Err (error.Refused step errno)) after = (rest : List LaunchStep)

@@ -27,7 +27,7 @@ use Rattle.kernel_laws.specs.kernel_model.Step.{step}
 use Rattle.kernel_laws.specs.kernel_model.World.{World, start_world}
 use Rattle.kernel_laws.specs.Questions.{if_so, count_from}
 
--- what is asked of a launch, with the bytes of the program of each filter in the order of the filters
+-- the parameters of a launch; each filter's program is given as bytes, in the order of the filters
 pub record Wanted : Type 0 where
   pub program : Path
   pub uid : ℕ

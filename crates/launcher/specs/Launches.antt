@@ -32,7 +32,7 @@ pub record HasLaunchCalls (lines : List CallLine) : Type 0 where
   pub seccomp : rule_at lines (number_of lines (codes "seccomp")) ≡ Some (Known Seccomp)
   pub execve : rule_at lines (number_of lines (codes "execve")) ≡ Some (Known Execve)
 
--- the codes are those of the bytes, one by one
+-- each program's code is read from its bytes
 abbrev pub AreRead : List (List ℕ) → List (List Insn) → Type 0
 AreRead [] [] = Unit {0}
 AreRead (bytes ∷ programs) (code ∷ stack) = (program_of bytes ≡ Some code) × AreRead programs stack

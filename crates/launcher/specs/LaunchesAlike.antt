@@ -23,7 +23,7 @@ EndAlike one other (StepKilled count) (StepKilled count') = count ≡ count'
 EndAlike one other (PrivilegedProgram path) (PrivilegedProgram path') = path ≡ path'
 EndAlike one other _ _ = ⊥
 
--- the codes are those of the bytes, and all of them have room in one stack
+-- the programs are read from the bytes, and all of them have room in one stack
 pub record AreInstalled (programs : List (List ℕ)) (stack : List (List Insn)) : Type 0 where
   pub read : AreRead programs stack
   pub room : room_of stack ≤ max_insns_per_path

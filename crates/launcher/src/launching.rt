@@ -41,13 +41,13 @@ fn make_steps(
     make_calls(alloc, world, calls.list(), mounted)
 }
 
-/// Starts a service in the modelled kernel, step by step (systemd.exec(5)). It makes the mounts in a namespace of
-/// their own, the groups, the uids, the capabilities and no_new_privs. Then it installs the filters as programs and
-/// executes the service's program.
+/// Starts a service in the modelled kernel, step by step (systemd.exec(5)). It makes the mounts in a namespace of their own,
+/// and sets the groups, the uids, the capabilities and no_new_privs. Then it installs the filters as programs and executes the
+/// service's program.
 ///
-/// Each call is made by the kernel's step, with the table's number. PrivilegedProgram comes before all steps, exactly
-/// if the program's path finds an executable file with a set-id bit or capabilities on the plan. Refused and Killed
-/// name the first step that is not done, whatever programs match the filters. Memory may come for any settings.
+/// The kernel's step makes each call, with the table's number. `PrivilegedProgram` is returned before all steps, exactly if the
+/// program's path finds an executable file with a set-id bit or capabilities on the plan. `Refused` and `Killed` name the first
+/// step that fails, whatever programs match the filters. `Memory` is possible for any settings.
 pub fn launch<'a>(
     alloc: Global,
     settings: &Settings,

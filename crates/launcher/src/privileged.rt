@@ -31,7 +31,7 @@ fn is_some_marked(file: Option<&Row>) -> bool
     }
 }
 
-// The entry, where its place leads to the path, or else the one that was found before.
+// Returns the entry if its place leads to the path, otherwise the entry found before.
 fn nearer<'p>(
     found: Option<&'p MountStep>,
     entry: &'p MountStep,

@@ -1,5 +1,5 @@
-//! Makes all calls of a launch in their order: those of ids and capabilities, those of the filters, and execve(2) of
-//! the program.
+//! Makes all calls of a launch in their order: first the calls that set ids and capabilities, then the calls that install the
+//! filters, then execve(2) of the program.
 
 ghost use Rattle.std.specs.Prelude.{◌≡◌, ◌++◌, IfOk, OnOk};
 ghost use Rattle.launcher.specs.Answers.{given_bytes, wanted_of};
