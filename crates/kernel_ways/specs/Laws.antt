@@ -63,9 +63,9 @@ VerdictIsExact = (world : World) (question : Question) → IsServedWorld world �
 abbrev pub QuestionsAreExact : Type 0
 QuestionsAreExact = (world : World) → IsServedWorld world → AllByRecursion (IsExact world) (questions world.calls world.site)
 
--- the capabilities of the ceiling are exactly those that can become effective, capabilities(7). Its power follows from CAP_SYS_ADMIN
--- among them and from whether mount(2) and umount2(2) pass the filters. If it says that every uid or every gid can be had, some list of
--- calls shows each of them
+-- the capabilities of the ceiling are exactly those that can become effective, capabilities(7). Its power depends on whether it
+-- has CAP_SYS_ADMIN and whether mount(2) and umount2(2) pass the filters. If it says that every uid or every gid can be gained,
+-- some list of calls gains each of them
 pub record BoundsAreExact (world : World) : Type 0 where
   pub held : (number : ℕ) → has (ceiling (launch_of world)).effective number ≡ true → IsShown world (Cap number)
   pub withheld : (number : ℕ) → has (ceiling (launch_of world)).effective number ≡ false → IsDenied world (Cap number)

@@ -40,8 +40,8 @@ IsDoable (UserChild own) = ⊥
 IsDoable (OwnUser own) = ⊥
 IsDoable End = Unit {0}
 
--- once it is done, such a call that asks for this answers the question. A path of the mount table finds the row of that place, the number
--- is that of a call of the name at that place, or the call asks for such a thing
+-- once such a call is done, it answers the question if it asks for this. For a path: the path finds this row on the mount
+-- table. For a call: the call at this place has the same name. Otherwise: the call asks for the thing in question
 abbrev pub Answers : Launch → Table → Question → call.Call → Doing → Type 0
 Answers launch table (ByPath wish place) call doing =
     (path : Path) × (target : Row) × (path_for wish doing ≡ Some path) × (slice_get launch.site.rows place ≡ Some target) ×

@@ -1,4 +1,4 @@
--- Which uids and gids are had without the use of CAP_SETUID and of CAP_SETGID, credentials(7).
+-- The uids and gids that a service can get without using CAP_SETUID and CAP_SETGID, credentials(7).
 use Rattle.std.specs.Prelude.{◌≡◌, ℕ, ◌==◌, Bool, true, false, List, not, ◌&&◌, ◌||◌}
 use Rattle.std.specs.List.{list_any}
 use Rattle.launcher.specs.kernel_model.declared.kernel_calls.call.Call.{Call}
@@ -25,7 +25,7 @@ gids_of launch id =
     (id == launch.creds.gids.effective || list_any (λ group. id == group) launch.creds.groups)
     || (not launch.creds.no_new_privs && list_any (grouped_by launch (power_using launch (lets launch TakesUid)) id) launch.site.rows)
 
--- no other id is had after any list of calls that spares the capability; the other capability may be used
+-- no list of calls that spares the capability gives any other id; the calls may use the other capability
 pub record IdsAreBounded (world : World) : Type 0 where
   pub uids : (id : ℕ) → uids_of (launch_of world) id ≡ false → (list : List Call) → AreCalls list
       → AllSpare false (lets (launch_of world) TakesGid) world list → ¬ Holds (Uid id) (run world list)

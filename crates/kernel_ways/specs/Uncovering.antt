@@ -19,8 +19,8 @@ abbrev pub covering : Path → Table → List Path
 covering path [] = []
 covering path (entry ∷ later) = covering path later ++ if_so (leads_to path entry) entry.place
 
--- calls of umount2(2) with MNT_DETACH at these places make one table of another, of mounts that are not locked, and each of them is
--- done. Each place is that of the entry to which the path then belongs: the last whose place leads to it
+-- calls of umount2(2) with MNT_DETACH at these places make one table from another, without locked mounts, and each succeeds.
+-- Each place is the place of the path's entry at that moment: the last whose place leads to the path
 pub data Detaches (path : Path) : Table → List Path → Table → Type 0 where
   still : {table : Table} → Detaches path table [] table
   then_one : {table next last : Table} {places : List Path} (split : Split) → split_at path table ≡ Some split

@@ -1,10 +1,10 @@
-//! States that the ceiling of a launched service is exact: for all that it leaves open some list of calls exists.
+//! States that the ceiling of a launched service is exact: for everything that it leaves open, some list of calls exists.
 //!
-//! The crate has no code. Each function is a law: its contract states the law over the definitions in `specs/`. The
-//! crates that give verdicts and print calls cite these words.
+//! The crate has no code. Each function is a law: its contract states the law over the definitions in `specs/`. The crates that
+//! give verdicts and print calls use these definitions.
 //!
-//! `kernel_laws` has the laws of what is denied, `reach_paths` those of what mounts show, and `launcher` says what a
-//! launch leaves.
+//! `kernel_laws` has the laws of denied questions, `reach_paths` the laws of what mounts show, and `launcher` describes the
+//! service after its launch.
 #![tactic(auto)]
 
 ghost use Rattle.kernel_ways.specs.Blindness.{BlindIsExact};
@@ -15,9 +15,9 @@ ghost use Rattle.kernel_ways.specs.Laws.{OpenIsShown, VerdictIsExact, ListedAreF
 ghost use Rattle.kernel_ways.specs.Showing.{WaysAreDone, ServedIsSolo, CallsShow, CredsShow};
 ghost use Rattle.kernel_ways.specs.Spared.{SparedIdsAreBounded, SparedIdsAreReached};
 
-/// After a launch of a unit's settings, some list of calls shows each question that the ceiling leaves open, and none
-/// reaches a question that it closes. So each verdict on the listed questions is exact, and so are the capabilities
-/// of the ceiling, its power, and that every uid or gid can be had.
+/// After a launch of a unit's settings, some list of calls shows each question that the ceiling leaves open, and none reaches a
+/// question that it closes. So each verdict on the listed questions is exact. So are the ceiling's capabilities, its power, and
+/// the statements that a service can get every uid or every gid.
 pub fn openness()
     ensures shown { OpenIsShown }
     ensures exact { VerdictIsExact }
