@@ -1,4 +1,4 @@
--- What a ceiling bounds, and that it is had.
+-- The limits of a ceiling, and that a service can reach each of them.
 use Rattle.std.specs.Prelude.{◌≡◌, ℕ, ◌≤◌, true, false, Contains}
 use Rattle.kernel_ways.specs.cap_sets.Sets.{has}
 use Rattle.kernel_ways.specs.kernel_laws.Denied.{IsDenied}
@@ -17,9 +17,9 @@ pub record DeniesMore (world : World) (top : Ceiling) : Type 0 where
   pub uids : (id : ℕ) → top.any_uid ≡ false → ¬ Contains top.uids id → IsDenied world (Uid id)
   pub gids : (id : ℕ) → top.any_gid ≡ false → ¬ Contains top.gids id → IsDenied world (Gid id)
 
--- some list of calls, each of which is done, has each of the capabilities, and each id where any can be taken. The listed uids are those
--- that are had without a use of CAP_SETUID, whatever use is made of CAP_SETGID where a call passes that takes a gid; and the listed gids
--- the other way round.
+-- some list of successful calls gains each of the capabilities, and each id if the service can take every id. The listed uids
+-- are those that the service can get without using CAP_SETUID; it may use CAP_SETGID if a call passes that takes a gid. The
+-- same holds for the listed gids, with the capabilities exchanged.
 pub record IsAllHad (world : World) (top : Ceiling) : Type 0 where
   pub capabilities : (number : ℕ) → has top.effective number ≡ true → IsShown world (Cap number)
   pub any_uid : (id : ℕ) → top.any_uid ≡ true → id ≤ greatest_id → IsShown world (Uid id)

@@ -14,23 +14,23 @@ use Rattle.kernel_ways.specs.kernel_laws.declared.question_types.power.Power.The
 use Rattle.kernel_ways.specs.kernel_laws.Reach.{reach}
 use Rattle.ceilings.specs.declared.leads.RowLeads.{RowLeads}
 
--- the entry that is found for a wish: who may see a row may read it
+-- the entry for a wish: a process that can see a row can read it
 abbrev pub lead_to : RowLeads → Wish → Option ℕ
 lead_to leads ToSee = leads.see
 lead_to leads ToRead = leads.see
 lead_to leads ToWrite = leads.write
 lead_to leads ToExec = leads.exec
 
--- those of a row
+-- the entries that lead to a row
 abbrev pub leads_of : Table → Path → RowLeads
 leads_of table row = record
     { see = reach Nowise table row ToSee; write = reach Nowise table row ToWrite; exec = reach Nowise table row ToExec }
 
--- those of all rows of the site, by their positions
+-- the entries that lead to each row of the site, by the row's position
 abbrev pub AreLeads : Launch → List RowLeads → Type 0
 AreLeads launch list = list ≡ map (λ row. leads_of launch.table row.path) launch.site.rows
 
--- what an entry shows of the host lies elsewhere there, as a bind of mount(2) may have it
+-- the entry shows a path of the host at another place, as a bind of mount(2) can
 abbrev pub is_elsewhere : Path → What → Bool
 is_elsewhere place (Host source) = not (is_same source place)
 is_elsewhere place Empty = false

@@ -10,10 +10,10 @@ use Rattle.ceilings.specs.Ruled.{AreRules}
 use Rattle.kernel_ways.specs.Spared.{uids_of, gids_of}
 
 -- the parts, in their order:
--- - the capabilities that can become effective at the power that can be had, capabilities(7);
+-- - the capabilities that can become effective with the power that the service can gain, capabilities(7);
 -- - that power;
--- - whether every uid, and every gid, can be taken by them;
--- - the uids and the gids that are had besides, each of these and no other, credentials(7);
+-- - whether the service can take every uid, and every gid, with them;
+-- - the other uids and gids that it can get, exactly these, credentials(7);
 -- - the calls on paths that pass, the rule of each line of the table of calls, and the entries that lead to each row of the site
 pub record IsCeilingOf (launch : Launch) (top : Ceiling) : Type 0 where
   pub effective : top.effective ≡ caps_at launch (power_of launch)

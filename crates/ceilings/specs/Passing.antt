@@ -9,14 +9,14 @@ use Rattle.kernel_ways.specs.kernel_laws.Launched.{Launch, lets}
 use Rattle.ceilings.specs.declared.passing.PathCalls.{PathCalls}
 use Rattle.ceilings.specs.declared.passing.Passing as made
 
--- by what is wished of a path
+-- whether the call for this wish passes
 abbrev pub passes : PathCalls → Wish → Bool
 passes calls ToSee = calls.see
 passes calls ToRead = calls.read
 passes calls ToWrite = calls.write
 passes calls ToExec = calls.exec
 
--- stat(2) and its like; open(2); open(2), creat(2) and truncate(2); execve(2)
+-- stat(2) and similar calls; open(2); open(2), creat(2) and truncate(2); execve(2)
 pub record ArePathCalls (launch : Launch) (calls : PathCalls) : Type 0 where
   pub see : calls.see ≡ lets launch (ForPath ToSee)
   pub read : calls.read ≡ lets launch (ForPath ToRead)

@@ -1,4 +1,4 @@
--- The rules of the lines of a table of calls, by their positions: those of the native ABI, and those of the other.
+-- The rules of the lines of a table of calls, by their positions: the native ABI's lines, and the second ABI's.
 use Rattle.std.specs.Prelude.{◌≡◌, map}
 use Rattle.kernel_ways.specs.call_table.Table.{calls_in}
 use Rattle.kernel_ways.specs.kernel_model.kernel_calls.Rules.{rule_of}

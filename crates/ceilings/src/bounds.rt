@@ -7,7 +7,7 @@ use crate::ruled::LineRules;
 use kernel_model::CapSet;
 use kernel_ways::Power;
 
-/// The bounds that no process of a launched service passes, in any world that any calls of its processes lead to.
+/// The bounds of a launched service. No process of it exceeds them, whatever calls its processes make.
 #[derive(Drop)]
 pub struct Ceiling {
     /// The capabilities that can become effective, capabilities(7).
@@ -18,9 +18,11 @@ pub struct Ceiling {
     pub any_uid: bool,
     /// Whether every gid can be taken: CAP_SETGID can become effective, and setgid(2), setresgid(2) or setgroups(2) passes.
     pub any_gid: bool,
-    /// The uids that are had without a use of CAP_SETUID: that of the launch, and the owners of set-user-id programs.
+    /// The uids that the service can get without using CAP_SETUID: the uid of the launch, and the owners of set-user-id
+    /// programs.
     pub uids: IdList,
-    /// The gids that are had without a use of CAP_SETGID: those of the launch, and the groups of set-group-id programs.
+    /// The gids that the service can get without using CAP_SETGID: the gids of the launch, and the groups of set-group-id
+    /// programs.
     pub gids: IdList,
     /// Which calls on paths pass.
     pub paths: PathCalls,

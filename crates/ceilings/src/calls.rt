@@ -24,7 +24,7 @@ pub fn rule_of(line: &CallLine) -> Option<Rule>
     }
 }
 
-// The architecture of the ABI at this position, 0 where there is none.
+// The architecture of the ABI at this position, or 0 if there is no such ABI.
 #[tactic(auto, using(crate::proofs::AllCalls::no_arch))]
 fn arch_of(table: &CallTable, abi: u8) -> u32
     ensures { result ≡ arch_of table.now abi }
@@ -123,8 +123,8 @@ fn plain_among<'a>(world: &World<'_>, name: &str, lines: &'a [CallLine]) -> Opti
     lines.iter().find(|line| is_plain_named(world, name, line))
 }
 
-/// The line of the plain call of this name that the filters of the first process let through: that of the native ABI, else
-/// that of the other.
+/// Finds the line of the plain call with this name that the filters of the first process let through: in the native ABI, else
+/// in the second one.
 #[tactic(auto, using(crate::proofs::AllCalls::found_in_all))]
 pub fn plain_line<'a>(world: &'a World<'_>, name: &str) -> Option<&'a CallLine>
     ensures first_that_passes { let launch = launch_of world.now in

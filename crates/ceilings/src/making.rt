@@ -31,15 +31,15 @@ fn can_take_any(caps: CapSet, cap: u8, passes: bool) -> bool
 
 /// Makes the bounds of every process of a launched service.
 ///
-/// The capabilities are those of the launch and of the programs that can be executed: by running as root, by an
-/// effective bit, or with capset(2) after the program (capabilities(7)). With no_new_privs they are those of the
-/// launch alone, prctl(2). A program counts if some mount table that can be had leads to it.
+/// The service starts with the capabilities of its launch. Programs that it can execute give it more: by running as root, by an
+/// effective bit, or with capset(2) after the program (capabilities(7)). With no_new_privs they give none, prctl(2). A program
+/// counts if the service can make a mount table that leads to it.
 ///
-/// CAP_SYS_ADMIN that can be had on the launched table gives power over mount tables. With that power more programs
+/// CAP_SYS_ADMIN gives power over mount tables if the service can gain it on the launched table. With that power more programs
 /// may count, but what they give adds no power.
 ///
-/// The call takes a few passes over the site. What later calls ask again and again of each line of the table and of
-/// each row of the site is found here once.
+/// The call takes a few passes over the site. It finds once what later calls need again and again of each line of the table and
+/// of each row of the site.
 pub fn ceiling(alloc: Global, launched: &Launched<'_>) -> Result<Ceiling, AllocError>
     requires { IsLaunchedWorld launched.now.world }
     ensures is_its_own { IfOk result (IsCeilingOf (launch_of launched.now.world)) }
@@ -49,7 +49,7 @@ pub fn ceiling(alloc: Global, launched: &Launched<'_>) -> Result<Ceiling, AllocE
         top.power
         ≡ power_by (has top.effective cap_sys_admin) (lets launch ChangesMounts) (lets launch RemovesMounts)) }
 
-    // In no world of any run does a living process have more, and all of it is had by some list of calls, each of which is done.
+    // No living process of any run has more. Some list of successful calls gains all of it.
     ensures more_is_denied { IfOk result (DeniesMore launched.now.world) }
     ensures all_is_had { IfOk result (λ top. IsServedWorld launched.now.world → IsAllHad launched.now.world top) }
 {

@@ -9,10 +9,10 @@ use crate::ruled::LineRules;
 use kernel_model::World;
 use kernel_ways::{CallKind, Wish};
 
-/// What processes can ask of paths: whether some call passes that sees, reads, writes or executes what a path finds.
+/// Whether some call passes that sees, reads, writes or executes a path.
 #[derive(Clone, Copy)]
 pub struct PathCalls {
-    /// stat(2) and its like.
+    /// stat(2) and similar calls.
     pub see: bool,
     /// open(2) for reading.
     pub read: bool,
@@ -23,7 +23,7 @@ pub struct PathCalls {
 }
 
 impl PathCalls {
-    /// Those that the filters of the first process let through.
+    /// Finds the calls on paths that the filters of the first process let through.
     pub(crate) fn of(world: &World<'_>, rules: &LineRules) -> PathCalls
         requires { AreRules (launch_of world.now) rules.now }
         ensures { ArePathCalls (launch_of world.now) result }
@@ -36,7 +36,7 @@ impl PathCalls {
         }
     }
 
-    /// Returns whether some call passes that does what is wished.
+    /// Returns whether some call passes that does this.
     pub fn passes(self, wish: Wish) -> bool
         ensures of_the_wish { result ≡ passes self wish }
     {
@@ -65,7 +65,7 @@ pub(crate) struct Passing {
 }
 
 impl Passing {
-    // Those that the filters of the first process let through.
+    // Finds the kinds of calls that the filters of the first process let through.
     pub(crate) fn of(world: &World<'_>, rules: &LineRules) -> Passing
         requires { AreRules (launch_of world.now) rules.now }
         ensures { ArePassing (launch_of world.now) result }

@@ -12,7 +12,8 @@ use kernel_model::World;
 use kernel_ways::Power;
 use kernel_ways::linux_numbers::capabilities::CAP_SYS_ADMIN;
 
-// Returns the power by CAP_SYS_ADMIN, if it can be had on the launched table, and by which calls pass.
+// Returns the power over mount tables. The arguments say whether the service can gain CAP_SYS_ADMIN on the launched table, and
+// whether mount(2) and umount2(2) pass.
 fn power_by(has_admin: bool, mounts: bool, unmounts: bool) -> Power
     ensures { result ≡ power_by has_admin mounts unmounts }
 {

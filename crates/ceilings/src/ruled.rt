@@ -12,12 +12,12 @@ use kernel_model::{CallLine, World};
 use kernel_ways::{CallKind, NamespaceType};
 use std::alloc::{AllocError, Global};
 
-/// The rules of all calls, by their positions; None where the kernel lacks the call.
+/// The rules of all calls, by their positions; None if the kernel lacks the call.
 #[derive(Drop)]
 pub struct LineRules {
-    /// Those of the native ABI.
+    /// The rules of the native ABI's calls.
     pub native: Vec<Option<Rule>>,
-    /// Those of the other, if there is one.
+    /// The rules of the second ABI's calls, if there is one.
     pub second: Vec<Option<Rule>>,
 }
 
@@ -46,7 +46,7 @@ fn lets_some(world: &World<'_>, kind: CallKind, lines: &[CallLine], rules: &[Opt
 }
 
 impl LineRules {
-    /// Those of the table of a launched service.
+    /// Finds the rules of the calls in the table of a launched service.
     pub(crate) fn of(alloc: Global, world: &World<'_>) -> Result<LineRules, AllocError>
         ensures { IfOk result (AreRules (launch_of world.now)) }
     {

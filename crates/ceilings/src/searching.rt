@@ -1,7 +1,7 @@
-//! The search of the entries of the launched mount table that lead to the rows of the site.
+//! Searches the launched mount table for the entries that lead to the rows of the site.
 //!
-//! Most entries show what the host has at their own place. Only one of these can show a row: the one that the row's
-//! own path belongs to. So the search looks at that one, and at the entries that show another place of the host.
+//! Most entries show a path of the host at the same place. Of these, only the entry that a row's own path belongs to can show
+//! the row. So the search looks at that entry, and at the entries that show another place of the host.
 
 ghost use Rattle.std.specs.Prelude.{◌≡◌, ◌+◌, ◌<◌, ◌≤◌, ◌&&◌, ◌++◌, false, not, drop, length, map, slice_get, IfOk, OnOk, Some};
 ghost use Rattle.std.specs.List.{list_any};
@@ -41,7 +41,7 @@ fn is_moved(entry: &MountStep) -> bool
     }
 }
 
-// Of each entry, by its number, whether it does.
+// For each entry, by its number: whether it shows what the host has at another place.
 fn moved_entries(alloc: Global, table: &MountTable) -> Result<Vec<bool>, AllocError>
     ensures { IfOk result (λ list. list.items ≡ map is_moved (steps_of table.now)) }
 {
@@ -119,8 +119,8 @@ fn first_from(
     None
 }
 
-// The entries that lead to a row. What may not be seen may not be written, and the first entry that leads to a row to be written
-// is none before the first to see it.
+// The entries that lead to a row. A row that cannot be seen cannot be written, and the first entry through which the row can be
+// written is not before the first through which it can be seen.
 #[tactic(auto, using(crate::proofs::Leading::unseen, crate::proofs::Leading::seen))]
 fn row_leads(search: &Search<'_>, row: &AbsPath) -> RowLeads
     ensures { result ≡ leads_of (steps_of search.now.table.now) row.now }
@@ -140,7 +140,7 @@ fn row_leads(search: &Search<'_>, row: &AbsPath) -> RowLeads
     }
 }
 
-// Those of these rows.
+// Adds the entries that lead to each of these rows.
 fn push_leads(list: &mut Vec<RowLeads>, search: &Search<'_>, rows: &[Row]) -> Result<(), AllocError>
     ensures { OnOk result (list.new.items ≡ list.old.items ++ map (λ row. leads_of (steps_of search.now.table.now) row.path) rows.now) }
 {
@@ -150,7 +150,7 @@ fn push_leads(list: &mut Vec<RowLeads>, search: &Search<'_>, rows: &[Row]) -> Re
     Ok(())
 }
 
-// Those of all rows of the site.
+// The entries that lead to each row of the site.
 pub(crate) fn all_leads(alloc: Global, world: &World<'_>) -> Result<Vec<RowLeads>, AllocError>
     requires { IsLaunchedWorld world.now }
     ensures { IfOk result (λ list. AreLeads (launch_of world.now) list.items) }
