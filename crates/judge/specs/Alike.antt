@@ -1,4 +1,4 @@
--- Two sites that agree outside a folder which a launched service is blind to: the service cannot tell them apart.
+-- Two sites that agree outside a folder to which a launched service is blind: the service gets the same replies on both.
 use Rattle.std.specs.Prelude.{◌≡◌, ℕ, List, None, Ok}
 use Rattle.ceilings.specs.abs_path.Paths.{Path}
 use Rattle.ceilings.specs.call_table.Facts.{IsWhole}

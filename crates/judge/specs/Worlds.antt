@@ -40,8 +40,8 @@ LaunchIsBlind = (folder : Path) (table : calls.Table) (site other : Site) (wante
     → AgreeOutside folder site other → IsBlind last folder → launch table site wanted plan ≡ Launched last steps
     → launch table other wanted plan ≡ Launched (with_site other last) steps
 
--- a living process of a blind world, whose mount table has at most the size of a plan, is shown neither the folder nor what lies below
--- it; the folder's path is one that a row may have
+-- a living process of a blind world, with a mount table no larger than a plan, sees neither the folder nor anything below it;
+-- the folder's path is a path that a row may have
 abbrev pub BlindIsShownNothing : Type 0
 BlindIsShownNothing = (folder : Path) (world : World) (pid : ℕ) (process : Process)
     → living_of world pid ≡ Some process → IsSmall (table_of world process.namespace) → IsFolder folder → IsBlind world folder

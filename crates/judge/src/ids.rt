@@ -1,4 +1,4 @@
-//! Tests which ids can be had.
+//! Tests which ids a service can get.
 
 ghost use Rattle.std.specs.Prelude.{◌≡◌};
 ghost use Rattle.ceilings.specs.kernel_laws.Bound.{ceiling};

@@ -14,10 +14,11 @@ use questions::{Question, Verdict};
 
 /// Returns the verdict on a question of the list, for a launched service and its own ceiling.
 ///
-/// It is denied only if no process of any run of calls ever does or has what is asked. The calls may come in any
-/// order and from however many processes. They may fork, execute programs, mount, change ids and install filters.
-/// After a launch of a unit's settings it is open only if some list of calls, each of which is done, shows the
-/// question. The call takes no memory.
+/// The verdict is `Denied` only if no process ever does or has the thing in question, in any run of calls. The calls may come
+/// in any order and from any number of processes. They may fork, execute programs, mount, change ids and install filters.
+///
+/// After a launch of a unit's settings, the verdict is `Open` only if some list of successful calls shows the question. The
+/// call takes no memory.
 pub fn verdict(launched: &Launched<'_>, ceiling: &Ceiling, question: &Question) -> Verdict
     requires launched { IsLaunchedWorld launched.now.world }
     requires its_own_ceiling { IsCeilingOf (launch_of launched.now.world) ceiling.now }

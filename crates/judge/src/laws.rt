@@ -15,10 +15,11 @@ pub fn worlds_are_blind()
     ensures shown_nothing { BlindIsShownNothing }
 {}
 
-/// A launched service cannot tell its site from another that agrees outside a folder to which the service is blind. The two sites also
-/// agree at the paths that the unit implies and at the sources of its binds. Then neither the unit nor its plan is refused on the
-/// other site, and both settings and plan are the same. Its launch with the same programs, whichever they are, leaves the same
-/// world except for the site. Every list of calls has the same replies.
+/// A launched service is blind to a folder of its site, and another site agrees outside that folder. The two sites also agree
+/// at the paths that the unit implies and at the sources of its binds. Then the service cannot distinguish the sites.
+///
+/// The other site refuses neither the unit nor its plan, and both settings and plan are the same. A launch with the same
+/// programs, whichever they are, leaves the same world except for the site. Every list of calls has the same replies.
 pub fn sites_are_alike()
     ensures blind { BlindToOthers }
 {}

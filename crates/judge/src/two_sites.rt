@@ -30,19 +30,20 @@ fn know_sites(site: &SiteTable, other: &SiteTable)
     let _other_uid = other.dynamic_uid();
 }
 
-/// States that a service cannot tell two sites apart which differ only below a folder that it is blind to.
+/// States that a service cannot distinguish two sites that differ only below a folder to which it is blind.
 ///
-/// On the first site neither the unit nor its plan is refused, the launch with these programs ends in a service, and
-/// no list of calls shows that service a place strictly below the folder. Then the other site refuses neither the
-/// unit nor its plan. Settings and plan are the same, and so are the replies to every list of calls. The launch with
-/// the same programs takes the same number of steps and leaves the same world except for the site.
+/// On the first site neither the unit nor its plan is refused, the launch with these programs ends in a service, and no list of
+/// calls shows that service a place strictly below the folder. Then the other site refuses neither the unit nor its plan.
+/// Settings and plan are the same, and so are the replies to every list of calls. The launch with the same programs takes the
+/// same number of steps and leaves the same world except for the site.
 ///
-/// The two sites have the same ids, accounts and count of user namespaces, and the same rows except strictly below the folder. They
-/// agree in two more things. At each path that a key in force implies (systemd.exec(5), Sandboxing), both have a row of one kind or
-/// neither has a row. The source of each bind is a directory in both, a row of another kind in both, or a row of neither.
+/// The two sites have the same ids, accounts and count of user namespaces, and the same rows except strictly below the folder.
+/// They agree in two more things. At each path that a key in force implies (systemd.exec(5), Sandboxing), both have a row of
+/// one kind or neither has a row. The source of each bind is a directory in both, a row of another kind in both, or a row of
+/// neither.
 ///
-/// The folder is any path: neither site need have a row there. The programs are any that seccomp(2) takes, and need not match the
-/// filters. The call takes no memory and does nothing: its contract is the law.
+/// The folder is any path: neither site need have a row there. The programs are any that seccomp(2) takes, and need not match
+/// the filters. The call takes no memory and does nothing: its contract is the law.
 pub fn alike(
     unit: &Resolved,
     calls: &CallTable,
