@@ -7,7 +7,7 @@ use Rattle.ceilings.specs.kernel_laws.Reach.{reaches}
 use Rattle.ceilings.specs.kernel_model.World.{World}
 use Rattle.open_calls.specs.declared.exposing.Aim.{Aim}
 
--- the row is one of the site, the power reaches it for the wish, and the number is that of the entry that leads to it
+-- the row belongs to the site, the power reaches it for the wish, and the number names the entry that leads to it
 pub record IsAim (world : World) (aim : Aim) : Type 0 where
   pub known : row_at world.site.rows aim.row.now.path ≡ Some aim.row.now
   pub reached : reaches aim.power (launch_of world).table aim.row.now.path aim.wish ≡ true

@@ -1,11 +1,11 @@
--- The basis of ways is that of a launch.
+-- The facts of a launch on which the ways to a capability depend.
 use Rattle.std.specs.Prelude.{◌≡◌}
 use Rattle.ceilings.specs.kernel_laws.Bound.{power_of}
 use Rattle.ceilings.specs.kernel_laws.declared.question_types.kind.CallKind.TheVariants.{SetsCaps, TakesUid, TakesGid}
 use Rattle.ceilings.specs.kernel_laws.Launched.{Launch, lets}
 use Rattle.open_calls.specs.declared.basis.Basis.{Basis}
 
--- its power over mount tables; capset(2); setuid(2) and its like; setgid(2) and its like
+-- its power over mount tables; capset(2); setuid(2) and similar calls; setgid(2) and similar calls
 pub record IsBasis (launch : Launch) (basis : Basis) : Type 0 where
   pub power : basis.power ≡ power_of launch
   pub sets_caps : basis.sets_caps ≡ lets launch SetsCaps

@@ -52,7 +52,7 @@ abbrev pub is_had : IdKind → Launch → ℕ → Bool
 is_had User launch id = id == launch.creds.uids.effective
 is_had Group launch id = id == launch.creds.gids.effective || list_any (λ group. id == group) launch.creds.groups
 
--- the question whether it can be had
+-- the question whether the service can get the id
 abbrev pub asked : IdKind → ℕ → Question
 asked User id = Uid id
 asked Group id = Gid id

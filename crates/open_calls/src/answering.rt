@@ -113,8 +113,8 @@ impl Service<'_> {
         Ok(())
     }
 
-    // Adds the calls that make a namespace of the type: of users by itself; another one by CAP_SYS_ADMIN, where that can be had,
-    // else in a user namespace.
+    // Adds the calls that make a namespace of the type. A user namespace needs no capability. Any other namespace needs
+    // CAP_SYS_ADMIN if the service can gain it, else a user namespace first.
     fn push_space(&self, calls: &mut Vec<Call>, kind: NamespaceType) -> Made<()>
         requires served { IsServedWorld self.now.world.now }
         requires reachable { is_open (launch_of self.now.world.now) (Ns kind) ≡ true }
@@ -164,12 +164,12 @@ impl Service<'_> {
 
 /// Makes the calls that are chosen to reach an open question of a launched service.
 ///
-/// Process 1 makes them one after the other, and each is done. The last one does what is asked, or the process then
-/// has it. If process 1 makes a child in a user namespace by clone(2), that child, process 2, makes the one call that
-/// follows. What the service has at launch needs no call.
+/// Process 1 makes them in sequence, and each succeeds. The last call does the thing in question, or the process has it
+/// afterwards. If process 1 makes a child in a user namespace by clone(2), that child, process 2, makes the one call that
+/// follows. If the service has the thing at launch, the list is empty.
 ///
-/// Short lists are preferred: what can be done on the launched mount table is done there, and CAP_SYS_ADMIN is gained
-/// only for what cannot (capabilities(7), mount(2), umount2(2)).
+/// Short lists are preferred: what can be done on the launched mount table is done there, and CAP_SYS_ADMIN is gained only for
+/// what cannot (capabilities(7), mount(2), umount2(2)).
 pub fn calls(service: &Service<'_>, question: &Question) -> Result<Vec<Call>, AllocError>
     requires served { IsServedWorld service.now.world.now }
     requires program { RunsProgram (launch_of service.now.world.now) service.now.program.now }

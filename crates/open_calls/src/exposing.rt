@@ -201,7 +201,8 @@ impl Service<'_> {
         }
     }
 
-    /// Adds the calls that expose the row, the one that makes a user namespace, and the one that executes the row there.
+    /// Adds the calls that expose the row, then the call that makes a user namespace, and last the call that executes the row
+    /// there.
     pub(crate) fn push_inside(&self, calls: &mut Vec<Call>, aim: &Aim<'_>) -> Made<()>
         requires served { IsServedWorld self.now.world.now }
         requires aimed { IsAim self.now.world.now aim.now }

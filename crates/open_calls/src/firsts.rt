@@ -21,7 +21,7 @@ use questions::{Call, CallKind, NamespaceType, Payload, Rule, Wish, World};
 /// The first calls of some kinds; None where none passes.
 #[derive(Clone, Copy)]
 pub(crate) struct Firsts {
-    // stat(2) and its like, open(2), open(2) and execve(2)
+    // stat(2) and similar calls, open(2), open(2) and execve(2)
     pub(crate) see: Option<FirstCall>,
     pub(crate) read: Option<FirstCall>,
     pub(crate) write: Option<FirstCall>,
@@ -31,7 +31,7 @@ pub(crate) struct Firsts {
     pub(crate) unmount: Option<FirstCall>,
     // capset(2)
     pub(crate) capset: Option<FirstCall>,
-    // setuid(2), setgid(2) and their like
+    // setuid(2), setgid(2) and similar calls
     pub(crate) uid: Option<FirstCall>,
     pub(crate) gid: Option<FirstCall>,
 }

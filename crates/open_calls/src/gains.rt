@@ -17,13 +17,13 @@ use std::alloc::{AllocError, Global};
 /// What is kept of a capability.
 #[derive(Clone, Copy)]
 pub(crate) enum Gained<'a> {
-    /// Nothing: it cannot be had.
+    /// Nothing: the service cannot gain it.
     Unasked,
     /// How it is gained, if it is.
     Found(Option<GainWay<'a>>),
 }
 
-// Returns what is kept of this capability, by those that can be had.
+// Returns the result for this capability. `held` has the capabilities that the service can gain.
 fn found_way<'a>(world: &'a World<'_>, basis: Basis, held: CapSet, cap: u8) -> Gained<'a>
     requires launched { IsLaunchedWorld world.now }
     requires its_own { IsBasis (launch_of world.now) basis }
@@ -36,7 +36,7 @@ fn found_way<'a>(world: &'a World<'_>, basis: Basis, held: CapSet, cap: u8) -> G
     }
 }
 
-/// Returns what is kept of each capability, by its number and by those that can be had.
+/// Returns the result for each capability, by its number. `held` has the capabilities that the service can gain.
 pub(crate) fn gains<'a>(
     alloc: Global,
     world: &'a World<'_>,

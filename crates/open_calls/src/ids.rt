@@ -161,7 +161,7 @@ impl Service<'_> {
         }
     }
 
-    /// Adds the calls that take an id that can be had; for an id that the launch has, none. They take it by a row of
+    /// Adds the calls that take an id which the service can get; none if the launch gives it the id. They take it by a row of
     /// the launched table, else by the capability there, else with the launch's power over mount tables.
     pub(crate) fn push_id(&self, calls: &mut Vec<Call>, kind: IdKind, id: u32) -> Made<()>
         requires served { IsServedWorld self.now.world.now }

@@ -49,7 +49,8 @@ pub struct Service<'a> {
 }
 
 impl<'a> Service<'a> {
-    /// A launched service with its own ceiling. It looks at the rows of the site once for each capability that can be had.
+    /// Makes the service from its launch and its own ceiling. The function looks at the rows of the site once for each
+    /// capability that the service can gain.
     pub fn of(
         alloc: Global,
         launched: &'a Launched<'a>,

@@ -162,7 +162,7 @@ fn at_power<'a>(world: &'a World<'_>, basis: Basis, cap: u8) -> Option<CapWay<'a
     }
 }
 
-// Behind CAP_SYS_ADMIN.
+// The way that gains CAP_SYS_ADMIN first.
 fn behind<'a>(world: &'a World<'_>, basis: Basis, cap: u8) -> Option<GainWay<'a>>
     requires launched { IsLaunchedWorld world.now }
     requires its_own { IsBasis (launch_of world.now) basis }

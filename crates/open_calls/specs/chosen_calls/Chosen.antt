@@ -141,7 +141,7 @@ plain_cap rule = None
 abbrev pub is_called : Launch → List ℕ → CallLine → Bool
 is_called launch name line = bytes_eq name line.name && lets_line launch PlainCall line
 
--- the first such line: that of the native ABI, else that of the other
+-- the first such line: the native ABI's, else the second ABI's
 unfoldable pub plain_line : Launch → List ℕ → CallLine
 plain_line launch name = unwrap_or (find (is_called launch name) (every_call launch.calls)) no_line
 
@@ -157,7 +157,8 @@ abbrev pub socket_calls : Launch → Path → CallLine → List Call
 socket_calls launch program line = gaining_if launch program line.cap ++ call_by launch (ForFamily line.number)
     (socket_payload launch line.number) ∷ []
 
--- a user namespace by itself; another one by CAP_SYS_ADMIN, where that can be had, else in a user namespace
+-- a user namespace needs no capability. Any other namespace needs CAP_SYS_ADMIN if the service can gain it, else a user
+-- namespace first
 abbrev pub space_calls : Launch → Path → NamespaceType → List Call
 space_calls launch program space =
     if is_user space then user_call launch ∷ []

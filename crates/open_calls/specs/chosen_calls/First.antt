@@ -20,8 +20,8 @@ use Rattle.ceilings.specs.kernel_laws.declared.question_types.kind.CallKind.TheV
 use Rattle.ceilings.specs.kernel_laws.declared.question_types.wish.Wish.TheVariants.{See as ToSee, Read as ToRead, Write as ToWrite}
 use Rattle.ceilings.specs.kernel_laws.declared.question_types.wish.Wish.TheVariants.{Exec as ToExec}
 
--- the names of the calls of a kind, in the order in which they are tried. socketcall(2), by which 32-bit programs make sockets, comes
--- after socket(2) of every ABI, as the first of the table
+-- the names of the calls of a kind, in the order in which they are tried. socketcall(2), with which 32-bit programs make
+-- sockets, is tried after socket(2) of every ABI, as the first of the table
 abbrev pub names_of : CallKind → List (List ℕ)
 names_of (ForPath ToSee) = codes "stat" ∷ codes "lstat" ∷ codes "newfstatat" ∷ codes "statx" ∷ codes "access" ∷ codes "faccessat" ∷ codes
     "faccessat2" ∷ []
@@ -53,7 +53,7 @@ abbrev pub line_in : Launch → CallKind → ℕ → Option CallLine
 line_in launch kind abi = option_and_then (λ name. named name (calls_in launch.calls abi))
     (find (lets_name launch kind abi) (names_of kind))
 
--- that of the native ABI, else that of the other, else the first line of the table that they let through
+-- the native ABI's line, else the second ABI's, else the first line of the table that the filters let through
 abbrev pub first_line : Launch → CallKind → Option CallLine
 first_line launch kind = option_or (line_in launch kind 0)
     (option_or (line_in launch kind 1) (find (lets_line launch kind) (every_call launch.calls)))

@@ -150,7 +150,7 @@ abbrev pub gain_calls : Launch → Path → GainWay → List Call
 gain_calls launch program (AtOnce way) = cap_calls launch program Nowise way
 gain_calls launch program (Behind admin way) = cap_calls launch program Nowise admin ++ cap_calls launch program (power_of launch) way
 
--- the calls that gain the capability, where it can be had
+-- the calls that gain the capability, if the service can gain it
 unfoldable pub gaining : Launch → Path → ℕ → List Call
 gaining launch program number = option_map_or (gain_calls launch program) (gain launch number) []
 
