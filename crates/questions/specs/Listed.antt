@@ -1,4 +1,4 @@
--- The list of questions, in words of its own: which questions are in it, and which comes before which.
+-- The list of questions, in other words: which questions are in it, and in which order.
 use Rattle.std.specs.Prelude.{◌≡◌, ◌↔◌, ◌⊎◌, ◌<◌, ◌≤◌, ◌*◌, ◌+◌, ℕ, Bool, true, not, List, length, slice_get, Some, Any, AllPairs, Contains}
 use Rattle.std.specs.List.Sorted.{IsStrictlyIncreasing}
 use Rattle.kernel_laws.specs.linux_numbers.Capabilities.{cap_last_cap}
@@ -24,7 +24,8 @@ use Rattle.kernel_laws.specs.declared.question_types.question.Question.TheVarian
 use Rattle.kernel_laws.specs.declared.question_types.question.Question.TheVariants.{ProtectX, ShmX, Realtime, Personality, SuidBit, Cap}
 use Rattle.kernel_laws.specs.declared.question_types.question.Question.TheVariants.{Uid, Gid}
 
--- what is asked of a row of this kind: anything may be seen and read, what is no directory written, an executable executed
+-- the questions about a row of this kind: anything may be seen and read, anything but a directory written, an executable
+-- executed
 abbrev pub is_asked_of : Wish → RowKind → Bool
 is_asked_of ToSee kind = true
 is_asked_of ToRead kind = true
@@ -38,8 +39,8 @@ pub data IsUidOf (site : Site) (id : ℕ) : Type 0 where
   of_user : Any (λ (user : User). user.uid ≡ id) site.users → IsUidOf site id
   of_owner : Any (λ (row : Row). row.setuid ≡ Some id) site.rows → IsUidOf site id
 
--- a gid that the site knows: root's, the dynamic user's, a group's, a user's, one of a user's further groups, or that of a
--- set-group-id row
+-- a gid that the site has: root's, the dynamic user's, a group's, a user's, one of a user's further groups, or a set-group-id
+-- row's
 pub data IsGidOf (site : Site) (id : ℕ) : Type 0 where
   of_root_group : id ≡ 0 → IsGidOf site id
   of_dynamic_group : id ≡ site.dynamic_uid → IsGidOf site id
@@ -109,11 +110,11 @@ place_of (Uid id) = id
 place_of (Gid id) = id
 place_of _ = 0
 
--- one question comes before another
+-- one question is before another
 abbrev pub IsBefore : Question → Question → Type 0
 IsBefore one other = (kind_of one < kind_of other) ⊎ ((kind_of one ≡ kind_of other) × (place_of one < place_of other))
 
--- each question of the list comes before the later ones
+-- each question of the list is before the later ones
 abbrev pub StandInOrder : Type 0
 StandInOrder = (table : calls.Table) (site : Site) → AllPairs IsBefore (questions table site)
 

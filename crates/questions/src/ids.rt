@@ -1,4 +1,4 @@
-//! The ids that are asked of: those of a site, in order, each once.
+//! The ids that questions ask about: each id of a site once, in order.
 
 ghost use Rattle.std.specs.Prelude.{◌≡◌, ◌++◌, map, IfOk, OnOk};
 ghost use Rattle.kernel_laws.specs.Questions.{some_ids, joined, ascending, uids_of, gids_of};
@@ -87,7 +87,7 @@ pub(crate) fn uids(alloc: Global, site: &SiteTable) -> Result<Vec<u32>, AllocErr
     Ok(ascending(ids))
 }
 
-// The gids that are asked of: root's, the dynamic user's, the groups, those of the users and of set-group-id rows.
+// The gids that questions ask about: root's, the dynamic user's, the groups', the users' and the set-group-id rows'.
 pub(crate) fn gids(alloc: Global, site: &SiteTable) -> Result<Vec<u32>, AllocError>
     ensures { IfOk result (λ ids. ids.items ≡ gids_of site.now) }
 {

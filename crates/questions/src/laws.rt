@@ -7,8 +7,7 @@ pub fn members()
     ensures exactly_what_is_asked { ListsWhatIsAsked }
 {}
 
-/// The kinds follow in their order, and the questions of one kind in the order of their numbers. So no question comes
-/// twice.
+/// The kinds follow in their order, and the questions of one kind in the order of their numbers. So no question occurs twice.
 pub fn order()
     ensures each_before_the_later_ones { StandInOrder }
 {}

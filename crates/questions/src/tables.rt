@@ -12,7 +12,7 @@ use kernel_laws::question_types::{Question, Wish};
 use kernel_laws::{CallLine, CallTable, Row, RowKind, is_known};
 use std::alloc::AllocError;
 
-// Adds what is asked of a row: to see and read it, to write what is no directory, to execute what can be executed.
+// Adds the questions about a row: to see and read it, to write it unless it is a directory, and to execute an executable.
 fn push_row(list: &mut Vec<Question>, at: usize, row: &Row) -> Result<(), AllocError>
     ensures { OnOk result (list.new.items ≡ list.old.items ++ of_row at row.now) }
 {
@@ -29,7 +29,7 @@ fn push_row(list: &mut Vec<Question>, at: usize, row: &Row) -> Result<(), AllocE
     Ok(())
 }
 
-// Adds what is asked of the rows.
+// Adds the questions about the rows.
 pub(crate) fn push_rows(list: &mut Vec<Question>, rows: &[Row]) -> Result<(), AllocError>
     ensures { OnOk result (list.new.items ≡ list.old.items ++ of_rows 0 rows.now) }
 {
@@ -76,7 +76,7 @@ fn is_asked(table: &CallTable, at: usize) -> bool
     }
 }
 
-// Adds what is asked of the call of this number: to make it.
+// Adds the question about the call of this number: to make it.
 fn push_call(list: &mut Vec<Question>, table: &CallTable, at: usize) -> Result<(), AllocError>
     ensures { let every = every_call table.now in
         OnOk result (list.new.items ≡ list.old.items ++ if_so (option_map_or (λ line. is_plain (rule_of line) && is_first every line.name at) (slice_get every at) false) (Call at)) }
@@ -87,7 +87,7 @@ fn push_call(list: &mut Vec<Question>, table: &CallTable, at: usize) -> Result<(
     Ok(())
 }
 
-// Adds what is asked of the calls.
+// Adds the questions about the calls.
 pub(crate) fn push_calls(list: &mut Vec<Question>, table: &CallTable) -> Result<(), AllocError>
     ensures { OnOk result (list.new.items ≡ list.old.items ++ of_calls (every_call table.now) 0 (every_call table.now)) }
 {
@@ -97,7 +97,7 @@ pub(crate) fn push_calls(list: &mut Vec<Question>, table: &CallTable) -> Result<
     Ok(())
 }
 
-// Adds what is asked of the families: to make a socket of each.
+// Adds the questions about the families: to make a socket of each.
 pub(crate) fn push_families(
     list: &mut Vec<Question>,
     families: &[CallLine],
