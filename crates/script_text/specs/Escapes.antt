@@ -11,7 +11,7 @@ text_only bytes = cond (is_utf8 bytes) (Some bytes) None
 unfoldable pub escaped_text : List ℕ → Option (List ℕ)
 escaped_text word = option_and_then text_only (word_read word)
 
--- the first byte of what an escaped word stands for, and the word after it
+-- the first byte that an escaped word encodes, and the rest of the word
 abbrev pub GivesByte : List ℕ → Option (ℕ × Bor (List ℕ)) → Type 0
 GivesByte word taken = MatchOption taken (word_read word ≡ None) (λ taken. word_read word ≡ with_byte taken.0 (word_read taken.1.now))
 

@@ -44,7 +44,7 @@ with_commas (id ∷ ids) = decimal id ++ each_number (codes ",") ids
 abbrev pub ids_word : List ℕ → List ℕ
 ids_word ids = codes "[" ++ with_commas ids ++ codes "]"
 
--- the bytes of a program in hexadecimal; `-` where there are none
+-- the bytes of a program in hexadecimal; `-` if it has none
 abbrev pub code_word : List ℕ → List ℕ
 code_word [] = codes "-"
 code_word (byte ∷ bytes) = encode_lower (byte ∷ bytes)

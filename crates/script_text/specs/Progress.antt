@@ -14,7 +14,7 @@ use Rattle.script_text.specs.declared.line_fault.LineFault.TheVariants.{Faulty, 
 use Rattle.script_text.specs.declared.error.ScriptError.{ScriptError}
 use Rattle.script_text.specs.declared.error.ScriptError.TheVariants.{NotText, Line as AtLine, TooMany, Memory}
 
--- what is wanted, or this cause exactly where nothing is; unless memory ran out
+-- the wanted value; or this cause if there is no such value; or memory ran out
 abbrev pub ReadsAs : {A : Type 0} → Option A → ScriptCause → Result A LineFault → Type 0
 ReadsAs wanted cause (Ok made) = wanted ≡ Some made
 ReadsAs wanted cause (Err NoMemory) = Unit {0}

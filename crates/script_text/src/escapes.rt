@@ -30,7 +30,7 @@ fn coded_byte(word: &[u8]) -> Option<(u8, &[u8])>
     Some((hex_value(*high)? * 16 + hex_value(*low)?, rest))
 }
 
-// the first byte of what an escaped word stands for, and the word after it
+// the first byte that an escaped word encodes, and the rest of the word
 fn first_byte(word: &[u8]) -> Option<(u8, &[u8])>
     requires { 0 < length word.now }
     ensures first { GivesByte word.now result }
@@ -44,7 +44,7 @@ fn first_byte(word: &[u8]) -> Option<(u8, &[u8])>
     }
 }
 
-// the bytes that an escaped word stands for
+// the bytes that an escaped word encodes
 fn read_bytes(alloc: Global, word: &[u8]) -> Result<Option<Vec<u8>>, AllocError>
     ensures { IfOk result (λ bytes. option_map (λ bytes. bytes.items) bytes ≡ word_read word.now) }
 {

@@ -1,5 +1,4 @@
-//! States what holds of every call that a program holds: its numbers are those of their types, and its paths are
-//! texts.
+//! States that every call in a program has numbers in the ranges of their types, and paths that are texts.
 
 ghost use Rattle.std.specs.Prelude.{◌<◌};
 ghost use Rattle.std.specs.List.{All};
@@ -46,8 +45,8 @@ fn payload_is_text(payload: &Payload)
     }
 }
 
-/// States that the numbers of a held call are those of their types and its paths are texts. It looks at the call and
-/// changes nothing.
+/// States that the numbers of a call are in the ranges of their types and that its paths are texts. The function reads the call
+/// and changes nothing.
 pub(crate) fn is_held(call: &Call)
     ensures { IsHeld call.now }
 {

@@ -42,7 +42,7 @@ pub(crate) fn read_number(digits: &str) -> Option<u32>
     u32::try_from(read_decimal(digits)?).ok()
 }
 
-// the call of an ABI that a name stands for, or after `#` the call of a decimal number, which carries nothing
+// the call of an ABI with this name; or, after `#`, the call with this decimal number, without a payload
 fn call_in(calls: &CallTable, abi: u8, word: &str) -> Option<NamedCall>
     ensures { option_map view_named result ≡ named_in calls.now abi word.now }
 {

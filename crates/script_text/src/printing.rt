@@ -174,10 +174,9 @@ fn push_numbers(out: &mut Vec<u8>, numbers: &[u64]) -> Result<(), AllocError>
 
 /// Appends the text of a call, as a line of a script has it: `PID NAME [PAYLOAD] [WORD ..]`, without a line feed.
 ///
-/// The call is printed by its name if its ABI has its number and its payload is of the form of that name (a program
-/// is whole instructions of eight bytes). Otherwise it is printed by `#` and its number, without its payload. The
-/// name of an ABI other than the native one comes before it, with a colon. Numbers are decimal, and words that are
-/// zero are dropped at the end.
+/// The call is printed by its name if its ABI has its number and its payload has the form of that name (a program is whole
+/// instructions of eight bytes). Otherwise it is printed by `#` and its number, without its payload. If the ABI is not the
+/// native one, its name and a colon precede the call. Numbers are decimal, and words that are zero are dropped at the end.
 pub fn push_call(
     alloc: Global,
     out: &mut Vec<u8>,

@@ -77,19 +77,19 @@ fn read_bytes(alloc: Global, calls: &CallTable, bytes: &[u8]) -> Result<Script, 
 ///
 /// | Call | Payload |
 /// |---|---|
-/// | stat(2) and its like, open(2), openat(2), creat(2), truncate(2), execve(2), umount2(2) | an escaped path |
+/// | stat(2) and similar calls, open(2), openat(2), creat(2), truncate(2), execve(2), umount2(2) | an escaped path |
 /// | mount(2) | two escaped paths, source and target |
 /// | capset(2) | three numbers below 2^41: the permitted, the effective and the inheritable set |
 /// | setgroups(2) | `[id,id,..]`, in decimal |
 /// | socketcall(2) | the number of the family, in decimal and below 2^32 |
 /// | seccomp(2) | the program in lower-case hex, 16 digits an instruction, or `-` without any |
 ///
-/// The refusals have this order. `NotText` comes first, if the bytes are not UTF-8 or have a NUL. Then comes `Line`
-/// of the first faulty line, with the first of its causes in the order of `ScriptCause`. `TooMany` comes if a
-/// 16,385th call precedes any such line.
+/// A script is refused in this order: with `NotText` if the bytes are not UTF-8 or have a NUL; then with `Line` for
+/// the first faulty line, and the first of its causes in the order of `ScriptCause`. If a 16,385th call precedes any
+/// such line, the script is refused with `TooMany` instead.
 ///
-/// The reader does not look if a program is one that seccomp(2) takes. It reads each printed call of a script again
-/// as that call (`print_call`).
+/// The reader does not check whether seccomp(2) takes a program. It reads each printed call of a script again as that
+/// call (`print_call`).
 pub fn read_script(alloc: Global, calls: &CallTable, bytes: &[u8]) -> Result<Script, ScriptError>
     ensures reads_the_calls { IfOk result (λ script. script_of calls.now bytes.now ≡ Ok script) }
     ensures each_is_printed_again { IfOk result (λ script. All (IsWritten calls.now) script) }
