@@ -1,4 +1,4 @@
--- The lines of answers to questions, those of blind folders, and the count of all questions.
+-- The lines for answers to questions and for blind folders, and the count of all questions.
 use Rattle.std.specs.Prelude.{ℕ, List, [], ◌∷◌, ◌++◌, codes}
 use Rattle.std.specs.Fmt.{decimal}
 use Rattle.std.specs.List.{flat_map}

@@ -1,4 +1,4 @@
-//! The lines of answers to questions, those of blind folders, and the count of all questions.
+//! The lines for answers to questions and for blind folders, and the count of all questions.
 ghost use Rattle.std.specs.Prelude.{◌≡◌, ◌++◌, Contains, IfOk, OnOk, flat_map};
 ghost use Rattle.questions.specs.kernel_laws.Questions.{questions};
 ghost use Rattle.report_text.specs.Answers.{blind_line, call_line, open_lines, question_line, summary_line, verdict_line, verdict_word};

@@ -31,7 +31,7 @@ fn path_at(rows: &[Row], at: usize) -> &str
     }
 }
 
-// The name of the call at a place among those of all ABIs.
+// The name of the call at a place among the calls of all ABIs.
 fn call_at(calls: &CallTable, at: usize) -> &str
     ensures { result.now ≡ name_at (every_call calls.now) at }
 {
@@ -83,7 +83,7 @@ fn push_id(out: &mut Vec<u8>, front: &str, id: u32) -> Result<(), AllocError>
     push_u64(out, u64::from(id))
 }
 
-/// Adds what is asked.
+/// Adds the words of a question.
 pub(crate) fn push_question(
     out: &mut Vec<u8>,
     question: &Question,
