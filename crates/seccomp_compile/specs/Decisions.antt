@@ -17,9 +17,9 @@ use Rattle.seccomp_compile.specs.Looks.{mask_of}
 pub data Decision : Type 0 where
   -- ends with the action
   ends : (action : Action) → Decision
-  -- goes on with the word at this offset and this mask
+  -- loads the word at this offset, with this mask
   looks : (offset mask : ℕ) (next : Decision) → Decision
-  -- goes on with the first where the comparison of the word with the number fails, and with the second where it holds
+  -- continues with the first decision if the comparison of the word with the number fails, and with the second if it holds
   splits : (comparison : Comparison) (number : ℕ) (miss hit : Decision) → Decision
   -- ends with the action where both tests hold, and goes on where one fails
   both : (first second : Tested) (action : Action) (otherwise : Decision) → Decision

@@ -3,8 +3,7 @@ use Rattle.std.specs.Prelude.{ℕ, ◌+◌, ◌≤◌, ◌==◌, nat_le, Bool, t
 use Rattle.seccomp_compile.specs.Code.{whole_word}
 use Rattle.seccomp_compile.specs.Decisions.{Decision, ends, looks, splits, both, is_end}
 
--- Code of at most so many instructions stands between a comparison and the tree that it goes on with where it holds, so that
--- the comparison leads there without a jump.
+-- A comparison leads to the next tree without a jump if at most this many instructions are between the two.
 abbrev pub most_between : ℕ
 most_between = 50
 

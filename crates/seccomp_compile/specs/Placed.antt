@@ -21,7 +21,7 @@ pub record EndsWithin (code : List Insn) (input : CallData) (regs : Regs) (answe
   pub ends : run_from code input 0 regs ≡ Some (word_of answer, steps)
   pub within : steps ≤ limit
 
--- as many instructions as stand at most in front of an ending that is used again
+-- the most instructions before an ending that is used again
 abbrev pub most_in_front : ℕ
 most_in_front = 200
 
@@ -78,12 +78,12 @@ pub record IsSound (code : List Insn) : Type 0 where
   pub fine : AreSound code
   pub ends : ends_well code ≡ true
 
--- the code goes on in front of the code before
+-- the new code has more instructions in front of the old code
 abbrev pub Grows : List Insn → List Insn → Type 0
 Grows before after = (more : List Insn) × (after ≡ more ++ before)
 
--- The tree's code stands at the place, with few instructions in front, and at the very front unless the tree is an ending.
--- What was not there yet was added in front.
+-- The tree's code is at the place, with few instructions before it, and with none before it unless the tree is an ending. Code
+-- that was not there yet was added in front.
 pub record Placed (decision : Decision) (before after : List Insn) (place : ℕ) : Type 0 where
   pub grows : Grows before after
   pub short : length after ≤ length before + most_of decision

@@ -19,16 +19,16 @@ use Rattle.seccomp_compile.specs.ShortCases.{HasShortCases, HaveShortCases}
 use Rattle.seccomp_compile.specs.Decisions.{Decision, ends, looks, splits, both, decide, past_look, is_end, LooksInside}
 use Rattle.seccomp_compile.specs.Lengths.{most_of, PathWithin}
 
--- what is wanted of a call's data, where this word is looked at
+-- the wanted action for a call's data, when this word is loaded
 abbrev pub Wanted : Type 0
 Wanted = CallData → ℕ → Action
 
--- the decision does what is wanted for each word from one number on that is below the other
+-- the decision gives the wanted action for each word from one number on that is below the other
 abbrev pub DecidesFrom : Wanted → ℕ → ℕ → Decision → Type 0
 DecidesFrom wanted from to decision =
     (input : CallData) (word : ℕ) → from ≤ word → word < to → decide decision input word ≡ wanted input word
 
--- what is wanted of a number: the action of the call with the number, and without one the rest
+-- the wanted action for a number: the action of the call with this number, or the default if there is none
 abbrev pub number_wanted : List CallRule → Action → Wanted
 number_wanted calls rest input word = option_map_or (call_action input) (find (λ call. call.number == word) calls) rest
 

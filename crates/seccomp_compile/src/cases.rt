@@ -9,7 +9,7 @@ use crate::tree::Tree;
 use call_rules::{Action, Case, Test};
 use std::alloc::{AllocError, Global};
 
-// A test, which ends with the action where it holds. What comes after does not look at the same word again.
+// A test that ends with the action if it holds. The following tree does not load the same word again.
 fn test_tree(alloc: Global, test: Test, action: Action, otherwise: Tree) -> Result<Tree, AllocError>
     ensures tests { IfOk result (λ tree. decision_of tree ≡ one_test test action (decision_of otherwise)) }
     ensures looks { LooksInside (decision_of otherwise) → IfOk result (λ tree. LooksInside (decision_of tree)) }
@@ -49,7 +49,7 @@ fn tests_tree(
     })
 }
 
-// A case of at most two tests, which goes on where a test fails.
+// A case of at most two tests. If a test fails, the following tree decides.
 fn case_tree(alloc: Global, case: &Case, otherwise: Tree) -> Result<Tree, AllocError>
     ensures tests { IfOk result (λ tree. decision_of tree ≡ by_tests case.now.tests case.now.action (decision_of otherwise)) }
     ensures looks { LooksInside (decision_of otherwise) → IfOk result (λ tree. LooksInside (decision_of tree)) }

@@ -59,7 +59,7 @@ fn place_end(code: &mut VecDeque<Insn>, action: Action) -> Result<usize, AllocEr
     }
 }
 
-// Returns the place, or that of a jump to it, with at most so many instructions in front.
+// Returns the place if at most `limit` instructions precede it. Otherwise adds a jump to it, and returns the jump's place.
 fn within(code: &mut VecDeque<Insn>, place: usize, limit: usize) -> Result<usize, AllocError>
     requires sound { IsSound code.old.items }
     requires fit { All Fits code.old.items }

@@ -39,7 +39,7 @@ pub fn and_mask(mask: u32) -> Insn
     plain(ALU_AND_K, mask)
 }
 
-/// Goes on after so many instructions.
+/// Skips this many instructions.
 pub fn jump(count: u32) -> Insn
     ensures is { result ≡ skip count }
     ensures fits { Fits result }

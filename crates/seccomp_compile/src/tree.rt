@@ -27,14 +27,14 @@ pub enum Tree {
         mask: u32,
         next: Box<Tree>,
     },
-    /// Goes on with the one tree where the comparison with the number fails, and with the other one where it holds.
+    /// Continues with one tree if the comparison with the number fails, and with the other if it holds.
     Split {
         comparison: Comparison,
         number: u32,
         miss: Box<Tree>,
         hit: Box<Tree>,
     },
-    /// Ends with the action where both tests hold, and goes on where one fails.
+    /// Ends with the action if both tests hold, and continues otherwise.
     Both {
         first: Test,
         second: Test,
@@ -82,7 +82,7 @@ impl Tree {
         matches!(self, Tree::Split { .. })
     }
 
-    /// Ends with the action where the comparison of the word with the value holds, and goes on where it fails.
+    /// Ends with the action if the comparison of the word with the value holds, and continues otherwise.
     pub fn ends_where(
         alloc: Global,
         comparison: Comparison,
