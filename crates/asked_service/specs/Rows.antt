@@ -1,4 +1,4 @@
--- Verdicts on the questions of a launched service, and those of a unit.
+-- Verdicts on the questions about a launched service, and about a unit.
 use Rattle.std.specs.Prelude.{◌≡◌, ◌↔◌, ℕ, Bool, false, not, List, filter, length, map}
 use Rattle.std.specs.List.{AllByRecursion}
 use Rattle.judge.specs.call_table.Table as calls

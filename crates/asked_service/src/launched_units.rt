@@ -1,10 +1,11 @@
-//! Launches the service of a unit: its settings, the plan of its mounts and its launch, or the first of them that is
-//! refused.
+//! Launches the service of a unit: reads its settings, plans its mounts and launches it, or reports the first of these steps
+//! that is refused.
 //!
-//! The module uses `exec_settings`, `mount_plan` and `unit_launch` for these three steps, and `unit_grammar` for a
-//! file that is added after those of a unit.
+//! The module uses `exec_settings`, `mount_plan` and `unit_launch` for these three steps, and `unit_grammar` to add a file
+//! after the unit's files.
 //!
-//! `launch_whole(alloc, &with_file(alloc, &unit, b"[Service]\nProtectHome=yes\n")?, &calls, &site)?` is the service of a longer unit.
+//! `launch_whole(alloc, &with_file(alloc, &unit, b"[Service]\nProtectHome=yes\n")?, &calls, &site)?` is the service of a longer
+//! unit.
 
 mod launching;
 mod longer;

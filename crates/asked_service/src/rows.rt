@@ -13,7 +13,7 @@ use std::alloc::{AllocError, Global};
 /// A question, and whether it is open.
 #[derive(Clone, Copy)]
 pub struct VerdictRow {
-    /// What is asked.
+    /// The question.
     pub question: Question,
     /// Whether some calls of the service's processes reach it.
     pub is_open: bool,

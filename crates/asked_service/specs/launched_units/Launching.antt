@@ -1,4 +1,4 @@
--- The launch of a unit, or why there is none.
+-- The launch of a unit, or why the unit cannot be launched.
 use Rattle.std.specs.Prelude.{◌≡◌, ⊤, IfOk, List, Some, None, Result, Ok, Err}
 use Rattle.judge.specs.call_table.Table as calls
 use Rattle.judge.specs.dropin_merge.declared.resolved.Resolved.{Resolved}

@@ -1,4 +1,4 @@
-//! The launch of a unit, or why there is none.
+//! Launches a unit, or finds why it cannot be launched.
 
 ghost use Rattle.std.specs.Prelude.{IsTrue};
 ghost use Rattle.judge.specs.mount_plan.Host.{host_of};
