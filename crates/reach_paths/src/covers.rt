@@ -20,7 +20,7 @@ fn is_behind(rest: &str) -> bool
     }
 }
 
-// Returns whether a text is the other, or goes on after it at a slash.
+// Returns whether a text equals the other, or continues it with a slash.
 fn goes_on(text: &str, front: &str) -> bool
     ensures { result ≡ is_some (behind_text front.now text.now) }
 {
