@@ -84,9 +84,10 @@ fn read_bytes(alloc: Global, calls: &CallTable, bytes: &[u8]) -> Result<Script, 
 /// | socketcall(2) | the number of the family, in decimal and below 2^32 |
 /// | seccomp(2) | the program in lower-case hex, 16 digits an instruction, or `-` without any |
 ///
-/// A script is refused in this order: with `NotText` if the bytes are not UTF-8 or have a NUL; then with `Line` for
-/// the first faulty line, and the first of its causes in the order of `ScriptCause`. If a 16,385th call precedes any
-/// such line, the script is refused with `TooMany` instead.
+/// A script is refused in this order:
+/// - `NotText` if the bytes are not UTF-8 or have a NUL.
+/// - `Line` for the first faulty line, with the first of its causes in the order of `ScriptCause`.
+/// - `TooMany` instead, if a 16,385th call precedes any faulty line.
 ///
 /// The reader does not check whether seccomp(2) takes a program. It reads each printed call of a script again as that
 /// call (`print_call`).
