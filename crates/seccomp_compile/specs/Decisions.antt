@@ -21,7 +21,7 @@ pub data Decision : Type 0 where
   looks : (offset mask : ℕ) (next : Decision) → Decision
   -- continues with the first decision if the comparison of the word with the number fails, and with the second if it holds
   splits : (comparison : Comparison) (number : ℕ) (miss hit : Decision) → Decision
-  -- ends with the action where both tests hold, and goes on where one fails
+  -- ends with the action if both tests hold, and continues otherwise
   both : (first second : Tested) (action : Action) (otherwise : Decision) → Decision
 
 -- what a tree says

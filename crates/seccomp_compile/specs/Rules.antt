@@ -32,7 +32,7 @@ DecidesFrom wanted from to decision =
 abbrev pub number_wanted : List CallRule → Action → Wanted
 number_wanted calls rest input word = option_map_or (call_action input) (find (λ call. call.number == word) calls) rest
 
--- the action where the test holds; what comes after does not look at the same word again
+-- the action if the test holds; the following decision does not load the same word again
 abbrev pub one_test : Tested → Action → Decision → Decision
 one_test test action otherwise =
     let behind = past_look (arg_offset test.arg) (mask_of test) otherwise in
