@@ -17,17 +17,17 @@ pub record DiffersFrom (ends : List End) (code : List Insn) (input : CallData) (
   pub answers : Answers code input ours
   pub differ : theirs ≢ ours
 
--- the difference, where one is told, is at such data
+-- the difference, if there is one, is on such data
 abbrev pub IsDifference : List End → List Insn → Option Difference → Type 0
 IsDifference ends code None = Unit {0}
 IsDifference ends code (Some found) = DiffersFrom ends code found.at found.theirs found.ours
 
--- a difference is told, and its data are not after these
+-- there is a difference, and its data are not after these
 abbrev pub IsNoLater : Option Difference → CallData → Type 0
 IsNoLater None input = ⊥
 IsNoLater (Some found) input = IsNotAfter (words_of found.at) (words_of input)
 
--- the least of all differences is told, or there is none
+-- the least of all differences, or None if there is none
 pub record IsLeastFrom (ends : List End) (code : List Insn) (found : Option Difference) : Type 0 where
   pub is_one : IsDifference ends code found
   pub no_later : (input : CallData) (theirs ours : ℕ) → DiffersFrom ends code input theirs ours → IsNoLater found input
@@ -36,7 +36,7 @@ pub record IsLeastFrom (ends : List End) (code : List Insn) (found : Option Diff
 abbrev pub difference_at : ℕ → End → Difference
 difference_at theirs end = record { at = end.least; theirs = theirs; ours = end.answer }
 
--- told is the old one, or that of some end with another answer than theirs
+-- the new difference is the old one, or the difference at some end whose answer is not theirs
 abbrev pub ComesOf : List End → ℕ → Option Difference → Option Difference → Type 0
 ComesOf own theirs old new = (new ≡ old) ⊎ Any (λ end. (theirs ≢ end.answer) × (new ≡ Some (difference_at theirs end))) own
 

@@ -1,4 +1,4 @@
--- What a comparison of a program with wanted answers finds, as those of the rules of a filter.
+-- The result of comparing a program with wanted answers, such as the answers of a filter's rules.
 use Rattle.std.specs.Prelude.{◌≡◌, ◌≢◌, ◌≤◌, ℕ, List, Option, Result, Ok, Err}
 use Rattle.seccomp_compile.specs.bpf_code.declared.machine.Insn.{Insn}
 use Rattle.seccomp_compile.specs.bpf_code.declared.machine.CallData.{CallData}
@@ -28,7 +28,7 @@ pub record IsCompared (code : List Insn) (count : ℕ) : Type 0 where
   pub paths : HasPaths code count
   pub few : count ≤ most_paths
 
--- the program's answer is the one that is wanted, whatever the data of the call
+-- the program gives the wanted answer, whatever the data of the call
 abbrev pub AnswersAs : List Insn → (CallData → ℕ) → Type 0
 AnswersAs code wanted = (input : CallData) → IsCallData input → Answers code input (wanted input)
 
@@ -44,8 +44,8 @@ pub record IsLeastDifference (code : List Insn) (wanted : CallData → ℕ) (at 
   pub differs : DiffersAt code wanted at theirs ours
   pub least : (input : CallData) (their own : ℕ) → DiffersAt code wanted input their own → IsNotAfter (words_of at) (words_of input)
 
--- What is found, by cases: an instruction that is not of the form; more paths than are compared; that the program answers
--- as is wanted for all call data; or the least data at which it does not. Want of memory may come at any program.
+-- The cases of a result: an instruction without the form; more paths than are compared; the program gives the wanted answer for
+-- all call data; or the least data for which it does not. Memory can run out for any program.
 pub data Finds (code : List Insn) (wanted : CallData → ℕ) : Result Outcome CheckError → Type 0 where
   foreign : (place : ℕ) → IsFirstForeign code place → Finds code wanted (Err (Form place))
   too_many : AreOfForm code → HasMorePaths code most_paths → Finds code wanted (Err TooManyPaths)
@@ -54,7 +54,7 @@ pub data Finds (code : List Insn) (wanted : CallData → ℕ) : Result Outcome C
       → Finds code wanted (Ok (Differs at theirs ours))
   memory : Finds code wanted (Err Memory)
 
--- so each answer but want of memory comes exactly where it is found: no other one is found there
+-- except when memory runs out, the program and the wanted answers determine the result
 abbrev pub OneFinding : Type 0
 OneFinding = (code : List Insn) (wanted : CallData → ℕ) (one other : Result Outcome CheckError)
     → Finds code wanted one → Finds code wanted other → one ≢ Err Memory → other ≢ Err Memory → one ≡ other

@@ -15,10 +15,10 @@ use crate::outcome::{CheckError, Outcome};
 use seccomp_compile::{Insn, Program, RuleSet, compile};
 use std::alloc::{AllocError, Global};
 
-/// How many paths a program may have.
+/// The most paths that a program may have.
 const MOST_PATHS: usize = 16384;
 
-// Finds the least call data at which the rules want another answer than the ends have.
+// Finds the least call data for which the rules want another answer than the ends have.
 fn least_by_rules(
     alloc: Global,
     ends: &[End],
@@ -31,7 +31,7 @@ fn least_by_rules(
     least_difference(alloc, ends, ours.insns())
 }
 
-// Says what is found of a program with these ends.
+// Returns the outcome for a program with these ends.
 fn found(alloc: Global, ends: &[End], rules: &RuleSet) -> Result<Outcome, CheckError>
     requires can_be_compiled { CanCompile rules.now }
     requires few { length ends.now ≤ 16384 }
@@ -47,7 +47,7 @@ fn found(alloc: Global, ends: &[End], rules: &RuleSet) -> Result<Outcome, CheckE
     }
 }
 
-// Says what is found of a program whose instructions are all of the form.
+// Returns the outcome for a program whose instructions all have the expected form.
 fn compared(alloc: Global, insns: &[Insn], rules: &RuleSet) -> Result<Outcome, CheckError>
     requires can_be_compiled { CanCompile rules.now }
     requires program { IsProgram insns.now }
@@ -62,9 +62,12 @@ fn compared(alloc: Global, insns: &[Insn], rules: &RuleSet) -> Result<Outcome, C
 
 /// Compares a program with the rules of a filter, for all call data.
 ///
-/// `Form` tells the first instruction whose code is not of the form. `TooManyPaths` comes exactly where all are and there are
-/// more than 16,384 paths. `Same` comes exactly where the two decide every call alike. `Differs` tells the least call data at
-/// which they do not, by their sixteen words in order of their offsets. `compile` asks the same of the rules.
+/// - `Form` names the first instruction whose code does not have the form.
+/// - `TooManyPaths` means that every code has the form, but the program has more than 16,384 paths.
+/// - `Same` means that program and rules decide every call alike.
+/// - `Differs` has the least call data on which they differ, by its sixteen words in order of their offsets.
+///
+/// The function needs rules that `compile` accepts.
 pub fn check(alloc: Global, program: &Program, rules: &RuleSet) -> Result<Outcome, CheckError>
     requires can_be_compiled { CanCompile rules.now }
     ensures finds { Finds program.now (wanted_by rules.now) result }

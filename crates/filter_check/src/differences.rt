@@ -9,7 +9,7 @@ use crate::order::comes_before;
 use seccomp_compile::{CallData, Insn};
 use std::alloc::{AllocError, Global};
 
-/// Call data at which two programs answer otherwise, and both answers.
+/// Call data on which two programs answer differently, and both answers.
 #[derive(Clone, Copy)]
 pub struct Difference {
     pub at: CallData,
@@ -17,7 +17,7 @@ pub struct Difference {
     pub ours: u32,
 }
 
-// Takes the lesser of the difference that was found before and the end's own, if the end has another answer than theirs.
+// Returns the lesser of the earlier difference and the end's own, if the end has another answer than theirs.
 fn lesser(old: Option<Difference>, end: &End, theirs: u32) -> Option<Difference>
     ensures { IsLesser (end.now ∷ []) theirs old result }
 {
@@ -41,7 +41,7 @@ fn lesser(old: Option<Difference>, end: &End, theirs: u32) -> Option<Difference>
     }
 }
 
-// Takes the least of the difference that was found before and those of all ends that have another answer than theirs.
+// Returns the least of the earlier difference and the differences at all ends whose answer is not theirs.
 fn least_of(own: &[End], theirs: u32, old: Option<Difference>) -> Option<Difference>
     ensures { IsLesser own.now theirs old result }
 {
@@ -52,7 +52,7 @@ fn least_of(own: &[End], theirs: u32, old: Option<Difference>) -> Option<Differe
     least
 }
 
-/// Finds the least call data at which our program answers otherwise than a program with these ends.
+/// Finds the least call data on which our program answers differently from a program with these ends.
 pub fn least_difference(
     alloc: Global,
     ends: &[End],

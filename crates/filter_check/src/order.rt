@@ -43,8 +43,7 @@ fn words(call: &CallData) -> [u32; 16]
     ]
 }
 
-/// Says whether the words of the one data come before those of the other. They do if they are less at the first place at which
-/// the two differ.
+/// Whether the words of one call's data precede the other's: at the first place at which they differ, they are less.
 pub fn comes_before(one: &CallData, other: &CallData) -> bool
     ensures before { OnTrue result (IsNotAfter (words_of one.now) (words_of other.now)) }
     ensures behind { OnFalse result (IsNotAfter (words_of other.now) (words_of one.now)) }

@@ -1,4 +1,4 @@
-//! What a comparison comes to.
+//! The result of a comparison.
 ghost use Rattle.std.specs.Prelude.{◌≡◌};
 ghost use Rattle.filter_check.specs.declared.outcome.CheckError.TheVariants.{Memory};
 
@@ -6,12 +6,12 @@ use seccomp_compile::CallData;
 use std::alloc::AllocError;
 use thiserror::Error;
 
-/// What a comparison finds.
+/// The result of a comparison that was made.
 #[derive(Clone, Copy)]
 pub enum Outcome {
-    /// The program decides every call as the rules do, on so many paths.
+    /// The program decides every call like the rules. The number counts its paths.
     Same(u32),
-    /// It does not: the least call data at which they differ, and both answers.
+    /// Program and rules differ: the least call data on which they do, and both answers.
     Differs {
         at: CallData,
         theirs: u32,
@@ -19,10 +19,10 @@ pub enum Outcome {
     },
 }
 
-/// Why a program is not compared.
+/// Why a program could not be compared.
 #[derive(Clone, Copy, Debug, PartialEq, Eq, Error)]
 pub enum CheckError {
-    /// The code of this instruction is not of the form.
+    /// The code of this instruction does not have the form.
     #[error("instruction {0}: not of the form")]
     Form(u32),
     /// The program has more than 16,384 paths.

@@ -10,7 +10,7 @@ abbrev pub AddsLine : List ℕ → List ℕ → List ℕ → Bool → Type 0
 AddsLine line old new true = (own : List ℕ) × IsLine line own × (new ≡ old ++ own)
 AddsLine line old new false = (own : List ℕ) → IsLine line own → ⊥
 
--- the line that is told is the first that is no instruction
+-- the error names the first line that is not an instruction
 abbrev pub IsRefusedLine : List (List ℕ) → FileError → Type 0
 IsRefusedLine lines NotText = ⊥
 IsRefusedLine lines (Digits number) = IsFirstOther lines number

@@ -9,7 +9,7 @@ pub record IsLine (line bytes : List ℕ) : Type 0 where
   pub small : All (λ byte. byte < 2 ^ 8) bytes
   pub digits : flat_map hex_byte bytes ≡ line
 
--- what stands before each line feed; what follows the last one is no line
+-- the lines of a text end at its line feeds; text after the last line feed is not a line
 abbrev pub lines_in : List ℕ → List (List ℕ)
 lines_in text =
     let pieces = slice_split (λ byte. byte == 10) text in

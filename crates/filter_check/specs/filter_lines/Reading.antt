@@ -1,4 +1,4 @@
--- Which program the bytes of a file are, or why they are none.
+-- The program in the bytes of a file, or why they are not a program.
 use Rattle.std.specs.Prelude.{◌≡◌, ◌≢◌, ℕ, true, false, List, Result, Ok, Err}
 use Rattle.seccomp_compile.specs.bpf_code.Reading.{Accepts, Refuses}
 use Rattle.seccomp_compile.specs.bpf_code.declared.machine.Insn.{Insn}
@@ -9,13 +9,13 @@ use Rattle.filter_check.specs.filter_lines.Lines.{AreLines, IsFirstOther, lines_
 use Rattle.filter_check.specs.declared.filter_lines.error.FileError.{FileError}
 use Rattle.filter_check.specs.declared.filter_lines.error.FileError.TheVariants.{NotText, Digits, Program, Memory}
 
--- by the bytes of the instructions; want of memory may come at any of them
+-- reads the bytes of the instructions; memory can run out for any of them
 pub data ReadsCode (code : List ℕ) : Result (List Insn) FileError → Type 0 where
   no_program : (error : ProgramError) → error ≢ program.Memory → Refuses code error → ReadsCode code (Err (Program error))
   is_program : (insns : List Insn) → Accepts code insns → ReadsCode code (Ok insns)
   no_memory : ReadsCode code (Err Memory)
 
--- by the lines: the first that is no instruction is told before anything of the program
+-- reads the lines; an error names the first line that is not an instruction before anything of the program is read
 pub data ReadsLines (lines : List (List ℕ)) : Result (List Insn) FileError → Type 0 where
   other_line : (number : ℕ) → IsFirstOther lines number → ReadsLines lines (Err (Digits number))
   code_lines : (code : List ℕ) (said : Result (List Insn) FileError) → AreLines lines code → ReadsCode code said → ReadsLines lines said

@@ -1,4 +1,4 @@
--- The first instruction that is not of the form of programs whose paths are told.
+-- The first instruction that does not have the form of programs whose paths can be found.
 use Rattle.std.specs.Prelude.{◌≡◌, ℕ, ◌<◌, false, true, List, slice_get, Some}
 use Rattle.seccomp_compile.specs.bpf_code.declared.machine.Insn.{Insn}
 use Rattle.seccomp_compile.specs.Form.{is_of_form}

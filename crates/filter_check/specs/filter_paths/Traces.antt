@@ -20,7 +20,7 @@ pub data Takes (code : List Insn) (input : CallData) : ℕ → Regs → List ℕ
 abbrev pub IsPath : List Insn → List ℕ → Type 0
 IsPath code path = (input : CallData) × IsCallData input × ((answer : ℕ) × Takes code input 0 start_regs path answer)
 
--- no path stands twice
+-- no path occurs twice
 abbrev pub EachOnce : List (List ℕ) → Type 0
 EachOnce paths = (one other : ℕ) (path : List ℕ) → slice_get paths one ≡ Some path → slice_get paths other ≡ Some path → one ≡ other
 

@@ -1,4 +1,4 @@
-//! Why a file is no program.
+//! Why a file is not a program.
 ghost use Rattle.std.specs.Prelude.{◌≡◌};
 ghost use Rattle.filter_check.specs.declared.filter_lines.error.FileError.TheVariants.{Memory};
 
@@ -6,16 +6,16 @@ use seccomp_compile::ProgramError;
 use std::alloc::AllocError;
 use thiserror::Error;
 
-/// Why a file is no program.
+/// Why a file is not a program.
 #[derive(Clone, Copy, Debug, PartialEq, Eq, Error)]
 pub enum FileError {
-    /// The bytes are no text.
+    /// The bytes are not text.
     #[error("not text")]
     NotText,
     /// The line of this number, from 1, is the first that is not sixteen lower-case hex digits.
     #[error("line {0}: not sixteen hex digits")]
     Digits(u64),
-    /// The instructions are no program; it is never want of memory.
+    /// The instructions are not a program. The error is never that memory ran out.
     #[error("no program: {0}")]
     Program(ProgramError),
     /// Memory ran out.

@@ -60,14 +60,14 @@ pub fn code_of_lines(alloc: Global, lines: &[&str]) -> Result<Vec<u8>, FileError
     Ok(code)
 }
 
-// What stands between the line feeds of a text.
+// The pieces of a text between its line feeds.
 fn pieces(alloc: Global, text: &str) -> Result<Vec<&str>, AllocError>
     ensures { IfOk result (λ pieces. map (λ piece. piece.now) pieces.items ≡ slice_split (λ byte. byte == 10) text.now) }
 {
     text.split('\n').collect(alloc)
 }
 
-/// The lines of a text: what stands before each line feed.
+/// Returns the lines of a text. Each line ends at a line feed.
 pub fn lines_in(alloc: Global, text: &str) -> Result<Vec<&str>, AllocError>
     ensures the_lines { IfOk result (λ lines. map (λ line. line.now) lines.items ≡ lines_in text.now) }
 {

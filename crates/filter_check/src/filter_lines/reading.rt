@@ -1,4 +1,4 @@
-//! The program that the bytes of a file are.
+//! Reads the program from the bytes of a file.
 ghost use Rattle.std.specs.Prelude.{List, map};
 ghost use Rattle.filter_check.specs.filter_lines.Lines.{lines_in};
 ghost use Rattle.filter_check.specs.filter_lines.Reading.{Reads, ReadsCode, ReadsLines};
@@ -8,7 +8,7 @@ use crate::filter_lines::lines::{code_of_lines, lines_in};
 use seccomp_compile::{Program, ProgramError, read_text};
 use std::alloc::Global;
 
-// The program that the bytes of instructions are.
+// Reads a program from the bytes of its instructions.
 fn program_of_code(alloc: Global, code: &[u8]) -> Result<Program, FileError>
     ensures reads { ReadsCode code.now result }
 {
@@ -19,7 +19,7 @@ fn program_of_code(alloc: Global, code: &[u8]) -> Result<Program, FileError>
     }
 }
 
-// The program that some lines are.
+// Reads a program from lines.
 fn program_of_lines(alloc: Global, lines: &[&str]) -> Result<Program, FileError>
     ensures reads { ReadsLines (map (λ line. line.now) lines.now) result }
 {
@@ -27,7 +27,7 @@ fn program_of_lines(alloc: Global, lines: &[&str]) -> Result<Program, FileError>
     program_of_code(alloc, code.as_slice())
 }
 
-// The program that a text is.
+// Reads a program from a text.
 fn program_of_text(alloc: Global, text: &str) -> Result<Program, FileError>
     ensures reads { ReadsLines (lines_in text.now) result }
 {
@@ -35,10 +35,11 @@ fn program_of_text(alloc: Global, text: &str) -> Result<Program, FileError>
     program_of_lines(alloc, lines.as_slice())
 }
 
-/// The program that the bytes of a file are.
+/// Reads a program from the bytes of a file.
 ///
-/// `NotText` comes exactly where they are not UTF-8 or have a NUL; `Digits` tells the first line that is no instruction; and
-/// `Program` says why the instructions are no program, as `Program::read` does. What follows the last line feed is no line.
+/// Returns `NotText` exactly if the bytes are not UTF-8 or have a NUL. `Digits` names the first line that is not an
+/// instruction. `Program` says why the instructions are not a program, like `Program::read`. Text after the last line feed is
+/// not a line.
 pub fn read_program(alloc: Global, bytes: &[u8]) -> Result<Program, FileError>
     ensures reads { Reads bytes.now result }
 {

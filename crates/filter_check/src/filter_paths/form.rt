@@ -1,4 +1,4 @@
-//! The form of programs whose paths are told.
+//! The form of programs whose paths can be found.
 ghost use Rattle.std.specs.Prelude.{◌≡◌, MatchOption};
 ghost use Rattle.seccomp_compile.specs.Form.{is_of_form, AreOfForm};
 ghost use Rattle.filter_check.specs.filter_paths.Form.{IsFirstForeign};
@@ -16,7 +16,7 @@ fn is_of_form(insn: Insn) -> bool
     )
 }
 
-/// The place of the first instruction whose code is not of the form.
+/// Returns the place of the first instruction whose code does not have the form.
 pub fn first_foreign(insns: &[Insn]) -> Option<usize>
     ensures the_first { MatchOption result (AreOfForm insns.now) (IsFirstForeign insns.now) }
 {

@@ -1,4 +1,4 @@
-//! Where a walk through a program stands.
+//! The position of a walk through a program.
 ghost use Rattle.std.specs.Prelude.{◌≡◌};
 
 use crate::filter_paths::held::Held;

@@ -1,7 +1,7 @@
-//! How the search for the least word goes on.
+//! The next step of the search for the least word.
 //!
-//! A condition that the least word of a cube fails is looked at by the bits that are not known under its mask. The condition
-//! with the fewest of them is the one that is split on, so that a bit without a choice is set at once.
+//! If the least word of a cube fails a condition, the bits that are not known under the condition's mask decide. The search
+//! splits on the condition with the fewest of them, so that a bit without a choice is set at once.
 ghost use Rattle.std.specs.Prelude.{◌≡◌, ◌<◌, ◌^◌, ◌++◌, ◌∷◌, [], ℕ, List, IfSome, IfNone, true, false, bit_and};
 ghost use Rattle.std.specs.Bool.{OnTrue};
 ghost use Rattle.filter_check.specs.declared.word_sets.condition.Condition as listed;
@@ -12,12 +12,12 @@ ghost use Rattle.filter_check.specs.word_sets.Words.{is_in, is_set, IsChoice};
 use crate::word_sets::condition::Condition;
 use crate::word_sets::known::Cube;
 
-/// What the search goes on with.
+/// The next step of the search.
 #[derive(Clone, Copy)]
 pub enum Choice {
     /// The least word of the cube meets all conditions.
     Meets,
-    /// No word of the cube does.
+    /// No word of the cube meets all conditions.
     Misses,
     /// The bit at this place is not known, as so many bits under a condition's mask.
     Splits(u32, u32),
@@ -41,7 +41,7 @@ fn misses(condition: Condition, cube: Cube) -> bool
     condition.number & cube.known != low || condition.number & condition.mask != condition.number
 }
 
-// Tells the bits under a mask that are not known.
+// Returns the bits under a mask that are not known.
 fn free_bits(mask: u32, known: u32) -> u32
     ensures unknown { (place : ℕ) → place < 32 → is_set result place ≡ true → is_set known place ≡ false }
     ensures none { result ≡ 0 → (word bits : ℕ) → bit_and word known ≡ bits → bit_and word mask ≡ bit_and bits mask }
@@ -78,7 +78,7 @@ fn with_place(chosen: Choice, place: u32, free: u32) -> Choice
     }
 }
 
-// Says what the search goes on with if there is one condition more.
+// Returns the next step with one more condition.
 fn with_condition(chosen: Choice, condition: Condition, cube: Cube) -> Choice
     ensures chooses { (before : List listed.Condition) → IsChoice before cube chosen → IsChoice (before ++ condition ∷ []) cube result }
 {
@@ -95,7 +95,7 @@ fn with_condition(chosen: Choice, condition: Condition, cube: Cube) -> Choice
     }
 }
 
-/// Says what the search goes on with at a cube.
+/// Returns the next step of the search at a cube.
 pub fn choose(conditions: &[Condition], cube: Cube) -> Choice
     ensures chooses { IsChoice conditions.now cube result }
 {

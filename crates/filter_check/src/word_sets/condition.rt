@@ -1,4 +1,4 @@
-//! Conditions on a word: how it stands, under a mask, to a number.
+//! Conditions on a word: whether it is less than a number, equal or greater, under a mask.
 ghost use Rattle.std.specs.Prelude.{◌≡◌, ◌<◌, ℕ, not, ◌^◌};
 ghost use Rattle.filter_check.specs.word_sets.Conditions.{meets, wants};
 
@@ -10,7 +10,7 @@ pub struct Orders {
     pub above: bool,
 }
 
-/// A word under the mask stands to the number in one of these orders.
+/// The order of the masked word and the number is one of these.
 #[derive(Clone, Copy)]
 pub struct Condition {
     pub mask: u32,
@@ -19,7 +19,7 @@ pub struct Condition {
 }
 
 impl Orders {
-    /// Exactly the other ones.
+    /// Returns exactly the other orders.
     pub fn others(self) -> Self
         ensures opposite { (a b : ℕ) → wants result a b ≡ not (wants self a b) }
     {
@@ -42,7 +42,7 @@ impl Orders {
 }
 
 impl Condition {
-    /// The condition that is met exactly where this one is not.
+    /// Returns the condition that a word meets exactly if it does not meet this one.
     pub fn failing(self) -> Self
         ensures opposite { (word : ℕ) → meets result word ≡ not (meets self word) }
     {

@@ -12,14 +12,14 @@ fn greatest_with(known: u32, bits: u32) -> u32
 }
 
 impl Cube {
-    /// All words.
+    /// Makes the cube of all words.
     pub fn all() -> Self
         ensures every_word { (word : ℕ) → is_in result word ≡ true }
     {
         Cube { known: 0, bits: 0 }
     }
 
-    /// The least of the words.
+    /// Returns the least of the words.
     pub fn least(self) -> u32
         ensures is { result ≡ self.bits }
         ensures small { result < 2 ^ 32 }
@@ -27,14 +27,14 @@ impl Cube {
         self.bits
     }
 
-    /// The greatest of the words: each of them has bits of it alone.
+    /// Returns the greatest of the words. Each of them has only bits of this one.
     pub fn greatest(self) -> u32
         ensures covers { (word : ℕ) → word < 2 ^ 32 → is_in self word ≡ true → bit_and word result ≡ word }
     {
         greatest_with(self.known, self.bits)
     }
 
-    /// Those of the words that have this bit at a place where none was known.
+    /// Returns the words that have this bit, at a place where no bit was known.
     pub fn with_bit(self, place: u32, set: bool) -> Cube
         requires place { place < 32 }
         requires unknown { is_set self.known place ≡ false }

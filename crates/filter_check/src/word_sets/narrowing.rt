@@ -34,7 +34,7 @@ impl WordSet {
         }
     }
 
-    /// Makes the same set once more.
+    /// Copies the set.
     pub fn copy(&self, alloc: Global) -> Result<Self, AllocError>
         ensures same { IfOk result (λ copy. copy.conditions.items ≡ self.now.conditions.items) }
     {
@@ -58,7 +58,7 @@ fn least_with(set: &WordSet, condition: Condition, conditions: &[Condition]) -> 
     least_of(conditions, Cube::all(), set.least, None)
 }
 
-/// Keeps the words of a set that meet the condition. It is none if no word does.
+/// Keeps the words of a set that meet the condition. Returns None if no word does.
 pub fn narrow(
     alloc: Global,
     set: &WordSet,
