@@ -14,7 +14,8 @@ use Rattle.filter_check.specs.declared.filter_lines.error.FileError.TheVariants 
 abbrev pub placed : List ℕ → ℕ → List ℕ
 placed cause place = codes "program " ++ (cause ++ (codes " " ++ decimal place))
 
--- why instructions are no program; lines are whole instructions, so a length never is why, and want of memory has no line
+-- why instructions are not a program. Lines are whole instructions, so a length is never the reason. If memory runs out, there
+-- is no line
 abbrev pub program_cause : ProgramError → List ℕ
 program_cause program.Length = codes "program length"
 program_cause program.Empty = codes "program empty"

@@ -1,4 +1,4 @@
--- What the comparison of a program with a filter of a unit comes to.
+-- The result of comparing a program with a filter of a unit.
 use Rattle.std.specs.Prelude.{◌≡◌, ◌≢◌, ℕ, List, Some, None, Result, Ok, Err}
 use Rattle.filter_check.specs.bpf_code.declared.machine.CallData.{CallData}
 use Rattle.filter_check.specs.bpf_code.declared.machine.Insn.{Insn}
@@ -14,11 +14,12 @@ use Rattle.unit_inputs.specs.filter_settings.declared.filter_rules.settings.Filt
 use Rattle.check_command.specs.Causes.{check_line, no_filter_line}
 use Rattle.check_command.specs.Naming.{named_place}
 
--- the word that the settings want of a filter for an ABI, for the data of a call
+-- the word that the settings want from a filter, for an ABI and the data of a call
 abbrev pub wanted_word : FilterSettings → Table → Place → CallData → ℕ
 wanted_word settings table place input = word_of (wanted_action place.0 settings table place.1 input)
 
--- A program is compared with wanted words over all call data: what is found is told, or the line of why it is not compared.
+-- A program is compared with wanted words over all call data. The result is the outcome, or the line that says why the program
+-- is not compared.
 pub data Compares (path : List ℕ) (code : List Insn) (wanted : CallData → ℕ) : Result Outcome (List ℕ) → Type 0 where
   not_compared : (error : CheckError) → error ≢ Memory → Finds code wanted (Err error)
       → Compares path code wanted (Err (check_line path error))

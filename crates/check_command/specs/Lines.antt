@@ -11,7 +11,7 @@ use Rattle.filter_check.specs.declared.outcome.Outcome.TheVariants.{Same, Differ
 abbrev pub same_line : ℕ → List ℕ
 same_line count = codes "same paths " ++ (decimal count ++ 10 ∷ [])
 
--- a number behind a space
+-- a space and a number
 abbrev pub arg_text : ℕ → List ℕ
 arg_text arg = 32 ∷ decimal arg
 
@@ -32,7 +32,7 @@ abbrev pub outcome_text : Outcome → List ℕ
 outcome_text (Same count) = same_line count
 outcome_text (Differs at theirs ours) = differs_line at theirs ours
 
--- how a run ends behind it
+-- how a run ends after this outcome
 abbrev pub ending_by : Outcome → Ending
 ending_by (Same count) = ending.Done
 ending_by (Differs at theirs ours) = ending.Differs

@@ -27,7 +27,7 @@ pub data RefusesBefore (files : Files) (unit path : List ℕ) : List ℕ → Typ
 abbrev pub inputs_in : Prepared → Inputs
 inputs_in prepared = inputs_view prepared.unit.inputs
 
--- what is prepared is ready, or the line is that of the first refusal, unless a read failed or memory ran out
+-- the inputs and the program are ready, or the line is the line of the first refusal, unless a read failed or memory ran out
 abbrev pub IsPrepared : Files → List ℕ → List ℕ → Result Prepared Stop → Type 0
 IsPrepared files unit path (Ok prepared) = AreReady files unit path (inputs_in prepared) prepared.program
 IsPrepared files unit path (Err (stop.Refused line)) = RefusesBefore files unit path line.items

@@ -9,7 +9,7 @@ use Rattle.unit_inputs.specs.unit_names.Cutting.{name_of}
 use Rattle.check_command.specs.Answers.{Answers}
 use Rattle.check_command.specs.Lines.{ending_by, outcome_text}
 
--- the line of the refusal is printed, or that of the outcome, with status 8 where the two differ
+-- the run prints the line of the refusal, or the text of the outcome, with status 8 if the two differ
 pub data Admits (files : Files) (unit name path : List ℕ) : Ending → List ℕ → Type 0 where
   refuses : (line : List ℕ) → Answers files unit name path (Err line) → Admits files unit name path Refused line
   tells : (outcome : Outcome) → Answers files unit name path (Ok outcome)
@@ -23,7 +23,7 @@ abbrev pub admits_over : Option Files → List ℕ → List ℕ → List ℕ →
 admits_over None unit name path ending text = MayEndUntold ending
 admits_over (Some files) unit name path ending text = Admits files unit name path ending text
 
--- an ending comes exactly where its text is admitted
+-- a run may end like this if and only if a text with this ending is admitted
 abbrev pub may_end_over : Option Files → List ℕ → List ℕ → List ℕ → Ending → Type 0
 may_end_over None unit name path ending = MayEndUntold ending
 may_end_over (Some files) unit name path ending = (text : List ℕ) × Admits files unit name path ending text

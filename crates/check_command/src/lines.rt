@@ -13,7 +13,7 @@ fn same_line(alloc: Global, count: u32) -> Result<Vec<u8>, AllocError>
     Ok(format!(in alloc; "same paths {count}\n")?.into_bytes())
 }
 
-// Writes numbers, each behind a space.
+// Writes numbers, with a space before each.
 fn push_args(out: &mut Vec<u8>, args: &[u64]) -> Result<(), AllocError>
     ensures { OnOk result (out.new.items ≡ out.old.items ++ flat_map arg_text args.now) }
 {

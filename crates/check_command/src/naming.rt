@@ -6,7 +6,7 @@ ghost use Rattle.check_command.specs.Naming.{means, means_native, means_with_abi
 
 use unit_inputs::{CallTable, Filter};
 
-// Whether a word is the name of a filter and that of an ABI, with `@` between them.
+// Whether a word is a filter's name, `@`, and an ABI's name.
 fn is_joined(word: &str, name: &str, abi: &str) -> bool
     ensures { result ≡ bytes_eq (name.now ++ 64 ∷ abi.now) word.now }
 {
@@ -33,7 +33,7 @@ fn means_native(word: &str, filter: &Filter) -> bool
     filter.abi == 0 && filter.name.text() == word
 }
 
-// Whether a word is the name of this filter with that of its ABI.
+// Whether a word is the name of this filter with its ABI's name.
 fn means_with_abi(table: &CallTable, word: &str, filter: &Filter) -> bool
     ensures { result ≡ means_with_abi table.now word.now (place_of filter.now) }
 {

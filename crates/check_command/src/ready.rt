@@ -14,7 +14,7 @@ pub struct Checked {
     pub outcome: Outcome,
 }
 
-// How a run ends behind an outcome.
+// How a run ends after this outcome.
 fn ending_by(outcome: &Outcome) -> Ending
     ensures { result ≡ ending_by outcome.now }
 {
