@@ -5,7 +5,7 @@ use row_tools::{bytes_of, number, number32};
 use std::alloc::{AllocError, Global};
 use top_call::{CallData, Program, bpf_code_run as run};
 
-/// The architecture of x86-64, and that of i386 (audit(7)).
+/// The architectures of x86-64 and of i386 (audit(7)).
 const X86_64: u32 = 0xc000_003e;
 
 const I386: u32 = 0x4000_0003;

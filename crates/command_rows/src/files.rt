@@ -21,7 +21,7 @@ impl Files {
         self.cut(alloc, "", 0)
     }
 
-    /// Copies of the files, that of this path cut off after so many bytes.
+    /// Copies the files. The copy of the file with this path has only its first `count` bytes.
     pub fn cut(
         &self,
         alloc: Global,
@@ -52,7 +52,7 @@ impl Files {
     }
 
     /// Follows a line. Any line but these changes nothing:
-    /// - `file PATH` begins a file, which is empty, and `more PATH` goes on with one.
+    /// - `file PATH` begins an empty file, and `more PATH` continues an existing file.
     /// - `|TEXT` adds a line to the newest file, `>TEXT` a text, `nul` a zero byte, and `many N` so many letters.
     /// - `times N TEXT` adds so many lines, and replaces each `#` by the number of the line, from 1.
     /// - `comment N` and `blanks N` fill the file with `#` and with spaces until it has N bytes.
@@ -103,7 +103,7 @@ impl Files {
         Ok(())
     }
 
-    // Goes on with a file: it becomes the newest.
+    // Makes an existing file the newest, so that more lines extend it.
     fn go_on(&mut self, path: &str) -> Result<(), AllocError> {
         match self.remove(path) {
             Some(file) => Ok(self.list.push(file)?),

@@ -1,9 +1,9 @@
 //! Runs rows with the limits and faults of runs: reads and writes that fail, inputs at their limits, and texts that
 //! are cut off.
 //!
-//! Lines make files, as those of whole runs do, which further rows keep. `comment N` and `blanks N` fill a file with
-//! `#` and with spaces until it has N bytes. `files N PATH TEXT` makes so many files of one line, and replaces each
-//! `#` in their paths by the number of the file. `no-files FRONT` removes those whose paths begin so.
+//! Lines make files as in rows of whole runs, and later rows keep these files. `comment N` and `blanks N` fill a file
+//! with `#` and with spaces until it has N bytes. `files N PATH TEXT` makes so many files of one line, and replaces
+//! each `#` in their paths by the number of the file. `no-files FRONT` removes the files whose paths begin so.
 //!
 //! A row is printed, and its result below it:
 //! - `run WORD ..` prints the status and the text of a run of these words.
@@ -131,7 +131,7 @@ fn one_fault(alloc: Global, take: Option<u64>, number: u64) -> Result<Faults, Al
     Ok(faults)
 }
 
-// The status, and how much of the whole text was taken where K - 1 calls were made before the one that fails.
+// The status, and how much of the whole text the sink took, if `before` calls precede the call that fails.
 fn taken(alloc: Global, printed: &Printed, whole: &str, before: u64) -> Result<String, AllocError> {
     let code = printed.code;
     let text = printed.text.as_str();

@@ -7,7 +7,7 @@
 //! |---|---|
 //! | `file PATH` | begins a file, which further rows keep |
 //! | `\|TEXT`, `>TEXT`, `nul`, `many N`, `times N TEXT` | adds a line, a text, a zero byte, so many letters, so many lines to it |
-//! | `more PATH`, `no-file PATH` | goes on with a file, removes it |
+//! | `more PATH`, `no-file PATH` | continues a file, removes it |
 //! | `word WORD` | adds a word |
 //! | `take N` | sets how much the sink takes at once |
 //! | `fail-read N`, `fail-put N` | sets which call fails |

@@ -15,7 +15,7 @@ pub struct Faults {
     pub puts: Vec<u64>,
     /// How many bytes a put takes at most.
     pub take: u64,
-    /// The answers of the wishes that are handed in; where there are none it is that of the program.
+    /// The answers of the wishes for the run. If the list is empty, the run has the program's own wish.
     pub wishes: Vec<bool>,
 }
 
@@ -68,8 +68,8 @@ fn can_execute(rows: &[VerdictRow]) -> bool {
     false
 }
 
-// The status of these words, with the two stored tests of the program, and with wishes that answer so, or its own wish where there are
-// none. The closures are handed in where they are made.
+// The status of a run of these words, with the two stored tests of the program, and with wishes that answer like this. Without
+// answers the run has the program's own wish. The closures are passed on where they are made.
 fn run_words(
     alloc: Global,
     words: &[&str],
