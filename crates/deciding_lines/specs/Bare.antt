@@ -34,6 +34,6 @@ place_if is_wanted line = if is_wanted then line.place ∷ [] else []
 abbrev pub places_of : (UnitLine → Bool) → List UnitLine → List Place
 places_of test lines = flat_map (λ line. place_if (test line) line) lines
 
--- in the order of files and lines, but those that say who the service is behind all others
+-- the places in the order of files and lines, but the lines that say who the service is follow all others
 abbrev pub bare_places : Resolved → List Place
 bare_places unit = places_of is_other (lines_of unit) ++ places_of is_identity (lines_of unit)

@@ -10,7 +10,7 @@ abbrev pub IsPartOf : {T : Type 0} → List T → List T → Type 0
 IsPartOf {T} part [] = part ≡ []
 IsPartOf {T} part (thing ∷ things) = IsPartOf part things ⊎ ((rest : List T) × (part ≡ thing ∷ rest) × IsPartOf rest things)
 
--- what is told of things that were tried: what they come to, if they serve
+-- the result of trying some things: what was found, if they serve
 abbrev pub Tells : {F : Type 0} → (F → Type 0) → Type 0 → Option F → Type 0
 Tells Serves Fails (Some found) = Serves found
 Tells Serves Fails None = Fails

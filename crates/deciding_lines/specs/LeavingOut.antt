@@ -3,7 +3,7 @@ use Rattle.std.specs.Prelude.{◌≡◌, ◌⊎◌, ◌≤◌, List, ◌∷◌, 
 use Rattle.deciding_lines.specs.Least.{AreNeeded, IsPartOf}
 use Rattle.deciding_lines.specs.declared.leaving_out.Serving.{Serving}
 
--- a thing that stands before the kept ones is left out, or stays since without it they do not serve
+-- a thing before the kept ones is left out, or stays because the others do not serve without it
 abbrev pub LeavesOut : {T F : Type 0} → (List T → F → Type 0) → (List T → Type 0) → List T → T → List T → Serving T F → Type 0
 LeavesOut Serves Fails before thing kept next = Serves (before ++ next.things.items) next.found
     × ((next.things.items ≡ kept) ⊎ ((next.things.items ≡ thing ∷ kept) × Fails (before ++ kept)))

@@ -8,7 +8,7 @@ use Rattle.deciding_lines.specs.Tried.{IsDeniedWithout, IsOpenWithout, Tried}
 use Rattle.deciding_lines.specs.declared.reason.Reason.{Reason}
 use Rattle.deciding_lines.specs.declared.reason.Reason.TheVariants as reason
 
--- without them it is denied, and the other answer is told; or it is open, and some of them deny it
+-- without these lines the question is denied, and the other reason is given; or it is open, and some of these lines deny it
 abbrev pub DeniesWithout : Tried → List Place → Reason → Reason → Type 0
 DeniesWithout tried gone otherwise told = (IsDeniedWithout tried gone × (told ≡ otherwise))
     ⊎ ((found : Vec Place Global) × (told ≡ reason.Lines found) × IsOpenWithout tried gone × IsPartOf found.items gone

@@ -20,7 +20,7 @@ use Rattle.deciding_lines.specs.declared.starting.Started.{Started}
 use Rattle.deciding_lines.specs.declared.starting.Started.TheVariants as started
 use Rattle.deciding_lines.specs.declared.trial.Trial.{Trial}
 
--- a unit by its name, with the tables, and what is asked
+-- a unit by its name, with the tables and the question
 pub record Tried : Type 0 where
   pub name : List ℕ
   pub inputs : Inputs
@@ -29,7 +29,7 @@ pub record Tried : Type 0 where
 abbrev pub tried_of : Trial → Tried
 tried_of trial = record { name = trial.name.now; inputs = given trial.unit.now trial.calls.now trial.site.now; question = trial.question }
 
--- the question is one of those of the tables
+-- the question is in the list of the tables' questions
 abbrev pub CanBeTried : Trial → Type 0
 CanBeTried trial = Contains (questions trial.calls.now trial.site.now) trial.question
 
@@ -77,7 +77,7 @@ IsDeniedWithout tried places = IsDeniedFor (inputs_without tried.inputs places) 
 abbrev pub IsShutWithout : Tried → List Place → Type 0
 IsShutWithout tried places = IsShutFor tried.name (inputs_without tried.inputs places) tried.question
 
--- what is told of a set, and of a service
+-- the verdict on a set of lines and on a service
 abbrev pub TellsOpen : Tried → List Place → Bool → Type 0
 TellsOpen tried places true = IsOpenWithout tried places
 TellsOpen tried places false = IsShutWithout tried places
@@ -86,7 +86,7 @@ abbrev pub IsSaid : World → Question → Bool → Type 0
 IsSaid world question true = IsShown world question
 IsSaid world question false = IsDenied world question
 
--- what is told of a launch, and of a stop before it
+-- the line of a refusal before the launch
 abbrev pub IsRefusedBy : List ℕ → Started → Type 0
 IsRefusedBy line (started.Launched service) = ⊥
 IsRefusedBy line (started.Refused told) = told.items ≡ line

@@ -1,4 +1,4 @@
-//! The search for things that serve together, of which none can be left out.
+//! Searches for things that serve together, of which none can be left out.
 
 ghost use Rattle.std.specs.Prelude.{◌≡◌, ◌++◌, ◌∷◌, IfOk};
 ghost use Rattle.deciding_lines.specs.Least.{AreNeeded, IsPartOf};
@@ -6,7 +6,7 @@ ghost use Rattle.deciding_lines.specs.LeavingOut.{IsRound, LeavesOut};
 
 use std::alloc::{AllocError, Global};
 
-/// Things of which some together serve.
+/// Things; some sets of them serve.
 pub trait Search {
     ghost use Rattle.std.specs.Prelude.{IfOk, List};
     ghost use Rattle.deciding_lines.specs.Least.{Tells};
@@ -14,19 +14,19 @@ pub trait Search {
     /// One of the things.
     type Thing: Copy;
 
-    /// What things come to that serve.
+    /// What a search finds with things that serve.
     type Found: Drop;
 
-    /// What must hold before things are tried.
+    /// The condition for trying things.
     ghost can_try: { Self → Type 0 };
 
-    /// These things serve, and come to this.
+    /// These things serve, and give this result.
     ghost serves: { Self → List Self.Thing → Self.Found → Type 0 };
 
     /// These things do not serve.
     ghost fails: { Self → List Self.Thing → Type 0 };
 
-    /// What these things come to, if they serve.
+    /// Returns the result of these things if they serve.
     fn attempt(
         &self,
         alloc: Global,
@@ -36,16 +36,16 @@ pub trait Search {
         ensures tells { IfOk result (Tells (serves self.now things.now) (fails self.now things.now)) };
 }
 
-/// Things that serve, with what they come to.
+/// Things that serve, with their result.
 #[derive(Drop)]
 pub struct Serving<T, F> {
     /// The things.
     pub things: Vec<T>,
-    /// What they come to.
+    /// The result of these things.
     pub found: F,
 }
 
-// Things, one behind the other.
+// Appends the second list to the first.
 fn joined<T: Copy>(alloc: Global, before: &[T], behind: &[T]) -> Result<Vec<T>, AllocError>
     ensures { IfOk result (λ all. all.items ≡ before.now ++ behind.now) }
 {
@@ -54,7 +54,7 @@ fn joined<T: Copy>(alloc: Global, before: &[T], behind: &[T]) -> Result<Vec<T>, 
     Ok(all)
 }
 
-// A thing before others.
+// Puts a thing before others.
 fn in_front<T: Copy>(alloc: Global, thing: T, behind: &[T]) -> Result<Vec<T>, AllocError>
     ensures { IfOk result (λ all. all.items ≡ thing ∷ behind.now) }
 {
@@ -64,7 +64,7 @@ fn in_front<T: Copy>(alloc: Global, thing: T, behind: &[T]) -> Result<Vec<T>, Al
     Ok(all)
 }
 
-// Leaves a thing out, if those before it and behind it serve; else it stays.
+// Leaves a thing out if the things before and after it serve without it; otherwise keeps it.
 fn leave_out<S: Search>(
     alloc: Global,
     search: &S,
@@ -113,9 +113,9 @@ fn round<S: Search>(
     Ok(kept)
 }
 
-/// Leaves out things until none can be left out: each is tried again as long as one was left out.
+/// Leaves out things until none can be left out. After each success it tries all others again.
 ///
-/// More things need not serve where fewer do, so another order of the things may come to other ones.
+/// More things need not serve where fewer do, so another order of the things may give another result.
 pub fn least<S: Search>(
     alloc: Global,
     search: &S,

@@ -8,10 +8,10 @@ use crate::starting::{Started, start_without};
 use asked_service::{CallTable, Launched, Place, Question, Resolved, SiteTable, bound, openness};
 use std::alloc::{AllocError, Global};
 
-/// What sets of lines are tried on, and what is asked.
+/// A unit, the tables and a question, for which sets of lines are tried.
 #[derive(Drop)]
 pub struct Trial<'a> {
-    /// The name of the unit, which refusals tell.
+    /// The name of the unit, which lines of refusals print.
     pub name: &'a str,
     /// The unit.
     pub unit: &'a Resolved,
@@ -19,11 +19,11 @@ pub struct Trial<'a> {
     pub calls: &'a CallTable,
     /// The host.
     pub site: &'a SiteTable,
-    /// The question, one of those of the tables.
+    /// The question, from the list of the tables' questions.
     pub question: Question,
 }
 
-/// Whether a question is open of a launched service: one verdict.
+/// Whether a question is open for a launched service.
 pub fn is_open_of(
     alloc: Global,
     service: Launched<'_>,
@@ -33,7 +33,7 @@ pub fn is_open_of(
     requires listed { Contains (questions service.world.calls service.world.site) question.now }
     ensures tells { IfOk result (IsSaid service.entry.world question.now) }
 {
-    // Why it is so.
+    // The law that the verdict is exact.
     openness();
     let bounded = bound(alloc, service)?;
     Ok(bounded.is_open(question))

@@ -18,7 +18,7 @@ is_among places place = list_any (λ one. is_place one place) places
 abbrev pub all_but : List Place → List Place → List Place
 all_but some places = filter (λ place. not (is_among some place)) places
 
--- an assignment of the file of this number, from 0, that is in force and stands at one of the places
+-- an assignment in force of the file with this number, from 0, which is at one of the places
 abbrev pub is_taken : List Place → ℕ → Assignment → Bool
 is_taken places number assignment = is_in_force assignment && is_among places (record { file = number; line = assignment.line })
 

@@ -5,7 +5,7 @@ use asked_service::{Place, Text};
 /// An assignment in force: a line of `[Service]` in a file of a unit, whose key is read.
 #[derive(Drop)]
 pub struct UnitLine {
-    /// Where it stands.
+    /// The place of the line.
     pub place: Place,
     /// The key.
     pub key: Text,

@@ -26,7 +26,7 @@ fn push_if_read(
     Ok(())
 }
 
-/// The assignments in force of a unit: those of `[Service]` whose key is read, in the order of files and lines.
+/// Returns the assignments in force of a unit: the lines of `[Service]` whose key is read, in the order of files and lines.
 #[tactic(auto, unfolding(crate::specs::unit_lines::Lines::lines_of))]
 pub fn lines(alloc: Global, unit: &Resolved) -> Result<Vec<UnitLine>, AllocError>
     ensures all_in_order { IfOk result (λ lines. lines.items ≡ lines_of unit.now) }
