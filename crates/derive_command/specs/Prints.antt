@@ -31,7 +31,7 @@ pub record PrintsDerived (files : Files) (unit path : List ℕ) (ending : Ending
   pub script_is : script_in files path inputs.calls ≡ Ok script
   pub is_the_answer : PrintsAnswer inputs script ending text
 
--- the refusals in their order; a launch that is refused is told with status 7
+-- the refusals in their order; if the launch is refused, the status is 7
 abbrev pub derive_laws : List ℕ → List ℕ → FileLaws
 derive_laws unit path = record {
   refusals = λ files. derive_refusals files unit path;

@@ -25,12 +25,12 @@ seccomp_line path number = refused_line path (seccomp_cause number)
 abbrev pub opened : Inputs → Inputs
 opened inputs = record { unit = open_unit inputs.unit inputs.calls; calls = inputs.calls; site = inputs.site }
 
--- behind a script that was read: such a call, then the settings and the paths of the unit that allows every call
+-- refusals after the script was read: a call of seccomp, then the settings and the paths of the unit that allows every call
 abbrev pub refusals_behind_script : List ℕ → List ℕ → Inputs → List Call → List (Option (List ℕ))
 refusals_behind_script unit path inputs script =
     option_map (seccomp_line path) (first_seccomp inputs.calls script) ∷ start_refusals unit (opened inputs)
 
--- the script, and what is refused behind it
+-- the refusal of the script, or the refusals after it
 abbrev pub refusals_by_script : List ℕ → List ℕ → Inputs → Result (List Call) (List ℕ) → List (Option (List ℕ))
 refusals_by_script unit path inputs (Ok script) = refusals_behind_script unit path inputs script
 refusals_by_script unit path inputs (Err line) = Some line ∷ []
@@ -38,6 +38,6 @@ refusals_by_script unit path inputs (Err line) = Some line ∷ []
 abbrev pub refusals_behind : Files → List ℕ → List ℕ → Inputs → List (Option (List ℕ))
 refusals_behind files unit path inputs = refusals_by_script unit path inputs (script_in files path inputs.calls)
 
--- the order of refusals: the inputs, and what is refused behind them
+-- the order of refusals: the inputs, and the refusals after them
 abbrev pub derive_refusals : Files → List ℕ → List ℕ → List (Option (List ℕ))
 derive_refusals files unit path = input_refusals files unit ++ refusals_by (refusals_behind files unit path) (inputs_of files unit)

@@ -1,4 +1,4 @@
--- What is told of a list that is derived, and of why none is; want of memory tells nothing.
+-- The text for a derived list, or for the reason why no list exists. If memory runs out, there is no text.
 use Rattle.std.specs.Prelude.{◌≡◌, ℕ, List, Result, Ok, Err}
 use Rattle.replay_command.specs.kernel_model.declared.kernel_calls.call.Call.{Call}
 use Rattle.replay_command.specs.unit_inputs.declared.command_answers.ending.Ending.{Ending}
@@ -26,14 +26,14 @@ StopsWith line (Err (stop.Refused told)) = told.items ≡ line
 StopsWith line (Err stop.ReadFault) = ⊥
 StopsWith line (Err stop.Memory) = Unit {0}
 
--- this text is ready, and the ending behind it
+-- this text and its ending are ready
 abbrev pub IsReady : List ℕ → Ending → Result ReadyText Stop → Type 0
 IsReady text ending (Ok allowing) = (allowing.text.items ≡ text) × (allowing.ending ≡ ending)
 IsReady text ending (Err (stop.Refused told)) = ⊥
 IsReady text ending (Err stop.ReadFault) = ⊥
 IsReady text ending (Err stop.Memory) = Unit {0}
 
--- nothing is told
+-- there is no text
 abbrev pub IsOutOfMemory : Result ReadyText Stop → Type 0
 IsOutOfMemory (Ok allowing) = ⊥
 IsOutOfMemory (Err (stop.Refused told)) = ⊥
@@ -48,8 +48,8 @@ Tells name path (Plan error) result = StopsWith (error_line name error) result
 Tells name path (Launch refusal) result = IsReady (refusal_line refusal) LaunchRefused result
 Tells name path Memory result = IsOutOfMemory result
 
--- what answers the calls of a script over any table: the drop-in that allows the least list, which is the only one where the
--- names of the table are plain; or the line of the launch that is refused though every call is allowed
+-- the answer for a script over any table. If a list exists, it is the drop-in that allows the least list; that list is the only
+-- one if the names of the table are plain. Otherwise it is the line of a launch that is refused although every call is allowed
 pub data AnswersCalls (inputs : Inputs) (script : List Call) : Ending → List ℕ → Type 0 where
   allowed : (names : List ℕ) → IsDerived inputs.unit inputs.calls inputs.site script names
       → (HasPlainNames inputs.calls → IsOnlyOne inputs.unit inputs.calls inputs.site script names)

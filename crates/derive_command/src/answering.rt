@@ -38,7 +38,7 @@ fn refuse_launch(alloc: Global, refusal: &LaunchRefusal) -> Result<ReadyText, St
     })
 }
 
-// Why nothing is derived, as it is told.
+// The text of the reason why nothing is derived.
 fn tell(alloc: Global, name: &str, path: &str, error: DeriveError) -> Result<ReadyText, Stop>
     ensures { Tells name.now path.now error result }
 {

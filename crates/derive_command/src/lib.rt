@@ -1,9 +1,10 @@
-//! The command `derive`: the least list of calls that a service has to be allowed for a script, as a drop-in.
+//! The command `derive`: finds the least list of calls that a service must be allowed for a script, and prints it as a drop-in.
 //!
-//! The unit and the script are read, and the list is derived by `trace_profile`; then the drop-in that allows it is printed, or
-//! the line of the first refusal. A launch that is refused with every call allowed is told by its line alone.
+//! The command reads the unit and the script, and `trace_profile` derives the list. Then the command prints the drop-in that
+//! allows the list, or the line of the first refusal. If the launch is refused with every call allowed, it prints only the line
+//! of that launch.
 //!
-//! `prepare(alloc, &mut shelf, "web.service", "calls.script")?` has the text, and `print` puts it.
+//! `prepare(alloc, &mut shelf, "web.service", "calls.script")?` has the text, and `print` prints it.
 #![tactic(auto)]
 
 mod answering;
