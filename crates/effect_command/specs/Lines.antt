@@ -16,11 +16,11 @@ use Rattle.effect_command.specs.declared.kinds.Kind.TheVariants as kind
 abbrev pub with_line : List ℕ → List ℕ
 with_line line = codes "with " ++ line
 
--- a folder behind a word
+-- a word and a folder
 abbrev pub folder_line : List ℕ → Path → List ℕ
 folder_line word folder = word ++ (codes " " ++ (escaped_word (text_of folder) ++ 10 ∷ []))
 
--- a change; below a question that is opened stand the calls that reach it, as a report has them
+-- a change. The calls that reach a newly open question follow it, as in a report
 abbrev pub change_lines : calls.Table → Site → Change → List ℕ
 change_lines table site (Closed question) = question_line (codes "closed") table site question
 change_lines table site (Opened question list) = question_line (codes "opened") table site question ++ flat_map (call_line table) list
@@ -51,6 +51,6 @@ counts_line kinds =
     ++ (codes " hidden " ++ (decimal (count_of kind.Hidden kinds) ++
     (codes " shown " ++ (decimal (count_of kind.Shown kinds) ++ 10 ∷ [])))))))
 
--- the changes, one behind the other, and their counts
+-- the changes in their order, and their counts
 abbrev pub effect_text : calls.Table → Site → List Change → List ℕ
 effect_text table site changes = flat_map (change_lines table site) changes ++ counts_line (map kind_of changes)

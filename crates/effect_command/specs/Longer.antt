@@ -1,4 +1,4 @@
--- The unit with a drop-in behind its files, which is read from a file of its own.
+-- The unit with a drop-in after its files. The drop-in is read from a file of its own.
 use Rattle.std.specs.Prelude.{ℕ, List, [], ◌∷◌, ◌++◌, Result, Ok, Err}
 use Rattle.judge_command.specs.unit_inputs.command_answers.Refusals.{refused_line}
 use Rattle.judge_command.specs.unit_inputs.command_answers.Stops.{and_then, or_line}
@@ -18,7 +18,7 @@ dropin_said path bytes = or_line (λ error. refused_line path (text_cause error)
 abbrev pub dropin_in : Files → List ℕ → Result UnitText (List ℕ)
 dropin_in files path = and_then (bytes_in files path) (dropin_said path)
 
--- systemd.unit(5): the drop-in stands behind all files of the unit, so it is applied last
+-- systemd.unit(5): the drop-in follows all files of the unit, so it is applied last
 abbrev pub longer_unit : Resolved → UnitText → Resolved
 longer_unit unit more = record { name = unit.name; files = unit.files ++ record { path = []; text = more } ∷ [] }
 

@@ -18,8 +18,8 @@ use Rattle.effect_command.specs.Lines.{effect_text, with_line}
 use Rattle.effect_command.specs.Longer.{dropin_in, with_dropin}
 use Rattle.effect_command.specs.Refusals.{effect_refusals}
 
--- the launch of the unit is refused; or that of the unit with the drop-in is, which follows the word `with`; or both are launched. Then
--- the text has exactly the changes from the first service to the second, with the counts
+-- the launch of the unit is refused; or the launch with the drop-in is refused, and its line follows the word `with`; or both
+-- succeed. Then the text has exactly the changes from the first service to the second, with their counts
 abbrev pub TellsBoth : calls.Table → Site → UnitLaunch → UnitLaunch → Ending → List ℕ → Type 0
 TellsBoth table site (Refused refusal) second ending text = (ending ≡ LaunchRefused) × (text ≡ refusal_line refusal)
 TellsBoth table site (Launched before) (Refused refusal) ending text = (ending ≡ LaunchRefused) × (text ≡ with_line (refusal_line refusal))
@@ -27,7 +27,7 @@ TellsBoth table site (Launched before) (Launched after) ending text =
     (ending ≡ Done) × ((changes : List Change) ×
     (AreChanges table site before.world after.world changes × (text ≡ effect_text table site changes)))
 
--- what the unit and the unit with the drop-in are launched to, and what is told of that
+-- the launches of the unit and of the unit with the drop-in, and the text for them
 pub record TellsWith (inputs : Inputs) (more : UnitText) (ending : Ending) (text : List ℕ) : Type 0 where
   pub first : UnitLaunch
   pub starts : StartsAs inputs first
@@ -43,7 +43,7 @@ pub record PrintsEffect (files : Files) (unit path : List ℕ) (ending : Ending)
   pub dropin_is : dropin_in files path ≡ Ok more
   pub tells : TellsWith inputs more ending text
 
--- the refusals in their order; a launch that is refused is told with status 7
+-- the refusals in their order; if a launch is refused, the status is 7
 abbrev pub effect_laws : List ℕ → List ℕ → FileLaws
 effect_laws unit path = record {
   refusals = λ files. effect_refusals files unit path;

@@ -1,4 +1,4 @@
--- What is told, piece by piece, of a question and of a row: by what is found of them.
+-- The text for one question and for one row, piece by piece, given the changes found.
 use Rattle.std.specs.Prelude.{ℕ, List, [], ◌∷◌, ◌++◌, codes, flat_map, map}
 use Rattle.judge_command.specs.abs_path.Paths.{Path}
 use Rattle.judge_command.specs.call_table.Table as calls

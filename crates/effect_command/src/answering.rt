@@ -12,15 +12,15 @@ use crate::starting::start_with;
 use judge_command::{CallTable, ReadyText, Resolved, SiteTable, Stop, UnitText, start};
 use std::alloc::{AllocError, Global};
 
-// The unit with the drop-in behind its files.
+// The unit with the drop-in after its files.
 fn lengthen(alloc: Global, unit: &Resolved, more: UnitText) -> Result<Resolved, AllocError>
     ensures { IfOk result (λ longer. longer ≡ longer_unit unit.now more) }
 {
     unit.extended(alloc, more)
 }
 
-/// Launches the unit, and the unit with the drop-in behind its files, and tells what changes; or finds the first refusal of the
-/// settings and paths of the two.
+/// Launches the unit, and the unit with the drop-in after its files, and prints the changes; or finds the first refusal of
+/// their settings and paths.
 pub fn answer(
     alloc: Global,
     name: &str,

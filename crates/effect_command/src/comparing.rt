@@ -1,4 +1,4 @@
-//! What two launches come to, told.
+//! The text for two launches.
 ghost use Rattle.std.specs.Prelude.{◌≡◌, IfOk};
 ghost use Rattle.judge_command.specs.call_table.Table.{Table};
 ghost use Rattle.judge_command.specs.unit_inputs.declared.command_answers.ending.Ending.TheVariants.{LaunchRefused};
@@ -28,7 +28,7 @@ fn tell_refused(alloc: Global, refusal: &LaunchRefusal) -> Result<ReadyText, Sto
     })
 }
 
-// That of a launch of the unit with the drop-in.
+// The text for a refused launch of the unit with the drop-in.
 fn tell_refused_with(alloc: Global, refusal: &LaunchRefusal) -> Result<ReadyText, Stop>
     ensures { IsReadyWith (λ ending text. (ending ≡ LaunchRefused) × (text ≡ with_line (refusal_line refusal.now))) result }
 {
@@ -73,8 +73,8 @@ fn compare_with(
     }
 }
 
-/// Tells what changes from the launch of a unit to that of the unit with the drop-in: the line of the first that is refused, or the
-/// changes from one service to the other.
+/// Makes the text for a unit's launch and its launch with the drop-in: the line of the first refused launch, or the changes
+/// from one service to the other.
 pub fn compare(
     alloc: Global,
     first: UnitLaunch<'_>,

@@ -16,7 +16,7 @@ pub fn with_line(alloc: Global, line: &[u8]) -> Result<Vec<u8>, AllocError>
     Ok(told)
 }
 
-/// The line of a folder behind a word.
+/// Makes the line of a word and a folder.
 pub fn folder_line(alloc: Global, word: &str, folder: &AbsPath) -> Result<Vec<u8>, AllocError>
     ensures names_the_folder { IfOk result (λ line. line.items ≡ folder_line word.now folder.now) }
 {

@@ -1,4 +1,4 @@
-//! The launch of the unit with the drop-in; a refusal of it stands behind the word `with`.
+//! The launch of the unit with the drop-in. The line of a refusal follows the word `with`.
 ghost use Rattle.std.specs.Prelude.{◌∷◌, [], IsErrOf, option_map};
 ghost use Rattle.judge_command.specs.unit_inputs.command_answers.Stops.{Prepares};
 ghost use Rattle.judge_command.specs.asked_service.started_units.Starting.{StartsAs, first_start, given};
@@ -20,7 +20,7 @@ fn behind_with(alloc: Global, stop: Stop) -> Stop
     }
 }
 
-/// Launches the unit with the drop-in; the line of what is refused stands behind the word `with`.
+/// Launches the unit with the drop-in. The line of a refusal follows the word `with`.
 pub fn start_with<'a>(
     alloc: Global,
     name: &str,

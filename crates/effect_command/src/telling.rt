@@ -17,7 +17,7 @@ use judge_command::{
 };
 use std::alloc::{AllocError, Global};
 
-// Tells a line.
+// Appends a line.
 fn push_line(text: &mut Vec<u8>, line: Result<Vec<u8>, AllocError>) -> Result<(), AllocError>
     ensures { (told : List ℕ) → IfOk line (λ put. put.items ≡ told) → OnOk result (text.new.items ≡ text.old.items ++ told) }
 {
@@ -26,7 +26,7 @@ fn push_line(text: &mut Vec<u8>, line: Result<Vec<u8>, AllocError>) -> Result<()
     Ok(())
 }
 
-// Tells a question that is opened, with the calls that reach it.
+// Appends the line of a newly open question, with the calls that reach it.
 fn push_opened(
     alloc: Global,
     text: &mut Vec<u8>,
@@ -44,7 +44,7 @@ fn push_opened(
     Ok(())
 }
 
-// Tells what changes of a question.
+// Appends the change of a question.
 fn push_change(
     alloc: Global,
     text: &mut Vec<u8>,
@@ -86,7 +86,7 @@ fn push_kind(kinds: &mut Vec<Kind>, change: &VerdictChange) -> Result<(), AllocE
     }
 }
 
-// Tells what changes of a folder.
+// Appends the change of a folder.
 fn push_turn(
     alloc: Global,
     text: &mut Vec<u8>,
@@ -113,7 +113,7 @@ fn push_turn_kind(kinds: &mut Vec<Kind>, change: FolderChange) -> Result<(), All
     }
 }
 
-// Asks both services a question, and tells and counts what changes.
+// Compares both services' verdicts on a question, and appends and counts the change.
 fn tell_question(
     alloc: Global,
     before: &Asked<'_>,
@@ -146,7 +146,7 @@ fn tell_question(
     Ok(())
 }
 
-// Asks both services these questions, all of the tables, and tells and counts what changes.
+// Compares both services' verdicts on these questions, all of the tables, and appends and counts the changes.
 fn tell_questions(
     alloc: Global,
     before: &Asked<'_>,
@@ -171,7 +171,7 @@ fn tell_questions(
     Ok(())
 }
 
-// Looks at a row from both services, and tells and counts what changes.
+// Looks at a row from both services, and appends and counts the change.
 fn tell_row(
     alloc: Global,
     before: &Asked<'_>,
@@ -193,7 +193,7 @@ fn tell_row(
     Ok(())
 }
 
-// Looks at these rows, all of the site, from both services, and tells and counts what changes.
+// Looks at these rows, all of the site, from both services, and appends and counts the changes.
 fn tell_rows(
     alloc: Global,
     before: &Asked<'_>,
