@@ -1,4 +1,4 @@
--- What the tests of a policy come to.
+-- The rows of a policy's tests.
 use Rattle.std.specs.Prelude.{◌≡◌, ℕ, true, false, List, filter, sum_by, Option, Some, None}
 use Rattle.std.specs.List.{AllZip}
 use Rattle.exposure_score.specs.declared.policy_file.policy.PolicyTest.{PolicyTest}

@@ -1,4 +1,4 @@
--- Tests that are handed in, whatever they are: each has an identifier, and there are answers that it may give at facts.
+-- Tests that the caller passes in, of any type: each has an identifier, and answers that it may give for facts.
 use Rattle.std.specs.Prelude.{ℕ, List}
 use Rattle.exposure_score.specs.Facts.{Gives}
 use Rattle.exposure_score.specs.declared.facts.Facts.{Facts}
@@ -10,7 +10,7 @@ pub record StoredTests : Type 1 where
   pub id_of : Test → List ℕ
   pub Answers : Facts → Test → ℕ → Type 0
 
--- those of some type, by the identifier and the range of each, and by what a call of it may answer
+-- the tests of one type, given the identifier and the range of each, and the answers that a call of it may give
 abbrev pub stored_by : {T : Type 0} → (T → List ℕ) → (T → ℕ) → (T → Bor Facts → ℕ → Type 0) → List T → StoredTests
 stored_by {T} id_of range_of may_answer tests = record {
   Test = T;

@@ -17,9 +17,9 @@ pub struct Fact {
 /// Facts in their order.
 pub type FactList = ItemList<Fact>;
 
-/// What a test may look at: the settings of a service, and how bad they are by the tests that they decide
-/// (systemd.exec(5), systemd-analyze(1), security). What is said of all facts is said of those whose numbers and sets
-/// these types hold.
+/// The facts that a test may look at: the settings of a service, and how bad they are by the tests that they decide
+/// (systemd.exec(5), systemd-analyze(1), security). A contract about all facts holds for all facts whose numbers and sets these
+/// types can hold.
 #[derive(Drop)]
 pub struct Facts {
     /// The uid of the program.

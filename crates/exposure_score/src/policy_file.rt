@@ -1,10 +1,10 @@
-//! A policy: what tests of a service weigh, as a JSON object tells it.
+//! A policy: the weights of tests of a service, as a JSON object.
 //!
-//! The members of the object are the tests, each by its identifier. It stands on `serde_json` for the tree of the text.
-//! `read_policy(alloc, br#"{"PrivateTmp":{"weight":3}}"#)?` has one test, of weight 3 and range 1.
+//! The members of the object are the tests, by identifier. `serde_json` gives the tree of the text. `read_policy(alloc,
+//! br#"{"PrivateTmp":{"weight":3}}"#)?` has one test, of weight 3 and range 1.
 //!
-//! What is JSON is the promise of `serde_json`: one value of RFC 8259 in UTF-8, nested at most 127 deep, in which the last
-//! of doubled members stands.
+//! `serde_json` decides what is JSON: one value of RFC 8259 in UTF-8, nested at most 127 deep. If a member occurs twice, the
+//! last one counts.
 
 mod error;
 mod identifier;

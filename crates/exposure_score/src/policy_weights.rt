@@ -1,10 +1,10 @@
-//! What a policy weighs, whatever the service.
+//! The weight of a policy, which is the same for every service.
 //!
-//! Of the tests of a policy those count that settings decide, by the table of calls, and those that a stored test decides; the
-//! others are skipped. What counts is so the same for all services. It stands on `service_facts` for the tests that settings
-//! decide, and on `policy_file` and `exposure_score` for policies and stored tests.
+//! A test of a policy counts if the settings decide it (by the table of calls) or a stored test does. The other tests are
+//! skipped. So the same tests count for all services. `service_facts` has the tests that settings decide, and `policy_file` and
+//! `exposure_score` have policies and stored tests.
 //!
-//! `weighs(&calls, &policy, &tests)` is false where the policy scores nobody.
+//! `weighs(&calls, &policy, &tests)` is false if the policy can score no service.
 
 mod weighing;
 

@@ -71,14 +71,13 @@ fn score_rows(
     Ok(rows)
 }
 
-/// The score of a service by a policy: a row for each test, in byte order of identifiers, and the exposure.
+/// Computes the score of a service by a policy: a row for each test, in byte order of identifiers, and the exposure.
 ///
-/// A test's badness comes from the facts, else from the first stored test of its identifier; a test with
-/// neither is skipped, and its weight counts nowhere. Of a test's weight the part counts that its badness,
-/// cut to the policy's range, is of that range, rounded up. The exposure is the sum of these terms in
-/// hundredths of the sum of the weights, rounded up.
+/// The facts give a test's badness; failing that, the first stored test with its identifier gives it. A test with neither is
+/// skipped, and its weight is ignored. A test adds the term `ceil(min(badness, range) * weight / range)`, where `range` is the
+/// policy's. The exposure is the sum of these terms in hundredths of the sum of the weights, rounded up.
 ///
-/// `NoWeight` comes exactly where the weights that count sum to 0, and `Memory` may come at any policy.
+/// Returns `NoWeight` exactly if the weights that count sum to 0. `Memory` is possible for any policy.
 pub fn score(
     alloc: Global,
     policy: &Policy,

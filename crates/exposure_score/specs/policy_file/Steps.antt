@@ -16,7 +16,7 @@ SaysTest id said (Err Memory) = ⊤
 SaysTest id said (Err NotJson) = ⊥
 SaysTest id said (Err TooMany) = ⊥
 
--- the members are these tests, or the first that is none is told, or memory ran out
+-- the members are these tests, or the first member that is not a test is named, or memory ran out
 abbrev pub SaysTests : List Member → Result (Vec PolicyTest Global) PolicyError → Type 0
 SaysTests members (Ok tests) = (first_fault members ≡ None) × (tests.items ≡ tests_of members)
 SaysTests members (Err (Field told)) = first_fault members ≡ Some told

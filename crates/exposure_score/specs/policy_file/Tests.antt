@@ -1,4 +1,4 @@
--- What a member of a policy says of a test: its weight and its range. The tree is that of `serde_json`.
+-- A test from a member of a policy: its weight and its range. The tree is `serde_json`'s.
 use Rattle.std.specs.Prelude.{ℕ, ◌&&◌, nat_le, cond, codes, List, Option, Some, None, option_map, option_and_then}
 use Rattle.std.specs.Option.{option_map_or}
 use Rattle.serde_json.specs.Data.{Data}

@@ -14,7 +14,7 @@ use Rattle.exposure_score.specs.declared.service_facts.lines.Protection.TheVaria
 use Rattle.exposure_score.specs.declared.service_facts.lines.Protection.TheVariants.{MemoryDenyWriteExecute, RestrictRealtime}
 use Rattle.exposure_score.specs.declared.service_facts.lines.Protection.TheVariants.{RestrictSuidSgid}
 
--- 1 where this is so
+-- 1 if true, 0 if false
 abbrev pub one_if : Bool → ℕ
 one_if bad = cond bad 1 0
 

@@ -1,4 +1,4 @@
--- The tests of a line of the table: what stands behind its identifier, and how bad the service is by each.
+-- The tests of a line of the table: the end of each identifier, and how bad the service is by each test.
 use Rattle.std.specs.Prelude.{ℕ, ◌==◌, ◌&&◌, ◌||◌, not, cond, Bool, false, is_some, is_none, codes, List, [], ◌∷◌, map, slice_get, unwrap_or}
 use Rattle.std.specs.List.{list_any, range_with_len}
 use Rattle.std.specs.Option.{option_map_or}
@@ -18,15 +18,15 @@ use Rattle.exposure_score.specs.declared.service_facts.lines.Matter.TheVariants.
 use Rattle.exposure_score.specs.declared.service_facts.lines.Matter.TheVariants.{EachNamespaceType, EachFamily, InternetFamilies, EachGroup}
 use Rattle.exposure_score.specs.service_facts.Badness.{one_if, is_on, system_badness, home_badness, has_ambient}
 
--- what stands behind an identifier, and a badness
+-- the end of an identifier, and a badness
 abbrev pub End : Type 0
 End = List ℕ × ℕ
 
--- nothing stands behind it
+-- the identifier has no such end
 abbrev pub alone : ℕ → List End
 alone badness = ([], badness) ∷ []
 
--- SystemCallFilter= allows the call at this place among those of all ABIs
+-- SystemCallFilter= allows the call at this place among the calls of all ABIs
 abbrev pub allows_place : Table → FilterSettings → ℕ → Bool
 allows_place table filters place = option_map_or (λ call. allows_call table filters call.name) (slice_get (every_call table) place) false
 

@@ -19,28 +19,28 @@ use Rattle.exposure_score.specs.service_facts.Table.{Line, lines}
 abbrev pub Told : Type 0
 Told = List ℕ × ℕ
 
--- what facts tell
+-- the identifiers and badnesses of facts
 abbrev pub told : List Fact → List Told
 told facts = map (λ fact. (fact.id, fact.badness)) facts
 
--- behind the front of a line
+-- the end of an identifier after the front of a line
 abbrev pub behind : List ℕ → End → Told
 behind front end = (front ++ end.0, end.1)
 
--- what a line of the table tells
+-- the tests of a line of the table
 abbrev pub told_by_line : Sandbox → Table → Line → List Told
 told_by_line sandbox table line = map (behind line.0) (ends sandbox table line.1)
 
--- and all lines
+-- the tests of all lines
 abbrev pub told_by_lines : Sandbox → Table → List Told
 told_by_lines sandbox table = flat_map (told_by_line sandbox table) lines
 
--- the facts tell what the table's lines tell, in byte order of identifiers
+-- the facts are the tests of the table's lines, in byte order of identifiers
 pub record AreTests (sandbox : Sandbox) (table : Table) (facts : List Fact) : Type 0 where
   pub those_of_the_lines : IsPermutation (told_by_lines sandbox table) (told facts)
   pub in_byte_order : IsSortedByKey (λ fact. fact.id) (slice_cmp nat_cmp) facts
 
--- what is known of the settings of a unit
+-- the facts of a unit's settings
 pub record AreFacts (unit : Resolved) (table : Table) (settings : Settings) (facts : Facts) : Type 0 where
   pub uid : facts.uid ≡ settings.uid
   pub bounding : facts.bounding ≡ settings.bounding

@@ -1,4 +1,5 @@
--- The tests that settings decide: each by its identifier, or by the front of those of a kind, and what it looks at.
+-- The tests that settings decide. Each line has an identifier, or the front of several identifiers, and the setting that the
+-- test looks at.
 use Rattle.std.specs.Prelude.{ℕ, List, [], ◌∷◌, codes}
 use Rattle.exposure_score.specs.declared.service_facts.lines.Protection.TheVariants.{PrivateDevices, PrivateTmp, ProtectClock}
 use Rattle.exposure_score.specs.declared.service_facts.lines.Protection.TheVariants.{ProtectControlGroups, ProtectHostname}

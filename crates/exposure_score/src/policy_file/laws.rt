@@ -16,7 +16,7 @@ pub fn accepted_policies()
         → policy_of bytes ≡ Ok tests → AreExactly members tests }
 {}
 
-/// Members stand in byte order of their names, so the member that is told as no test is the first such in that order.
+/// Members are in byte order of their names. So the error names the first member in that order that is not a test.
 pub fn byte_order()
     ensures ascending { (bytes : List ℕ) (members : Members) → object_of bytes ≡ Some members
         → AreAscending (names_of members) }

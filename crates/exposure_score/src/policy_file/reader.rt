@@ -16,7 +16,7 @@ use std::alloc::Global;
 /// The most tests that a policy may have.
 const MOST_TESTS: usize = 512;
 
-// Reads the members of an object as tests, up to the first that is none.
+// Reads the members of an object as tests, up to the first member that is not a test.
 fn read_tests(alloc: Global, members: &Map<String, Value>) -> Result<Vec<PolicyTest>, PolicyError>
     ensures { SaysTests (members_of (members_view members.now.entries)) result }
 {
@@ -60,13 +60,17 @@ fn read_bytes(alloc: Global, bytes: &[u8]) -> Result<Policy, PolicyError>
 
 /// Reads a policy.
 ///
-/// It is a JSON object, whose members are the tests: an object with a `weight`, 0 to 1,000,000, that may
-/// have a `range`, 1 to 1,000,000, which is else 1. Both are whole numbers, written without a fraction or
-/// an exponent. Other members of a test are passed over. Of doubled members the last stands.
+/// It is a JSON object, whose members are the tests: an object with a `weight`, 0 to 1,000,000, that may have a `range`, 1 to
+/// 1,000,000, which is else 1. Both are whole numbers, written without a fraction or an exponent. Other members of a test are
+/// ignored. If a member occurs twice, the last one counts.
 ///
-/// Answers the first of these errors: `NotJson` if the bytes are no JSON or no object; `Field` of the first member,
-/// in byte order of identifiers, that is no test; `TooMany` if there are more than 512 tests. `Memory` is possible
-/// whatever the bytes are.
+/// Returns the first of these errors:
+///
+/// - `NotJson` if the bytes are not JSON or not an object
+/// - `Field` for the first member, in byte order of identifiers, that is not a test
+/// - `TooMany` if there are more than 512 tests
+///
+/// `Memory` is possible whatever the bytes are.
 pub fn read_policy(alloc: Global, bytes: &[u8]) -> Result<Policy, PolicyError>
     ensures reads_the_policy { IfOk result (λ policy. policy_of bytes.now ≡ Ok policy) }
     ensures first_fault { IfErr result (λ error. error ≢ Memory → policy_of bytes.now ≡ Err error) }

@@ -50,7 +50,7 @@ fn is_group(groups: &[GroupLine], name: &str) -> bool
     groups.iter().any(|group| group.name.as_str() == name)
 }
 
-// Returns whether an identifier of a line may end so: the line tells its facts of this matter.
+// Returns whether an identifier of a line may end like this: the line has a test of this matter.
 fn is_end(calls: &CallTable, matter: Matter, end: &str) -> bool
     ensures { result ≡ list_any (λ one. bytes_eq one end.now) (names calls.now matter) }
 {

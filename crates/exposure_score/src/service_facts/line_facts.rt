@@ -13,7 +13,7 @@ use crate::{Fact, FactId};
 use exec_settings::{CallTable, CapSet, all_types, allowed_calls, permits_family};
 use std::alloc::{AllocError, Global};
 
-// Tells the facts of a line: by what settings, for which table of calls.
+// Makes the facts of a line, from these settings and this table of calls.
 #[derive(Drop)]
 struct Teller<'a> {
     alloc: Global,

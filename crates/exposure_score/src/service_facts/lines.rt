@@ -47,23 +47,22 @@ pub enum Matter {
     WritesSystem,
     /// ProtectHome=: no 10, read-only 5, tmpfs 1, yes 0.
     SeesHomes,
-    /// For each capability, 1 where it is in the bounding set. Its name stands behind the identifier.
+    /// For each capability, 1 if it is in the bounding set. Its name follows the identifier.
     EachCapability,
-    /// For each type of namespaces, 1 where it is permitted. Its name stands behind the identifier.
+    /// For each type of namespaces, 1 if it is permitted. Its name follows the identifier.
     EachNamespaceType,
-    /// For each family of the table of calls, 1 where it is permitted. Its name stands behind the identifier.
+    /// For each family of the table of calls, 1 if it is permitted. Its name follows the identifier.
     EachFamily,
     /// Where the table of calls has AF_INET and AF_INET6 and no family of both names, 1 where either is permitted.
     InternetFamilies,
-    /// For each group of the table of calls, 1 where SystemCallFilter= is off or allows a member. Its name stands
-    /// behind the identifier.
+    /// For each group of the table of calls, 1 if SystemCallFilter= is off or allows a member. Its name follows the identifier.
     EachGroup,
 }
 
-/// A line of the table: an identifier, or the front of those of a kind, and what the test looks at.
+/// A line of the table: an identifier, or the front of several identifiers, and the setting that the test looks at.
 pub type Line = (&'static str, Matter);
 
-// Beside each line stands what a service does where it is bad.
+// The comment of each line says what a service can do if it is bad.
 const TABLE: &[Line] = &[
     ("AmbientCapabilities", HasAmbient), // gets ambient capabilities
     ("CapabilityBoundingSet_", EachCapability), // may gain the capability

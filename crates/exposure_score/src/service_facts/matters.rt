@@ -7,7 +7,7 @@ use crate::service_facts::lines::Protection;
 use crate::service_facts::sandbox::Sandbox;
 use exec_settings::{CapSet, HomeProtection, SystemProtection};
 
-/// 1 where this is so.
+/// Returns 1 if true, 0 if false.
 pub fn one_if(bad: bool) -> u32
     ensures counts_what_is_bad { result ≡ one_if bad }
 {
