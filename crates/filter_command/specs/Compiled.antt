@@ -11,7 +11,7 @@ use Rattle.launcher.specs.filter_settings.filter_rules.Wanted.{wanted_action}
 use Rattle.launcher.specs.filter_settings.declared.filter_rules.settings.FilterSettings.{FilterSettings}
 use Rattle.launcher.specs.declared.filters.FilterProgram.{FilterProgram}
 
--- whatever the data of a call, the program answers the action that the settings want of the filter of its name for its ABI, after
+-- for all data of a call, the program gives the action that the settings require of the filter with its name for its ABI, after
 -- at most 96 instructions
 abbrev pub DoesAsWanted : FilterSettings → Table → FilterProgram → Type 0
 DoesAsWanted settings table one = (input : CallData) → IsCallData input

@@ -33,7 +33,7 @@ fn print_filter<K: Sink>(
     print_insns(alloc, filter.program.insns(), out)
 }
 
-/// Prints filters, one behind the other: of each its name and length, and its instructions.
+/// Prints filters in their order: for each its name and length, and its instructions.
 pub fn print_filters<K: Sink>(
     alloc: Global,
     filters: &[FilterProgram],
