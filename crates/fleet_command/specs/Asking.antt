@@ -23,8 +23,7 @@ behind_names files path = table_asks ++ unless_refused (calls_in files) (behind_
 abbrev pub read_asks : Files → List ℕ → List Ask
 read_asks files path = names_asks files ++ unless_refused (names_in files) (behind_names files path)
 
--- and then every unit in byte order of their names, whatever comes of each, where none of these is refused and the policy weighs
--- something
+-- then every unit in byte order of names, whatever the outcome of each, if none of these is refused and the policy has weight
 abbrev pub fleet_asks : Files → List ℕ → StoredTests → List Ask
 fleet_asks files path stored = read_asks files path ++ unless_told (first_refusal (fleet_refusals files path stored))
     (rows_asks files (units_of files))

@@ -11,7 +11,7 @@ use Rattle.score_command.specs.Policies.{policy_in}
 use Rattle.fleet_command.specs.Refusals.{names_in}
 use Rattle.fleet_command.specs.declared.preparing.FleetInputs.{FleetInputs}
 
--- the names of the units, and what is asked of each
+-- the names of the units, and the tables and policy for all of them
 pub record Inputs : Type 0 where
   pub names : List Name
   pub calls : Table

@@ -32,6 +32,6 @@ weights_in path stored (Ok table) (Ok policy) = weight_refusal path (weight_of t
 weights_in path stored (Ok table) (Err line) = []
 weights_in path stored (Err line) policy = []
 
--- a unit that is refused is none of these
+-- the refusal of a single unit is not among these
 abbrev pub fleet_refusals : Files → List ℕ → StoredTests → List (Option (List ℕ))
 fleet_refusals files path stored = read_refusals files path ++ weights_in path stored (calls_in files) (policy_in files path)

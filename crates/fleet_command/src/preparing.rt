@@ -14,7 +14,7 @@ use score_command::{
 };
 use std::alloc::Global;
 
-/// What is asked of which units.
+/// The units, and the tables and policy for them.
 #[derive(Drop)]
 pub struct FleetInputs {
     /// The names of the units in byte order.

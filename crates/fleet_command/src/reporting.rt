@@ -15,8 +15,7 @@ use host_io::Shelf;
 use score_command::{CustomTest, Stop, Stored, refuse, refused_line};
 use std::alloc::Global;
 
-/// The rows of the units by the policy of this path, or the line of a policy that weighs nothing, which is told before a unit is
-/// read.
+/// Makes the rows of the units by the policy of this path. If the policy has no weight, returns its line before a unit is read.
 pub fn report<S: Shelf>(
     alloc: Global,
     shelf: &mut S,

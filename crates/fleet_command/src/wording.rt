@@ -17,7 +17,7 @@ fn exposure_line(alloc: Global, unit: &str, exposure: u32) -> Result<Vec<u8>, Al
     Ok(line)
 }
 
-/// The line of a unit: its exposure in hundredths, or its refusal as a command on it alone tells it.
+/// Makes the line of a unit: its exposure in hundredths, or its refusal as a command for this unit prints it.
 pub fn row_line(alloc: Global, row: &FleetRow) -> Result<Vec<u8>, AllocError>
     ensures tells_the_row { IfOk result (λ line. line.items ≡ row_line row.now) }
 {

@@ -1,4 +1,4 @@
--- The calls by which the units of a report are read: unit by unit, whatever comes of each.
+-- The calls that read the units of a report: unit by unit, whatever the outcome of each.
 use Rattle.std.specs.Prelude.{ℕ, ◌==◌, cond, List, [], flat_map, Result, Ok, Err}
 use Rattle.score_command.specs.host_io.Calls.{Ask, Course, Whole, Faulted, Cut}
 use Rattle.score_command.specs.host_io.Files.{Files}

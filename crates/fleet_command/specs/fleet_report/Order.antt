@@ -23,7 +23,7 @@ StandBy (Unset one) (Scored other) named = ⊥
 StandBy (Unset one) (Unresolved other) named = named
 StandBy (Unset one) (Unset other) named = named
 
--- one row may stand before another
+-- one row may precede another
 abbrev pub MayStandBefore : FleetRow → FleetRow → Type 0
 MayStandBefore one other = StandBy one.outcome other.outcome (AreNamedInOrder one.name other.name)
 

@@ -1,4 +1,4 @@
--- What comes of a unit by its own files: an exposure, or why there is none.
+-- The outcome of a unit by its own files: an exposure, or why it has none.
 use Rattle.std.specs.Prelude.{◌≡◌, ℕ, List, Some, None, Result, Ok, Err}
 use Rattle.score_command.specs.host_io.Files.{Files}
 use Rattle.score_command.specs.unit_names.Names.{text_of}
@@ -34,7 +34,7 @@ pub record HasExposure (table : Table) (site : Site) (policy : List PolicyTest) 
   pub is_score : IsScore stored.id_of (stored.Answers facts) facts.tests stored.tests policy score
   pub is_its_exposure : score.exposure ≡ exposure
 
--- what comes of a unit that is resolved, or is not
+-- the outcome of a unit that is resolved, or is not
 abbrev pub IsOutcome : Table → Site → List PolicyTest → StoredTests → Result Resolved ResolveError → FleetOutcome → Type 0
 IsOutcome table site policy stored (Ok unit) (Scored exposure) = HasExposure table site policy stored unit exposure
 IsOutcome table site policy stored (Ok unit) (Unset refusal) = refusal_of unit table site ≡ Some refusal
@@ -43,11 +43,11 @@ IsOutcome table site policy stored (Err refusal) (Unresolved told) = told ≡ re
 IsOutcome table site policy stored (Err refusal) (Scored exposure) = ⊥
 IsOutcome table site policy stored (Err refusal) (Unset told) = ⊥
 
--- the row of a unit, which rests on the files of no other
+-- the row of a unit, which depends on no other unit's files
 abbrev pub IsRowOf : Files → Table → Site → List PolicyTest → StoredTests → FleetRow → Type 0
 IsRowOf files table site policy stored row = IsOutcome table site policy stored (resolved_of files (text_of row.name)) row.outcome
 
--- a refusal is no fault and no want of memory
+-- a refusal is neither a fault nor lack of memory
 abbrev pub IsNoFault : ResolveError → Type 0
 IsNoFault resolving.BadName = Unit {0}
 IsNoFault resolving.NotFound = Unit {0}

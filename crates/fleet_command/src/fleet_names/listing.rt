@@ -10,7 +10,7 @@ use crate::fleet_names::errors::NamesError;
 use host_io::{Shelf, ShelfError};
 use std::alloc::Global;
 
-/// The names of the files directly in a folder, of which there are none where it is missing.
+/// Lists the names of the files directly in a folder. A missing folder has no files.
 pub fn list_folder<S: Shelf>(
     alloc: Global,
     shelf: &mut S,

@@ -13,12 +13,13 @@ use std::alloc::Global;
 /// The most units of a host.
 const MOST_UNITS: usize = 1024;
 
-/// The names of the units of a host, each once, in byte order: those that files have directly in `etc/systemd/system`,
-/// `run/systemd/system` and `usr/lib/systemd/system`, and that are names of services. A folder that is missing has none.
+/// Lists the units of a host, each once, in byte order: the service names among the files directly in `etc/systemd/system`,
+/// `run/systemd/system` and `usr/lib/systemd/system`. A missing folder has no files.
 ///
-/// `TooMany` comes exactly where one of the folders has more than 4,096 files, or there are more than 1,024 units. `ReadFault`
-/// comes where the shelf's count of faults rose, and any other answer leaves it. A folder is judged before the next is listed, so that
-/// over files that are told the folders up to the first that has too many files are listed, in this order, and no others.
+/// Returns `TooMany` exactly if one of the folders has more than 4,096 files, or there are more than 1,024 units. Returns
+/// `ReadFault` if the shelf's count of faults rose; any other result leaves the count. A folder is checked before the next one
+/// is listed. So if the shelf reveals its files, exactly the folders up to the first with too many files are listed, in this
+/// order.
 pub fn fleet_names<S: Shelf>(alloc: Global, shelf: &mut S) -> Result<Vec<UnitName>, NamesError>
     ensures names_the_units { IfSome (S.told shelf.old) (λ files. AreNamed files result) }
     ensures asks_in_order { IfSome (S.told shelf.old) (λ files. Went S.asks shelf.old shelf.new (names_asks files) (course result)) }

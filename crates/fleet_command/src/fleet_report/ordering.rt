@@ -6,7 +6,7 @@ ghost use Rattle.fleet_command.specs.fleet_report.Comparing.{outcome_cmp, row_cm
 use crate::fleet_report::rows::{FleetOutcome, FleetRow};
 use std::cmp::Ordering;
 
-// The greater exposure comes first, and a unit that is not scored behind those that are.
+// The greater exposure is first, and units without a score follow the scored ones.
 fn compare_outcomes(one: &FleetOutcome, other: &FleetOutcome) -> Ordering
     ensures { result ≡ outcome_cmp one.now other.now }
 {

@@ -51,15 +51,15 @@ fn ordered_rows(mut rows: Vec<FleetRow>) -> Vec<FleetRow>
     rows
 }
 
-/// Returns the rows of the units of these names, by a policy and the tests that are handed in. The scored ones come
-/// first, those of greater exposure before the others. Units of equal exposure, and the units that are not scored,
-/// are in byte order of their names.
+/// Returns the rows of the units of these names, by a policy and the given tests. Scored units are first, the greater exposure
+/// before the lesser. Units of equal exposure, and units without a score, are in byte order of their names.
 ///
-/// A unit is read as `dropin_merge` resolves it, and let go before the next. It is scored exactly where it is resolved and its
-/// settings are accepted; else its row has the refusal. What its row may be rests on no files of other units.
+/// A unit is read as `dropin_merge` resolves it, and freed before the next. It is scored exactly if it is resolved and its
+/// settings are accepted; otherwise its row has the refusal. A row does not depend on the files of other units.
 ///
-/// `NoWeight` comes exactly where the weights of the policy's tests that are not skipped sum to 0, whether or not there is a
-/// unit, and then nothing is read. Else the units are read in the order of the names, whatever comes of each, and nothing but them. `ReadFault` comes only where the shelf's count of faults rose, and any other answer leaves it.
+/// Returns `NoWeight` exactly if the weights of the policy's tests that are not skipped sum to 0, whether or not there is a
+/// unit; then nothing is read. Otherwise exactly the units are read, in the order of the names, whatever the outcome of each.
+/// Returns `ReadFault` only if the shelf's count of faults rose; any other result leaves the count.
 pub fn fleet<S: Shelf>(
     alloc: Global,
     shelf: &mut S,

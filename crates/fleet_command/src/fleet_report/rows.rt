@@ -1,7 +1,7 @@
 //! What is reported of each unit.
 use score_command::{ResolveError, SettingsError, UnitName};
 
-/// What came of a unit. No refusal is a fault or want of memory.
+/// The outcome of a unit. A refusal is neither a fault nor lack of memory.
 #[derive(Drop)]
 pub enum FleetOutcome {
     /// Its exposure, in hundredths.
@@ -12,7 +12,7 @@ pub enum FleetOutcome {
     Unset(SettingsError),
 }
 
-/// A unit, and what came of it.
+/// A unit and its outcome.
 #[derive(Drop)]
 pub struct FleetRow {
     pub name: UnitName,

@@ -1,4 +1,4 @@
-//! What comes of a unit, by its own files.
+//! The outcome of a unit, by its own files.
 ghost use Rattle.std.specs.Prelude.{◌≡◌, ◌<◌, IfErr, IfOk, IfSome, IsErrOf, None, Ok};
 ghost use Rattle.score_command.specs.exec_settings.AreSettings.{AreSettings};
 ghost use Rattle.score_command.specs.exec_settings.Refusals.{refusal_of};
@@ -44,7 +44,7 @@ fn exposure_of(
     }
 }
 
-// What comes of a unit that is resolved.
+// The outcome of a unit that is resolved.
 fn outcome_of(
     alloc: Global,
     unit: &Resolved,
@@ -68,7 +68,7 @@ fn outcome_of(
     }
 }
 
-// What comes of the unit of a name.
+// The outcome of the unit with this name.
 fn outcome_by_files<S: Shelf>(
     alloc: Global,
     shelf: &mut S,
