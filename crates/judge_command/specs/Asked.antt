@@ -1,4 +1,4 @@
--- What is asked of a launched service, and what the printed text is.
+-- The questions about a launched service, and the printed text.
 use Rattle.std.specs.Prelude.{◌≡◌, ◌↔◌, ℕ, Bool, true, List, [], filter, length, not, slice_get, Some, if◌then◌else◌}
 use Rattle.asked_service.specs.site_table.declared.row.Row.{Row}
 use Rattle.asked_service.specs.kernel_model.World.{World}

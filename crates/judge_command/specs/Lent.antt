@@ -3,6 +3,6 @@ use Rattle.std.specs.Prelude.{◌≡◌}
 use Rattle.open_calls.specs.declared.service.Service.{Service}
 use Rattle.judge_command.specs.declared.asking.Asked.{Asked}
 
--- the service is the one that is asked
+-- this is the service about which the questions are
 abbrev pub IsServiceOf : Asked → Service → Type 0
 IsServiceOf asked service = (service.world.now ≡ asked.bounded.service.world) × (service.program.now ≡ asked.bounded.service.program)

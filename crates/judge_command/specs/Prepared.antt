@@ -22,7 +22,7 @@ unit_in one = (inputs_view one.inputs).unit
 abbrev pub settings_in : SettledUnit → Settings
 settings_in one = one.settings.value
 
--- its settings are those of the unit, and a launch can take its plan
+-- the settings belong to the unit, and a launch can take the plan
 pub record CanBeStarted (prepared : Prepared) : Type 0 where
   pub settled : AreSettled (inputs_in prepared) prepared.unit.settings.value
   pub plan : CanBeMounted (host_of (inputs_in prepared).site) prepared.plan

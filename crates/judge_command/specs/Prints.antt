@@ -26,8 +26,8 @@ use Rattle.judge_command.specs.Answers.{Answer, AreAnswers}
 use Rattle.judge_command.specs.Folders.{AreBlind}
 use Rattle.judge_command.specs.Report.{report_text, service_text}
 
--- a launched service is told: with one answer to each question, in their order, each denied or open as it is, and with exactly
--- the folders of the site that are blind, in byte order
+-- the text for a launched service. It has one correct answer per question, in order, and exactly the blind folders of the site,
+-- in byte order
 pub record TellsService (table : calls.Table) (site : Site) (service : Service) (text : List ℕ) : Type 0 where
   pub answers : List Answer
   pub are_answers : AreAnswers table site service.world answers
@@ -35,13 +35,13 @@ pub record TellsService (table : calls.Table) (site : Site) (service : Service) 
   pub are_blind : AreBlind service.world site folders
   pub is_its_text : text ≡ service_text table site (told_of service.world service.steps) answers folders
 
--- or the line of a launch that is refused, with the ending behind either
+-- the same, or the line of a refused launch, with the ending after either
 abbrev pub TellsLaunch : calls.Table → Site → UnitLaunch → Ending → List ℕ → Type 0
 TellsLaunch table site (Launched service) ending text = (ending ≡ Done) × TellsService table site service text
 TellsLaunch table site (Refused refusal) ending text = (ending ≡ LaunchRefused) × (text ≡ refusal_line refusal)
 
--- the report on a unit: by its inputs, its settings and the plan of its mounts it is launched, and what that came to is told
--- behind the unit and the notes
+-- the report on a unit: the unit is launched with its inputs, its settings and the plan of its mounts. The text has the unit
+-- and the notes, then the result of the launch
 pub record PrintsReport (files : Files) (unit : List ℕ) (ending : Ending) (text : List ℕ) : Type 0 where
   pub inputs : Inputs
   pub inputs_are : inputs_of files unit ≡ Some inputs
@@ -55,7 +55,7 @@ pub record PrintsReport (files : Files) (unit : List ℕ) (ending : Ending) (tex
   pub tells : TellsLaunch inputs.calls inputs.site launch ending told
   pub is_its_text : text ≡ report_text unit inputs.unit.files settings.notes.items told
 
--- the refusals are those of `plan`; a launch that is refused is told behind the notes, with status 7
+-- the refusals of `plan`; the line of a refused launch follows the notes, with status 7
 abbrev pub judge_laws : List ℕ → FileLaws
 judge_laws unit = record {
   refusals = λ files. plan_refusals files unit;

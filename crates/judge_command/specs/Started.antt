@@ -1,4 +1,4 @@
--- A unit that is launched, and how a run goes on behind what is prepared.
+-- A launched unit, and how a run continues after the preparation.
 use Rattle.std.specs.Prelude.{◌≡◌, ◌⊎◌, ℕ, List}
 use Rattle.asked_service.specs.unit_inputs.command_answers.Printing.{IsUntouched, Output, PrintsText}
 use Rattle.asked_service.specs.unit_inputs.declared.command_answers.ending.Ending.{Ending}

@@ -1,4 +1,4 @@
-//! A launched service, and what is asked of it.
+//! A launched service, and the questions about it.
 ghost use Rattle.std.specs.Prelude.{◌≡◌, IfOk};
 ghost use Rattle.asked_service.specs.kernel_laws.Launched.{launch_of};
 ghost use Rattle.asked_service.specs.kernel_ways.Laws.{IsServedWorld};
@@ -9,7 +9,7 @@ use asked_service::{Bounded, Launched, bound};
 use questions::{Question, questions};
 use std::alloc::{AllocError, Global};
 
-/// A launched service, with what bounds its processes, and all that is asked of it.
+/// A launched service, with the bounds of its processes and all questions about it.
 #[derive(Drop)]
 pub struct Asked<'a> {
     /// The service, as the launch left it, and its own ceiling.

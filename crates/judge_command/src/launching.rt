@@ -18,7 +18,7 @@ pub enum Outcome<'a> {
     Refused(LaunchRefusal),
 }
 
-/// Launches the unit that is prepared. What is asked of it borrows what the kernel is told.
+/// Launches the prepared unit. The result borrows the tables of `prepared`.
 pub fn start<'a>(alloc: Global, prepared: &'a Prepared) -> Result<Outcome<'a>, AllocError>
     requires can_be_started { CanBeStarted prepared.now }
     ensures starts { IfOk result (IsStarted prepared.now) }
@@ -37,7 +37,7 @@ pub fn start<'a>(alloc: Global, prepared: &'a Prepared) -> Result<Outcome<'a>, A
     }
 }
 
-/// How a run ends behind a launch that came to this.
+/// Returns how a run ends after this outcome of the launch.
 pub fn ending_behind(outcome: &Outcome<'_>) -> Ending
     ensures ends_so { result ≡ ending_of outcome.now }
 {

@@ -19,7 +19,7 @@ use asked_service::{
 use host_io::{Sink, SinkError};
 use std::alloc::Global;
 
-// Prints notes, one behind the other.
+// Prints notes in their order.
 fn print_notes<K: Sink>(
     alloc: Global,
     unit: &Resolved,
