@@ -1,11 +1,11 @@
-//! Runs rows over pairs of sites that differ below a folder alone, and compares a service on both.
+//! Runs rows over pairs of sites that differ only below a folder, and compares a service on both.
 //!
-//! Lines that begin with two spaces are a text. `calls` takes it as calls.txt, `site` as site.toml, and `other` as
-//! more rows after those of the site, which make the other site.
+//! Lines that begin with two spaces are a text. `calls` takes it as calls.txt, `site` as site.toml, and `other` as more rows:
+//! the rows of the site followed by these rows make the other site.
 //!
-//! A row `pair|FOLDER|LINES|CALL|CALL ..` launches a unit on both sites and makes the calls. LINES are the lines of
-//! its section of the service, and `\n` ends a line. The answer says if the launch and the replies are the same, and
-//! for each site if the service is blind to the folder, with its replies.
+//! A row `pair|FOLDER|LINES|CALL|CALL ..` launches a unit on both sites and makes the calls. LINES are the lines of its section
+//! of the service, and `\n` ends a line. The answer says if the launch and the replies are the same, and for each site if the
+//! service is blind to the folder, with its replies.
 
 mod asked;
 mod elsewhere;
@@ -17,7 +17,7 @@ use row_tools::{Follow, Shown, Texts, said, words};
 use std::alloc::{AllocError, Global};
 use std::io;
 
-/// The texts of the tables, that of the other site among them.
+/// The texts of the tables, and the text of the other site.
 #[derive(Drop)]
 pub struct Rows {
     texts: Texts,

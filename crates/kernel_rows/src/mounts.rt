@@ -81,7 +81,7 @@ fn refused(
     }
 }
 
-// Pushes so many empty mounts at two places by turns, and says what comes of it.
+// Pushes `count` empty mounts at two places in turn, and returns the result as text.
 fn push_by_turns(
     alloc: Global,
     table: &mut MountTable,
@@ -98,7 +98,7 @@ fn push_by_turns(
     length(alloc, table)
 }
 
-// Pushes empty mounts at the front with each of these numbers after it, and says what comes of it.
+// Pushes an empty mount for each number, at the front followed by the number, and returns the result as text.
 fn push_numbered(
     alloc: Global,
     table: &mut MountTable,

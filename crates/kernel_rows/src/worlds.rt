@@ -13,7 +13,7 @@ use row_tools::{Follow, Shown, number, said};
 use std::alloc::{AllocError, Global};
 use std::io;
 
-/// The world of a block, and the tables that it was told.
+/// The world of a block, and its tables.
 #[derive(Drop)]
 pub struct Rows<'a> {
     tables: &'a Tables,

@@ -65,7 +65,7 @@ fn push_trace(text: &mut String, name: &str, trace: &Trace) -> Result<(), AllocE
     text.push_str(trace.replies.as_str())
 }
 
-/// Tells if launch and replies are the same on both sites, and the replies on each.
+/// Says whether launch and replies are the same on both sites, and gives the replies on each.
 pub fn pair_line(alloc: Global, texts: &PairTexts<'_>) -> Result<String, AllocError> {
     match &pair_of(alloc, texts)? {
         Some(pair) => {
