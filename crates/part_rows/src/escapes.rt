@@ -1,4 +1,4 @@
-//! The bytes that the text of a file stands for in a row.
+//! Decodes the text of a file in a row to its bytes.
 use std::alloc::{AllocError, Global};
 
 /// The bytes of a text, in which `\n`, `\r`, `\t`, `\0` and `\\` mean what they do in Rust, and `\x` is a byte

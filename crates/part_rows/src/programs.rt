@@ -1,10 +1,10 @@
-//! Makes programs of seccomp(2) from bytes in hex, and stacks of them, and tells why they are refused.
+//! Makes programs of seccomp(2) from bytes in hex, and stacks of them, and reports why they are refused.
 use exec_settings::linux_numbers::actions::ALLOW;
 use filter_check::{Action, CallRules, Program, ProgramError, RuleSet, Stack, can_compile, check};
 use row_tools::{bytes_of, number, said};
 use std::alloc::{AllocError, Global};
 
-/// Tells why a program is refused, by the reader or in the comparison with rules that end the process at every call.
+/// Returns why a program is refused, by the reader or in the comparison with rules that end the process at every call.
 pub fn answer(alloc: Global, row: &[&str]) -> Result<String, AllocError> {
     match row {
         ["read", words] => read(alloc, program_of(alloc, words)),

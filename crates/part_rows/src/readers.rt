@@ -1,4 +1,4 @@
-//! Calls readers, and tells why they refuse the text of a row.
+//! Calls readers, and reports why they refuse the text of a row.
 use crate::escapes::bytes_of;
 use abs_path::{AbsPath, PathError};
 use exec_settings::{UnitName, expand, read_calls, read_site, read_unit, words};

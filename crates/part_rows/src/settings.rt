@@ -1,4 +1,4 @@
-//! Reads settings of a unit, or tells why there are none.
+//! Reads the settings of a unit, or reports why it has no settings.
 use exec_settings::{
     SiteTable, Switches, identity_of_unit, mount_settings, settings, written_paths,
 };
@@ -6,7 +6,7 @@ use mount_plan::{Mentions, plan};
 use row_tools::{Inputs, Texts, said};
 use std::alloc::{AllocError, Global};
 
-/// Tells why the unit of these lines has no settings, no ids, or no plan; or the first of them.
+/// Returns why the unit of these lines has no settings, no ids, or no plan; or the first of them.
 pub fn answer(alloc: Global, texts: &Texts, ask: &str, lines: &str) -> Result<String, AllocError> {
     match &texts.inputs(alloc, &[lines]) {
         Some(inputs) => match ask {

@@ -1,4 +1,4 @@
-//! Runs rows over shelves and sinks, those of the real folder and the standard output among them.
+//! Runs rows over shelves and sinks, including the shelf of a real folder and the sink of the standard output.
 //!
 //! `data` has the folder that they begin with.
 

@@ -84,7 +84,7 @@ fn copied(alloc: Global, files: &[(String, Vec<u8>)]) -> Result<UnitFiles, Alloc
     Ok(copies)
 }
 
-// A shelf with these files, whose call of a number fails; without any where they are none of a shelf.
+// A shelf with these files. Its call with number `failing` fails. The shelf is empty if the files are not files of a shelf.
 fn shelf_of(
     alloc: Global,
     files: &[(String, Vec<u8>)],
@@ -137,7 +137,7 @@ fn resolved(
     resolved_over(alloc, &mut shelf, name)
 }
 
-// A shelf that tells nothing and has one file; it lists another, which it then has not.
+// A shelf that reveals no files and has one file. It lists another file, which it then does not have.
 #[derive(Drop)]
 struct Fickle<'a> {
     path: &'a str,
