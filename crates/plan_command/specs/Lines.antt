@@ -18,7 +18,7 @@ abbrev pub executing : Bool → List ℕ
 executing true = codes "noexec"
 executing false = codes "exec"
 
--- how what is shown may be used, each word behind a space
+-- whether the mount may be written and executed, each word after a space
 abbrev pub flags_words : Flags → List ℕ
 flags_words flags = codes " " ++ (writing flags.read_only ++ (codes " " ++ executing flags.no_exec))
 

@@ -14,7 +14,7 @@ use Rattle.plan_command.specs.declared.command.Mounts.{Mounts}
 use Rattle.plan_command.specs.Lines.{text_of}
 use Rattle.plan_command.specs.Planned.{IsPlan, path_refusals}
 
--- what the unit says of paths, the written mentions and behind them the implied ones, over the host of the site
+-- the unit's paths over the host of the site: the written mentions, then the implied ones
 abbrev pub refused_paths : List ℕ → Inputs → List (Option (List ℕ))
 refused_paths unit inputs = path_refusals unit (host_of inputs.site) (unit_mentions inputs.unit inputs.site)
 

@@ -19,7 +19,7 @@ plan_cause (wrong_kind path) = cause_at (codes "kind") path
 abbrev pub plan_line : List ℕ → Refusal → List ℕ
 plan_line unit refusal = refused_line unit (plan_cause refusal)
 
--- the cause of an error is that of the refusal which it stands for; want of memory has none
+-- the cause of an error is the cause of the refusal that it represents; if memory runs out, there is no cause
 abbrev pub error_cause : PlanError → List ℕ
 error_cause (Missing path) = plan_cause (missing path)
 error_cause (Kind path) = plan_cause (wrong_kind path)

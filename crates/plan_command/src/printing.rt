@@ -9,7 +9,7 @@ use mount_plan::MountStep;
 use std::alloc::Global;
 use unit_inputs::command_answers::put_line;
 
-/// Prints mounts, one behind the other: of each its place, what it shows there and how that may be used.
+/// Prints mounts in their order: for each its place, what it shows there, and whether that may be written and executed.
 pub fn print_mounts<K: Sink>(
     alloc: Global,
     steps: &[MountStep],

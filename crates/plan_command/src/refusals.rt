@@ -18,8 +18,8 @@ fn cause_at(alloc: Global, cause: &[u8], path: &AbsPath) -> Result<Vec<u8>, Allo
     Ok(why)
 }
 
-/// The line of a unit whose mounts have no plan: `no-path` where the site has no row at a path, `kind` where a directory
-/// and a file would cover one another. Want of memory has no line.
+/// Makes the line of a unit whose mounts have no plan: `no-path` if the site has no row at a path, `kind` if a directory and a
+/// file would cover one another. If memory runs out, there is no line.
 pub fn plan_line(alloc: Global, unit: &str, error: &PlanError) -> Result<Vec<u8>, AllocError>
     ensures tells_the_refusal { IfOk result (λ line. line.items ≡ error_line unit.now error.now) }
 {
