@@ -9,13 +9,13 @@ use Rattle.asked_service.specs.kernel_model.Runs.{Moment, moments}
 use Rattle.asked_service.specs.kernel_model.World.{World}
 use Rattle.asked_service.specs.script_text.Printed.{call_text}
 
--- what a call comes to: its value, its error number (errno(3)), or that the caller is killed (seccomp(2))
+-- the reply of a call: its value, its error number (errno(3)), or that the caller is killed (seccomp(2))
 abbrev pub reply_words : Reply → List ℕ
 reply_words (Done value) = codes "ok " ++ decimal value
 reply_words (Refused errno) = codes "errno " ++ decimal errno
 reply_words Killed = codes "killed"
 
--- a call, as a script would have it, and what it comes to
+-- a call, as a script has it, and its reply
 abbrev pub call_line : Table → Call → Reply → List ℕ
 call_line table call reply = call_text table call ++ (codes " -> " ++ (reply_words reply ++ 10 ∷ []))
 

@@ -13,19 +13,19 @@ use Rattle.asked_service.specs.plan_command.Prints.{refused_paths}
 use Rattle.replay_command.specs.Scripts.{script_in}
 use Rattle.replay_command.specs.declared.preparing.Prepared.{Prepared}
 
--- what is refused behind the inputs: the script, then the settings, and then the paths
+-- the refusals after the inputs: the script, then the settings, and then the paths
 abbrev pub refusals_behind : Files → List ℕ → List ℕ → Inputs → List (Option (List ℕ))
 refusals_behind files unit path inputs = refusal_in (script_in files path inputs.calls) ∷
     (refusals_of unit inputs ++ refused_paths unit inputs)
 
--- the order of refusals: the inputs, and what is refused behind them
+-- the order of refusals: the inputs, and the refusals after them
 abbrev pub replay_refusals : Files → List ℕ → List ℕ → List (Option (List ℕ))
 replay_refusals files unit path = input_refusals files unit ++ refusals_by (refusals_behind files unit path) (inputs_of files unit)
 
 abbrev pub inputs_in : Prepared → Inputs
 inputs_in prepared = inputs_view prepared.unit.inputs
 
--- its settings are those of the unit, a launch can take its plan, and its script has calls that processes can make
+-- the settings belong to the unit, a launch can take the plan, and the script has calls that processes can make
 pub record CanBeStarted (prepared : Prepared) : Type 0 where
   pub settled : AreSettled (inputs_in prepared) prepared.unit.settings.value
   pub plan : CanBeMounted (host_of (inputs_in prepared).site) prepared.plan

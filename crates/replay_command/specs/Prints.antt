@@ -28,10 +28,10 @@ use Rattle.replay_command.specs.Prepared.{replay_refusals}
 use Rattle.replay_command.specs.Scripts.{script_in}
 use Rattle.replay_command.specs.Texts.{ending_behind, replay_text}
 
--- With any programs that match the filters, its own among them, the launch takes the same number of steps. The replies are the same up to
--- the first call of seccomp(2) that answers with one list alone that there is no room (ENOMEM). That answer comes wherever the programs
--- that the service pushed itself pass the limit. It never comes where they do not pass it together with the most that the programs of the
--- launch may take.
+-- With any programs that match the filters, including the launch's own, the launch takes the same number of steps. The replies
+-- are the same up to the first call of seccomp(2) that one list alone answers with ENOMEM. The kernel gives that answer
+-- whenever the programs that the service pushed itself pass the limit. It never gives it if they do not pass it together with
+-- the most that the launch's programs may take.
 abbrev pub RepliesAlike : calls.Table → Site → Settings → List MountStep → List Call → UnitLaunch → Type 0
 RepliesAlike table site settings plan script (Launched service) =
     (programs : List (List ℕ)) (codes : List (List Insn)) → AreOthers settings programs codes
@@ -56,7 +56,7 @@ pub record PrintsReplay (files : Files) (unit path : List ℕ) (ending : Ending)
   pub is_its_text : text ≡ replay_text inputs.calls script launch
   pub is_its_ending : ending ≡ ending_behind launch
 
--- the refusals in their order; a launch that is refused is told with status 7
+-- the refusals in their order; if the launch is refused, the status is 7
 abbrev pub replay_laws : List ℕ → List ℕ → FileLaws
 replay_laws unit path = record {
   refusals = λ files. replay_refusals files unit path;

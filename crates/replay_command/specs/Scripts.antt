@@ -17,7 +17,7 @@ use Rattle.asked_service.specs.unit_inputs.FileRefusals.{bytes_in}
 abbrev pub line_cause : ℕ → ScriptCause → List ℕ
 line_cause line cause = codes "line " ++ decimal line ++ codes " " ++ cause_text cause
 
--- why a script is refused; want of memory has no line
+-- why a script is refused; if memory runs out, there is no line
 abbrev pub script_cause : ScriptError → List ℕ
 script_cause NotText = codes "not-text"
 script_cause (Line line cause) = line_cause line cause

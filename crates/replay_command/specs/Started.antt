@@ -1,4 +1,4 @@
--- A replay that is started, and how a run goes on behind what is prepared.
+-- A started replay, and how a run continues after the preparation.
 use Rattle.std.specs.Prelude.{◌≡◌, ◌⊎◌, ℕ, List}
 use Rattle.asked_service.specs.unit_inputs.command_answers.Printing.{IsUntouched, Output, PrintsText}
 use Rattle.asked_service.specs.unit_inputs.declared.command_answers.ending.Ending.{Ending}

@@ -1,4 +1,4 @@
--- The text of a replay, and how a run ends behind it.
+-- The text of a replay, and how a run ends after it.
 use Rattle.std.specs.Prelude.{ℕ, List, [], ◌∷◌, ◌++◌, length, codes}
 use Rattle.std.specs.Fmt.{decimal}
 use Rattle.asked_service.specs.call_table.Table.{Table}

@@ -8,7 +8,7 @@ use crate::ready::Replay;
 use asked_service::unit_launch::launch_unit;
 use std::alloc::{AllocError, Global};
 
-/// Launches the unit that is prepared. The replay borrows what the kernel is told.
+/// Launches the prepared unit. The replay borrows the tables of `prepared`.
 pub fn start<'a>(alloc: Global, prepared: &'a Prepared) -> Result<Replay<'a>, AllocError>
     requires can_be_started { CanBeStarted prepared.now }
     ensures starts { IfOk result (IsStarted prepared.now) }

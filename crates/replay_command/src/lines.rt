@@ -1,4 +1,4 @@
-//! The lines of a replay: that of a call that was made, and the last one.
+//! The lines of a replay: one for each call, and the last one.
 ghost use Rattle.std.specs.Prelude.{◌≡◌, ◌++◌, IfOk, OnOk};
 ghost use Rattle.replay_command.specs.Lines.{call_line, reply_words};
 ghost use Rattle.replay_command.specs.Texts.{count_line};
@@ -6,7 +6,7 @@ ghost use Rattle.replay_command.specs.Texts.{count_line};
 use asked_service::{Call, CallTable, Reply, print_call, push_u64};
 use std::alloc::{AllocError, Global};
 
-// Appends what a call comes to: its value, its errno, or that the caller was killed.
+// Appends the reply of a call: its value, its errno, or that the caller was killed.
 fn push_reply(line: &mut Vec<u8>, reply: Reply) -> Result<(), AllocError>
     ensures { OnOk result (line.new.items ≡ line.old.items ++ reply_words reply) }
 {

@@ -25,7 +25,7 @@ fn print_service<K: Sink>(
     put_line(out, count_line(alloc, script.list().len()))
 }
 
-/// Prints a replay of the script after this launch, or why there is none.
+/// Prints a replay of the script after this launch, or why the launch was refused.
 pub fn print_replay<K: Sink>(
     alloc: Global,
     launch: &mut UnitLaunch,

@@ -19,7 +19,7 @@ pub struct Replay<'a> {
     pub calls: &'a CallTable,
 }
 
-// How a run ends behind a launch that came to this.
+// How a run ends after this result of the launch.
 fn ending_behind(launch: &UnitLaunch) -> Ending
     ensures { result ≡ ending_behind launch.now }
 {

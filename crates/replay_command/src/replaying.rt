@@ -1,4 +1,4 @@
-//! The calls of a script, made one behind the other.
+//! Makes the calls of a script in sequence.
 ghost use Rattle.std.specs.Prelude.{◌≡◌};
 ghost use Rattle.asked_service.specs.unit_inputs.command_answers.Printing.{HasWriteCause, PrintsLines};
 ghost use Rattle.asked_service.specs.kernel_model.Runs.{moment_at};
@@ -28,7 +28,7 @@ fn make_call<K: Sink>(
     put_line(out, call_line(alloc, call, reply, calls))
 }
 
-// Makes calls one behind the other, and prints the line of each as it is made.
+// Makes calls in sequence, and prints the line of each as it is made.
 fn make_calls<K: Sink>(
     alloc: Global,
     world: &mut World,
@@ -46,14 +46,15 @@ fn make_calls<K: Sink>(
     Ok(())
 }
 
-/// Makes the calls of a script in the world of a launched service, and prints a line for each as it is made. The line
-/// has the call, as `print_call` gives it with this table of calls, and its reply: `ok` with a value, `errno` with an
-/// error number, or `killed`.
+/// Makes the calls of a script in the world of a launched service, and prints a line for each as it is made. The line has the
+/// call, as `print_call` gives it with this table of calls, and its reply: `ok` with a value, `errno` with an error number, or
+/// `killed`.
 ///
-/// The replies are those of the run of the script from the service's world on, and that run's world is left. After a
-/// refused call, and after one that kills, the next call is made. `Failed` comes only if the sink's count of faults
-/// rose. At an error a prefix of the text was taken. The calls whose lines were taken whole were made, in order, and
-/// at most one more, whose line was taken in part or not at all. All else of the service stays as it was.
+/// A run of the script from the service's world gives these replies, and leaves this world. After a refused call, and after a
+/// call that kills its caller, the next call is made. `Failed` is returned only if the sink's count of faults rose.
+///
+/// On an error the sink took a prefix of the text. The calls whose lines it took whole were made, in order. At most one more
+/// call was made, whose line it took in part or not at all. The rest of the service is unchanged.
 pub fn replay<K: Sink>(
     alloc: Global,
     launched: &mut Launched,
