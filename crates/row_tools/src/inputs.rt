@@ -78,13 +78,13 @@ impl Texts {
         }
     }
 
-    /// Takes the held text as that of a table of calls.
+    /// Takes the held text as the text of a table of calls.
     pub fn take_calls(&mut self, alloc: Global) -> Result<String, AllocError> {
         self.calls = self.held.take(alloc);
         said(alloc, "held")
     }
 
-    /// Takes the held text as that of a site.
+    /// Takes the held text as the text of a site.
     pub fn take_site(&mut self, alloc: Global) -> Result<String, AllocError> {
         self.site = self.held.take(alloc);
         said(alloc, "held")
