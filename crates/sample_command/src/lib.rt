@@ -1,8 +1,8 @@
 //! Runs the command `sample`, which prints how much of a made input is denied and how much open, as five counts.
 //!
-//! The inputs are made from a number (`sample_inputs`). They are settled, planned and launched as those of any unit.
-//! Every question is asked of the launched service, and the answers are counted. No made input is refused
-//! (`sample_launch`). The crate uses `launched_units` for the launch, and `judge_command` for the questions.
+//! The inputs are made from a number (`sample_inputs`). They are settled, planned and launched like the inputs of any unit.
+//! Every question is asked of the launched service, and the answers are counted. No made input is refused (`sample_launch`).
+//! The crate uses `launched_units` for the launch, and `judge_command` for the questions.
 //!
 //! `prepare(alloc, 7)?` has the counts, and `print` writes their lines.
 #![tactic(auto)]
