@@ -70,7 +70,7 @@ fn object_row(alloc: Global, n: u32, folder: u32, object: u32) -> Result<Value, 
     numbered_row(alloc, OBJECTS * folder + object + n, path.as_str())
 }
 
-/// Puts the row of a folder and those of its objects after other rows.
+/// Appends the row of a folder, and the rows of its objects.
 pub fn push_folder(
     alloc: Global,
     rows: &mut Vec<Value>,
