@@ -14,30 +14,30 @@ use Rattle.top_call.specs.unit_inputs.declared.command_answers.ending.Ending.The
 use Rattle.top_call.specs.Asked.{Asked}
 use Rattle.top_call.specs.Promise.{DoesWhatIsAsked}
 
--- the words behind the program's name, in their order; none where the arguments are not to be had
+-- the words after the program's name, in their order; none if the arguments cannot be read
 abbrev pub words_behind : {E : Type 0} → Result (Vec (String Global) Global) E → List (List ℕ)
 words_behind (Ok all) = map string_bytes (drop 1 all.items)
 words_behind (Err error) = []
 
--- what is asked of a run: these words, over the files that are told, with these tests and wishes
+-- the request of a run: these words, over the files that the shelf reveals, with these tests and wishes
 abbrev pub asked_by : List (List ℕ) → Option Files → StoredTests → Wishes → Asked
 asked_by words told stored wishes = record { words = words; told = told; stored = stored; wishes = wishes }
 
--- it does what is asked; or there was no memory for as much as the words, and nothing was read or written
+-- the run does what the words ask; or there was not even memory for the words, and nothing was read or written
 abbrev pub EndsWords : {S K : Type 0} → (S → ShelfCall → S → Type 0) → Asked → Outside → S → S → K → K → Ending → Type 0
 EndsWords asks asked outside shelf_before shelf_after sink_before sink_after ending =
     DoesWhatIsAsked asks asked outside shelf_before shelf_after ending ⊎
     ((ending ≡ OutOfMemory) × (shelf_after ≡ shelf_before) × (sink_after ≡ sink_before))
 
--- the exit status is that of an ending
+-- the exit status belongs to such an ending
 abbrev pub ExitsBy : (Ending → Type 0) → ExitCode → Type 0
 ExitsBy Ends code = (ending : Ending) × Ends ending × (exit_status code ≡ code_of ending)
 
--- it is that of some ending
+-- the exit status belongs to some ending
 abbrev pub IsExit : ExitCode → Type 0
 IsExit code = ExitsBy (λ ending. Unit {0}) code
 
--- the exit status that there is, or that of want of memory
+-- the exit status that was made, or the status for lack of memory
 abbrev pub ExitsUnlessMemory : {E : Type 0} → Result ExitCode E → ExitCode → Type 0
 ExitsUnlessMemory (Ok made) code = code ≡ made
 ExitsUnlessMemory (Err error) code = exit_status code ≡ code_of OutOfMemory

@@ -5,7 +5,7 @@ use Rattle.top_call.specs.exposure_score.declared.facts.Facts.{Facts}
 use denote.Ref.{Bor}
 
 module _ {T : Type 0} (id_of : T → List ℕ) (range_of : T → ℕ) (may_answer : T → Bor Facts → ℕ → Type 0) where
-  -- a test of this identifier and range, whose answer for any facts is what is said of them
+  -- a test with this identifier and range, which gives this answer for any facts
   pub record IsTest (name : List ℕ) (most : ℕ) (says : Facts → ℕ) (test : T) : Type 0 where
     pub id : id_of test ≡ name
     pub range : range_of test ≡ most

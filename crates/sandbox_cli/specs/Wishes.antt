@@ -17,7 +17,7 @@ abbrev pub can_execute : List VerdictRow → Bool
 can_execute rows = list_any (λ row. row.is_open && asks_to_execute row.question) rows
 
 module _ {W : Type 0} (id_of : W → List ℕ) (must_open : W → List Question) (may_answer : W → Bor (List VerdictRow) → Bool → Type 0) where
-  -- a wish of this identifier, with no question of its own, whose answer for any verdicts is what is said of them
+  -- a wish with this identifier and no question of its own, which gives this answer for any verdicts
   pub record IsWish (name : List ℕ) (says : List VerdictRow → Bool) (wish : W) : Type 0 where
     pub id : id_of wish ≡ name
     pub no_question : must_open wish ≡ []

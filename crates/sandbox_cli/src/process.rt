@@ -29,7 +29,7 @@ fn run_arguments<R: Env + Files + Print + AllocGlobal + Clone + Drop>(
     run_with_tests(rt.alloc(), &arguments(rt), &mut shelf, &mut sink)
 }
 
-// The exit status that there is, or that of want of memory.
+// The exit status that was made, or the status for lack of memory.
 fn or_out_of_memory(made: Result<ExitCode, AllocError>) -> ExitCode
     ensures exits_unless_memory { ExitsUnlessMemory made result }
 {

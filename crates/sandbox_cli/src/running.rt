@@ -13,7 +13,7 @@ use std::io;
 use std::process::ExitCode;
 use top_call::{CustomTest, Ending, Facts, Status, Stored, StoredWish, VerdictRow, Wished, run};
 
-// The words behind the program's name, which is the first argument.
+// The words after the program's name, which is the first argument.
 fn behind_name(all: &[String]) -> &[String]
     ensures in_order { result.now ≡ drop 1 all.now }
 {
@@ -86,8 +86,8 @@ fn run_arguments<S: Shelf, K: Sink>(
     }
 }
 
-/// Runs the words behind the program's name, in their order, over a shelf and a sink, with the two stored tests and the wish of the
-/// program. The exit status is the status of that run, or that of want of memory.
+/// Runs the words after the program's name, in their order, over a shelf and a sink, with the program's two stored tests and
+/// its wish. The exit status is the status of that run, or the status for lack of memory.
 pub fn run_here<S: Shelf, K: Sink>(
     alloc: Global,
     arguments: &io::Result<Vec<String>>,
