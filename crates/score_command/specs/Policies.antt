@@ -10,7 +10,7 @@ use Rattle.unit_inputs.specs.command_answers.Refusals.{refused_line}
 use Rattle.unit_inputs.specs.command_answers.Stops.{and_then, or_line}
 use Rattle.unit_inputs.specs.FileRefusals.{bytes_in}
 
--- why a policy is refused; want of memory has no line
+-- why a policy is refused; if memory runs out, there is no line
 abbrev pub policy_cause : PolicyError → List ℕ
 policy_cause NotJson = codes "json"
 policy_cause (Field id) = codes "test " ++ escaped_word id

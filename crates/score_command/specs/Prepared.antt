@@ -10,7 +10,7 @@ use Rattle.score_command.specs.declared.preparing.Prepared.{Prepared}
 abbrev pub inputs_in : Prepared → Inputs
 inputs_in prepared = inputs_view prepared.unit.inputs
 
--- its settings are those of the unit, which writes few enough paths for that
+-- the settings belong to the unit, which writes few enough paths for them
 pub record CanBeWeighed (prepared : Prepared) : Type 0 where
   pub settled : AreSettled (inputs_in prepared) prepared.unit.settings.value
   pub few_paths : length (unit_written (inputs_in prepared).unit) ≤ 128

@@ -34,7 +34,7 @@ pub record PrintsScore (files : Files) (unit path : List ℕ) (threshold : ℕ) 
   pub is_its_text : text ≡ score_text score threshold
   pub is_its_ending : ending ≡ ending_by score threshold
 
--- the refusals in their order; an exposure above the threshold is told with status 1, and no other is
+-- the refusals in their order; an exposure above the threshold has status 1, and no other exposure has
 abbrev pub score_laws : List ℕ → List ℕ → ℕ → StoredTests → FileLaws
 score_laws unit path threshold stored = record {
   refusals = λ files. score_refusals files unit path stored;

@@ -11,7 +11,7 @@ use Rattle.unit_inputs.specs.Settled.{refusals_by, refusals_of}
 use Rattle.score_command.specs.Policies.{policy_in}
 use Rattle.score_command.specs.Weights.{weight_refusal}
 
--- what is refused behind the inputs before anything is weighed
+-- the refusals after the inputs, before anything is weighed
 abbrev pub refusals_behind : Files → List ℕ → List ℕ → Inputs → List (Option (List ℕ))
 refusals_behind files unit path inputs = refusal_in (policy_in files path) ∷ refusals_of unit inputs
 

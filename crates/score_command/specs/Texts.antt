@@ -1,4 +1,4 @@
--- The text of a score, and how a run ends behind it.
+-- The text of a score, and how a run ends after it.
 use Rattle.std.specs.Prelude.{ℕ, nat_lt, cond, List, ◌++◌, flat_map}
 use Rattle.unit_inputs.specs.declared.command_answers.ending.Ending.{Ending}
 use Rattle.unit_inputs.specs.declared.command_answers.ending.Ending.TheVariants.{Done, AboveThreshold}

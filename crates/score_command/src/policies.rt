@@ -11,7 +11,7 @@ use std::alloc::{AllocError, Global};
 use unit_inputs::command_answers::{Stop, refuse, refused_line};
 use unit_inputs::{push_word, read_input};
 
-// Which test is none.
+// Names the member that is not a test.
 fn test_cause(alloc: Global, id: &TestId) -> Result<Vec<u8>, AllocError>
     ensures { IfOk result (λ why. why.items ≡ policy_cause (PolicyError.Field id.now)) }
 {

@@ -17,7 +17,7 @@ pub struct Scored {
     pub threshold: u32,
 }
 
-// How a run ends behind a score.
+// How a run ends after a score.
 fn ending_by(score: &Score, threshold: u32) -> Ending
     ensures { result ≡ ending_by score.now threshold }
 {
