@@ -11,7 +11,7 @@ use Rattle.tighten_command.specs.Keeping.{ReadsKeep}
 use Rattle.tighten_command.specs.declared.keeping.KeepError.{KeepError}
 use Rattle.tighten_command.specs.declared.keeping.KeepError.TheVariants.{NotText, Line, TooMany, Memory}
 
--- why a file does not say what is to be kept; want of memory has no line
+-- why a file's questions are refused; if memory runs out, there is no line
 abbrev pub keep_cause : KeepError → List ℕ
 keep_cause NotText = codes "not-text"
 keep_cause (Line number) = codes "line " ++ (decimal number ++ codes " question")

@@ -1,4 +1,4 @@
--- Which questions the lines of a file are, or why they are none.
+-- The questions in the lines of a file, or why a line is not a question.
 use Rattle.std.specs.Prelude.{◌≡◌, ◌<◌, ◌≤◌, ℕ, true, false, List, length, map, slice_get, take, Some, Result, Ok, Err, Contains}
 use Rattle.std.specs.List.{All}
 use Rattle.asked_service.specs.call_table.Table as calls
@@ -16,7 +16,7 @@ pub record AreOf (table : calls.Table) (site : Site) (lines : List Line) (keep :
   pub printed : map (λ question. question_words table site question) keep ≡ map (λ line. line.text) lines
   pub listed : All (λ question. Contains (asked.questions table site) question) keep
 
--- a line that is what is printed of no question stands behind at most 512 that are, and has this number
+-- a line with this number, which prints no question and follows at most 512 lines that do
 pub record IsFirstOther (table : calls.Table) (site : Site) (lines : List Line) (number : ℕ) : Type 0 where
   pub place : ℕ
   pub few : place ≤ 512
@@ -27,13 +27,13 @@ pub record IsFirstOther (table : calls.Table) (site : Site) (lines : List Line) 
   pub is_other : (question : Question) → IsPrintedSo table site line.text question → ⊥
   pub numbered : number ≡ line.number
 
--- there are more than 512, before any line that is none
+-- there are more than 512 questions before any other line
 pub record AreTooMany (table : calls.Table) (site : Site) (lines : List Line) : Type 0 where
   pub more : 512 < length lines
   pub keep : List Question
   pub are : AreOf table site (take 513 lines) keep
 
--- by the lines that count; want of memory may come at any of them
+-- reads the lines that count; memory can run out for any of them
 pub data ReadsLines (table : calls.Table) (site : Site) (lines : List Line) : Result (List Question) KeepError → Type 0 where
   questions : (keep : List Question) → AreOf table site lines keep → length keep ≤ 512 → ReadsLines table site lines (Ok keep)
   other_line : (number : ℕ) → IsFirstOther table site lines number → ReadsLines table site lines (Err (error.Line number))

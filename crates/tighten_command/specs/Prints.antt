@@ -19,7 +19,7 @@ pub data RefusesBefore (files : Files) (unit path : List ℕ) : List ℕ → Typ
   the_keep : (line : List ℕ) (inputs : Inputs) → inputs_of files unit ≡ Some inputs
       → IsKeepIn files inputs.calls inputs.site path (Err line) → RefusesBefore files unit path line
 
--- that line is printed; or what is told of the unit, where these questions are to be kept
+-- the run prints the line of the refusal, or the text for the unit, with these questions to be kept
 pub data Admits (files : Files) (unit path : List ℕ) (wishes : Wishes) : Ending → List ℕ → Type 0 where
   refuses : (line : List ℕ) → RefusesBefore files unit path line → Admits files unit path wishes Refused line
   tells : (inputs : Inputs) (keep : List Question) → inputs_of files unit ≡ Some inputs
@@ -35,7 +35,7 @@ abbrev pub admits_over : Option Files → List ℕ → List ℕ → Wishes → E
 admits_over None unit path wishes ending text = MayEndUntold ending
 admits_over (Some files) unit path wishes ending text = Admits files unit path wishes ending text
 
--- an ending comes exactly where its text is admitted
+-- a run may end like this if and only if a text with this ending is admitted
 abbrev pub may_end_over : Option Files → List ℕ → List ℕ → Wishes → Ending → Type 0
 may_end_over None unit path wishes ending = MayEndUntold ending
 may_end_over (Some files) unit path wishes ending = (text : List ℕ) × Admits files unit path wishes ending text

@@ -1,4 +1,4 @@
--- What is told of a unit that is tightened, and of one that is not; want of memory tells nothing.
+-- The text for a unit that is tightened, and for one that is not. If memory runs out, there is no text.
 use Rattle.std.specs.Prelude.{◌≡◌, ℕ, List, Result, Ok, Err}
 use Rattle.asked_service.specs.unit_inputs.declared.command_answers.ending.Ending.{Ending}
 use Rattle.asked_service.specs.unit_inputs.declared.command_answers.ending.Ending.TheVariants.{Done, LaunchRefused, Refused}
@@ -20,8 +20,9 @@ use Rattle.asked_service.specs.unit_inputs.SettingsRefusals.{settings_line}
 use Rattle.tighten_command.specs.Lines.{keep_line, tight_text, wish_line}
 use Rattle.asked_service.specs.unit_inputs.declared.command_answers.ready_text.ReadyText.{ReadyText}
 
--- A unit is tightened: what can be added is told. Or nothing is added, since the unit itself has no settings, no plan or no launch,
--- of which the last is told with a status of its own; or denies a question that is to be kept; or does not grant a wish.
+-- The unit is tightened, and the text lists the items that can be added. Or nothing is added, because the unit itself has no
+-- settings, no plan or no launch (a refused launch has a status of its own). Or nothing is added, because the unit itself
+-- denies a question that is to be kept, or does not grant a wish.
 pub data TellsTight (unit : List ℕ) (tried : Tried) : Ending → List ℕ → Type 0 where
   tightened : (tight : Tight) → IsTight tried tight → TellsTight unit tried Done (tight_text tight)
   no_settings : (error : SettingsError) → IsNotLaunched tried.unit tried.table tried.site (refusal.Settings error)
@@ -33,7 +34,7 @@ pub data TellsTight (unit : List ℕ) (tried : Tried) : Ending → List ℕ → 
   denies : (number : ℕ) → Denies tried number → TellsTight unit tried Refused (keep_line unit number)
   refuses_wish : (number : ℕ) → RefusesWish tried number → TellsTight unit tried Refused (wish_line unit number)
 
--- why nothing is added, as it is told
+-- the text of the reason why nothing is added
 abbrev pub TellsError : List ℕ → TightenError → Ending → List ℕ → Type 0
 TellsError unit (Settings error) ending text = (ending ≡ Refused) × (text ≡ settings_line unit error)
 TellsError unit (Plan error) ending text = (ending ≡ Refused) × (text ≡ error_line unit error)

@@ -38,7 +38,7 @@ fn tell_refused(alloc: Global, refusal: &LaunchRefusal) -> Result<ReadyText, Sto
     })
 }
 
-// Why nothing can be added, as it is told.
+// The text of the reason why nothing can be added.
 fn tell_error(alloc: Global, name: &str, error: TightenError) -> Result<ReadyText, Stop>
     ensures { IsTold (TellsError name.now error) result }
 {
@@ -52,7 +52,8 @@ fn tell_error(alloc: Global, name: &str, error: TightenError) -> Result<ReadyTex
     }
 }
 
-/// Tightens the unit, and tells what can be added; or why it has no settings, no plan or no launch, or lacks what is wanted.
+/// Tightens the unit, and prints the items that can be added. Otherwise it says why the unit has no settings, no plan or no
+/// launch, denies a question that is to be kept, or does not grant a wish.
 pub fn answer(
     alloc: Global,
     name: &str,

@@ -64,8 +64,8 @@ fn keep_of_lines(
     Ok(Questions::new(keep))
 }
 
-/// The questions that the bytes of a file say, one a line, as a report has them behind a verdict. Empty lines and lines that begin
-/// with `#` are skipped.
+/// Reads the questions from the bytes of a file, one a line, as a report has them after a verdict. Empty lines and lines that
+/// begin with `#` are skipped.
 pub fn read_questions(
     alloc: Global,
     bytes: &[u8],

@@ -19,7 +19,7 @@ fn push_item(text: &mut Vec<u8>, item: u8) -> Result<(), AllocError>
     Ok(())
 }
 
-// How many questions are denied and open, behind a word.
+// A word, and the numbers of denied and open questions.
 fn counts_line(
     alloc: Global,
     word: &str,

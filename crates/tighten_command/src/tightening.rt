@@ -1,8 +1,8 @@
-//! As much hardening of a unit as the wishes allow.
+//! Hardens a unit as far as the wishes allow.
 //!
-//! Whoever looks after a service asks which settings can be switched on so that it still does what it must. Seventeen items are
-//! tried, one added to the other, on the unit itself: each time it is launched, and its service is asked what is to be kept. It
-//! stands on `launched_units` for the services of longer units and on `asked_service` for the verdicts.
+//! An administrator asks which settings can be switched on so that a service still does what it must. Seventeen items are
+//! tried, one added to the other, on the unit itself: each time it is launched, and its service is asked the questions that are
+//! to be kept. The module uses `launched_units` for the services of longer units and `asked_service` for the verdicts.
 //!
 //! `tighten(alloc, &unit, &calls, &site, &keep, &wishes)?.items` are the numbers of the items, and `line` is what each adds.
 

@@ -23,8 +23,8 @@ pub record AreCounts (unit : Resolved) (table : calls.Table) (site : Site) (deni
   pub denied_are : denied ≡ count_denied rows
   pub open_are : open' ≡ count_open rows
 
--- the unit itself serves, and so do the items, and with any other item they do not; each stands once, in the order of the lines; the
--- counts are those of the unit and of the unit with the items
+-- the unit itself serves, and so does the unit with the items; with any other item it does not. Each item occurs once, in the
+-- order of the lines. The counts are for the unit and for the unit with the items
 pub record IsTight (tried : Tried) (tight : Tight) : Type 0 where
   pub itself : Serves tried []
   pub serves : Serves tried tight.items
@@ -46,7 +46,7 @@ pub record RefusesWish (tried : Tried) (number : ℕ) : Type 0 where
   pub launched : IsLaunchedUnit tried.unit tried.table tried.site service
   pub refuses : Refuses tried service.world number
 
--- what tightening comes to, by the unit itself first; want of memory says nothing
+-- the result of tightening: the unit itself decides first; if memory runs out, nothing is stated
 abbrev pub Tightens : Tried → Result Tight TightenError → Type 0
 Tightens tried (Ok tight) = IsTight tried tight
 Tightens tried (Err (Settings error)) = IsNotLaunched tried.unit tried.table tried.site (refusal.Settings error)

@@ -81,7 +81,7 @@ pub record Refuses (tried : Tried) (world : World) (number : ℕ) : Type 0 where
   pub are_rows : AreRows world rows
   pub first : IsFirst (IsGranted tried.wishes rows) (λ wish. tried.wishes.Answers rows wish false) tried.wishes.wishes number
 
--- the first is found, or there is none
+-- the first bad element is found, or all are good
 abbrev pub Finds : {X : Type 0} → (Good Bad : X → Type 0) → List X → Option ℕ → Type 0
 Finds Good Bad list None = All Good list
 Finds Good Bad list (Some number) = IsFirst Good Bad list number

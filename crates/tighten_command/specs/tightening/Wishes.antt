@@ -16,7 +16,7 @@ pub record Gives (may_answer : Bor (List VerdictRow) → Bool → Type 0) (rows 
   pub shows : shown.now ≡ rows
   pub says : may_answer shown answer
 
--- those of some type, by the questions of each, and by what a call of it may answer
+-- the wishes of one type, given the questions of each, and the answers that a call of it may give
 abbrev pub wishes_by : {W : Type 0} → (W → List Question) → (W → Bor (List VerdictRow) → Bool → Type 0) → List W → Wishes
 wishes_by {W} questions_of may_answer wishes = record {
   Wish = W;

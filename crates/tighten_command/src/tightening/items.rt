@@ -49,7 +49,7 @@ pub(crate) fn has(set: &[u8], item: u8) -> bool
     set.contains(&item)
 }
 
-// Puts an item behind some others, where it is in the set.
+// Appends an item if it is in the set.
 fn push_if(items: &mut Vec<u8>, set: &[u8], item: u8) -> Result<(), AllocError>
     ensures { OnOk result (items.new.items ≡ items.old.items ++ cond (has set.now item) (item ∷ []) []) }
 {

@@ -30,7 +30,7 @@ fn tight_from<'a>(
     requires serves { IsServing (tried_of trial.now (⟦<StoredWish as Wished>⟧.wished wishes.now)) [] own }
     ensures { IfOk result (IsTight (tried_of trial.now (⟦<StoredWish as Wished>⟧.wished wishes.now))) }
 {
-    // Why the counts are those of what is denied.
+    // The law that the counts are the numbers of denied questions.
     openness();
     let all = trial.questions.len();
     let open_before = count_open(&own, trial.questions);

@@ -40,7 +40,7 @@ pub enum Lack {
     Wish(u64),
 }
 
-// A unit that is not launched has no service; want of memory says nothing of it.
+// A unit that is not launched has no service. If memory runs out, that says nothing of the unit.
 fn none_for<'a>(refusal: UnitRefusal) -> Result<Option<Bounded<'a>>, AllocError>
     ensures { IfOk result (λ found. (found ≡ None) × (refusal ≢ Memory)) }
 {
