@@ -1,4 +1,4 @@
--- What is asked, and the laws of what is asked: the request decides first, and the files second.
+-- The request of a run, and its laws: the words decide first, and then the files.
 use Rattle.std.specs.Prelude.{ℕ, List, [], map, Option, Some, None}
 use Rattle.derive_command.specs.host_io.Calls.{Ask}
 use Rattle.derive_command.specs.host_io.Files.{Files}
@@ -27,7 +27,8 @@ use Rattle.top_call.specs.Requests.{WhyOf, LinesOf, ScoreOf, CheckOf, FleetOf, S
 use Rattle.top_call.specs.Texts.{help_text, version_text, words_line}
 use denote.Ref.{Bor}
 
--- the words behind the program's name, the files of the shelf, where it tells them, and the tests and wishes that are handed in
+-- the words after the program's name, the files of the shelf if it reveals them, and the tests and wishes that the caller
+-- passes in
 pub record Asked : Type 1 where
   pub words : List (List ℕ)
   pub told : Option Files
@@ -63,7 +64,7 @@ laws_by (Some request) told stored wishes = laws_for request told stored wishes
 abbrev pub laws_of : Asked → Laws
 laws_of asked = laws_by (request_in asked.words) asked.told asked.stored asked.wishes
 
--- the texts that are admitted, each with the ending behind it
+-- the admitted texts, each with the ending after it
 abbrev pub Prints : Asked → Ending → List ℕ → Type 0
 Prints asked = (laws_of asked).admits
 
@@ -75,8 +76,8 @@ Accepts asked = (laws_of asked).accepts
 abbrev pub ReadsFiles : Asked → Type 0
 ReadsFiles asked = (laws_of asked).reads
 
--- each request has its calls of the shelf, in their order, by the files: the inputs of a unit, and where one is named a file behind
--- them; or what `fleet` reads
+-- each request makes its calls of the shelf, in order, given the files: for the inputs of a unit, and then for a file if the
+-- words name one; or for everything that `fleet` reads
 abbrev pub asks_for : Request → StoredTests → Files → List Ask
 asks_for HelpAlone stored = λ files. []
 asks_for VersionAlone stored = λ files. []

@@ -1,4 +1,4 @@
--- What is promised of a run: it does what is asked, or its status says why not.
+-- The promise of a run: it does what the words ask, or its status says why not.
 use Rattle.std.specs.Prelude.{◌≡◌, IsTrue}
 use Rattle.derive_command.specs.host_io.Calls.{ShelfCall}
 use Rattle.derive_command.specs.unit_inputs.command_answers.Asking.{course_of_run}
@@ -8,11 +8,12 @@ use Rattle.derive_command.specs.unit_inputs.declared.command_answers.ending.Endi
 use Rattle.derive_command.specs.unit_inputs.Asking.{AsksInOrder}
 use Rattle.top_call.specs.Asked.{Accepts, Asked, Prints, ReadsFiles, asks_of, laws_of}
 
--- A run of what is asked, with the shelf and the sink around it, that ended with this status. Where the status stands for a whole
--- text, the sink took one that is admitted, and was handed each of its lines, with the line feed, as one piece. At any status it was
--- handed nothing; or it took a prefix of an admitted text, and was handed the lines of that, each as one piece, up to where the run
--- stopped. The inputs decide how it ends, no fault comes without its cause, and accepted inputs without a fault are answered. The
--- shelf's calls are those that the files want, in their order, and none where no files are read for it.
+-- A run of this request, with the shelf and the sink around it, that ended with this status. If the status means a whole text,
+-- the sink took an admitted text, and received each of its lines, with the line feed, as one piece. With any status it received
+-- nothing; or it took a prefix of an admitted text, and received the lines of that, each as one piece, up to where the run
+-- stopped.
+-- The inputs decide how the run ends, no fault occurs without its cause, and accepted inputs without a fault are answered. The
+-- shelf receives the calls that the files require, in order, and none if the request reads no files.
 pub record DoesWhatIsAsked {S : Type 0} (asks : S → ShelfCall → S → Type 0) (asked : Asked) (outside : Outside) (before after : S) (status : Ending) : Type 0 where
   pub prints_the_whole_text : IsTrue (is_whole status) → WroteWhole (Prints asked status) outside.sink
   pub prints_a_prefix : WrotePrefix (Prints asked) outside.sink

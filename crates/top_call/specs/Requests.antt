@@ -6,7 +6,7 @@ use Rattle.top_call.specs.declared.request.Request.{Request as Code}
 use Rattle.top_call.specs.declared.request.Request.TheVariants.{Help, Version, Filter, Plan, Judge, Replay, Derive, Effect, Tighten, Why}
 use Rattle.top_call.specs.declared.request.Request.TheVariants.{Lines, Score, Check, Fleet, Sample}
 
--- what is asked for
+-- the requests
 pub data Request : Type 0 where
   HelpAlone : Request
   VersionAlone : Request

@@ -1,4 +1,4 @@
--- Texts that are printed as they stand, each line ended by a line feed.
+-- Fixed texts, each line ended by a line feed.
 use Rattle.std.specs.Prelude.{ℕ, List, [], ◌∷◌, ◌++◌, codes, flat_map}
 use Rattle.derive_command.specs.unit_inputs.declared.command_answers.ending.Ending.{Ending}
 use Rattle.top_call.specs.declared.texts.Fixed.{Fixed}
@@ -7,7 +7,7 @@ use Rattle.top_call.specs.declared.texts.Fixed.{Fixed}
 abbrev pub text_of_lines : List (List ℕ) → List ℕ
 text_of_lines lines = flat_map (λ line. line ++ 10 ∷ []) lines
 
--- words that are no command
+-- the line for words that are not a command
 abbrev pub words_line : List ℕ
 words_line = text_of_lines (codes "refused words" ∷ [])
 
@@ -77,7 +77,7 @@ help_lines =
 abbrev pub help_text : List ℕ
 help_text = text_of_lines help_lines
 
--- what stands ready, and how a run ends behind it
+-- the fixed text, and how a run ends after it
 abbrev pub text_of : Fixed → List ℕ
 text_of fixed = fixed.text.now
 

@@ -5,7 +5,7 @@ ghost use Rattle.top_call.specs.Requests.{IsNumbered, number_to, request_above, 
 
 use plan_command::read_decimal;
 
-/// What is asked for.
+/// The request of the words.
 #[derive(Clone, Copy)]
 pub enum Request<'a> {
     /// What the program is for, and its words.
@@ -26,7 +26,7 @@ pub enum Request<'a> {
     Effect(&'a str, &'a str),
     /// The settings that can be added to a unit, the first, while the questions of a file, the second, stay open.
     Tighten(&'a str, &'a str),
-    /// What lines of a unit deny a question, of which these are the words.
+    /// Which lines of a unit, the first, deny a question, whose words are the second.
     Why(&'a str, &'a [&'a str]),
     /// What each line of a unit denies by itself.
     Lines(&'a str),

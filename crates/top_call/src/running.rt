@@ -111,12 +111,12 @@ fn answer<S: Shelf, K: Sink>(
 
 /// Does what the words ask for: prepares it over the shelf, and prints it to the sink.
 ///
-/// The words are those behind the program's name, the tests those that a score may ask beside the settings, and the wishes those
-/// that a tightened unit has to grant. The status says how it ended: with 0, 1, 2, 3, 7 and 8 a whole text was printed, with 4
-/// nothing, and with 5 and 6 a prefix of one. The sink is handed each line, with its line feed, as one piece.
+/// The words follow the program's name. The tests are stored tests that a score may ask besides the settings, and the wishes
+/// are what a tightened unit must grant. The status says how the run ended: with 0, 1, 2, 3, 7 and 8 a whole text was printed,
+/// with 4 nothing, and with 5 and 6 a prefix of a text. The sink receives each line, with its line feed, as one piece.
 ///
-/// Over files that the shelf tells, exactly the calls of the command are made, in their order, up to the first that
-/// is refused or fails. Each answer is judged before the next call.
+/// If the shelf reveals its files, exactly the calls of the command are made, in order, up to the first that is refused or
+/// fails. Each answer is checked before the next call.
 pub fn run<S: Shelf, K: Sink>(
     alloc: Global,
     words: &[&str],

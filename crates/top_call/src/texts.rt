@@ -1,4 +1,4 @@
-//! Texts that are printed as they stand.
+//! Fixed texts.
 ghost use Rattle.std.specs.Prelude.{◌≡◌};
 ghost use Rattle.top_call.specs.Texts.{help_text, text_of, version_text, words_line};
 
@@ -70,7 +70,7 @@ const VERSION: &str = "lentsheep 0.1.0\n";
 /// Words that are no command.
 const NO_COMMAND: &str = "refused words\n";
 
-/// A text that is printed as it stands.
+/// A fixed text.
 #[derive(Drop)]
 pub struct Fixed {
     ending: Ending,
