@@ -16,11 +16,11 @@ abbrev pub drop_in_text : Table → List ℕ → List ℕ
 drop_in_text table names =
     codes "[Service]\nSystemCallFilter=\nSystemCallFilter=@default" ++ (flat_map (λ place. 32 ∷ name_at table place) names ++ 10 ∷ [])
 
--- the unit with that drop-in behind its files
+-- the unit with that drop-in after its files
 abbrev pub extended : Resolved → Table → List ℕ → Resolved
 extended unit table names = with_file unit (drop_in_text table names)
 
--- the name of the line stands on no earlier line: with two ABIs a name may stand twice
+-- no earlier line has the name of the line; with two ABIs a name may occur twice
 abbrev pub is_first_line : Table → ℕ → Bool
 is_first_line table place = is_first (every_call table) (name_at table place) place
 

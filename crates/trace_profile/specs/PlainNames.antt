@@ -1,4 +1,4 @@
--- Names that a drop-in can list, and those of them that it need not.
+-- Names that a drop-in can list, and the names that it need not list.
 use Rattle.std.specs.Prelude.{◌≡◌, ℕ, ◌≤◌, false, true, List, ◌∷◌, ◌++◌, codes, flat_map, length, Ok}
 use Rattle.std.specs.List.{list_all}
 use Rattle.asked_service.specs.call_table.Names.{is_name}

@@ -6,7 +6,7 @@ use Rattle.asked_service.specs.call_table.Lookups.{numbered}
 use Rattle.asked_service.specs.call_table.Table.{Table, calls_in}
 use Rattle.asked_service.specs.kernel_model.declared.kernel_calls.call.Call.{Call}
 
--- the number of the call is that of seccomp(2) in its ABI, whether a script writes the name or the number
+-- the call has the number of seccomp(2) in its ABI, whether a script writes the name or the number
 abbrev pub is_seccomp : Table → Call → Bool
 is_seccomp table call = option_map_or (λ line. bytes_eq line.name (codes "seccomp")) (numbered call.nr (calls_in table call.abi)) false
 

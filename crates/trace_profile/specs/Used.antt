@@ -1,4 +1,4 @@
--- Which names a script uses: those that its calls have, and that of execve(2), which each launch needs last, but none of `@default`.
+-- The names that a script uses: the names of its calls, and execve(2), which each launch needs last, but none of `@default`.
 use Rattle.std.specs.Prelude.{◌≡◌, ℕ, ◌<◌, ◌&&◌, ◌||◌, not, Bool, false, List, codes, length, slice_index_or, Option}
 use Rattle.std.specs.List.{list_any}
 use Rattle.std.specs.Option.{option_map, option_map_or}

@@ -1,7 +1,7 @@
 //! Laws of allow lists: what a service that may make some calls has in common with two others that may make others.
 //!
-//! There is no code: the definitions stand in specs/, and each function's contract is a law over them.
-//! It rests on `launcher` for launches and for worlds that differ in the programs of a launch alone.
+//! There is no code: the definitions are in specs/, and each function's contract is a law over them. The laws rest on
+//! `launcher` for launches and for worlds that differ only in the programs of a launch.
 
 ghost use Rattle.trace_profile.specs.allow_laws.Either.{EitherReplies};
 ghost use Rattle.trace_profile.specs.allow_laws.Launches.{EitherLaunches};

@@ -7,7 +7,7 @@ use asked_service::launched_units::UnitRefusal;
 use asked_service::unit_launch::LaunchRefusal;
 use asked_service::{ItemList, PlanError, SettingsError};
 
-/// Places of call lines among those of calls.txt, from 0, ascending; contracts see them as a list.
+/// Places of lines among the call lines of calls.txt, from 0, ascending. Contracts see them as a list.
 pub type Names = ItemList<u32>;
 
 /// What is derived.

@@ -17,7 +17,7 @@ pub fn name_at(calls: &CallTable, place: u32) -> &str
     }
 }
 
-// Appends the names of these places, each behind a space.
+// Appends the names of these places, with a space before each.
 fn push_names(text: &mut Vec<u8>, calls: &CallTable, names: &[u32]) -> Result<(), AllocError>
     ensures { OnOk result (text.new.items ≡ text.old.items ++ flat_map (λ place. 32 ∷ name_at calls.now place) names.now) }
 {
@@ -28,7 +28,7 @@ fn push_names(text: &mut Vec<u8>, calls: &CallTable, names: &[u32]) -> Result<()
     Ok(())
 }
 
-/// The drop-in by which the calls at these places are allowed, and those of `@default`, and no others, systemd.exec(5).
+/// Makes the drop-in that allows exactly the calls at these places and the calls of `@default`, systemd.exec(5).
 pub fn drop_in(alloc: Global, calls: &CallTable, names: &[u32]) -> Result<Vec<u8>, AllocError>
     ensures allows_exactly_these { IfOk result (λ text. text.items ≡ drop_in_text calls.now names.now) }
 {
@@ -38,7 +38,7 @@ pub fn drop_in(alloc: Global, calls: &CallTable, names: &[u32]) -> Result<Vec<u8
     Ok(text)
 }
 
-/// The unit with that drop-in behind its files.
+/// Makes the unit with that drop-in after its files.
 pub fn extended(
     alloc: Global,
     unit: &Resolved,

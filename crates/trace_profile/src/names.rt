@@ -35,7 +35,7 @@ fn is_first_line(calls: &CallTable, place: u32) -> bool
     is_first(calls, name_at(calls, place), place)
 }
 
-// Puts a place behind some names, where it is that of a first line.
+// Appends a place if it is the first line of its name.
 fn push_first(names: &mut Vec<u32>, calls: &CallTable, place: u32) -> Result<(), AllocError>
     ensures { OnOk result (names.new.items ≡ names.old.items ++ cond (is_first_line calls.now place) (place ∷ []) []) }
 {
@@ -79,7 +79,7 @@ fn is_marked(marks: &[bool], place: u32) -> bool
     }
 }
 
-/// Those of the names that are marked.
+/// Returns the marked names.
 pub fn marked(alloc: Global, names: &[u32], marks: &[bool]) -> Result<Vec<u32>, AllocError>
     ensures those_that_are_marked { IfOk result (λ some. some.items ≡ filter (is_marked marks.now) names.now) }
 {

@@ -1,4 +1,4 @@
-//! The replies to the calls of a script, made one behind the other.
+//! Makes the calls of a script in sequence, and compares the replies.
 
 ghost use Rattle.std.specs.Prelude.{◌≡◌, ◌≢◌, IfOk, IsTrue, false, length};
 ghost use Rattle.asked_service.specs.kernel_model.Runs.{replies};
@@ -36,7 +36,7 @@ fn are_same(one: Reply, other: Reply) -> bool
     }
 }
 
-/// Whether the replies are these. Behind the first that is another one no more calls are made.
+/// Whether the replies are these. After the first different reply no more calls are made.
 pub fn are_replies(
     alloc: Global,
     world: &mut World,

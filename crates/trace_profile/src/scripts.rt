@@ -5,7 +5,7 @@ ghost use Rattle.trace_profile.specs.Scripts.{first_seccomp, is_seccomp};
 
 use asked_service::{Call, CallTable};
 
-// Whether the number of the call is that of seccomp(2) in its ABI.
+// Whether the call has the number of seccomp(2) in its ABI.
 fn is_seccomp(calls: &CallTable, call: &Call) -> bool
     ensures { result ≡ is_seccomp calls.now call.now }
 {

@@ -27,7 +27,7 @@ pub struct Trial<'a> {
     pub said: &'a [Reply],
 }
 
-// A unit that is not launched does not serve; want of memory says nothing of it.
+// A unit that is not launched does not serve. If memory runs out, that says nothing of the unit.
 fn fails(error: UnitRefusal) -> Result<bool, AllocError>
     ensures { IfOk result (λ serves. (serves ≡ false) × (error ≢ Memory)) }
 {

@@ -31,7 +31,7 @@ fn mark_call(calls: &CallTable, marks: &mut [bool], call: &Call)
     }
 }
 
-// Marks those of all calls of a script.
+// Marks the first lines of the names of all calls of a script.
 fn mark_calls(calls: &CallTable, marks: &mut [bool], script: &[Call])
     requires as_many { length marks.old ≡ length (every_call calls.now) }
     ensures { MarksMore (λ at. list_any (is_line_of calls.now at) script.now) marks.old marks.new }

@@ -13,7 +13,7 @@ use Rattle.asked_service.specs.kernel_model.World.{World}
 use Rattle.asked_service.specs.kernel_model.Runs.{replies}
 use Rattle.asked_service.specs.launcher.Alike.{HasWordArchs, above}
 
--- the programs of the one list answer this call as those of the other, one by one
+-- the lists have equally many programs, and each program answers this call like its counterpart
 abbrev pub AnswerSame : CallData → List (List Insn) → List (List Insn) → Type 0
 AnswerSame input [] [] = Unit {0}
 AnswerSame input (code ∷ one) (own ∷ other) = (answer_of code input ≡ answer_of own input) × AnswerSame input one other
