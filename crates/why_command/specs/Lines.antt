@@ -21,7 +21,7 @@ place_words files line =
 abbrev pub by_line : List UnitFile → UnitLine → List ℕ
 by_line files line = codes "by " ++ (place_words files line ++ 10 ∷ [])
 
--- those that stand at some places
+-- the lines at some places
 abbrev pub lines_at : List Place → List UnitLine → List UnitLine
 lines_at places lines = filter (λ line. is_among places line.place) lines
 

@@ -37,13 +37,13 @@ abbrev pub TellsLaunch : Tried → UnitLaunch → Ending → List ℕ → Type 0
 TellsLaunch tried (Refused refusal) ending text = (ending ≡ LaunchRefused) × (text ≡ refusal_line refusal)
 TellsLaunch tried (Launched service) ending text = (ending ≡ Done) × TellsService tried service text
 
--- what the unit is launched to, and what is told of that
+-- the result of the unit's launch, and the text for it
 pub record TellsWhy (tried : Tried) (ending : Ending) (text : List ℕ) : Type 0 where
   pub launch : UnitLaunch
   pub starts : StartsAs tried.inputs launch
   pub tells : TellsLaunch tried launch ending text
 
--- what is refused behind the inputs: the question, and the settings and paths of the unit
+-- the refusals after the inputs: the question, and the settings and paths of the unit
 abbrev pub refusals_behind : List ℕ → List (List ℕ) → Inputs → List (Option (List ℕ))
 refusals_behind unit words inputs = refusal_in (question_in inputs.calls inputs.site words) ∷ start_refusals unit inputs
 
@@ -59,7 +59,7 @@ pub record PrintsWhy (files : Files) (unit : List ℕ) (words : List (List ℕ))
   pub question_is : question_in tried.inputs.calls tried.inputs.site words ≡ Ok tried.question
   pub tells : TellsWhy tried ending text
 
--- the refusals in their order; a launch that is refused is told with status 7
+-- the refusals in their order; if the launch is refused, the status is 7
 abbrev pub why_laws : List ℕ → List (List ℕ) → FileLaws
 why_laws unit words = record {
   refusals = λ files. why_refusals files unit words;

@@ -53,7 +53,7 @@ fn tell_denied<'a>(
     )
 }
 
-// What is told of a launched service.
+// The text for a launched service.
 fn tell_service<'a>(
     alloc: Global,
     trial: &Trial<'a>,
@@ -71,7 +71,7 @@ fn tell_service<'a>(
     }
 }
 
-// What is told of what a unit is launched to.
+// The text for the result of a unit's launch.
 fn tell_launch<'a>(
     alloc: Global,
     trial: &Trial<'a>,
@@ -93,8 +93,8 @@ fn tell_launch<'a>(
     }
 }
 
-/// Launches the unit, and tells whether the question is open, with calls that reach it, or denied, with what denies it; or finds
-/// the first refusal of the settings and paths of the unit.
+/// Launches the unit, and makes the text of the answer: the question is open, with calls that reach it, or denied, with what
+/// denies it. Or finds the first refusal of the settings and paths of the unit.
 pub fn answer(alloc: Global, trial: &Trial<'_>) -> Result<ReadyText, Stop>
     requires can_be_tried { CanBeTried trial.now }
     ensures answers { Prepares (λ made. TellsWhy (tried_of trial.now) (ending_of made) (text_of made)) (start_refusals trial.now.name.now (tried_of trial.now).inputs) result }

@@ -8,7 +8,7 @@ use judge_command::{CallTable, Question, SiteTable, Stop, refuse};
 use question_text::read_question;
 use std::alloc::{AllocError, Global};
 
-// Puts a space and a word behind a text.
+// Appends a space and a word.
 fn push_word(text: &mut Vec<u8>, word: &str) -> Result<(), AllocError>
     ensures { OnOk result (text.new.items ≡ text.old.items ++ spaced word.now) }
 {
@@ -17,7 +17,7 @@ fn push_word(text: &mut Vec<u8>, word: &str) -> Result<(), AllocError>
     Ok(())
 }
 
-// Puts words behind a text, a space before each.
+// Appends words, with a space before each.
 fn push_words(text: &mut Vec<u8>, words: &[&str]) -> Result<(), AllocError>
     ensures { OnOk result (text.new.items ≡ text.old.items ++ flat_map (λ word. spaced word.now) words.now) }
 {

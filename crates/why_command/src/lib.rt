@@ -1,8 +1,8 @@
 //! The command `why`: which lines of a unit deny a question, or what each line denies, as text.
 //!
-//! The verdict is that of `judge`. For a denied question the text lists lines without which it would be open, each of which
-//! matters (`deciding_lines`). Without a question, [`lines_command`] prints what each line denies by itself, as [`opening_lines`]
-//! finds it.
+//! `judge` gives the verdict. For a denied question the text lists lines without which it would be open, each of which matters
+//! (`deciding_lines`). Without a question, [`lines_command`] prints what each line denies by itself, as [`opening_lines`] finds
+//! it.
 //!
 //! `prepare(alloc, &mut shelf, "web.service", &["write", "/etc/passwd"])?` has the text, and `print` writes it.
 #![tactic(auto)]

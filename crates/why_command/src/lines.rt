@@ -30,7 +30,7 @@ fn is_among(places: &[Place], place: Place) -> bool
     places.iter().any(|one| is_place(*one, place))
 }
 
-/// Tells an assignment in force: the file, the line, and what it assigns, each an escaped word.
+/// Appends an assignment in force: the file, the line, and what it assigns, each an escaped word.
 pub fn push_assignment(
     alloc: Global,
     text: &mut Vec<u8>,
@@ -59,7 +59,7 @@ fn by_line(alloc: Global, files: &[UnitFile], line: &UnitLine) -> Result<Vec<u8>
     Ok(told)
 }
 
-// Tells an assignment, if it stands at one of the places.
+// Appends an assignment if it is at one of the places.
 fn push_if_at(
     alloc: Global,
     text: &mut Vec<u8>,
@@ -76,7 +76,7 @@ fn push_if_at(
     Ok(())
 }
 
-// Tells the assignments that stand at the places.
+// Makes the text of the assignments at the places.
 fn by_lines(
     alloc: Global,
     files: &[UnitFile],
@@ -92,7 +92,7 @@ fn by_lines(
     Ok(text)
 }
 
-// How many of them stand there.
+// The number of these lines at the places.
 fn count_at(places: &[Place], lines: &[UnitLine]) -> usize
     ensures { result ≡ length (lines_at places.now lines.now) }
 {

@@ -1,4 +1,4 @@
-//! What is told of a question.
+//! The text for a denied question.
 ghost use Rattle.std.specs.Prelude.{◌≡◌, ◌++◌, Contains, IfOk};
 ghost use Rattle.deciding_lines.specs.Deciding.{IsReason};
 ghost use Rattle.judge_command.specs.kernel_laws.Questions.{questions};

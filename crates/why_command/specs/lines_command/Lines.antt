@@ -17,7 +17,7 @@ abbrev pub alone_words : Alone → List ℕ
 alone_words (Opens opened) = codes " opens " ++ (decimal (length opened.items) ++ 10 ∷ [])
 alone_words Needed = codes " needed" ++ 10 ∷ []
 
--- those questions, as `effect` tells one that is opened
+-- those questions, as `effect` prints a newly open question
 abbrev pub opened_lines : calls.Table → Site → Alone → List ℕ
 opened_lines table site (Opens opened) = flat_map (question_line (codes "opened") table site) opened.items
 opened_lines table site Needed = []

@@ -27,7 +27,7 @@ abbrev pub TellsLaunch : List ℕ → Inputs → UnitLaunch → Ending → List 
 TellsLaunch name inputs (Refused refusal) ending text = (ending ≡ LaunchRefused) × (text ≡ refusal_line refusal)
 TellsLaunch name inputs (Launched service) ending text = (ending ≡ Done) × TellsService name inputs service text
 
--- what the unit is launched to, and what is told of that
+-- the result of the unit's launch, and the text for it
 pub record TellsLines (name : List ℕ) (inputs : Inputs) (ending : Ending) (text : List ℕ) : Type 0 where
   pub launch : UnitLaunch
   pub starts : StartsAs inputs launch
@@ -43,7 +43,7 @@ pub record PrintsLines (files : Files) (unit : List ℕ) (ending : Ending) (text
   pub inputs_are : inputs_of files unit ≡ Some inputs
   pub tells : TellsLines unit inputs ending text
 
--- the refusals in their order; a launch that is refused is told with status 7
+-- the refusals in their order; if the launch is refused, the status is 7
 abbrev pub lines_laws : List ℕ → FileLaws
 lines_laws unit = record {
   refusals = λ files. lines_refusals files unit;

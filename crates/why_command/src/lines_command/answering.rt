@@ -1,4 +1,4 @@
-//! What each line of a unit denies by itself, told.
+//! The text of what each line of a unit denies by itself.
 ghost use Rattle.std.specs.Prelude.{IfOk, IsErrOf};
 ghost use Rattle.judge_command.specs.unit_inputs.command_answers.Stops.{Prepares};
 ghost use Rattle.judge_command.specs.asked_service.started_units.Starting.{StartsAs, given, start_refusals};
@@ -15,7 +15,7 @@ use judge_command::{
 };
 use std::alloc::{AllocError, Global};
 
-// What is told of a launched service: each line of the unit with what it denies by itself.
+// The text for a launched service: each line of the unit with what it denies by itself.
 fn tell_service<'a>(
     alloc: Global,
     name: &'a str,
@@ -40,7 +40,7 @@ fn tell_service<'a>(
     lines_text(alloc, unit, told.as_slice(), calls, site)
 }
 
-// What is told of what a unit is launched to.
+// The text for the result of a unit's launch.
 fn tell_launch<'a>(
     alloc: Global,
     name: &'a str,
@@ -64,8 +64,8 @@ fn tell_launch<'a>(
     }
 }
 
-/// Launches the unit, and tells each of its lines with what it denies by itself; or finds the first refusal of its settings and
-/// paths.
+/// Launches the unit, and makes the text of each of its lines with what it denies by itself; or finds the first refusal of its
+/// settings and paths.
 pub fn answer(
     alloc: Global,
     name: &str,

@@ -10,7 +10,7 @@ use crate::push_assignment;
 use judge_command::{CallTable, Question, Resolved, SiteTable, UnitFile, question_line};
 use std::alloc::{AllocError, Global};
 
-// What is told behind an assignment: how many questions it opens, or that it is needed.
+// The words after an assignment: how many questions it opens, or that it is needed.
 fn alone_words(alloc: Global, alone: &Alone) -> Result<Vec<u8>, AllocError>
     ensures { IfOk result (λ words. words.items ≡ alone_words alone.now) }
 {
@@ -23,7 +23,7 @@ fn alone_words(alloc: Global, alone: &Alone) -> Result<Vec<u8>, AllocError>
     }
 }
 
-// Tells a question that is opened.
+// Appends the line of a newly open question.
 fn push_question(
     alloc: Global,
     text: &mut Vec<u8>,
@@ -39,7 +39,7 @@ fn push_question(
     Ok(())
 }
 
-// Tells the questions that are opened, in their order.
+// Appends the lines of newly open questions, in their order.
 fn push_questions(
     alloc: Global,
     text: &mut Vec<u8>,
@@ -56,7 +56,7 @@ fn push_questions(
     Ok(())
 }
 
-// Tells what a line opens.
+// Appends what a line opens.
 fn push_opened(
     alloc: Global,
     text: &mut Vec<u8>,
@@ -73,7 +73,7 @@ fn push_opened(
     }
 }
 
-// Tells an assignment, and below it what it opens.
+// Appends an assignment, and below it what it opens.
 fn push_line(
     alloc: Global,
     text: &mut Vec<u8>,
@@ -117,7 +117,7 @@ fn counts_line(alloc: Global, all: usize, idle: usize) -> Result<Vec<u8>, AllocE
     Ok(format!(in alloc; "lines {all} idle {idle}\n")?.into_bytes())
 }
 
-/// The assignments in force of a unit with what each denies by itself, one behind the other, and their counts.
+/// Makes the text of a unit's assignments in force, in order, with what each denies by itself, and their counts.
 pub fn lines_text(
     alloc: Global,
     unit: &Resolved,

@@ -27,7 +27,7 @@ impl Judged<'_> {
         requires starts { StartsAs (inputs_without (inputs_in self.now) (place ∷ [])) (Starts service) }
         ensures { IfOk result (IsAloneOf self.now place) }
     {
-        // Why it is so.
+        // The law that the verdicts are exact.
         truths();
         let after = bound(alloc, service)?;
         let list = self.asked.questions.as_slice();

@@ -1,11 +1,11 @@
-//! A unit that is launched, with all that it is asked.
+//! A launched unit, with all questions about it.
 
 use judge_command::{Asked, CallTable, Resolved, SiteTable};
 
-/// A unit that is launched, with all that it is asked; its lines are tried one by one.
+/// A launched unit, with all questions about it. Its lines are tried one after the other.
 #[derive(Drop)]
 pub struct Judged<'a> {
-    /// The name of the unit, which refusals tell.
+    /// The name of the unit, which lines of refusals print.
     pub name: &'a str,
     /// The unit.
     pub unit: &'a Resolved,
