@@ -1,4 +1,5 @@
-//! mount(2) and umount2(2). Both check first that the caller owns its mount namespace and has CAP_SYS_ADMIN.
+//! mount(2) and umount2(2). Both check first that the caller's mount namespace belongs to its user namespace and that the
+//! caller has CAP_SYS_ADMIN.
 
 ghost use Rattle.std.specs.Prelude.{◌≡◌, true, IfOk, IsOk, OnErr};
 ghost use Rattle.site_table.specs.Table.{row_at};
