@@ -58,7 +58,7 @@ abbrev pub AlikeReplies : Type 0
 AlikeReplies = (one other : List (List Insn)) (world : World) (calls : List Call) → AnswerAlike one other → HasWordArchs world.calls
     → AreCalls calls → SameReplies (above one world) (above other world) calls
 
--- a living process asks to push a program on top of its own programs and those of the launch, and may do so
+-- a living process asks to push a program on top of its own programs and the launch's, and may do so
 pub record Pushes (programs : List (List Insn)) (world : World) (call : Call) (process : Process) (code : List Insn) : Type 0 where
   pub lives : living_of world call.pid ≡ Some process
   pub passes : decision_of world call (over programs process) ≡ decision.Pass
