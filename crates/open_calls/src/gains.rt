@@ -23,7 +23,7 @@ pub(crate) enum Gained<'a> {
     Found(Option<GainWay<'a>>),
 }
 
-// Returns the result for this capability. `held` has the capabilities that the service can gain.
+// Returns what is kept for this capability. `held` has the capabilities that the service can gain.
 fn found_way<'a>(world: &'a World<'_>, basis: Basis, held: CapSet, cap: u8) -> Gained<'a>
     requires launched { IsLaunchedWorld world.now }
     requires its_own { IsBasis (launch_of world.now) basis }
@@ -36,7 +36,7 @@ fn found_way<'a>(world: &'a World<'_>, basis: Basis, held: CapSet, cap: u8) -> G
     }
 }
 
-/// Returns the result for each capability, by its number. `held` has the capabilities that the service can gain.
+/// Returns what is kept for each capability, by its number. `held` has the capabilities that the service can gain.
 pub(crate) fn gains<'a>(
     alloc: Global,
     world: &'a World<'_>,
