@@ -3,7 +3,8 @@ use Rattle.std.specs.Prelude.{ℕ, ◌+◌, ◌≤◌, ◌==◌, nat_le, Bool, t
 use Rattle.seccomp_compile.specs.Code.{whole_word}
 use Rattle.seccomp_compile.specs.Decisions.{Decision, ends, looks, splits, both, is_end}
 
--- A comparison leads to the next tree without a jump if at most this many instructions are between the two.
+-- The most instructions between a comparison and the tree with which it continues if it holds: so few that the comparison leads
+-- there without a jump.
 abbrev pub most_between : ℕ
 most_between = 50
 

@@ -28,7 +28,7 @@ abbrev pub DecidesFrom : Wanted → ℕ → ℕ → Decision → Type 0
 DecidesFrom wanted from to decision =
     (input : CallData) (word : ℕ) → from ≤ word → word < to → decide decision input word ≡ wanted input word
 
--- the wanted action for a number: the action of the call with this number, or the default if there is none
+-- the wanted action for a number: the action of the call with this number, or else the default
 abbrev pub number_wanted : List CallRule → Action → Wanted
 number_wanted calls rest input word = option_map_or (call_action input) (find (λ call. call.number == word) calls) rest
 
