@@ -27,7 +27,7 @@ abbrev pub IsNoLater : Option Difference → CallData → Type 0
 IsNoLater None input = ⊥
 IsNoLater (Some found) input = IsNotAfter (words_of found.at) (words_of input)
 
--- the least of all differences, or None if there is none
+-- the least of all differences; None if the programs never differ
 pub record IsLeastFrom (ends : List End) (code : List Insn) (found : Option Difference) : Type 0 where
   pub is_one : IsDifference ends code found
   pub no_later : (input : CallData) (theirs ours : ℕ) → DiffersFrom ends code input theirs ours → IsNoLater found input

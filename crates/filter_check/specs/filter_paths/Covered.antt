@@ -15,7 +15,7 @@ use Rattle.filter_check.specs.declared.filter_paths.states.End.{End}
 use Rattle.filter_check.specs.declared.filter_paths.states.Next.{Next}
 use Rattle.filter_check.specs.declared.filter_paths.states.Next.TheVariants as next
 
--- these call data come to the state
+-- these call data reach the state
 abbrev pub Comes : State → CallData → Type 0
 Comes state input = IsCallData input × IsWithin state.region input
 
@@ -26,7 +26,7 @@ EndsAt code state answer =
     (insn : Insn) × (after : Regs) × (slice_get code state.at ≡ Some insn) ×
     (effect_by (op_of insn.code) insn regs input ≡ Some (effect.End answer, after))
 
--- all data that come to the next state come to this one, and its instruction leads them there
+-- all data that reach the next state reach this one, and its instruction leads them there
 pub record LeadsOn (code : List Insn) (state to : State) : Type 0 where
   pub later : state.at < to.at
   pub inside : to.at < length code
@@ -44,7 +44,7 @@ LeadsAll code state to = LeadsOn code state to × ((input : CallData) → Comes 
 abbrev pub IsComparison : Insn → Type 0
 IsComparison insn = (insn.code ≡ 21) ⊎ ((insn.code ≡ 37) ⊎ ((insn.code ≡ 53) ⊎ (insn.code ≡ 69)))
 
--- the end's least data are of it, and each word of them is at most that of others
+-- the end has these least data, and each word of them is at most the same word of the end's other data
 abbrev pub HasLeast : End → Type 0
 HasLeast end =
     IsCallData end.least × IsWithin end.region end.least
@@ -59,7 +59,7 @@ StepsTo code state (next.Two first second) =
     LeadsOn code state first × LeadsOn code state second × (first.at ≢ second.at)
     × ((input : CallData) → Comes state input → Comes first input ⊎ Comes second input)
 
--- all data of the end come to the state, and from there the program takes this path to the end's answer
+-- all data of the end reach the state, and from there the program takes this path to the end's answer
 abbrev pub LeadsTo : List Insn → State → End → List ℕ → Type 0
 LeadsTo code state end path =
     (input : CallData) → IsCallData input → IsWithin end.region input →

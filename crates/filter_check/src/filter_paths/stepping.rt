@@ -11,7 +11,7 @@ use crate::word_sets::narrow;
 use seccomp_compile::{ALU_AND_K, Insn, JMP_JA, LD_W_ABS, RET_K};
 use std::alloc::{AllocError, Global};
 
-// Behind a load of a word.
+// The state after a load of a word.
 fn loaded(insns: &[Insn], insn: Insn, state: State) -> State
     requires program { IsProgram insns.now }
     requires found { slice_get insns.now state.at ≡ Some insn }
@@ -28,7 +28,7 @@ fn loaded(insns: &[Insn], insn: Insn, state: State) -> State
     }
 }
 
-// Behind a mask.
+// The state after a mask.
 fn masked(insns: &[Insn], insn: Insn, state: State) -> State
     requires program { IsProgram insns.now }
     requires found { slice_get insns.now state.at ≡ Some insn }
@@ -45,7 +45,7 @@ fn masked(insns: &[Insn], insn: Insn, state: State) -> State
     }
 }
 
-// Behind a jump.
+// The state after a jump.
 fn jumped(insns: &[Insn], insn: Insn, state: State) -> State
     requires program { IsProgram insns.now }
     requires found { slice_get insns.now state.at ≡ Some insn }
