@@ -29,9 +29,9 @@ use Rattle.replay_command.specs.Scripts.{script_in}
 use Rattle.replay_command.specs.Texts.{ending_behind, replay_text}
 
 -- With any programs that match the filters, including the launch's own, the launch takes the same number of steps. The replies
--- are the same up to the first call of seccomp(2) that one list alone answers with ENOMEM. The kernel gives that answer
--- whenever the programs that the service pushed itself pass the limit. It never gives it if they do not pass it together with
--- the most that the launch's programs may take.
+-- are the same up to the first call of seccomp(2) that the kernel answers with ENOMEM under only one of the two lists of
+-- programs. The kernel gives that answer whenever the programs that the service pushed itself pass the limit. It never gives it
+-- if they do not pass it together with the most that the launch's programs may take.
 abbrev pub RepliesAlike : calls.Table → Site → Settings → List MountStep → List Call → UnitLaunch → Type 0
 RepliesAlike table site settings plan script (Launched service) =
     (programs : List (List ℕ)) (codes : List (List Insn)) → AreOthers settings programs codes
