@@ -16,7 +16,7 @@ pub record AreOf (table : calls.Table) (site : Site) (lines : List Line) (keep :
   pub printed : map (λ question. question_words table site question) keep ≡ map (λ line. line.text) lines
   pub listed : All (λ question. Contains (asked.questions table site) question) keep
 
--- a line with this number, which prints no question and follows at most 512 lines that do
+-- a line with this number that is not the text of a question, after at most 512 lines that are
 pub record IsFirstOther (table : calls.Table) (site : Site) (lines : List Line) (number : ℕ) : Type 0 where
   pub place : ℕ
   pub few : place ≤ 512
