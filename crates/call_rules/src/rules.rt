@@ -38,7 +38,7 @@ impl Test {
     }
 }
 
-/// The tests of a case, all of which are to hold.
+/// The tests of a case. A call must pass all of them.
 pub type Tests = ItemList<Test>;
 
 /// An action for the calls that pass all tests.
@@ -48,10 +48,10 @@ pub struct Case {
     pub action: Action,
 }
 
-/// The cases of a call, of which the first that passes decides.
+/// The cases of a call. The first one that passes decides.
 pub type Cases = ItemList<Case>;
 
-/// The rule of one call number: its cases, and the action where none passes.
+/// The rule of one call number: its cases, and the action if no case passes.
 #[derive(Drop)]
 pub struct CallRule {
     pub number: u32,
