@@ -84,7 +84,7 @@ impl CallSteps {
         Ok(())
     }
 
-    /// Adds a call after the others, where it is wanted.
+    /// Adds a call after the others if `wanted` is true.
     pub fn push_if(&mut self, wanted: bool, call: Call) -> Result<(), AllocError>
         ensures goes_last_where_wanted { OnOk result (self.new ≡ self.old ++ if_so wanted (Makes call)) }
     {

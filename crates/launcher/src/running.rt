@@ -32,7 +32,7 @@ pub fn make_call(
     done(reply, step)
 }
 
-/// Makes the calls in turn, after so many steps, and counts the steps.
+/// Makes the calls in sequence, and returns the number of steps: `before` counts the earlier ones.
 pub fn make_calls(
     alloc: Global,
     world: &mut World,
