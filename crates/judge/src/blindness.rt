@@ -100,14 +100,14 @@ fn is_blind(world: &World<'_>, ceiling: &Ceiling, folder: &AbsPath) -> bool
     }
 }
 
-/// Returns whether a launched service is blind to a folder of its site. If it is, no list of calls of its processes,
-/// in any order and of however many processes, leads to a world with a path that shows a place strictly below the
-/// folder. The path is one that a call can name, in the mount table of a living process. The place need not be a row
-/// of the site. If the service of a unit's settings is not blind, some list of calls, each of which is done, leads to
-/// such a path.
+/// Returns whether a launched service is blind to a folder of its site. If it is, no list of calls of its processes, in any
+/// order and of any number of processes, leads to a world with a path that shows a place strictly below the folder. The path is
+/// one that a call can name, in the mount table of a living process. The place need not be a row of the site.
 ///
-/// A service that can change no mounts sees what the launched mounts show. One that can take mounts away, umount2(2),
-/// sees what each of them shows. One that can mount, mount(2), sees everything. The call takes no memory.
+/// If the service of a unit's settings is not blind, some list of successful calls leads to such a path.
+///
+/// A service that cannot change mounts sees what the launched mounts show. If it can unmount, umount2(2), it sees what each of
+/// them shows. If it can mount, mount(2), it sees everything. The call takes no memory.
 pub fn blind(launched: &Launched<'_>, ceiling: &Ceiling, folder: &AbsPath) -> bool
     requires launched { IsLaunchedWorld launched.now.world }
     requires its_own_ceiling { IsCeilingOf (launch_of launched.now.world) ceiling.now }
