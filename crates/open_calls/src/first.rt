@@ -138,7 +138,7 @@ impl FirstCall {
     }
 }
 
-/// The first call of a kind of which some call passes.
+/// Finds the first call of a kind. Some call of the kind must pass.
 pub(crate) fn first_call(world: &World<'_>, kind: CallKind) -> FirstCall
     requires some_passes { lets (launch_of world.now) kind ≡ true }
     ensures { result ≡ first_of (launch_of world.now) kind }

@@ -18,7 +18,7 @@ use crate::service::{Made, Service};
 use ceilings::{CallRule, Ceiling};
 use questions::{Call, CallKind, NamespaceType, Payload, Rule, Wish, World};
 
-/// The first calls of some kinds; None where none passes.
+/// The first calls of some kinds; None if no call of the kind passes.
 #[derive(Clone, Copy)]
 pub(crate) struct Firsts {
     // stat(2) and similar calls, open(2), open(2) and execve(2)
