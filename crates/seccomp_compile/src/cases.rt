@@ -63,7 +63,7 @@ fn case_tree(alloc: Global, case: &Case, otherwise: Tree) -> Result<Tree, AllocE
     }
 }
 
-/// The cases in turn, and the rest where none of them passes.
+/// Makes the tree of the cases in order, and of the default if no case passes.
 pub fn cases_tree(alloc: Global, cases: &[Case], rest: Action) -> Result<Tree, AllocError>
     ensures cases { IfOk result (λ tree. decision_of tree ≡ cases_onto cases.now (ends rest)) }
     ensures looks { IfOk result (λ tree. LooksInside (decision_of tree)) }

@@ -59,7 +59,7 @@ fn comparison_code(comparison: Comparison) -> u16
     }
 }
 
-/// Skips so many instructions where the comparison of A with the number holds, and so many where it fails.
+/// Skips `hit` instructions if the comparison of A with the number holds, and `miss` instructions if it fails.
 pub fn jump_if(comparison: Comparison, number: u32, hit: u8, miss: u8) -> Insn
     ensures is { result ≡ compare comparison number hit miss }
     ensures fits { Fits result }

@@ -193,7 +193,7 @@ fn join(alloc: Global, runs: &mut Vec<Run>, count: usize) -> Result<Run, AllocEr
     })
 }
 
-/// The tree of all numbers, of which those below the runs end with the rest.
+/// Makes the tree of all numbers. Numbers below the runs end with the default.
 pub fn close(alloc: Global, mut runs: Vec<Run>, rest: Action) -> Result<Tree, AllocError>
     ensures closes { IfOk result (λ tree. Closes runs.items rest (decision_of tree)) }
 {

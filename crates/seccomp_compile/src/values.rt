@@ -53,7 +53,7 @@ fn arg_of_first(cases: &[Case]) -> Option<u8>
     Some(arg_of(*test))
 }
 
-/// Returns the argument of which each case is a value.
+/// Returns the argument that every case compares with one value, if there is such an argument.
 pub fn value_arg(cases: &[Case]) -> Option<u8>
     ensures values { IfSome result (λ arg. (arg ≤ 5) × (0 < length cases.now) × AreValuesOf arg cases.now) }
     ensures others { result ≡ None → (arg : ℕ) → AreValuesOf arg cases.now → cases.now ≡ [] }
