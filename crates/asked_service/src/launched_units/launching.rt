@@ -42,7 +42,7 @@ fn lay_out(alloc: Global, mentions: &Mentions, site: &SiteTable) -> Result<Mount
     }
 }
 
-/// Launches a unit: its settings, the plan of its mounts, and then the launch, each of which may be refused.
+/// Launches a unit. Its settings, the plan of its mounts or the launch may be refused; the first refusal is returned.
 pub fn launch_whole<'a>(
     alloc: Global,
     unit: &Resolved,
