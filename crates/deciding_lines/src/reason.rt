@@ -69,9 +69,11 @@ impl<'a> Trial<'a> {
         self.denying(alloc, gone, kept.found, Reason::NotLaunched(line))
     }
 
-    /// Finds what denies the question, which is denied of this service of the unit: lines without which it is open and of which each
-    /// matters. All lines but ExecStart= are taken away, or, if the unit is not launched then, all but those that it needs. They are
-    /// put back from the last of the [`bare_places`] to the first, again and again, as long as the question stays open.
+    /// Finds what denies a question that is denied for this service of the unit: lines without which it is open, each of which
+    /// matters.
+    ///
+    /// All lines but ExecStart= are removed; or, if the unit is then not launched, all but the lines that it needs. They are
+    /// put back from the last of the [`bare_places`] to the first, repeatedly, as long as the question stays open.
     pub fn reason(&self, alloc: Global, whole: Launched<'a>) -> Result<Reason, AllocError>
         requires can_be_tried { CanBeTried self.now }
         requires starts { StartsAs (tried_of self.now).inputs (Service whole) }

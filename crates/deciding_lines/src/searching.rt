@@ -27,7 +27,7 @@ impl<'a> Search for Trial<'a> {
     }
 }
 
-/// Some lines of a unit, of which it may need a few.
+/// Some lines of a unit. The unit may need a few of them.
 #[derive(Drop)]
 pub struct Needs<'b, 'a> {
     /// The unit.
