@@ -7,7 +7,7 @@ use exec_settings::{Held, HeldList};
 #[derive(Drop)]
 pub struct PolicyTest {
     pub id: TestId,
-    /// What the test adds to the sum of weights, 0 to 1,000,000.
+    /// The weight of the test in the sum of weights, 0 to 1,000,000.
     pub weight: u32,
     /// The badness from which on the whole weight counts, 1 to 1,000,000.
     pub range: u32,
@@ -19,5 +19,5 @@ impl Held for PolicyTest {
     ghost AreHeld = { IsPolicy };
 }
 
-/// At most 512 tests in byte order of their identifiers, of which no two are equal.
+/// At most 512 tests in byte order of their identifiers, all different.
 pub type Policy = HeldList<PolicyTest>;

@@ -1,4 +1,4 @@
-//! The tests of a line of the table, where there is one for each name of a kind.
+//! The tests of a line of the table; some lines have one test for each name of a kind.
 
 ghost use Rattle.std.specs.Prelude.{◌≡◌, map};
 ghost use Rattle.std.specs.List.{list_any, range_with_len};
@@ -17,7 +17,7 @@ fn has_family(calls: &CallTable, name: &str) -> bool
     calls.family(name).is_some()
 }
 
-/// Returns whether the table has both families of the Internet, and none of the name of both.
+/// Returns whether the table has both families of the Internet, and no family named after both.
 pub fn has_internet(calls: &CallTable) -> bool
     ensures both_families { result ≡ has_internet calls.now }
 {

@@ -13,7 +13,7 @@ use Protection::{
     ProtectKernelTunables, RestrictRealtime, RestrictSuidSgid,
 };
 
-/// A boolean key that protects a service where it is on (systemd.exec(5), Sandboxing).
+/// A boolean key that protects a service if it is on (systemd.exec(5), Sandboxing).
 #[derive(Clone, Copy)]
 pub enum Protection {
     PrivateDevices,
@@ -30,18 +30,18 @@ pub enum Protection {
     RestrictSuidSgid,
 }
 
-/// What a test looks at, and how bad that is.
+/// The setting that a test looks at, and its badness.
 #[derive(Clone, Copy)]
 pub enum Matter {
-    /// 1 where the uid is 0.
+    /// 1 if the uid is 0.
     RunsAsRoot,
-    /// 1 where SupplementaryGroups= names a group.
+    /// 1 if SupplementaryGroups= names a group.
     NamesGroups,
-    /// 1 where NoNewPrivileges= is not in effect.
+    /// 1 if NoNewPrivileges= is not in effect.
     GainsPrivileges,
-    /// 1 where there is an ambient capability.
+    /// 1 if there is an ambient capability.
     HasAmbient,
-    /// 1 where the protection is off.
+    /// 1 if the protection is off.
     Lacks(Protection),
     /// ProtectSystem=: no 10, yes 8, full 3, strict 0.
     WritesSystem,
@@ -53,7 +53,8 @@ pub enum Matter {
     EachNamespaceType,
     /// For each family of the table of calls, 1 if it is permitted. Its name follows the identifier.
     EachFamily,
-    /// Where the table of calls has AF_INET and AF_INET6 and no family of both names, 1 where either is permitted.
+    /// 1 if AF_INET or AF_INET6 is permitted. The line has this test only if the table of calls has both families, and no
+    /// family named after both.
     InternetFamilies,
     /// For each group of the table of calls, 1 if SystemCallFilter= is off or allows a member. Its name follows the identifier.
     EachGroup,
