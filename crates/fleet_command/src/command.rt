@@ -14,11 +14,11 @@ use host_io::Shelf;
 use score_command::{CustomTest, Stop, Stored};
 use std::alloc::Global;
 
-/// Prepares `fleet` and the path of a policy. It names the units, reads calls.txt, site.toml and the policy, and
-/// finds the first refusal of these. Then it scores the units one by one in byte order of their names.
+/// Prepares `fleet` and the path of a policy. It lists the units, reads calls.txt, site.toml and the policy, and finds the
+/// first refusal of these. Then it scores the units in byte order of their names.
 ///
-/// A host of more than 1,024 units is refused, and a policy that weighs nothing, before a unit is read. A unit that is refused is
-/// a row like the others.
+/// A host with more than 1,024 units, or a policy without weight, is refused before a unit is read. A refused unit is a row
+/// like the others.
 pub fn prepare<S: Shelf>(
     alloc: Global,
     shelf: &mut S,
