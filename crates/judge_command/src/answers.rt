@@ -1,4 +1,4 @@
-//! The answers to questions, found and printed one by one.
+//! Finds the answers to questions, and prints the lines of each as it is found.
 ghost use Rattle.std.specs.Prelude.{◌≡◌, Contains, IfOk, OnOk, flat_map};
 ghost use Rattle.asked_service.specs.unit_inputs.command_answers.Printing.{HasWriteCause, PrintsLines};
 ghost use Rattle.asked_service.specs.kernel_laws.Questions.{questions};

@@ -1,4 +1,4 @@
-//! The folders that are blind, found and printed one by one.
+//! Finds the blind folders, and prints the line of each as it is found.
 ghost use Rattle.std.specs.Prelude.{◌≡◌, IfOk, flat_map};
 ghost use Rattle.asked_service.specs.unit_inputs.command_answers.Printing.{HasWriteCause, PrintsLines};
 ghost use Rattle.asked_service.specs.report_text.Answers.{blind_line};
