@@ -1,4 +1,4 @@
-//! The command `tighten`, the name of a unit and the path of what is to be kept.
+//! The command `tighten`, the name of a unit, and the path of the questions to be kept.
 ghost use Rattle.asked_service.specs.unit_inputs.command_answers.Asking.{course};
 ghost use Rattle.asked_service.specs.unit_inputs.command_answers.Laws.{IsAdmitted};
 ghost use Rattle.asked_service.specs.unit_inputs.Asking.{AsksInOrder, asks_with_file};

@@ -12,12 +12,12 @@ use std::alloc::{AllocError, AllocFailed, Global};
 /// The most questions that are to be kept.
 const MOST_QUESTIONS: usize = 512;
 
-/// Why a file does not say what is to be kept.
+/// Why the questions of a file are refused.
 #[derive(Clone, Copy)]
 pub enum KeepError {
-    /// The bytes are no text.
+    /// The bytes are not text.
     NotText,
-    /// The line of this number, from 1, is the first that is no question of the list.
+    /// The line of this number, from 1, is the first that is not a question of the list.
     Line(u64),
     /// There are more than 512 questions before any other line.
     TooMany,

@@ -50,7 +50,7 @@ fn counts_text(alloc: Global, tight: &Tight) -> Result<Vec<u8>, AllocError>
     Ok(text)
 }
 
-/// What can be added to a unit, an item a line in the order of the list, and the counts.
+/// Makes the text of the items that can be added to a unit, one a line in the order of the list, and of the counts.
 pub fn tight_text(alloc: Global, tight: &Tight) -> Result<Vec<u8>, AllocError>
     requires are_items { All (λ item. (1 ≤ item) × (item ≤ 17)) tight.now.items }
     ensures tells_all { IfOk result (λ text. text.items ≡ tight_text tight.now) }
@@ -65,7 +65,7 @@ pub fn tight_text(alloc: Global, tight: &Tight) -> Result<Vec<u8>, AllocError>
     Ok(text)
 }
 
-/// The line of a unit that itself denies a question that is to be kept, by its number from 1.
+/// Makes the line of a unit that itself denies a question to be kept; the number counts from 1.
 pub fn keep_line(alloc: Global, unit: &str, number: u64) -> Result<Vec<u8>, AllocError>
     ensures names_the_question { IfOk result (λ line. line.items ≡ keep_line unit.now number) }
 {
@@ -73,7 +73,7 @@ pub fn keep_line(alloc: Global, unit: &str, number: u64) -> Result<Vec<u8>, Allo
     refused_line(alloc, unit, why.as_slice())
 }
 
-/// The line of a unit that itself does not grant a wish, by its number from 1.
+/// Makes the line of a unit that itself does not grant a wish; the number counts from 1.
 pub fn wish_line(alloc: Global, unit: &str, number: u64) -> Result<Vec<u8>, AllocError>
     ensures names_the_wish { IfOk result (λ line. line.items ≡ wish_line unit.now number) }
 {

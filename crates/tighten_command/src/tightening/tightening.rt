@@ -67,15 +67,16 @@ fn tighten_trial<'a>(
     }
 }
 
-/// Adds items to a unit as long as what is to be kept stays open and the wishes stay granted.
+/// Adds items to a unit as long as the questions in `keep` stay open and the wishes stay granted.
 ///
-/// The unit with the items serves: it is launched, none of the questions in `keep` is denied, and each wish answers true on the
-/// verdicts on all questions, so that its own questions are open. With any other of the seventeen items it does not. The items
+/// The unit with the items serves: it is launched, it denies no question in `keep`, and each wish answers true on the verdicts
+/// on all questions, so that its own questions are open. With any other of the seventeen items it does not serve. The items
 /// outside the set are tried from the last down, as long as one was added.
 ///
-/// Answers Settings, Plan or Launch exactly if the unit itself is refused so, the first of them in this order. Otherwise it answers
-/// `Keep(n)` exactly if question n of `keep`, from 1, is the first that the unit denies. Otherwise it answers `Wish(n)` exactly if
-/// wish n is the first that answered false on the unit's verdicts. Memory may run out at any unit.
+/// Returns `Settings`, `Plan` or `Launch` exactly if the unit itself is refused for that reason, the first of them in this
+/// order. Otherwise returns `Keep(n)` exactly if question n of `keep`, from 1, is the first that the unit denies. Otherwise
+/// returns `Wish(n)` exactly if wish n is the first that answered false on the unit's verdicts. Memory can run out for any
+/// unit.
 pub fn tighten(
     alloc: Global,
     unit: &Resolved,

@@ -109,7 +109,7 @@ impl<'a> Trial<'a> {
         }
     }
 
-    /// The service of the unit with a set of items, where all that is to be kept is kept and each wish is granted.
+    /// Returns the service of the unit with a set of items, if it keeps all questions and grants each wish.
     pub fn serves(
         &self,
         alloc: Global,
