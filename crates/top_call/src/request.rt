@@ -30,7 +30,7 @@ pub enum Request<'a> {
     Why(&'a str, &'a [&'a str]),
     /// What each line of a unit denies by itself.
     Lines(&'a str),
-    /// The exposure of a unit, the first, by a policy, the second, and the threshold that it is held against.
+    /// The exposure of a unit, the first, by a policy, the second, and the threshold with which it is compared.
     Score(&'a str, &'a str, u32),
     /// Whether the program of a file, the third, decides every call as a filter, the second, of a unit, the first.
     Check(&'a str, &'a str, &'a str),
@@ -43,7 +43,7 @@ pub enum Request<'a> {
 /// The greatest number of a made input.
 const LAST_SAMPLE: u32 = 999;
 
-/// The threshold of a score where none is given: no exposure is above it.
+/// The threshold of a score if the words give none: no exposure is above it.
 const MOST_EXPOSURE: u32 = 100;
 
 // The request of a word by itself.
