@@ -6,14 +6,14 @@
 ghost use Rattle.trace_profile.specs.allow_laws.Either.{EitherReplies};
 ghost use Rattle.trace_profile.specs.allow_laws.Launches.{EitherLaunches};
 
-/// Where two lists of programs have the same replies to calls of which none pushes a program, so has a list that answers each call
-/// as one of the two.
+/// If two lists of programs give the same replies to calls that push no program, then so does every list that answers each call
+/// like one of the two.
 pub fn either_replies()
     ensures replies { EitherReplies }
 {}
 
-/// Where launches by two lists of programs end well, so does the launch by a list that answers each call as one of the two; the
-/// three worlds differ in these programs alone.
+/// If launches by two lists of programs succeed, then so does the launch by a list that answers each call like one of the two.
+/// The three worlds differ only in these programs.
 pub fn either_launches()
     ensures launches { EitherLaunches }
 {}

@@ -10,7 +10,7 @@ use asked_service::{ItemList, PlanError, SettingsError};
 /// Places of lines among the call lines of calls.txt, from 0, ascending. Contracts see them as a list.
 pub type Names = ItemList<u32>;
 
-/// What is derived.
+/// A derived list.
 #[derive(Drop)]
 pub struct Derived {
     /// The calls to be allowed beside `@default`, each by the first line of its name.
@@ -20,7 +20,7 @@ pub struct Derived {
 /// Why no list is derived.
 #[derive(Drop)]
 pub enum DeriveError {
-    /// This call of the script, counted from 1, is the first that asks to push a program, seccomp(2). Its answer rests on the
+    /// This call of the script, counted from 1, is the first that asks to push a program, seccomp(2). Its reply depends on the
     /// lengths of the launch's programs, which are not the same for all lists.
     Seccomp(u64),
     /// The unit that allows every call has no settings.

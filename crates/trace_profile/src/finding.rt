@@ -86,17 +86,17 @@ fn calls_fit(script: &[Call])
     }
 }
 
-/// Finds the least list of names with which the unit answers the calls of a script as with all names.
+/// Finds the least list of names with which the unit answers the calls of a script like with all names.
 ///
-/// With these names and `@default` allowed, and no other call, the unit is launched, and each call of the script has the reply
-/// that it has if every call of the table is allowed. Without any of them the unit is not launched, or some reply differs.
+/// With these names and `@default` allowed, and no other call, the unit is launched. Each call of the script has the reply that
+/// it has if every call of the table is allowed. Without any of them the unit is not launched, or some reply differs.
 ///
-/// No other list has these facts, and none of its names is in `@default`. This holds for each table that was read from a file,
-/// which has at most 1 MiB, and for any other with plain names.
+/// No other list has these properties, and none of its names is in `@default`. This holds for each table that was read from a
+/// file, which has at most 1 MiB, and for any other with plain names.
 ///
-/// Answers Seccomp with the first call of the script that asks to push a program, before all else. Answers Settings, Plan or
-/// Launch exactly if the unit that allows every call is refused so, the first of them in this order. Memory may run out at any
-/// unit.
+/// Returns `Seccomp` with the first call of the script that asks to push a program, before all else. Returns `Settings`, `Plan`
+/// or `Launch` exactly if the unit that allows every call is refused for that reason, the first of them in this order. Memory
+/// can run out for any unit.
 pub fn derive(
     alloc: Global,
     unit: &Resolved,
@@ -111,7 +111,7 @@ pub fn derive(
     if let Some(number) = first_seccomp(calls, script.list()) {
         return Err(DeriveError::Seccomp(number));
     }
-    // What holds of each table and each site is said by the calls that lend their parts.
+    // The law for each call is the contract of `fits`, which changes nothing.
     calls.look_at();
     let _uid = site.dynamic_uid();
     calls_fit(script.list());
