@@ -16,7 +16,7 @@ use std::alloc::{AllocError, Global};
 pub enum Alone {
     /// These questions, in the order of the list: they are denied, and open without it.
     Opens(Vec<Question>),
-    /// Not told: it is needed, since without it the unit has no settings, no plan of its mounts or no launch.
+    /// The line is needed: without it the unit has no settings, no plan of its mounts or no launch.
     Needed,
 }
 

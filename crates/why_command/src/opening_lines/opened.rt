@@ -1,4 +1,4 @@
-//! The questions that are denied of one service and open of another.
+//! The questions that are denied for one service and open for another.
 ghost use Rattle.std.specs.Prelude.{◌≡◌, ◌++◌, Contains, IfOk, OnOk};
 ghost use Rattle.judge_command.specs.asked_service.Asked.{IsBounded};
 ghost use Rattle.judge_command.specs.kernel_laws.Launched.{launch_of};
@@ -8,7 +8,8 @@ ghost use Rattle.why_command.specs.opening_lines.ByRule.{is_opened, opened_at, o
 use judge_command::{Bounded, Question};
 use std::alloc::{AllocError, Global};
 
-// Whether a question is denied of the first and open of the second: of what is open already the second is not asked.
+// Whether a question is denied for the first service and open for the second. If it is open for the first, the second is not
+// asked.
 fn is_opened(before: &Bounded<'_>, after: &Bounded<'_>, question: &Question) -> bool
     requires before { IsBounded before.now }
     requires after { IsBounded after.now }
@@ -19,7 +20,7 @@ fn is_opened(before: &Bounded<'_>, after: &Bounded<'_>, question: &Question) -> 
     !before.is_open(question) && after.is_open(question)
 }
 
-// Adds a question, if it is.
+// Adds a question if that holds.
 fn push_if_opened(
     opened: &mut Vec<Question>,
     before: &Bounded<'_>,
@@ -38,7 +39,7 @@ fn push_if_opened(
     Ok(())
 }
 
-/// The questions that are denied of the first service and open of the second, among all of the tables, in their order.
+/// Returns the questions of the tables that are denied for the first service and open for the second, in their order.
 pub fn opened(
     alloc: Global,
     before: &Bounded<'_>,
