@@ -25,7 +25,7 @@ fn path_names(wish: Wish) -> &'static [&'static str]
     }
 }
 
-/// The names of the calls of a kind, in the order in which they are tried; none of plain calls.
+/// Returns the names of the calls of a kind, in the order in which they are tried. Plain calls have no names here.
 pub(crate) fn names_of(kind: CallKind) -> &'static [&'static str]
     ensures { map (λ name. name.now) result.now ≡ names_of kind }
 {

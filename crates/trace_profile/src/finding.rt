@@ -77,7 +77,7 @@ fn derive_open(
     })
 }
 
-// What holds of each call is said by a call of `fits`, which changes nothing.
+// The contract of `fits` gives what every call satisfies. The function changes nothing.
 fn calls_fit(script: &[Call])
     ensures { All IsCall script.now }
 {
@@ -111,7 +111,7 @@ pub fn derive(
     if let Some(number) = first_seccomp(calls, script.list()) {
         return Err(DeriveError::Seccomp(number));
     }
-    // The law for each call is the contract of `fits`, which changes nothing.
+    // These calls borrow parts of the table and of the site, and so give what every table and every site satisfies.
     calls.look_at();
     let _uid = site.dynamic_uid();
     calls_fit(script.list());
