@@ -80,7 +80,7 @@ fn mount_empty(
 ///
 /// - EINVAL for a kind of mount that is not modelled, and for MS_REMOUNT without MS_BIND
 /// - For a remount: EINVAL if the target is not the place of its mount, then EPERM if a flag is missing that the mount keeps. A
-///   remount has no other error.
+///   remount has none of the errors below.
 /// - EBUSY if the target is the root
 /// - the errno of a target that is not found, then of a source that is not found
 /// - ENOTDIR if only one of source and target is a directory, or if the target of an empty file system is not one
