@@ -1,5 +1,6 @@
 pub mod Sorting
 pub mod Least
+pub mod Passing
 pub mod Counting
 pub mod OneAnswer
 pub mod Found

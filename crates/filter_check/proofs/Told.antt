@@ -1,5 +1,5 @@
 -- What the ends that are found from the first instruction on tell.
-use Rattle.std.proofs.Common.{◌≡◌, ℕ, zero, suc, ◌<◌, ◌≤◌, List, [], ◌∷◌, length, get_or, Some, Bool, true, false, refl, sym, ap, ◌∙◌}
+use Rattle.std.proofs.Common.{◌≡◌, ℕ, zero, suc, ◌<◌, ◌≤◌, List, [], ◌∷◌, length, get_or, Some, true, false, refl, sym, ap, ◌∙◌}
 use Rattle.std.proofs.Common.{subst, arith}
 use Rattle.std.specs.Prelude.{slice_get, slice_index, bit_and, Contains, Vec}
 use Rattle.std.specs.List.{AllZip, AllByRecursion}
@@ -12,10 +12,9 @@ use Rattle.seccomp_compile.specs.bpf_code.declared.machine.CallData.{CallData}
 use Rattle.seccomp_compile.specs.bpf_code.Effects.{words_of}
 use Rattle.seccomp_compile.specs.bpf_code.Meaning.{IsCallData, start_regs}
 use Rattle.filter_check.specs.filter_paths.Traces.{Takes, IsPath, HasPaths, HasMorePaths}
-use Rattle.filter_check.specs.filter_paths.Regions.{IsWithin, AreWithin, held_word, sets_of}
+use Rattle.filter_check.specs.filter_paths.Regions.{IsWithin, held_word}
 use Rattle.filter_check.specs.filter_paths.Covered.{HasLeast, LeadsTo, AreSomeEnds, AreEnds, AddsEnds}
 use Rattle.filter_check.specs.filter_paths.Walked.{AreEndsFor, TellsPaths}
-use Rattle.filter_check.specs.declared.filter_paths.region.Region.{Region}
 use Rattle.filter_check.specs.declared.filter_paths.states.State.{State}
 use Rattle.filter_check.specs.declared.filter_paths.states.End.{End}
 use Rattle.filter_check.proofs.Lists.{zip_lengths}
@@ -119,15 +118,3 @@ pub tells_more : (code : List Insn) (state : State) (most : ℕ) (new : List End
     → HasMorePaths code most
 tells_more code state most new start (more, lt, some) =
     (some.paths, some.once, each_is_path code state more start some, subst (λ n. most < n) (zip_lengths (LeadsTo code state) more some.paths some.lead) (omega (arith, lt)))
-
--- all ends for the data of a region, where the walk does not stop
-pub ends_within : (code : List Insn) (state : State) (region : Region) (most : ℕ) (new : List End) (all : Bool) → IsStart state
-    → sets_of state.region ≡ sets_of region → AddsEnds code state most [] new all → (all ≡ false → ⊥)
-    → AreEndsFor code (IsWithin region) new
-ends_within code state region most new true start same (more, e, all) whole =
-    subst (AreEndsFor code (IsWithin region)) (sym e)
-    (ends_for code state (IsWithin region) more start
-    (λ input fits within. subst (λ sets. AreWithin sets (words_of input)) same within)
-    (λ input fits within. subst (λ sets. AreWithin sets (words_of input)) (sym same) within)
-    all)
-ends_within code state region most new false start same adds whole = absurd (whole refl)

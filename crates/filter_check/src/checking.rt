@@ -9,9 +9,10 @@ ghost use Rattle.filter_check.specs.filter_paths.Traces.{HasPaths};
 ghost use Rattle.filter_check.specs.filter_paths.Walked.{AreEndsFor};
 ghost use Rattle.filter_check.specs.Finding.{Finds, IsLeastByRules, wanted_by};
 
-use crate::differences::{Difference, least_difference};
+use crate::differences::Difference;
 use crate::filter_paths::{End, all_ends, first_foreign};
 use crate::outcome::{CheckError, Outcome};
+use crate::walking::least_difference;
 use seccomp_compile::{Insn, Program, RuleSet, compile};
 use std::alloc::{AllocError, Global};
 

@@ -1,13 +1,10 @@
-//! The least difference of two programs.
-ghost use Rattle.std.specs.Prelude.{◌∷◌, [], IfOk};
-ghost use Rattle.seccomp_compile.specs.bpf_code.Reading.{IsProgram};
-ghost use Rattle.seccomp_compile.specs.Form.{AreOfForm};
-ghost use Rattle.filter_check.specs.Differing.{IsLeastFrom, IsLesser};
+//! Differences of two programs, and the lesser of two of them.
+ghost use Rattle.std.specs.Bool.{OnTrue};
+ghost use Rattle.filter_check.specs.Differing.{IsLesserAt, IsPassed};
 
-use crate::filter_paths::{End, ends_within};
+use crate::filter_paths::{End, Region};
 use crate::order::comes_before;
-use seccomp_compile::{CallData, Insn};
-use std::alloc::{AllocError, Global};
+use seccomp_compile::CallData;
 
 /// Call data on which two programs answer differently, and both answers.
 #[derive(Clone, Copy)]
@@ -17,9 +14,9 @@ pub struct Difference {
     pub ours: u32,
 }
 
-// Returns the lesser of the earlier difference and the end's own, if the end has another answer than theirs.
-fn lesser(old: Option<Difference>, end: &End, theirs: u32) -> Option<Difference>
-    ensures { IsLesser (end.now ∷ []) theirs old result }
+/// Returns the lesser of the earlier difference and the end's own, if the end has another answer than theirs.
+pub fn lesser(old: Option<Difference>, end: &End, theirs: u32) -> Option<Difference>
+    ensures { IsLesserAt end.now theirs old result }
 {
     if end.answer == theirs {
         return old;
@@ -41,31 +38,12 @@ fn lesser(old: Option<Difference>, end: &End, theirs: u32) -> Option<Difference>
     }
 }
 
-// Returns the least of the earlier difference and the differences at all ends whose answer is not theirs.
-fn least_of(own: &[End], theirs: u32, old: Option<Difference>) -> Option<Difference>
-    ensures { IsLesser own.now theirs old result }
+/// Returns whether no data of the region come before the difference that is found.
+pub fn is_passed(old: Option<Difference>, region: &Region) -> bool
+    ensures passed { OnTrue result (IsPassed old region.now) }
 {
-    let mut least = old;
-    for end in own {
-        least = lesser(least, end, theirs);
+    match old {
+        None => false,
+        Some(old) => !comes_before(&region.least(), &old.at),
     }
-    least
-}
-
-/// Finds the least call data on which our program answers differently from a program with these ends.
-pub fn least_difference(
-    alloc: Global,
-    ends: &[End],
-    ours: &[Insn],
-) -> Result<Option<Difference>, AllocError>
-    requires program { IsProgram ours.now }
-    requires form { AreOfForm ours.now }
-    ensures least { IfOk result (IsLeastFrom ends.now ours.now) }
-{
-    let mut least = None;
-    for end in ends {
-        let own = ends_within(alloc, ours, &end.region)?;
-        least = least_of(own.as_slice(), end.answer, least);
-    }
-    Ok(least)
 }

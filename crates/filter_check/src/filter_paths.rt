@@ -17,4 +17,7 @@ mod walks;
 pub use form::first_foreign;
 pub use region::Region;
 pub use states::End;
-pub use walks::{all_ends, ends_within};
+pub(crate) use states::{Next, State};
+pub(crate) use stepping::next;
+pub use walks::all_ends;
+pub(crate) use walks::start;

@@ -15,6 +15,7 @@ pub mod filter_paths;
 mod laws;
 mod order;
 mod outcome;
+mod walking;
 pub mod word_sets;
 
 pub use checking::check;

@@ -2,8 +2,7 @@
 ghost use Rattle.std.specs.Prelude.{◌≡◌, IfOk};
 ghost use Rattle.seccomp_compile.specs.bpf_code.Reading.{IsProgram};
 ghost use Rattle.seccomp_compile.specs.Form.{AreOfForm};
-ghost use Rattle.filter_check.specs.filter_paths.Regions.{IsWithin};
-ghost use Rattle.filter_check.specs.filter_paths.Walked.{AreEndsFor, TellsPaths};
+ghost use Rattle.filter_check.specs.filter_paths.Walked.{TellsPaths};
 
 use crate::filter_paths::ends::add_ends;
 use crate::filter_paths::held::Held;
@@ -12,8 +11,8 @@ use crate::filter_paths::states::{End, State};
 use seccomp_compile::Insn;
 use std::alloc::{AllocError, Global};
 
-// The first instruction, to which these data come.
-fn start(region: Region) -> State
+/// The first instruction, to which these data come.
+pub fn start(region: Region) -> State
     ensures first { result.at ≡ 0 }
     ensures nothing { result.held.mask ≡ 0 }
     ensures region { result.region ≡ region }
@@ -37,21 +36,4 @@ pub fn all_ends(alloc: Global, insns: &[Insn], most: usize) -> Result<Option<Vec
     } else {
         Ok(None)
     }
-}
-
-/// The ends of the paths that data of a region take.
-pub fn ends_within(alloc: Global, insns: &[Insn], region: &Region) -> Result<Vec<End>, AllocError>
-    requires program { IsProgram insns.now }
-    requires form { AreOfForm insns.now }
-    ensures ends { IfOk result (λ ends. AreEndsFor insns.now (IsWithin region.now) ends.items) }
-{
-    let mut found = Vec::new(alloc);
-    add_ends(
-        alloc,
-        insns,
-        start(region.copy(alloc)?),
-        usize::MAX,
-        &mut found,
-    )?;
-    Ok(found)
 }
