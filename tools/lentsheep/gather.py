@@ -3,6 +3,7 @@ from __future__ import annotations
 
 from typing import Optional
 
+from .ask import root_of
 from .brief import View
 from .causes import causes
 from .harm import FIRST_KEYS, candidates, groups, has_sandbox
@@ -34,7 +35,7 @@ def view_of(program: Program, run: Run, most: int | None = None) -> View:
     known = tried(program, unit, files, lines) if report.answers and run.status == 0 else None
     notes, passed = told_notes(report.notes, files), passed_over(files)
     # what modes are asked for is no parting any more
-    found = partings(Judged(said, report, plan, table, read_host(site)))
+    found = partings(Judged(said, report, plan, table, read_host(site), root_of() is not None))
     met = [parting for parting in found if modes is None or parting.name != "file-modes"]
     return View(report, plan, table, notes, met, user_names(site), passed, known, is_protected, identity(program, files))
 
@@ -43,7 +44,8 @@ def partings_of(program: Program, run: Run, report: Report) -> list[Parting]:
     """The partings that a report meets, made by a run of these words in this folder."""
     files = files_in_force(program.folder, unit_of(run))
     plan = plan_of(program, run, report)
-    return partings(Judged(Said(files), report, plan, read_table(program.folder), read_host(site_of(program))))
+    host = read_host(site_of(program))
+    return partings(Judged(Said(files), report, plan, read_table(program.folder), host, root_of() is not None))
 
 
 def notes_of(program: Program, report: Report, unit: str) -> View:

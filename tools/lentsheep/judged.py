@@ -33,6 +33,8 @@ class Judged:
     plan: Optional[Plan] = None
     table: Table = field(default_factory=Table)
     host: Host = field(default_factory=Host)
+    #: whether the unit's files are those that systemd reads of a root, drop-ins of other names too (tools/link-unit)
+    is_linked: bool = False
 
     @cached_property
     def _verdicts(self) -> dict[tuple[str, str], bool]:

@@ -10,6 +10,7 @@ from typing import Optional, Sequence
 
 from sites import units
 from sites.command import Site, make
+from sites.locations import Search
 from sites.root import Root
 from sites.site import Fault
 from sites.told import Told
@@ -125,8 +126,9 @@ def _of_root(word: str, root: str) -> LintedUnit:
     """A unit of a root by its name, with its drop-ins there."""
     name = units.read_name(judged_name(word if word.endswith(".service") else f"{word}.service"))
     there = Root(root)
-    paths = units.sources(there, name)[0] if name else []
-    if not paths or not name or units.fragment(there, name) is None:
+    search = Search(there)
+    paths = search.sources(name)[0] if name else []
+    if not paths or not name or search.fragment(name) is None:
         raise NoUnit(f"there is no file {word} here, and no unit of this name in {root}")
     found = []
     for at, path in enumerate(paths):
@@ -187,7 +189,8 @@ def site_of(unit: LintedUnit, place: str) -> bytes:
     known = asking.read_site(text.decode())
     if name is None:
         return text
-    says = units.said(LinkedFolder(place), name, Told())
+    folder = LinkedFolder(place)
+    says = units.said(folder, name, units.sources(folder, name), Told())
     rows = [(path, "file") for path in _WITNESSES]
     programs = [path.decode("utf-8", "replace") for path in says.programs if path.startswith(b"/")]
     rows += [(path, "exe") for path in programs]

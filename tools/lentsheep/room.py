@@ -14,6 +14,7 @@ from typing import Optional
 
 from sites import linking
 from sites.command import Site, make
+from sites.locations import LOCATIONS
 from sites.site import Fault
 
 from .home import COMMAND, NAME, TOP, absolute, current
@@ -22,7 +23,7 @@ from .spawn import ended_by_signals, make_folder, remove
 
 # What the program reads of the current folder.
 _OWN_FILES = ("etc", "run", "usr", "calls.txt", "site.toml", "site.toml.modes")
-_UNIT_PLACES = ("etc", "run", "usr/lib", "lib")
+_UNIT_PLACES = (*map(os.fsdecode, LOCATIONS), "/lib/systemd/system")
 # Commands about no unit, and those that print the ignored lines of a unit themselves.
 _WITHOUT_UNIT = ("fleet", "sample")
 _WITH_OWN_NOTES = ("why", "tighten", "effect")
@@ -223,7 +224,7 @@ class Room:
         stem, at, _ = unit.rpartition("@")
         names = [unit] + ([f"{stem}@.service"] if at else [])
         top = self.units or self.root
-        return any(os.path.lexists(f"{top}/{place}/systemd/system/{name}") for place in _UNIT_PLACES for name in names)
+        return any(os.path.lexists(f"{top}{place}/{name}") for place in _UNIT_PLACES for name in names)
 
     def _site_file(self, unit: str) -> str:
         """Returns the file of the site: the cached one, but for a unit by its path, and where a drop-in counts too."""

@@ -37,7 +37,7 @@ def files_in_force(folder: str, unit: str) -> list[UnitFile]:
         return []
     root = LinkedFolder(folder)
     found = []
-    for path in units.sources(root, name)[0]:
+    for path in units.sources(root, name):
         try:
             text = "" if units.is_mask(root, path) else root.read(path).decode("utf-8")
         except (OSError, ValueError):

@@ -8,6 +8,8 @@ from __future__ import annotations
 from typing import Callable
 
 from sites import units
+from sites.locations import LOCATIONS, Search
+from sites.placing import FIRST
 from sites.root import Root
 
 FOLDERS = (b".wants", b".requires", b".upholds")
@@ -17,16 +19,16 @@ ACTIVATING = {"socket": ("[Socket]", "Service"), "timer": ("[Timer]", "Unit"), "
 STARTED = b"/run/systemd/units"
 
 
-def pulled_in(root: Root) -> set[bytes]:
+def pulled_in(search: Search) -> set[bytes]:
     """The names that stand in the folders of units that are enabled, but for those of an initial file system."""
     found: set[bytes] = set()
-    for place in units.PLACES:
-        for folder in units.names_in(root, place):
+    for place, names in search.entries.items():
+        for folder in names:
             if folder.endswith(FOLDERS) and not folder.startswith(b"initrd"):
-                found.update(units.names_in(root, place + b"/" + folder))
+                found.update(units.names_in(search.root, place + b"/" + folder))
         # the name of D-Bus that an enabled unit has is a link in etc
-        if place == units.PLACES[0]:
-            found.update(name for name in units.names_in(root, place) if name.startswith(b"dbus-"))
+        if place == FIRST:
+            found.update(name for name in names if name.startswith(b"dbus-"))
     return found
 
 
@@ -35,27 +37,34 @@ def started(root: Root) -> set[bytes]:
     return {name.partition(b":")[2] for name in root.names(STARTED) if name.startswith(b"invocation:")}
 
 
-def settings(root: Root, name: str) -> list[units.Setting]:
-    """The sections, keys and values of the files of a unit of any kind."""
+def files_of(search: Search, name: str) -> list[bytes]:
+    """The paths of the files of a unit of any kind, by its own name and its template's."""
     stem, at, rest = name.partition("@")
     template = f"{stem}@.{rest.rpartition('.')[2]}" if at else name
-    found: list[units.Setting] = []
-    for file in dict.fromkeys([name, template]):
-        for place in units.PLACES:
-            path = place + b"/" + file.encode()
-            paths = [path] + [path + b".d/" + it for it in units.names_in(root, path + b".d")]
-            for it in filter(None, (units.standing(root, one) for one in paths)):
-                try:
-                    found += units.all_assignments(root.read(it).decode("utf-8"))
-                except (OSError, ValueError):
-                    continue
+    found: list[bytes] = []
+    for file in (it.encode() for it in dict.fromkeys([name, template])):
+        for place in LOCATIONS:
+            path, folder = place + b"/" + file, place + b"/" + file + b".d"
+            found += [path] if file in search.entries[place] else []
+            found += [folder + b"/" + it for it in units.names_in(search.root, folder)] if file + b".d" in search.entries[place] else []
     return found
 
 
-def activated(root: Root, name: str, own: Callable[[str], str]) -> list[str]:
+def settings(search: Search, name: str) -> list[units.Setting]:
+    """The sections, keys and values of the files of a unit of any kind."""
+    found: list[units.Setting] = []
+    for path in filter(None, (units.standing(search.root, path) for path in files_of(search, name))):
+        try:
+            found += units.all_assignments(search.root.read(path).decode("utf-8"))
+        except (OSError, ValueError):
+            continue
+    return found
+
+
+def activated(search: Search, name: str, own: Callable[[str], str]) -> list[str]:
     """The names that a unit pulls in or activates."""
     kind = name.rpartition(".")[2]
-    said = settings(root, name)
+    said = settings(search, name)
     found = [word for section, key, value in said if section == "[Unit]" and key in PULLING for word in value.split()]
     if kind in ACTIVATING:
         section, key = ACTIVATING[kind]
@@ -65,13 +74,13 @@ def activated(root: Root, name: str, own: Callable[[str], str]) -> list[str]:
     return [own(it) for it in found if "%" not in it]
 
 
-def enabled(root: Root, own: Callable[[str], str]) -> set[str]:
+def enabled(search: Search, own: Callable[[str], str]) -> set[str]:
     """The names of the units that are enabled or were started; `own` gives a unit's own name for another name of it."""
-    left = [own(name.decode("utf-8", "replace")) for name in sorted(pulled_in(root) | started(root))]
+    left = [own(name.decode("utf-8", "replace")) for name in sorted(pulled_in(search) | started(search.root))]
     found: set[str] = set()
     while left:
         name = left.pop()
         if name not in found:
             found.add(name)
-            left += activated(root, name, own)
+            left += activated(search, name, own)
     return found

@@ -7,6 +7,7 @@ import os
 from typing import Optional, Sequence
 
 from sites import units, walk
+from sites.locations import Search
 from sites.root import Root
 from sites.told import Kinds
 
@@ -44,8 +45,9 @@ def package_files(root: Root) -> list[bytes]:
 def files_behind(root: Root, unit_root: Root, names: Sequence[str]) -> list[bytes]:
     """The files and folders of this machine that a site is made from, but for those of its rows."""
     found = [root.outside(path) for path in (b"/etc/passwd", b"/etc/group")] + package_files(root)
+    search = Search(unit_root)
     for name in filter(None, map(units.read_name, names)):
-        files, folders = units.sources(unit_root, name)
+        files, folders = search.sources(name)
         found += [unit_root.outside(path) for path in files + folders]
     return found + own_files()
 

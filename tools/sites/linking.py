@@ -1,11 +1,15 @@
 """Links the files of a service unit of a root folder into another folder, where the program reads them.
 
-The files are all that may decide what the unit is: its fragment, the fragment of its template, and its drop-ins, in
-etc/systemd/system, run/systemd/system and usr/lib/systemd/system. Links of the root are followed within it, so an absolute
-link in a container's tree leads to the container's file. A link to /dev/null stays one. A unit that does not exist has no
-files, which is no fault. Nothing in the root is written.
+It links the files that systemd reads: the fragment of the unit or of its template, and one drop-in for each file name. systemd looks in etc/systemd/system, run/systemd/system, usr/local/lib/systemd/system, usr/lib/systemd/system and the
+folders of systemctl and of generators. It reads the drop-ins of the unit's other names (Alias=) too. What the program would not find
+at its own path is linked in etc/systemd/system, a drop-in in the folder UNIT.d there.
 
-If no unit has the name, a message on standard error names the unit that may be meant, or says why another kind of unit is not judged.
+Links of the root are followed within it, so an absolute link in a container's tree leads to the container's file. A link to /dev/null
+stays one. A unit that does not exist has no files, which is no fault. Nothing in the root is written.
+
+If several drop-ins have one file name, a message on standard error says which one applies. Another message lists each drop-in that is
+linked at another path. If no unit has the name, a message names the unit that may be meant, or says why another kind of unit is not
+judged.
 
 The name of the files is printed. If the unit's file leads to the file of another unit, the name is another name of that unit.
 Then the files of that unit are linked instead, with a message on standard error. With --all the files of the services are linked
@@ -16,10 +20,12 @@ from __future__ import annotations
 
 import os
 import sys
-from typing import TYPE_CHECKING, Iterator, Optional, Sequence
+from typing import TYPE_CHECKING, Iterator, Mapping, Sequence
 
 from sites import units
 from sites.enabled import enabled
+from sites.locations import DropIn, Search, is_read
+from sites.placing import FIRST, Places, place_of, places_of, places_of_all
 from sites.root import Root
 from sites.told import shown
 
@@ -49,80 +55,52 @@ def words(line: Sequence[str]) -> argparse.Namespace:
     return parser.parse_args(line)
 
 
-def candidates(root: Root, name: units.UnitName) -> Iterator[bytes]:
-    """The paths of the root that may be files of the unit."""
-    for place in units.PLACES:
-        for file in units.fragment_names(name):
-            yield place + b"/" + file
-        for folder in units.dropin_folders(name):
-            for file in units.names_in(root, place + b"/" + folder):
-                yield place + b"/" + folder + b"/" + file
-
-
-def link(root: Root, path: bytes, folder: bytes) -> None:
-    """Makes the link of one path, where it leads to something."""
+def link(root: Root, place: bytes, path: bytes, folder: bytes) -> None:
+    """Links a file of the root at a place below a folder; to /dev/null what is one, and a drop-in that says nothing."""
     found = units.standing(root, path)
-    if found is None or os.path.lexists(folder + path):
-        return
-    target = b"/dev/null" if units.is_mask(root, found) else root.outside(root.real(found))
-    os.makedirs(os.path.dirname(folder + path), exist_ok=True)
-    os.symlink(target, folder + path)
+    is_file = found is not None and not units.is_mask(root, found) and is_read(root, path)
+    target = root.outside(root.real(found)) if found and is_file else b"/dev/null"
+    os.makedirs(os.path.dirname(folder + place), exist_ok=True)
+    os.symlink(target, folder + place)
 
 
-def own_name(root: Root, name: units.UnitName) -> units.UnitName:
-    """The name of the unit that a name leads to, as the file that it leads to is named among the files of units."""
-    fragment = units.fragment(root, name)
-    if fragment is None or units.is_mask(root, fragment):
-        return name
-    folder, _, file = root.real(fragment).rpartition(b"/")
-    places = {root.real(way) for place in units.PLACES for way in units.ways(place) if root.stands(way)}
-    if folder not in places or file in units.fragment_names(name):
-        return name
-    text = file.decode("utf-8", "replace")
-    if name.instance is not None and text.endswith("@.service"):
-        text = f"{text.removesuffix('.service')}{name.instance}.service"
-    return units.read_name(text) or name
+def link_places(root: Root, places: Places, folder: bytes) -> None:
+    """Links all files."""
+    for place, path in places.items():
+        link(root, place, path, folder)
 
 
-def own_text(root: Root, text: str) -> str:
+def own_text(search: Search, text: str) -> str:
     """The own name of a unit by its text; that of a unit that is no service as it is."""
     name = units.read_name(text)
-    return own_name(root, name).text if name else text
+    return search.own_name(name).text if name else text
 
 
 def link_all(root: Root, folder: bytes, of_all: bool) -> tuple[list[str], int]:
     """Links the files of the services of the root, each by its own name, and gives these names in byte order, with how many of
     all there are left out: those that are not enabled and were not started, but with `of_all`. Instances that are enabled count.
     """
-    there = {shown(file) for place in units.PLACES for file in units.names_in(root, place) if file.endswith(b".service")}
-    names = {own_text(root, text) for text in there if units.read_name(text)}
-    wanted = enabled(root, lambda text: own_text(root, text))
-    instances = {text for text in wanted if "@" in text and _fragment(root, text)}
-    taken = names | instances if of_all else (names & wanted) | instances
-    for text in sorted(taken):
-        name = units.read_name(text)
-        for path in candidates(root, name) if name else []:
-            link(root, path, folder)
+    search = Search(root)
+    there = {shown(file) for entries in search.entries.values() for file in entries if file.endswith(b".service")}
+    names = {own_text(search, text) for text in there if units.read_name(text)}
+    wanted = enabled(search, lambda text: own_text(search, text))
+    instances = {text for text in wanted if "@" in text and (name := units.read_name(text)) and search.fragment(name)}
+    taken = sorted(names | instances if of_all else (names & wanted) | instances)
+    judged = list(filter(None, map(units.read_name, taken)))
+    places = places_of_all(search, judged)
+    for name in judged:
         # an instance has the file of its template
-        found = _fragment(root, text) if text not in there else None
+        found = search.fragment(name) if name.text not in there else None
         if found:
-            os.makedirs(folder + units.PLACES[0], exist_ok=True)
-            os.symlink(root.outside(root.real(found)), folder + units.PLACES[0] + b"/" + text.encode())
-    return sorted(taken), len(names - taken)
-
-
-def _fragment(root: Root, text: str) -> Optional[bytes]:
-    """The path of the fragment of a unit by its text; None where there is none, or it is no service."""
-    name = units.read_name(text)
-    return units.fragment(root, name) if name else None
+            places[FIRST + b"/" + name.text.encode()] = found
+    link_places(root, places, folder)
+    return taken, len(names - set(taken))
 
 
 def names_of_units(root: Root) -> list[str]:
     """The names of all units of the root, of whatever kind."""
-    names = set()
-    for place in units.PLACES:
-        names.update(shown(file) for file in units.names_in(root, place) if not file.endswith((b".d", b".wants", b".requires")))
-    return sorted(names)
+    files = {file for entries in Search(root).entries.values() for file in entries}
+    return sorted(shown(file) for file in files if not file.endswith((b".d", b".wants", b".requires", b".upholds")))
 
 
 def meant(root: Root, name: units.UnitName) -> str:
@@ -164,6 +142,22 @@ def tell_notes(folder: str, name: units.UnitName, file: str) -> None:
         tell(f"{it.place}: {it.text}")
 
 
+def paths_of(paths: Sequence[bytes]) -> str:
+    """Paths as they are told, as the program has them: without the slash of the root."""
+    return ", ".join(shown(path[1:]) for path in paths)
+
+
+def told_dropins(name: units.UnitName, dropins: Mapping[bytes, DropIn]) -> Iterator[str]:
+    """A line for each drop-in that hides others of its file name, and for each that is linked at another path."""
+    for it in dropins.values():
+        if it.hidden:
+            either = "; systemd may take another one, since it does not order a unit's other names" if it.is_either else ""
+            yield f"{paths_of([it.path])} applies, and hides {paths_of(it.hidden)}{either}"
+        place = place_of(name, it.path)
+        if place != it.path:
+            yield f"{paths_of([it.path])} is read as {paths_of([place])}"
+
+
 def tell(text: str) -> None:
     """Prints a message on standard error."""
     print(f"link-unit: {text}", file=sys.stderr, flush=True)
@@ -185,12 +179,15 @@ def link_unit(top: str, text: str, folder: str, as_named: bool = False, file: st
     root, name = Root(top), units.read_name(text)
     if name is None:
         return ""
-    own = name if as_named else own_name(root, name)
+    search = Search(root)
+    own = name if as_named else search.own_name(name)
     if own != name:
         tell(f"{name.text} is another name of {own.text}, which is judged")
-    for path in candidates(root, own):
-        link(root, path, os.fsencode(folder))
-    if not as_named and units.fragment(root, own) is None:
+    dropins = search.dropins(own)
+    link_places(root, places_of(search, own, dropins), os.fsencode(folder))
+    for it in told_dropins(own, dropins):
+        tell(it)
+    if not as_named and search.fragment(own) is None:
         tell_missing(root, top, own)
     if notes:
         tell_notes(folder, own, file)

@@ -5,6 +5,7 @@ import stat
 from typing import Optional, Sequence
 
 from sites import kept, machine, people, places, toml, units
+from sites.locations import Search
 from sites.root import Root, folded
 from sites.rows import Row, Rows, fault_of, parents_of
 from sites.spaces import user_namespaces
@@ -196,13 +197,13 @@ def read_people(root: Root, says: Sequence[units.Says], told: Told) -> tuple[lis
 
 def all_said(unit_root: Root, names: Sequence[str], told: Told, dropin: Optional[str] = None) -> list[units.Says]:
     """What each of the units says, with the text of a further drop-in; a name of no unit is told."""
-    found = []
+    found, search = [], Search(unit_root)
     for text in names:
         name = units.read_name(text)
-        if name is None or units.fragment(unit_root, name) is None:
+        if name is None or search.fragment(name) is None:
             told.add("units that do not exist", text.encode("utf-8", "surrogateescape"))
         else:
-            found.append(units.said(unit_root, name, told, dropin))
+            found.append(units.said(unit_root, name, search.sources(name)[0], told, dropin))
     return found
 
 

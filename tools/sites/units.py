@@ -1,14 +1,14 @@
 """The files of a service unit, and what they say of paths and people (systemd.unit(5), systemd.syntax(7), systemd.exec(5)).
 
 A unit is looked for where the program looks, and its lines, specifiers and words are read as the program reads them; what
-cannot be read is passed over, since the program notes or refuses it.
+cannot be read is passed over, since the program notes or refuses it. `locations` looks where systemd does.
 """
 from __future__ import annotations
 
 import errno
 import os
 import re
-from typing import Iterator, NamedTuple, Optional, Tuple
+from typing import Iterable, Iterator, NamedTuple, Optional, Tuple
 
 from sites.root import Root
 from sites.told import Told
@@ -117,7 +117,7 @@ def fragment(root: Root, name: UnitName) -> Optional[bytes]:
 
 
 def dropins(root: Root, name: UnitName) -> list[bytes]:
-    """The paths of the drop-ins in force, in the order in which they are applied."""
+    """The paths of the drop-ins that the program takes, in the order in which they are applied."""
     winners: dict[bytes, bytes] = {}
     for folder in dropin_folders(name):
         for place in PLACES:
@@ -128,11 +128,10 @@ def dropins(root: Root, name: UnitName) -> list[bytes]:
     return [path for _, path in sorted(winners.items())]
 
 
-def sources(root: Root, name: UnitName) -> tuple[list[bytes], list[bytes]]:
-    """The files in force, and the folders in which others may come to be."""
+def sources(root: Root, name: UnitName) -> list[bytes]:
+    """The files that the program takes."""
     found = fragment(root, name)
-    folders = PLACES + [place + b"/" + folder for folder in dropin_folders(name) for place in PLACES]
-    return ([found] if found else []) + dropins(root, name), [way for folder in folders for way in ways(folder)]
+    return ([found] if found else []) + dropins(root, name)
 
 
 def is_comment(line: str) -> bool:
@@ -281,11 +280,11 @@ def add_assignment(says: Says, key: str, value: str) -> None:
         add_words(says, key, words(value))
 
 
-def said(root: Root, name: UnitName, told: Told, dropin: Optional[str] = None) -> Says:
-    """What the files of a unit, and the text of a further drop-in, say, whether or not a later assignment takes it back."""
+def said(root: Root, name: UnitName, files: Iterable[bytes], told: Told, dropin: Optional[str] = None) -> Says:
+    """What these files of a unit, and the text of a further drop-in, say, whether or not a later assignment takes it back."""
     says = Says([], [], [], [], [], set(), set())
     texts = []
-    for path in sources(root, name)[0]:
+    for path in files:
         if is_mask(root, path):
             continue
         try:
