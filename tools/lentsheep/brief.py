@@ -14,6 +14,7 @@ from .notes import ToldNote
 from .parting_sides import bears_on
 from .partings import Direction, Parting, doubted
 from .places import Exceptional, described, is_below
+from .profiles import in_words
 from .record import dataclass, field
 from .screen import LABEL, Page, braced, counted, covered, parted
 from .table import Table
@@ -49,6 +50,8 @@ class View:
     has_sandbox: bool = True
     #: the program and the sums of what it read
     identity: Identity | None = None
+    #: the name of the profile that judged; empty where it is not known
+    profile: str = ""
 
 
 def brief(view: View, page: Page) -> list[str]:
@@ -72,7 +75,8 @@ def _head(view: View, page: Page) -> list[str]:
     counts = report.summary
     held = _held_less(len(doubted(view.partings)))
     verdict = f"denied {counts.denied},{held and f' {held},'} open {counts.open}" if counts else "no answers"
-    return [*page.lines("unit", f"{escaped(report.unit)}: {verdict}".split()), page.line("launched", _launch(view))]
+    profile = [page.line("profile", in_words(view.profile))] if view.profile else []
+    return [*page.lines("unit", f"{escaped(report.unit)}: {verdict}".split()), *profile, page.line("launched", _launch(view))]
 
 
 def _held_less(number: int) -> str:

@@ -106,6 +106,7 @@ def _brief_fleet(program: Program, words: list[str], most: int | None) -> int:
 def _html_fleet(program: Program, file: str, words: list[str]) -> int:
     from .fleet_view import folder_of, index_of, page_name, ranked, why
     from .page import STYLE
+    from .profiles import profile_in
     from .table import read_table
 
     run = asked(program, words)
@@ -124,7 +125,7 @@ def _html_fleet(program: Program, file: str, words: list[str]) -> int:
             _page_to(f"{folder}/{name}", program, program.run("judge", unit.row.unit))
         link = f"{os.path.basename(folder)}/{name}" if is_told else ""
         rows.append((unit, link, *why(program, unit, table)))
-    _text_to(file, index_of(rows, run.printed, STYLE))
+    _text_to(file, index_of(rows, run.printed, STYLE, profile_in(program)))
     return run.status
 
 
@@ -134,13 +135,16 @@ def _json(program: Program, words: list[str]) -> int:
     from .gather import view_of
     from .identity import identity
     from .jsonform import json_of
+    from .profiles import profile_in
     from .unit_text import files_in_force
 
     run = asked(program, words)
     is_told = isinstance(run.printed, Report) and run.printed.refusal is None
     view = view_of(program, run) if is_told else None
     made_by = view.identity if view else identity(program, files_in_force(program.folder, words[1] if len(words) > 1 else ""))
-    write(json.dumps(json_of(run, view, made_by), indent=1) + "\n")
+    # sample reads no site
+    profile = profile_in(program) if words[0] != "sample" else ""
+    write(json.dumps(json_of(run, view, made_by, profile), indent=1) + "\n")
     return run.status
 
 

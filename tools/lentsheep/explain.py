@@ -12,13 +12,17 @@ from . import asking
 from .bpf import action_name
 from .nearest import nearest
 from .report import parse
+from .site_text import profile_of
 from .table import Table, read_table
 from .unit_lines import Assignment, assignments_of, has_mark, lines_with
-from .unit_text import UnitFile, files_in_force
+from .unit_text import UnitFile, files_in_force, prefix_of
 from .values import Check, LaunchKilled, LaunchPrivileged, LaunchRefused, Printed, Refusal
 
 # Keys of settings whose words are paths of the host, which must be there but for a `-` before them.
-PATH_KEYS = ("ReadWritePaths", "ReadOnlyPaths", "InaccessiblePaths", "ExecPaths", "NoExecPaths", "BindPaths", "BindReadOnlyPaths")
+PATH_KEYS = (
+    "ReadWritePaths", "ReadOnlyPaths", "InaccessiblePaths", "ExecPaths", "NoExecPaths", "BindPaths", "BindReadOnlyPaths",
+    "ReadWriteDirectories", "ReadOnlyDirectories", "InaccessibleDirectories",
+)  # fmt: skip
 # The settings by which systemd makes a folder below each of these.
 MADE_BY = {"/run/": "RuntimeDirectory", "/var/lib/": "StateDirectory", "/var/cache/": "CacheDirectory", "/var/log/": "LogsDirectory"}
 # What a key that the model does not have would do, and what is left to judge.
@@ -96,7 +100,7 @@ def _of_refusal(refusal: Refusal, words: Sequence[str], files: Sequence[UnitFile
     told = {
         "not-found": lambda: _of_no_unit(unit, folder), "masked": lambda: [f"{unit} is masked: its file is empty or a link to /dev/null"],
         "missing": lambda: [_of_missing(refusal.what)], "no-command": lambda: _of_no_command(unit, files),
-        "privileged-command": lambda: _of_lines(files, ("ExecStart",), lambda it: it.value.startswith(("+", "!", "|")), _PRIVILEGED),
+        "privileged-command": lambda: _of_privileged(files, folder),
         "outside": lambda: _of_outside(name, unit, files, folder), "no-user": lambda: _of_no_name("user", name, files),
         "no-group": lambda: _of_no_name("group", name, files), "no-path": lambda: _of_no_path(name, unit, files, folder),
         "kind": lambda: _of_kind(name, files), "no-set": lambda: [_of_no_set(name)], "keep": lambda: _of_keep(name, words, folder),
@@ -114,6 +118,12 @@ def _of_lines(files: Sequence[UnitFile], keys: Sequence[str], is_meant: Callable
 
 
 _PRIVILEGED = ": a command with this prefix has privileges that the unit's settings do not give, so it is not judged"
+
+
+def _of_privileged(files: Sequence[UnitFile], folder: Folder) -> list[str]:
+    # with the key `systemd` of a site ! is no such prefix
+    marks = set("+") if profile_of(folder.text("site.toml")) else set("+!|")
+    return _of_lines(files, ("ExecStart",), lambda it: bool(marks & set(prefix_of(it.value))), _PRIVILEGED)
 
 
 def _of_no_unit(unit: str, folder: Folder) -> list[str]:

@@ -10,6 +10,7 @@ from typing import Optional, Sequence
 
 from .causes import causes
 from .harm import FIRST_KEYS, Group, candidates, closing, groups, has_sandbox
+from .profiles import in_a_sentence, in_words, profile_in
 from .program import Program
 from .record import dataclass
 from .report import parse
@@ -91,7 +92,9 @@ def brief_fleet(program: Program, fleet: Fleet, page: Page, most: int) -> list[s
     units, table = ranked(program, fleet, most), read_table(program.folder)
     rest = (fleet.units or 0) - (fleet.refused or 0) - len(units)
     refused = f", {fleet.refused} refused" if fleet.refused else ""
-    lines = [page.line("fleet", f"{counted(fleet.units or 0, 'unit')}{refused}; the least protected first"), ""]
+    lines = [page.line("fleet", f"{counted(fleet.units or 0, 'unit')}{refused}; the least protected first")]
+    profile = profile_in(program)
+    lines += [page.line("profile", in_words(profile)), ""] if profile else [""]
     for unit in units:
         reason, add = why(program, unit, table)
         lines.append(page.line(str(unit.row.exposure).rjust(8), f"{escaped(unit.row.unit)}: {unit.counts}"))
@@ -103,7 +106,7 @@ def brief_fleet(program: Program, fleet: Fleet, page: Page, most: int) -> list[s
     return lines + [page.line("" if at else "refused", text.partition(" ")[2]) for at, text in enumerate(refusals)]
 
 
-def index_of(units: Sequence[tuple[Unit, str, str, str]], fleet: Fleet, style: str) -> str:
+def index_of(units: Sequence[tuple[Unit, str, str, str]], fleet: Fleet, style: str, profile: str = "") -> str:
     """The page of all units: each with the name of its own page, or nothing, why, and what to add first."""
     rows = "".join(
         f'<tr><td>{unit.row.exposure}</td><td>{f"<a href={chr(34)}{escape(link)}{chr(34)}>" if link else ""}{escape(unit.row.unit)}'
@@ -122,7 +125,7 @@ def index_of(units: Sequence[tuple[Unit, str, str, str]], fleet: Fleet, style: s
 {style}</style>
 </head>
 <body>
-<header><h1>All units</h1></header>
+<header><h1>All units</h1>{f"<p>{escape(in_a_sentence(profile))}</p>" if profile else ""}</header>
 <main>
 <p>{counted(fleet.units or 0, "unit")}, the least protected first; {fleet.refused or 0} refused.</p>
 <div class="scroll"><table><thead><tr><th>Exposure</th><th>Unit</th><th>Answers</th><th>Why open</th><th>What to add first</th></tr></thead>

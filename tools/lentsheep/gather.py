@@ -12,6 +12,7 @@ from .identity import identity
 from .modes import FILE, read_modes, with_modes
 from .notes import told_notes
 from .partings import Judged, Parting, files_in_force, partings
+from .profiles import profile_named
 from .program import Program, Run
 from .site_text import user_names
 from .table import read_table
@@ -37,7 +38,8 @@ def view_of(program: Program, run: Run, most: int | None = None) -> View:
     # what modes are asked for is no parting any more
     found = partings(Judged(said, report, plan, table, read_host(site), root_of() is not None))
     met = [parting for parting in found if modes is None or parting.name != "file-modes"]
-    return View(report, plan, table, notes, met, user_names(site), passed, known, is_protected, identity(program, files))
+    made_by, profile = identity(program, files), profile_named(site)
+    return View(report, plan, table, notes, met, user_names(site), passed, known, is_protected, made_by, profile)
 
 
 def partings_of(program: Program, run: Run, report: Report) -> list[Parting]:

@@ -6,6 +6,7 @@ import re
 from typing import Mapping, Optional
 
 from .record import dataclass, field
+from .site_text import profile_of
 
 # A row, written as a table of its own or within a list: the path, and what stands behind it.
 _ROW = re.compile(r'\bpath\s*=\s*("(?:[^"\\\n]|\\.)*")(.*?)(?=\n\s*\n|\n\s*\[\[|\}|\Z)', re.DOTALL)
@@ -22,6 +23,8 @@ class Host:
 
     #: the version of systemd, as 252
     systemd: Optional[int] = None
+    #: the version of systemd by whose rules the program judges; None for the base profile
+    profile: Optional[int] = None
     #: `socket`, `pipe`, `device`, `disk` or `terminal` by the paths of such rows
     special: Mapping[str, str] = field(default_factory=dict)
     #: where rows with a link in their path lead, by their paths; empty where that is not known
@@ -51,9 +54,10 @@ def read_host(site: str) -> Host:
                 links[path] = link[1] or ""
             if not found and _EFFECTIVE.search(rest):
                 effective.add(path)
-    version = _SYSTEMD.search(site)
+    version, profile = _SYSTEMD.search(site), profile_of(site)
     lacking = {name for _, names in _LACKS.findall(site) for name in names.split()}
-    return Host(int(version[1]) if version else None, special, links, frozenset(effective), frozenset(lacking))
+    systemd = profile or (int(version[1]) if version else None)
+    return Host(systemd, profile, special, links, frozenset(effective), frozenset(lacking))
 
 
 def _text(written: str) -> str:

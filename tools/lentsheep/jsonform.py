@@ -25,13 +25,15 @@ VERSION = 1
 Json = dict[str, Any]
 
 
-def json_of(run: Run, view: View | None = None, made_by: Identity | None = None) -> Json:
+def json_of(run: Run, view: View | None = None, made_by: Identity | None = None, profile: str = "") -> Json:
     """All that a run printed; of a report also what its view tells."""
     printed = run.printed
     found: Json = {
         "version": VERSION, "command": printed.command, "words": list(run.words), "status": run.status, "whole": printed.whole,
         "refusal": _refusal(printed.refusal), "unread": list(printed.unread),
     }  # fmt: skip
+    if profile:
+        found["profile"] = profile
     if made_by is not None:
         found["made_by"] = {"version": made_by.version, "proved_by": made_by.proved_by, "sums": made_by.sums}
     if printed.refusal is None:

@@ -7,7 +7,9 @@ from __future__ import annotations
 from functools import cached_property
 from typing import Iterable, Mapping, Optional
 
+from .followed import FOLLOWED
 from .host import Host
+from .parting_keys import mounting
 from .parting_lists import ALL, capabilities_here, more_capabilities, words_of
 from .places import is_below
 from .record import dataclass, field
@@ -35,6 +37,10 @@ class Judged:
     host: Host = field(default_factory=Host)
     #: whether the unit's files are those that systemd reads of a root, drop-ins of other names too (tools/link-unit)
     is_linked: bool = False
+
+    def follows(self, name: str) -> bool:
+        """Whether the program judges by the site's version of systemd, and as it does where the base profile parts from it."""
+        return self.host.profile is not None and name in FOLLOWED
 
     @cached_property
     def _verdicts(self) -> dict[tuple[str, str], bool]:
@@ -67,7 +73,7 @@ class Judged:
 
     @cached_property
     def _groups(self) -> dict[str, frozenset[str]]:
-        built_in, own = read_groups(252 if self.host.systemd == 252 else 257), self.table.groups
+        built_in, own = read_groups(252 if self.host.systemd == 252 else 257, self.table.abis), self.table.groups
         return {name: built_in.get(name, frozenset()) | own.get(name, frozenset()) for name in {**built_in, **own}}
 
     @cached_property
@@ -103,7 +109,8 @@ class Judged:
     def lacks_capability(self, answer: Answer) -> bool:
         """Whether a call or a family asks for a capability that the service cannot have, there either."""
         asked = self.table.capabilities.get(answer.question.name)
-        return asked is not None and not self.holds(asked) and not more_capabilities(self.said)
+        may_have = not self.follows("capability-words") and bool(more_capabilities(self.said))
+        return asked is not None and not self.holds(asked) and not may_have
 
     def forbids_namespace(self, kind: str) -> bool:
         """Whether RestrictNamespaces= refuses a type."""
@@ -124,5 +131,5 @@ class Judged:
 
     @property
     def has_mounts(self) -> bool:
-        """Whether the service has mounts of its own."""
-        return bool(self.plan and len(self.plan.mounts) > 1)
+        """Whether the service has mounts of its own: by the plan, and without one by its keys."""
+        return len(self.plan.mounts) > 1 if self.plan else bool(mounting(self.said))

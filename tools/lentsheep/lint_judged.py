@@ -10,6 +10,7 @@ import os
 from typing import NamedTuple, Optional, Sequence
 
 from sites import units
+from sites.specifiers import expanded
 
 from . import asking
 from .causes import causes
@@ -204,7 +205,7 @@ class Judging:
             return ""
         word = word.lstrip("+").partition(":")[0] if key.startswith("Bind") else word.lstrip("+")
         name = units.read_name(self.unit.name)
-        path = (units.expanded(name, word) if name else word) or ""
+        path = (expanded(name, word) if name else word) or ""
         return path.rstrip("/") or "/" if path.startswith("/") else ""
 
     def _launch_fails(self, report: Report) -> None:

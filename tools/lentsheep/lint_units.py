@@ -12,6 +12,7 @@ from sites import units
 from sites.command import Site, make
 from sites.locations import Search
 from sites.root import Root
+from sites.says import said
 from sites.site import Fault
 from sites.told import Told
 
@@ -20,13 +21,13 @@ from .home import TOP, absolute
 from .record import dataclass
 from .room import walk_file
 from .site_text import with_rows
+from .table import TABLES, table_for
 from .unit_text import LinkedFolder, UnitFile
 
 #: The instance of which a template is judged.
 INSTANCE = "lint"
 _PLACE = "etc/systemd/system"
 _SITE = f"{TOP}/tables/debian/site.toml"
-_TABLES = f"{TOP}/tables/x86-64"
 # Files that show what protections close: each is below a folder that a setting of systemd.exec(5) speaks of.
 _WITNESSES = """
     /boot/vmlinuz /dev/kvm /dev/mem /dev/sda /etc/hosts /home/user/file /opt/file /proc/sys/kernel/core_pattern /root/file
@@ -158,16 +159,13 @@ def made_folder(unit: LintedUnit, place: str, root: Optional[str]) -> None:
     else:
         with open(f"{place}/site.toml", "wb") as out:
             out.write(site_of(unit, place))
-    os.symlink(_table_of(place) if root else f"{_TABLES}/calls2.txt", f"{place}/calls.txt")
+    os.symlink(_table_of(place) if root else f"{TABLES}/calls2.txt", f"{place}/calls.txt")
 
 
 def _table_of(place: str) -> str:
-    """The table for the site of a root, as --root takes it: by the root's systemd, and whether its kernel runs 32-bit programs."""
+    """The table for the site of a root, as --root takes it."""
     with open(f"{place}/site.toml", encoding="utf-8", errors="replace") as file:
-        heads = [line for line in file if line.startswith("# ")]
-    folder = f"{_TABLES}/252" if "# systemd 252\n" in heads else _TABLES
-    has_second = any(line.startswith("# kernel ") and line.endswith(", which runs programs of i386\n") for line in heads)
-    return f"{folder}/{'calls2' if has_second else 'calls'}.txt"
+        return f"{TABLES}/{table_for(file.read())}"
 
 
 def _site_of_root(unit: LintedUnit, place: str, root: str) -> None:
@@ -190,7 +188,7 @@ def site_of(unit: LintedUnit, place: str) -> bytes:
     if name is None:
         return text
     folder = LinkedFolder(place)
-    says = units.said(folder, name, units.sources(folder, name), Told())
+    says = said(folder, name, units.sources(folder, name), Told())
     rows = [(path, "file") for path in _WITNESSES]
     programs = [path.decode("utf-8", "replace") for path in says.programs if path.startswith(b"/")]
     rows += [(path, "exe") for path in programs]

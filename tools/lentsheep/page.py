@@ -20,6 +20,7 @@ from .parting_sides import bears_on
 from .page_filters import drawn
 from .page_tree import NONE, SIGNS, class_of, shown_tree
 from .partings import Parting, doubted
+from .profiles import in_a_sentence
 from .values import KINDS, SWITCHES, Answer, Filters, Launched, LaunchKilled, LaunchPrivileged, LaunchRefused, Plan, Report
 
 HERE = Path(__file__).resolve().parent
@@ -46,12 +47,13 @@ def page_of(view: View, filters: Optional[Filters] = None, names: Optional[Mappi
         sections.append(section("mounts", "Mounts", mounts(view.plan)))
     if filters and filters.filters:
         sections.append(section("filters", "Filters", pictures(filters, names)))
-    text = document(report.unit, sections, data_of(view, filters, names))
+    text = document(report.unit, in_a_sentence(view.profile) if view.profile else "", sections, data_of(view, filters, names))
     return text.encode("utf-8", "replace").decode("utf-8")
 
 
-def document(unit: str, sections: list[tuple[str, str, str]], data: str) -> str:
+def document(unit: str, profile: str, sections: list[tuple[str, str, str]], data: str) -> str:
     """The whole text."""
+    head = f'<h1>{escape(unit)}</h1>{f"<p>{escape(profile)}</p>" if profile else ""}'
     links = "".join(f'<a href="#{name}">{title}</a>' for name, title, _ in sections)
     return f"""<!doctype html>
 <html lang="en">
@@ -65,7 +67,7 @@ def document(unit: str, sections: list[tuple[str, str, str]], data: str) -> str:
 </head>
 <body>
 <a class="skip" href="#files">To the files</a>
-<header><h1>{escape(unit)}</h1></header>
+<header>{head}</header>
 <div class="bar"><div>
 <label>Search <input id="search" type="search" placeholder="denied write /etc" aria-describedby="found"></label>
 <span id="found" role="status" class="faint"></span>

@@ -17,7 +17,7 @@ from sites.command import Site, make
 from sites.locations import LOCATIONS
 from sites.site import Fault
 
-from .home import COMMAND, NAME, TOP, absolute, current
+from .home import COMMAND, NAME, absolute, current
 from .line import VIEWS_WITH_FILE, Line
 from .spawn import ended_by_signals, make_folder, remove
 
@@ -98,7 +98,10 @@ class Room:
         behind = 1 if line.command in _WITHOUT_UNIT else 2
         if self.root:
             self._link_root(behind)
+            is_named = bool(self.calls)
             self.calls = self.calls or self._table()
+            if is_named and self.site:
+                self._tell_other_version()
         else:
             self._link_current()
         for name, file in (("calls.txt", self.calls), ("site.toml", self.site)):
@@ -248,19 +251,28 @@ class Room:
             raise Failed(f"there is no site of {self.root}") from None
 
     def _table(self) -> str:
-        """Returns the table of calls for the site: groups of systemd 252 if the root has it, and the calls of i386 if its kernel runs them."""
-        folder, name = f"{TOP}/tables/x86-64", "calls.txt"
+        """Returns the table of calls for the site."""
+        from .table import TABLES, table_for
+
+        name = "calls.txt"
         if self.site:
             with open(self.site, encoding="utf-8", errors="replace") as site:
-                heads = []
-                for line in site:
-                    if not line.startswith("# "):
-                        break
-                    heads.append(line)
-            folder += "/252" if any(it.startswith("# systemd 252") for it in heads[1:]) else ""
-            if any(it.startswith("# kernel ") and ", which runs programs of i386" in it for it in heads[1:]):
-                name = "calls2.txt"
-        return f"{folder}/{name}"
+                name = table_for(site.read())
+        return f"{TABLES}/{name}"
+
+    def _tell_other_version(self) -> None:
+        """Tells a table that was named and has the groups of another version of systemd than the site."""
+        from .site_text import profile_of
+        from .table import version_of
+
+        try:
+            with open(self.site, encoding="utf-8", errors="replace") as site, open(self.calls, encoding="utf-8", errors="replace") as calls:
+                profile, version = profile_of(site.read()), version_of(calls.readline())
+        except OSError:
+            return
+        if profile and version and profile != version:
+            told = f"{self.calls} has the groups of systemd {version}, and the unit is judged by the rules of systemd {profile}"
+            print(f"{NAME}: {told}", file=sys.stderr, flush=True)
 
 
 def cache_folder() -> str:

@@ -2,11 +2,14 @@
 from __future__ import annotations
 
 import os
+import re
 from functools import lru_cache
+from typing import Optional
 
 from .record import dataclass, field
+from .site_text import heads_of, profile_of
 
-#: The tables of this tree, with the groups of systemd 257; those of 252 are in a folder of their own.
+#: The tables of this tree; those of a version of systemd are in a folder of its own.
 TABLES = f"{os.path.dirname(os.path.dirname(os.path.dirname(os.path.realpath(__file__))))}/tables/x86-64"
 
 
@@ -24,10 +27,10 @@ class Table:
     abis: int = 1
 
 
-def read_table(folder: str) -> Table:
+def read_table(folder: str, name: str = "calls.txt") -> Table:
     """The table of a folder that the program reads."""
     try:
-        with open(f"{folder}/calls.txt", encoding="utf-8", errors="replace") as file:
+        with open(f"{folder}/{name}", encoding="utf-8", errors="replace") as file:
             text = file.read()
     except OSError:
         return Table()
@@ -51,7 +54,26 @@ def table_of(text: str) -> Table:
     return table
 
 
+def table_for(site: str) -> str:
+    """The table of calls that goes with the text of a site, by its name below `TABLES`.
+
+    It is of the version of the key `systemd`, over both ABIs. Of a site without the key it has the groups of 252 where the root has
+    that systemd, and both ABIs where the root's kernel runs programs of i386.
+    """
+    profile, heads = profile_of(site), heads_of(site)[1:]
+    if profile is not None:
+        return f"{profile}/calls2.txt"
+    folder = "252/" if any(it.startswith("systemd 252") for it in heads) else ""
+    return folder + ("calls2.txt" if any(it.startswith("kernel ") and ", which runs programs of i386" in it for it in heads) else "calls.txt")
+
+
+def version_of(table: str) -> Optional[int]:
+    """The version of systemd whose groups a table has, as tools/make-calls writes it into its first line."""
+    found = re.match(r"# .* with the groups of systemd ([0-9]+):", table)
+    return int(found[1]) if found else None
+
+
 @lru_cache(maxsize=None)
-def read_groups(version: int = 257) -> dict[str, frozenset[str]]:
-    """The groups of a version of systemd; none where this tree has no table of it."""
-    return read_table(f"{TABLES}/{version}" if version != 257 else TABLES).groups
+def read_groups(version: int, abis: int = 1) -> dict[str, frozenset[str]]:
+    """The groups of a version of systemd, over one ABI or two; none where this tree has no table of it."""
+    return read_table(f"{TABLES}/{version}", "calls2.txt" if abis > 1 else "calls.txt").groups

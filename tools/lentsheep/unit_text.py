@@ -103,6 +103,11 @@ class Said:
         return tuple(key for key in keys if self.lines(key))
 
 
+def prefix_of(command: str) -> str:
+    """What stands before the program of a command."""
+    return command[: len(command) - len(command.lstrip("-:@+!|"))]
+
+
 def listed(said: Said, key: str) -> Optional[tuple[bool, set[str]]]:
     """Whether a list of SystemCallFilter= or RestrictAddressFamilies= denies, and its names; None where there is no list.
 

@@ -50,8 +50,9 @@ _OF_PLAN = (
     ("home-tmpfs", r"/(home|root|run/user)(/|$)"),
     ("tunables-cgroup", r"/sys/fs/(cgroup|selinux)(/|$)"), ("sys-writable", r"/sys(/|$)"),
     ("private-folders", r"/var/(lib|cache|log)/private(/|$)"), ("memory-pressure", r"/sys/fs/cgroup(/|$)"), ("device-folders", r"/dev(/|$)"),
+    ("device-log", r"/dev/log$"),
     ("shared-tmp", r"/(var/)?tmp(/|$)"), ("disconnected-tmp", r"/(var/)?tmp(/|$)"),
-    *((name, r"") for name in ("old-names-open", "flags-apart", "linked-folders", "beaten", "folders-open", "links")),
+    *((name, r"") for name in ("old-names-open", "flags-apart", "linked-folders", "beaten", "folders-open", "folders-shown", "links")),
 )  # fmt: skip
 
 

@@ -1,8 +1,9 @@
 """The table of calls that a site asks for, and what it says."""
 from __future__ import annotations
 
-import re
 from pathlib import Path
+
+from lentsheep.table import table_for
 
 from .kernel import TOP
 
@@ -11,9 +12,7 @@ TABLES = TOP / "tables" / "x86-64"
 
 def table_of(site: str) -> Path:
     """The table of calls for a site, as `./sandbox --root` takes it."""
-    heads = "".join(line + "\n" for line in site.splitlines() if line.startswith("# "))
-    folder = TABLES / "252" if re.search(r"^# systemd 252", heads, re.MULTILINE) and (TABLES / "252").is_dir() else TABLES
-    return folder / ("calls2.txt" if re.search(r"^# kernel .*which runs programs of i386", heads, re.MULTILINE) else "calls.txt")
+    return TABLES / table_for(site)
 
 
 def calls_of(path: Path) -> tuple[dict[str, int], dict[str, list[str]], dict[str, int], dict[str, int]]:

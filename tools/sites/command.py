@@ -16,6 +16,9 @@ The site also has the parents of each row. Standard error, and the first lines o
 not be read, with counts. The first lines also have the root's version of systemd, its kernel if it runs, and the calls and
 families of tables/x86-64/calls.txt that this kernel lacks. Sockets, pipes, devices, disks and terminals are files, and a comment
 says which they are. The comment of a path through a link says where it leads.
+
+The key `systemd` is 252 or 257 if the root has exactly this version of systemd: the program then judges by its rules. With another
+version the site has no such key, and standard error and the first lines of the site say why.
 """
 from __future__ import annotations
 

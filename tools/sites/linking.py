@@ -1,8 +1,9 @@
 """Links the files of a service unit of a root folder into another folder, where the program reads them.
 
-It links the files that systemd reads: the fragment of the unit or of its template, and one drop-in for each file name. systemd looks in etc/systemd/system, run/systemd/system, usr/local/lib/systemd/system, usr/lib/systemd/system and the
-folders of systemctl and of generators. It reads the drop-ins of the unit's other names (Alias=) too. What the program would not find
-at its own path is linked in etc/systemd/system, a drop-in in the folder UNIT.d there.
+It links the files that systemd reads: the fragment of the unit or of its template, and one drop-in for each file name. systemd looks
+in etc/systemd/system, run/systemd/system, usr/local/lib/systemd/system, usr/lib/systemd/system and the folders of systemctl and of
+generators. It reads the drop-ins of the unit's other names (Alias=) too. What the program would not find at its own path is linked in
+etc/systemd/system, a drop-in in the folder UNIT.d there.
 
 Links of the root are followed within it, so an absolute link in a container's tree leads to the container's file. A link to /dev/null
 stays one. A unit that does not exist has no files, which is no fault. Nothing in the root is written.
@@ -56,7 +57,10 @@ def words(line: Sequence[str]) -> argparse.Namespace:
 
 
 def link(root: Root, place: bytes, path: bytes, folder: bytes) -> None:
-    """Links a file of the root at a place below a folder; to /dev/null what is one, and a drop-in that says nothing."""
+    """Links a file of the root at a place below a folder, unless a link is there; to /dev/null what is one, and a drop-in that says
+    nothing."""
+    if os.path.lexists(folder + place):
+        return
     found = units.standing(root, path)
     is_file = found is not None and not units.is_mask(root, found) and is_read(root, path)
     target = root.outside(root.real(found)) if found and is_file else b"/dev/null"

@@ -24,8 +24,10 @@ OF_ALL = b"service.d"
 
 
 class DropIn(NamedTuple):
-    """The drop-ins of one file name: the path of the one in force, those that it hides, and whether it is of another name of the unit
-    while a second other name has such a drop-in too, of which systemd takes either."""
+    """The drop-ins of one file name: the path of the one in force and the paths that it hides.
+
+    `is_either`: two other names of the unit have one each and its own name has none, so that systemd takes either.
+    """
 
     path: bytes
     hidden: tuple[bytes, ...]

@@ -6,12 +6,16 @@ import re
 from typing import Iterable, Mapping, Optional
 
 from sites.root import Root
-from sites.told import shown
+from sites.told import Told, shown
 
-# Where Debian and others have the library whose name has the version, and what dpkg knows of the package.
-LIBRARY = re.compile(r"libsystemd-(?:core|shared)-([0-9]+)")
+# Where Debian and others have the libraries whose names have the version, the nearest to the manager first, and what dpkg knows of the
+# package. A version before its release is none.
+LIBRARIES = tuple(re.compile(rf"libsystemd-{it}-([0-9]+)(?![0-9~])") for it in ("core", "shared"))
 FOLDERS = (b"/usr/lib/systemd", b"/lib/systemd", b"/usr/lib64/systemd")
 PACKAGES = b"/var/lib/dpkg/status"
+PACKAGED = re.compile(r"^Version: (?:[0-9]+:)?([0-9]+)(?![0-9~])", re.M)
+# The versions of systemd whose rules the program has: the values of the key `systemd` of a site.
+PROFILES = (252, 257)
 RELEASE = b"/proc/sys/kernel/osrelease"
 # There where the kernel runs programs of i386 (arch/x86/entry/vdso/vdso32-setup.c).
 SECOND_ABI = b"/proc/sys/abi/vsyscall32"
@@ -29,26 +33,34 @@ PROTOCOLS_OF = {
 }  # fmt: skip
 
 
-def systemd_version(root: Root) -> Optional[int]:
-    """The version of systemd, as 252; None where the root has none."""
+def systemd_versions(root: Root) -> list[int]:
+    """The versions of systemd that a root has, as 252: of its libraries, or of the package where it has none."""
     triplets = [b"/usr/lib/" + name + b"/systemd" for name in root.names(b"/usr/lib") if name.endswith(b"-linux-gnu")]
-    for folder in (*FOLDERS, *triplets):
-        for name in root.names(folder):
-            found = LIBRARY.match(name.decode(errors="replace"))
-            if found:
-                return int(found[1])
-    return packaged_version(root)
+    names = [name.decode(errors="replace") for folder in (*FOLDERS, *triplets) for name in root.names(folder)]
+    for library in LIBRARIES:
+        versions = {int(found[1]) for found in map(library.match, names) if found}
+        if versions:
+            return sorted(versions)
+    found = PACKAGED.search(package_of(read_text(root, PACKAGES)))
+    return [int(found[1])] if found else []
 
 
-def packaged_version(root: Root) -> Optional[int]:
-    """The version of the package, by what dpkg knows."""
-    try:
-        text = root.read(PACKAGES).decode(errors="replace")
-    except OSError:
-        return None
-    package = next((it for it in text.split("\n\n") if it.startswith("Package: systemd\n")), "")
-    found = re.search(r"^Version: ([0-9]+)", package, re.M)
-    return int(found[1]) if found else None
+def package_of(status: str) -> str:
+    """What dpkg knows of the package of systemd."""
+    return next((it for it in status.split("\n\n") if it.startswith("Package: systemd\n")), "")
+
+
+def profile(root: Root, told: Told) -> Optional[int]:
+    """The version of systemd by whose rules the program judges the units of a root; None, which is told, where it has no rules of it."""
+    versions = systemd_versions(root)
+    if len(versions) == 1 and versions[0] in PROFILES:
+        return versions[0]
+    if not versions:
+        told.add("without the key systemd, since the root does not show its version", FOLDERS[0])
+    for version in versions:
+        why = "the root has several versions" if len(versions) > 1 else f"only the rules of {' and '.join(map(str, PROFILES))} are known"
+        told.add(f"without the key systemd, since {why}", f"systemd {version}".encode())
+    return None
 
 
 def read_text(root: Root, path: bytes) -> str:
@@ -61,8 +73,8 @@ def read_text(root: Root, path: bytes) -> str:
 
 def heads(root: Root) -> list[str]:
     """The lines that say what systemd and what kernel a root has."""
-    version, release = systemd_version(root), read_text(root, RELEASE).strip()
-    found = [f"systemd {version}"] if version else []
+    versions, release = systemd_versions(root), read_text(root, RELEASE).strip()
+    found = [f"systemd {versions[0]}"] if len(versions) == 1 else []
     if release:
         runs = ", which runs programs of i386" if root.stands(SECOND_ABI) else ""
         found.append(f"kernel {shown(release.encode())}{runs}")

@@ -14,6 +14,15 @@ PROTECTED = """
     /var/lib /run /var/cache /var/log
 """.split()
 
+# Of what they speak besides in a site with the key `systemd`.
+PROTECTED_BY_KEY = """
+    /bin /sbin /lib /lib64 /lib/modules
+    /proc/apm /proc/asound /proc/bus /proc/mtrr /proc/scsi /proc/sys/kernel/hostname /proc/sys/kernel/domainname
+    /sys/fs/bpf /sys/fs/selinux /sys/kernel/debug /sys/kernel/tracing
+    /dev/ptmx /dev/pts /dev/shm /dev/mqueue /dev/hugepages
+    /run/credentials
+""".split()
+
 # Secrets, what says who may do what, and ways to the kernel and to other services; `*` stands for any name.
 SENSITIVE = """
     /etc/passwd /etc/group /etc/shadow /etc/shadow- /etc/gshadow /etc/gshadow- /etc/security/opasswd
@@ -43,6 +52,12 @@ RUNNING = {
         /proc/kallsyms /proc/kcore /proc/kmsg /proc/sysrq-trigger
         /dev/full /dev/kmsg /dev/log /dev/null /dev/ptmx /dev/random /dev/tty /dev/urandom /dev/zero
     """,
+}
+
+# The same in a site with the key: systemd mounts these, and makes the last.
+RUNNING_BY_KEY = {
+    "dir": "/proc/bus /sys/fs/bpf /sys/kernel/debug /sys/kernel/tracing /dev/mqueue /dev/hugepages /run/credentials",
+    "file": "/proc/sys/kernel/hostname /proc/sys/kernel/domainname",
 }
 
 # Where what stands comes and goes, so that folders below are no rows of their own.

@@ -45,7 +45,8 @@ def places_of(search: Search, name: units.UnitName, dropins: Mapping[bytes, Drop
 def places_of_all(search: Search, names: Iterable[units.UnitName]) -> Places:
     """The places of the files of units that are found in one folder.
 
-    None of them hides another unit's: of two folders that two units share, both orders have the same one first for both units.
+    None hides another unit's file: the folders that two units share have one order for both, so that a drop-in in force for one of them
+    precedes nothing that is in force for the other.
     """
     placed: Places = {}
     for name in names:

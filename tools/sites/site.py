@@ -2,12 +2,13 @@
 from __future__ import annotations
 
 import stat
-from typing import Optional, Sequence
+from typing import Mapping, Optional, Sequence
 
 from sites import kept, machine, people, places, toml, units
 from sites.locations import Search
 from sites.root import Root, folded
 from sites.rows import Row, Rows, fault_of, parents_of
+from sites.says import Says, said
 from sites.spaces import user_namespaces
 from sites.told import Told
 from sites.walk import Found, leads_to_folder, walk
@@ -22,12 +23,11 @@ def is_below(path: bytes, folder: bytes) -> bool:
     return path.startswith(folder + b"/")
 
 
-def add_running(rows: Rows) -> None:
+def add_running(rows: Rows, running: Mapping[str, str]) -> None:
     """Takes rows for what a running system has, where this one does not run: nothing stands in its /proc."""
     if rows.root.names(b"/proc"):
         return
-    for path, kind in [(path, kind) for kind, paths in places.RUNNING.items() for path in paths.split()]:
-        path = path.encode()
+    for path, kind in [(path.encode(), kind) for kind, paths in running.items() for path in paths.split()]:
         if not rows.root.stands(path):
             rows.told.add("rows of every running system, since this /proc is empty", path)
         rows.add(path, made=kind)
@@ -43,7 +43,7 @@ def tell_links(rows: Rows, path: bytes) -> None:
         rows.told.add("paths of the units that lead through links, and are judged apart from their targets", path)
 
 
-def add_said(rows: Rows, says: units.Says) -> None:
+def add_said(rows: Rows, says: Says) -> None:
     """Takes the rows of what a unit says."""
     for path in says.programs:
         if path.startswith(b"/"):
@@ -101,7 +101,7 @@ def add_sockets(rows: Rows, found: Sequence[Found]) -> None:
         rows.add(path)
 
 
-def parted_folders(says: units.Says) -> list[bytes]:
+def parted_folders(says: Says) -> list[bytes]:
     """The folders of whose children some may be shown and others not: places of empty file systems, and below such a place
     the folders above what the unit names."""
     emptied = list(filter(None, map(folded, says.emptied)))
@@ -110,7 +110,7 @@ def parted_folders(says: units.Says) -> list[bytes]:
     return emptied + [folder for folder in above if any(is_below(folder, top) for top in emptied)]
 
 
-def add_parted(rows: Rows, says: units.Says) -> None:
+def add_parted(rows: Rows, says: Says) -> None:
     """Takes the rows of the folders beside what an empty file system shows."""
     for folder in sorted(set(parted_folders(says))):
         for path in [folder.rstrip(b"/") + b"/" + name for name in rows.root.names(folder)]:
@@ -152,13 +152,15 @@ def add_folder(rows: Rows, path: bytes, is_link: bool) -> None:
         rows.put(path, rows.folder_row(path) if is_link else Row("dir"))
 
 
-def add_rows(rows: Rows, all_said: Sequence[units.Says], also: list[bytes], full: bool, keep: str) -> None:
+def add_rows(rows: Rows, all_said: Sequence[Says], also: list[bytes], full: bool, keep: str, has_key: bool = False) -> None:
     """Takes all rows, the most telling first."""
     rows.put(b"/", Row("dir"))
     rows.put(b"/proc", Row("dir"))
-    for path in places.PROTECTED:
+    for path in places.PROTECTED + (places.PROTECTED_BY_KEY if has_key else []):
         rows.add(path.encode())
-    add_running(rows)
+    add_running(rows, places.RUNNING)
+    if has_key:
+        add_running(rows, places.RUNNING_BY_KEY)
     for says in all_said:
         add_said(rows, says)
     for path in also:
@@ -176,7 +178,7 @@ def add_rows(rows: Rows, all_said: Sequence[units.Says], also: list[bytes], full
     add_folders(rows, found, full)
 
 
-def read_people(root: Root, says: Sequence[units.Says], told: Told) -> tuple[list[people.User], list[people.Group]]:
+def read_people(root: Root, says: Sequence[Says], told: Told) -> tuple[list[people.User], list[people.Group]]:
     """The users and groups, at most as many as a site has."""
     try:
         passwd = root.read(b"/etc/passwd")
@@ -195,7 +197,7 @@ def read_people(root: Root, says: Sequence[units.Says], told: Told) -> tuple[lis
     return users, people.at_most(groups, wanted_groups, "etc/group", told)
 
 
-def all_said(unit_root: Root, names: Sequence[str], told: Told, dropin: Optional[str] = None) -> list[units.Says]:
+def all_said(unit_root: Root, names: Sequence[str], told: Told, dropin: Optional[str] = None, has_key: bool = False) -> list[Says]:
     """What each of the units says, with the text of a further drop-in; a name of no unit is told."""
     found, search = [], Search(unit_root)
     for text in names:
@@ -203,7 +205,7 @@ def all_said(unit_root: Root, names: Sequence[str], told: Told, dropin: Optional
         if name is None or search.fragment(name) is None:
             told.add("units that do not exist", text.encode("utf-8", "surrogateescape"))
         else:
-            found.append(units.said(unit_root, name, search.sources(name)[0], told, dropin))
+            found.append(said(unit_root, name, search.sources(name)[0], told, dropin, has_key))
     return found
 
 
@@ -221,14 +223,17 @@ def make_site(
 
     The walks are kept in the file `keep`, and `dropin` is the text of a drop-in that applies to each unit besides its own.
     """
-    says = all_said(unit_root, names, told, dropin)
+    profile = machine.profile(root, told)
+    says = all_said(unit_root, names, told, dropin, profile is not None)
     users, groups = read_people(root, says, told)
     rows = Rows(root, told, names)
     tell_owner(root, told)
-    add_rows(rows, says, also, full, keep)
-    numbers = people.dynamic_uid(users, groups), user_namespaces(root, told)
+    add_rows(rows, says, also, full, keep, profile is not None)
+    numbers = {
+        "systemd": profile, "dynamic_uid": people.dynamic_uid(users, groups), "user_namespaces": user_namespaces(root, told),
+    }  # fmt: skip
     counts = f"{len(rows.rows)} rows, {len(users)} users, {len(groups)} groups"
-    text = toml.site_text([*head, *machine.kernel_heads(root), counts, *told.lines()], *numbers, rows.rows, users, groups)
+    text = toml.site_text([*head, *machine.kernel_heads(root), counts, *told.lines()], numbers, rows.rows, users, groups)
     if len(text) > toml.LONGEST:
         raise Fault(f"the site has {len(text)} bytes, but the program reads at most {toml.LONGEST}")
     return text

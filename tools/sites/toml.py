@@ -52,12 +52,11 @@ def group_text(group: Group) -> str:
 
 
 def site_text(
-    heads: Sequence[str], dynamic_uid: int, user_namespaces: Optional[int], rows: Mapping[bytes, Row], users: Sequence[User], groups: Sequence[Group]
+    heads: Sequence[str], numbers: Mapping[str, Optional[int]], rows: Mapping[bytes, Row], users: Sequence[User], groups: Sequence[Group]
 ) -> bytes:
-    """The whole text, with first lines that say where it comes from. Rows stand in byte order of their paths."""
-    top = f"dynamic_uid = {dynamic_uid}\n"
-    if user_namespaces is not None:
-        top += f"user_namespaces = {user_namespaces}\n"
+    """The whole text, with first lines that say where it comes from, and its numbers by their keys. Rows stand in byte order of their
+    paths."""
+    top = "".join(f"{key} = {number}\n" for key, number in numbers.items() if number is not None)
     tables = ["".join(f"# {line}\n" for line in heads) + top]
     tables += [row_text(path.decode("utf-8"), row) for path, row in sorted(rows.items())]
     tables += [user_text(user) for user in users]

@@ -1,35 +1,22 @@
-"""The files of a service unit, and what they say of paths and people (systemd.unit(5), systemd.syntax(7), systemd.exec(5)).
+"""The files of a service unit, and their lines and words (systemd.unit(5), systemd.syntax(7)).
 
-A unit is looked for where the program looks, and its lines, specifiers and words are read as the program reads them; what
-cannot be read is passed over, since the program notes or refuses it. `locations` looks where systemd does.
+A unit is looked for where the program looks, and its lines and words are read as the program reads them. `locations` looks where
+systemd does, and `says` has what the lines say.
 """
 from __future__ import annotations
 
 import errno
 import os
 import re
-from typing import Iterable, Iterator, NamedTuple, Optional, Tuple
+from typing import Iterator, NamedTuple, Optional, Tuple
 
 from sites.root import Root
-from sites.told import Told
 
 PLACES = [b"/etc/systemd/system", b"/run/systemd/system", b"/usr/lib/systemd/system"]
 # How a path can lead to nothing.
 NOT_THERE = (errno.ENOENT, errno.ENOTDIR, errno.ELOOP)
 SPACES = " \t\r"
 ESCAPES = {"\\": b"\\", '"': b'"', "'": b"'", " ": b" ", "s": b" ", "n": b"\n", "t": b"\t"}
-# Commands, of whose values the first word is a program.
-COMMANDS = {"ExecCondition", "ExecStartPre", "ExecStart", "ExecStartPost", "ExecReload", "ExecStop", "ExecStopPost"}
-PATH_LISTS = {"ReadWritePaths", "ReadOnlyPaths", "InaccessiblePaths", "ExecPaths", "NoExecPaths"}
-BINDS = {"BindPaths", "BindReadOnlyPaths"}
-FOLDERS = {
-    "StateDirectory": "/var/lib/",
-    "RuntimeDirectory": "/run/",
-    "CacheDirectory": "/var/cache/",
-    "LogsDirectory": "/var/log/",
-}
-
-
 # A section with its brackets, or None in front of all sections, a key and its value.
 Setting = Tuple[Optional[str], str, str]
 
@@ -40,19 +27,6 @@ class UnitName(NamedTuple):
     text: str
     prefix: str
     instance: Optional[str]
-
-
-class Says(NamedTuple):
-    """What a unit says: its programs, paths that are to be there, paths that may be missing, places of empty file systems
-    (which may be missing too), folders that systemd makes, and the names of users and groups."""
-
-    programs: list[bytes]
-    paths: list[bytes]
-    optional: list[bytes]
-    emptied: list[bytes]
-    folders: list[bytes]
-    users: set[str]
-    groups: set[str]
 
 
 def read_name(text: str) -> Optional[UnitName]:
@@ -175,33 +149,6 @@ def assignments(text: str) -> Iterator[tuple[str, str]]:
             yield key, value
 
 
-def unescaped(text: str) -> str:
-    """A part of a name without its escapes: `-` is a slash and `\\xNN` a byte."""
-    raw = text.replace("-", "/").encode()
-    return re.sub(rb"\\x([0-9A-Fa-f]{2})", lambda found: bytes([int(found[1], 16)]), raw).decode("utf-8")
-
-
-def specified(name: UnitName) -> dict[str, str]:
-    """What the specifiers stand for, by their letters."""
-    instance = name.instance or ""
-    last = name.prefix.rpartition("-")[2]
-    plain = {
-        "%": "%", "n": name.text, "N": name.text[: -len(".service")], "p": name.prefix, "i": instance, "j": last,
-        "t": "/run", "S": "/var/lib", "C": "/var/cache", "L": "/var/log", "E": "/etc", "T": "/tmp", "V": "/var/tmp",
-        "u": "root", "U": "0", "h": "/root",
-    }  # fmt: skip
-    return {**plain, "P": unescaped(name.prefix), "I": unescaped(instance), "J": unescaped(last)}
-
-
-def expanded(name: UnitName, value: str) -> Optional[str]:
-    """The value with its specifiers expanded; None where one is not known."""
-    try:
-        known = specified(name)
-        return re.sub("%(.?)", lambda found: known[found[1]], value, flags=re.DOTALL)
-    except (KeyError, UnicodeDecodeError):
-        return None
-
-
 def escape_at(value: str, at: int) -> tuple[bytes, int]:
     """The bytes of the escape whose backslash is here, and the place behind it. ValueError where it is none."""
     if value[at + 1 : at + 2] == "x" and re.fullmatch("[0-9A-Fa-f]{2}", value[at + 2 : at + 4]):
@@ -211,18 +158,14 @@ def escape_at(value: str, at: int) -> tuple[bytes, int]:
     return ESCAPES[value[at + 1]], at + 2
 
 
-def words(value: str) -> list[bytes]:
-    """The words of a value; none where a quote or an escape is cut short."""
-    found: list[bytes] = []
+def read_words(value: str) -> Iterator[bytes]:
+    """The words of a value, each as it is read. ValueError where a quote or an escape is cut short."""
     word: Optional[bytes] = None
     quote, at = "", 0
     while at < len(value):
         letter = value[at]
         if letter == "\\":
-            try:
-                piece, at = escape_at(value, at)
-            except ValueError:
-                return []
+            piece, at = escape_at(value, at)
             word = (word or b"") + piece
             continue
         at += 1
@@ -233,67 +176,25 @@ def words(value: str) -> list[bytes]:
         elif quote or letter not in SPACES:
             word = (word or b"") + letter.encode()
         elif word is not None:
-            found.append(word)
+            yield word
             word = None
+    if quote:
+        raise ValueError("an open quote")
     if word is not None:
-        found.append(word)
-    return [] if quote else found
+        yield word
 
 
-def add_path(says: Says, word: bytes) -> None:
-    """Takes up a word of a list of paths, which a `-` in front makes optional."""
-    bare = word[1:] if word.startswith(b"-") else word
-    bare = bare[1:] if bare.startswith(b"+") else bare
-    (says.optional if word.startswith(b"-") else says.paths).append(bare)
+def words(value: str) -> list[bytes]:
+    """The words of a value; none where a quote or an escape is cut short."""
+    try:
+        return list(read_words(value))
+    except ValueError:
+        return []
 
 
-def add_bind(says: Says, word: bytes) -> None:
-    """Takes up a word `[-]SOURCE[:PLACE[:OPTION]]`. The place need not be there."""
-    bare = word[1:] if word.startswith(b"-") else word
-    source, _, rest = bare.partition(b":")
-    (says.optional if word.startswith(b"-") else says.paths).append(source)
-    if rest:
-        says.optional.append(rest.partition(b":")[0])
-
-
-def add_words(says: Says, key: str, found: list[bytes]) -> None:
-    """Takes up the words of a value."""
-    if key in COMMANDS:
-        says.programs.extend([word.lstrip(b"-:@+!|") for word in found[:1]])
-    elif key in FOLDERS:
-        names = [word.partition(b":")[0] for word in found if not word.startswith(b"/")]
-        says.folders.extend([FOLDERS[key].encode() + name for name in names if name])
-    elif key == "TemporaryFileSystem":
-        says.emptied.extend([word.partition(b":")[0] for word in found])
-    elif key in PATH_LISTS or key in BINDS:
-        for word in found:
-            (add_bind if key in BINDS else add_path)(says, word)
-
-
-def add_assignment(says: Says, key: str, value: str) -> None:
-    """Takes up an assignment, its specifiers expanded."""
-    if key == "User":
-        says.users.add(value)
-    elif key in ("Group", "SupplementaryGroups"):
-        says.groups.update(value.split())
-    else:
-        add_words(says, key, words(value))
-
-
-def said(root: Root, name: UnitName, files: Iterable[bytes], told: Told, dropin: Optional[str] = None) -> Says:
-    """What these files of a unit, and the text of a further drop-in, say, whether or not a later assignment takes it back."""
-    says = Says([], [], [], [], [], set(), set())
-    texts = []
-    for path in files:
-        if is_mask(root, path):
-            continue
-        try:
-            texts.append(root.read(path).decode("utf-8"))
-        except (OSError, ValueError):
-            told.add("files of units that could not be read", path)
-    for text in texts + ([dropin] if dropin else []):
-        for key, value in assignments(text):
-            value = expanded(name, value)
-            if value:
-                add_assignment(says, key, value)
-    return says
+def first_word(value: str) -> Optional[bytes]:
+    """The first word of a value, whatever follows it; None where there is none."""
+    try:
+        return next(read_words(value), None)
+    except ValueError:
+        return None

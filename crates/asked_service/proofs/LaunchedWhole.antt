@@ -21,19 +21,13 @@ use Rattle.asked_service.specs.declared.unit_launch.launching.UnitLaunch.TheVari
 use Rattle.asked_service.specs.declared.unit_launch.refusal.LaunchRefusal.{LaunchRefusal}
 use Rattle.asked_service.specs.launched_units.Launching.{IsLaunchedUnit, IsRefusedUnit, LaysOut}
 use Rattle.asked_service.specs.launched_units.Longer.{says, with_file}
-
-abbrev unit_with : (name : Name) (files : List UnitFile) → Resolved
-unit_with name files = record { name = name; files = files }
+use Rattle.judge.specs.dropin_merge.Changed.{extended}
 
 -- the unit is the longer one
 pub longer_is : (unit : Resolved) (bytes : List ℕ) (more : UnitText) (result : Result Resolved AllocError) → more ≡ says bytes
-    → IfOk result (λ longer. longer.name ≡ unit.name) → IfOk result
-    (λ longer. longer.files ≡ unit.files ++ record { path = []; text = more } ∷ [])
-    → IfOk result (λ longer. longer ≡ with_file unit bytes)
-longer_is unit bytes more (Err error) said named filed = tt
-longer_is unit bytes more (Ok longer) said named filed =
-    ap (λ name. unit_with name longer.files) named
-    ∙ ap (unit_with unit.name) (filed ∙ ap (λ (own : UnitText). unit.files ++ record { path = []; text = own } ∷ []) said)
+    → IfOk result (λ longer. longer ≡ extended unit more) → IfOk result (λ longer. longer ≡ with_file unit bytes)
+longer_is unit bytes more (Err error) said is = tt
+longer_is unit bytes more (Ok longer) said is = is ∙ ap (extended unit) said
 
 module _ (unit : Resolved) (table : calls.Table) (site : Site) (made : Settings) (steps lent : List MountStep) (settled : (refusal_of unit table site ≡ None) × AreSettings unit table site made) (laid : LaysOut (host_of site) made.mentions (Ok steps)) (lends : lent ≡ steps) where
   planned : LaysOut (host_of site) (unit_mentions unit site) (Ok lent)

@@ -27,7 +27,7 @@ use Rattle.judge.specs.kern_mounts.Launch.{CanBeMounted}
 use Rattle.judge.specs.kern_mounts.Split.{Table}
 use Rattle.judge.specs.launcher.Alike.{AnswerAlike}
 use Rattle.judge.specs.launcher.Answers.{EndsWithAll, codes_of, given_bytes, launch_with, wanted_of}
-use Rattle.judge.specs.launcher.Launch.{Ending, PrivilegedProgram, StepKilled, StepRefused, Wanted, launch}
+use Rattle.judge.specs.launcher.Launch.{LaunchOutcome, PrivilegedProgram, StepKilled, StepRefused, Wanted, launch}
 use Rattle.judge.specs.launcher.Launch.{Launched as Ended}
 use Rattle.judge.specs.launcher.Launches.{AreRead}
 use Rattle.judge.specs.launcher.LaunchesAlike.{EndAlike}
@@ -133,12 +133,12 @@ abbrev ids_of : Settings → Identity
 ids_of settings = record { uid = settings.uid; gid = settings.gid; groups = settings.groups }
 
 -- some programs that match the filters, and how a launch by them ends
-record EndsBySome (table : calls.Table) (site : Site) (settings : Settings) (plan : Table) (ending : Ending) : Type 0 where
+record EndsBySome (table : calls.Table) (site : Site) (settings : Settings) (plan : Table) (outcome : LaunchOutcome) : Type 0 where
   programs : List (List ℕ)
   codes : List (List Insn)
   matching : AreMatching settings.filters.items codes
   read : AreRead programs codes
-  ends : launch_with table site settings plan programs ≡ ending
+  ends : launch_with table site settings plan programs ≡ outcome
 
 -- ---- settings of one unit over one table and one site, on one plan
 module _ (unit : Resolved) (table : calls.Table) (site : Site) where
@@ -173,21 +173,21 @@ module _ (unit : Resolved) (table : calls.Table) (site : Site) where
         (recursion_from_All (HasWantedRules said table) settings'.filters.items other.do_as_wanted) m n
 
     -- so they end alike
-    ends_alike : (ending ending' : Ending) (one : EndsBySome table site settings plan ending)
-        (other : EndsBySome table site settings' plan ending') → EndAlike one.codes other.codes ending ending'
-    ends_alike ending ending' one other =
+    ends_alike : (outcome outcome' : LaunchOutcome) (one : EndsBySome table site settings plan outcome)
+        (other : EndsBySome table site settings' plan outcome') → EndAlike one.codes other.codes outcome outcome'
+    ends_alike outcome outcome' one other =
         let fit = settings_can_be_launched unit table site settings tables.is_site are in
         let fit' = settings_can_be_launched unit table site settings' tables.is_site are' in
-        let by : List (List ℕ) → Ending = launch_with table site settings plan in
+        let by : List (List ℕ) → LaunchOutcome = launch_with table site settings plan in
         let alike : EndAlike one.codes other.codes (by one.programs) (by other.programs) =
         launches_alike table site (wanted_of settings one.programs) plan other.programs one.codes other.codes tables.whole
         tables.word_archs can fit.uid
         (installed settings.filters.items fit.fit_into_a_stack one.programs one.codes one.matching one.read)
         (installed settings'.filters.items fit'.fit_into_a_stack other.programs other.codes other.matching other.read)
         (codes_alike one.codes other.codes one.matching other.matching) in
-        subst (λ (end : Ending). EndAlike one.codes other.codes ending end)
+        subst (λ (end : LaunchOutcome). EndAlike one.codes other.codes outcome end)
         (same_launch settings settings' plan are are' other.programs ∙ other.ends)
-        (subst (λ (end : Ending). EndAlike one.codes other.codes end (by other.programs)) one.ends alike)
+        (subst (λ (end : LaunchOutcome). EndAlike one.codes other.codes end (by other.programs)) one.ends alike)
 
   -- a launch that ended well, and one that is refused whatever programs match
   by_service : (settings : Settings) (plan : Table) (service : Service) → IsLaunched table site settings plan service
@@ -200,9 +200,9 @@ module _ (unit : Resolved) (table : calls.Table) (site : Site) where
     ends = is.launches.ends;
   }
 
-  by_all : (settings : Settings) (plan : Table) (ending : Ending) → EndsWithAll table site settings plan ending
-      → EndsBySome table site settings plan ending
-  by_all settings plan ending all = record {
+  by_all : (settings : Settings) (plan : Table) (outcome : LaunchOutcome) → EndsWithAll table site settings plan outcome
+      → EndsBySome table site settings plan outcome
+  by_all settings plan outcome all = record {
     programs = map bytes_of all.codes;
     codes = all.codes;
     matching = all.matching;
@@ -211,11 +211,11 @@ module _ (unit : Resolved) (table : calls.Table) (site : Site) where
   }
 
   -- whether the program is privileged does not rest on the programs
-  privileged_alone : (settings settings' : Settings) (plan : Table) (path : Path) (ending : Ending) → AreSettings unit table site settings
+  privileged_alone : (settings settings' : Settings) (plan : Table) (path : Path) (outcome : LaunchOutcome) → AreSettings unit table site settings
       → AreSettings unit table site settings'
       → ((programs : List (List ℕ)) → launch_with table site settings plan programs ≡ PrivilegedProgram path)
-      → EndsBySome table site settings' plan ending → PrivilegedProgram path ≡ ending
-  privileged_alone settings settings' plan path ending are are' each some =
+      → EndsBySome table site settings' plan outcome → PrivilegedProgram path ≡ outcome
+  privileged_alone settings settings' plan path outcome are are' each some =
       sym (each some.programs) ∙ same_launch settings settings' plan are are' some.programs ∙ some.ends
 
   module _ (tables : AreTables table site) (settings settings' : Settings) (are : AreSettings unit table site settings)

@@ -18,7 +18,7 @@ use Rattle.judge.specs.site_table.Table.{Site, IsSite}
 use Rattle.judge.specs.launcher.Alike.{AnswerAlike, HasWordArchs, SameReplies, above}
 use Rattle.judge.specs.launcher.Answers.{LaunchesTo, codes_of, given_bytes, launch_with, wanted_of}
 use Rattle.judge.specs.launcher.Conditions.{CanBeLaunched}
-use Rattle.judge.specs.launcher.Launch.{Ending, Launched, StepRefused, StepKilled, PrivilegedProgram}
+use Rattle.judge.specs.launcher.Launch.{LaunchOutcome, Launched, StepRefused, StepKilled, PrivilegedProgram}
 use Rattle.judge.specs.launcher.Launches.{AreRead}
 use Rattle.judge.specs.launcher.LaunchesAlike.{AreInstalled, EndAlike}
 use Rattle.judge.specs.launcher.Matching.{AreMatching}
@@ -46,7 +46,7 @@ module _ (table : calls.Table) (site : Site) (settings : Settings) (plan : Table
       subst HasWordArchs (sym same) arch
 
   -- a launch that ends alike
-  alike_there : (programs : List (List ℕ)) (codes : List (List Insn)) (other : Ending) → AnswerAlike (codes_of service.filters) codes
+  alike_there : (programs : List (List ℕ)) (codes : List (List Insn)) (other : LaunchOutcome) → AnswerAlike (codes_of service.filters) codes
       → launch_with table site settings plan programs ≡ other → service.world.calls ≡ table
       → EndAlike (codes_of service.filters) codes (Launched service.world service.steps) other
       → GoesOnAlike table site settings plan service programs codes

@@ -3,9 +3,9 @@ use Rattle.std.proofs.Common.{◌≡◌, ◌∙◌, ℕ, List, [], ◌∷◌, Op
 use Rattle.std.specs.Option.{option_map}
 use Rattle.std.specs.Prelude.{IsErrOf}
 use Rattle.judge.specs.call_table.Table as calls
-use Rattle.plan_command.specs.unit_inputs.command_answers.Stops.{Prepares, first_refusal, or_line, refusal_in}
-use Rattle.plan_command.specs.unit_inputs.declared.command_answers.stop.Stop.{Stop}
-use Rattle.plan_command.specs.unit_inputs.declared.command_answers.stop.Stop.TheVariants as stop
+use Rattle.plan_command.specs.unit_inputs.command_answers.CommandErrors.{Prepares, first_refusal, or_line, refusal_in}
+use Rattle.plan_command.specs.unit_inputs.declared.command_answers.error.CommandError.{CommandError}
+use Rattle.plan_command.specs.unit_inputs.declared.command_answers.error.CommandError.TheVariants as stop
 use Rattle.judge.specs.dropin_merge.declared.resolved.Resolved.{Resolved}
 use Rattle.judge.specs.exec_settings.Mounts.{unit_mentions}
 use Rattle.judge.specs.exec_settings.Refusals.{refusal_of}
@@ -71,7 +71,7 @@ module _ (name : List ℕ) (unit : Resolved) (table : calls.Table) (site : Site)
       (whole.0, record { settings = is.settings; are_settings = is.are_settings; plan = is.plan; is_plan = whole.1; comes_to = is.launched })
 
   -- it is not
-  pub told : (refusal : UnitRefusal) (result : Result LaunchRefusal Stop) → IsNotLaunched unit table site refusal
+  pub told : (refusal : UnitRefusal) (result : Result LaunchRefusal CommandError) → IsNotLaunched unit table site refusal
       → TellsRefusal name refusal result → Prepares (λ refused. StartsAs (given unit table site) (Refused refused)) refusals result
   told (InSettings error) (Ok refused) is tells = absurd tells
   told (InSettings error) (Err (stop.Refused line)) is tells = at_settings error is ∙ ap Some (sym tells)
@@ -88,14 +88,14 @@ module _ (name : List ℕ) (unit : Resolved) (table : calls.Table) (site : Site)
   told Memory result is tells = subst (Prepares (λ refused. StartsAs (given unit table site) (Refused refused)) refusals) (sym tells) tt
 
   -- and then memory ran out, or the line is told
-  pub stopped : (why : Stop) → Prepares (λ refused. StartsAs (given unit table site) (Refused refused)) refusals (Err why)
+  pub stopped : (why : CommandError) → Prepares (λ refused. StartsAs (given unit table site) (Refused refused)) refusals (Err why)
       → Prepares (StartsAs (given unit table site)) refusals (Err why)
   stopped (stop.Refused line) said = said
   stopped stop.ReadFault said = tt
   stopped stop.Memory said = tt
 
 -- what is told was not read
-pub reads_nothing : {T : Type 0} (name : List ℕ) (refusal : UnitRefusal) (why : Stop) → TellsRefusal name refusal (Err why)
+pub reads_nothing : {T : Type 0} (name : List ℕ) (refusal : UnitRefusal) (why : CommandError) → TellsRefusal name refusal (Err why)
     → IsErrOf {T = T} (Err why) stop.ReadFault → ⊥
 reads_nothing name refusal (stop.Refused line) tells e = cc
 reads_nothing name refusal stop.Memory tells e = cc

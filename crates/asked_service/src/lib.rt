@@ -22,13 +22,13 @@ pub mod unit_launch;
 pub use bounding::{Bounded, bound};
 pub use judge::{
     Call, Ceiling, FilterProgram, Flags, Launched, MountStep, MountSteps, MountTable, PlanError,
-    Reply, Settings, SettingsError, What, World, alike, blind, ceiling, fits, is_judged,
+    Reply, Settings, SettingsError, Version, What, World, alike, blind, ceiling, fits, is_read,
     kernel_ways_blindness as blindness, openness, plan, settings, verdict,
 };
 pub use plan_command::{
-    Ending, ItemList, Line, Ready, ReadyText, SettledUnit, Stop, ending_after, finish, finish_stop,
+    CommandError, ExitStatus, ItemList, Line, Ready, ReadyText, SettledUnit, finish, finish_error,
     plan_line, plan_mounts, push_u64, push_word, put_line, put_lines, read_input, read_inputs,
-    read_lines, read_text, refuse, refused_line, settings_line, settle, settle_unit,
+    read_lines, read_text, refuse, refused_line, settings_line, settle, settle_unit, status_after,
     unit_line as unit_inputs_unit_line,
 };
 pub use report_text::{

@@ -3,7 +3,7 @@ pub use Rattle.kernel_ways.proofs.Attained as Attained
 pub use Rattle.kernel_ways.proofs.BlindShown as BlindShown
 pub use Rattle.kernel_ways.proofs.ByName as ByName
 pub use Rattle.kernel_ways.proofs.Choices as Choices
-pub use Rattle.kernel_ways.proofs.Doings as Doings
+pub use Rattle.kernel_ways.proofs.Operations as Operations
 pub use Rattle.kernel_ways.proofs.Entering as Entering
 pub use Rattle.kernel_ways.proofs.Exact as Exact
 pub use Rattle.kernel_ways.proofs.Exposing as Exposing

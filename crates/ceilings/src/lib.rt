@@ -35,7 +35,8 @@ pub use kernel_ways::linux_numbers::capabilities::{
 };
 pub use kernel_ways::{
     FilterProgram, LaunchError, Launched, Mentions, MountSteps, PlanError, Resolved, Settings,
-    SettingsError, blindness, is_covered, is_judged, launch, openness, plan, reach, settings,
+    SettingsError, Version, blindness, is_covered, is_read, launch, openness, plan, reach,
+    settings,
 };
 pub use kinds::words;
 pub use leads::{RowLeads, reach_by};

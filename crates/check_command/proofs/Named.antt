@@ -10,7 +10,7 @@ use Rattle.filter_check.specs.bpf_code.declared.machine.Insn.{Insn}
 use Rattle.filter_check.specs.call_rules.Action.{word_of}
 use Rattle.filter_check.specs.call_rules.Sizes.{CanCompile}
 use Rattle.unit_inputs.specs.call_table.Table.{Table}
-use Rattle.unit_inputs.specs.declared.command_answers.stop.Stop.{Stop}
+use Rattle.unit_inputs.specs.declared.command_answers.error.CommandError.{CommandError}
 use Rattle.unit_inputs.specs.command_answers.Said.{IsSaid}
 use Rattle.unit_inputs.proofs.Said.{said_as}
 use Rattle.unit_inputs.specs.exec_settings.AreSettings.{AreFilters, HasWantedRules}
@@ -97,7 +97,7 @@ module _ (settings : FilterSettings) (table : Table) (filters : List Filter) (ar
       does_as_wanted = found_has (HasWantedRules settings table) (λ one. means table name (place_of one)) filters filter is are.do_as_wanted
 
       -- a comparison with its rules is one with what the settings want of it
-      pub compares_named : (result : Result Checked Stop) → IsSaid (λ (checked : Checked). checked.outcome)
+      pub compares_named : (result : Result Checked CommandError) → IsSaid (λ (checked : Checked). checked.outcome)
           (Compares path code (wanted_by filter.rules)) result
           → IsSaid (λ (checked : Checked). checked.outcome) (ComparesNamed unit name path settings table code) result
       compares_named result said =

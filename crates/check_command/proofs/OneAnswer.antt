@@ -4,7 +4,7 @@ use Rattle.unit_inputs.specs.host_io.Files.{Files}
 use Rattle.filter_check.specs.bpf_code.declared.machine.CallData.{CallData}
 use Rattle.filter_check.specs.bpf_code.declared.machine.Insn.{Insn}
 use Rattle.unit_inputs.specs.call_table.Table.{Table}
-use Rattle.unit_inputs.specs.command_answers.Stops.{first_refusal, refusal_in}
+use Rattle.unit_inputs.specs.command_answers.CommandErrors.{first_refusal, refusal_in}
 use Rattle.unit_inputs.specs.dropin_merge.declared.resolved.Resolved.{Resolved}
 use Rattle.unit_inputs.specs.exec_settings.Dynamic.{unit_filters}
 use Rattle.filter_check.proofs.OneAnswer.{one_finding}

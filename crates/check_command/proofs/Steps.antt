@@ -3,9 +3,9 @@ use Rattle.std.proofs.Common.{◌≡◌, ℕ, List, Option, Some, None, Result, 
 use Rattle.std.specs.Prelude.{IfSome}
 use Rattle.unit_inputs.specs.host_io.Files.{Files}
 use Rattle.filter_check.specs.bpf_code.declared.machine.Insn.{Insn}
-use Rattle.unit_inputs.specs.command_answers.Stops.{IsAnswer, Prepares, first_refusal}
-use Rattle.unit_inputs.specs.declared.command_answers.stop.Stop.{Stop}
-use Rattle.unit_inputs.specs.declared.command_answers.stop.Stop.TheVariants as stop
+use Rattle.unit_inputs.specs.command_answers.CommandErrors.{IsAnswer, Prepares, first_refusal}
+use Rattle.unit_inputs.specs.declared.command_answers.error.CommandError.{CommandError}
+use Rattle.unit_inputs.specs.declared.command_answers.error.CommandError.TheVariants as stop
 use Rattle.unit_inputs.specs.command_answers.Said.{IsSaid}
 use Rattle.unit_inputs.proofs.Said.{said_as}
 use Rattle.unit_inputs.specs.FileRefusals.{bytes_in}
@@ -18,26 +18,26 @@ use Rattle.check_command.specs.Prepared.{AreReady, IsPrepared, a_setting, an_inp
 use Rattle.check_command.specs.Programs.{IsProgramIn, IsProgramOf, no_file, of_file}
 
 -- an input is refused
-input_stops : (P : UnitInputs → Type 0) (files : Files) (unit path : List ℕ) (why : Stop)
+input_stops : (P : UnitInputs → Type 0) (files : Files) (unit path : List ℕ) (why : CommandError)
     → Prepares P (input_refusals files unit) (Err why) → IsPrepared files unit path (Err why)
 input_stops P files unit path (stop.Refused line) said = an_input line.items said
 input_stops P files unit path stop.ReadFault said = tt
 input_stops P files unit path stop.Memory said = tt
 
-pub stops_at_inputs : (P : Files → UnitInputs → Type 0) (told : Option Files) (unit path : List ℕ) (why : Stop)
+pub stops_at_inputs : (P : Files → UnitInputs → Type 0) (told : Option Files) (unit path : List ℕ) (why : CommandError)
     → IfSome told (λ files. Prepares (P files) (input_refusals files unit) (Err why))
     → IfSome told (λ files. IsPrepared files unit path (Err why))
 stops_at_inputs P None unit path why said = tt
 stops_at_inputs P (Some files) unit path why said = input_stops (P files) files unit path why said
 
 -- the file is refused
-file_stops : (files : Files) (unit path : List ℕ) (inputs : UnitInputs) (why : Stop) → AreRead files unit inputs
+file_stops : (files : Files) (unit path : List ℕ) (inputs : UnitInputs) (why : CommandError) → AreRead files unit inputs
     → IsSaid {T = List Insn} (λ program. program) (IsProgramIn files path) (Err why) → IsPrepared files unit path (Err why)
 file_stops files unit path inputs (stop.Refused line) read said = the_file line.items (inputs_view inputs) read.1 said
 file_stops files unit path inputs stop.ReadFault read said = tt
 file_stops files unit path inputs stop.Memory read said = tt
 
-pub stops_at_file : (told now : Option Files) (unit path : List ℕ) (inputs : UnitInputs) (why : Stop) → now ≡ told
+pub stops_at_file : (told now : Option Files) (unit path : List ℕ) (inputs : UnitInputs) (why : CommandError) → now ≡ told
     → IfSome told (λ files. AreRead files unit inputs)
     → IfSome now (λ files. IsSaid {T = List Insn} (λ program. program) (IsProgramIn files path) (Err why))
     → IfSome told (λ files. IsPrepared files unit path (Err why))
@@ -55,7 +55,7 @@ program_read (Some files) now path code same said =
     subst (λ own. IfSome own (λ files. IsSaid (λ (program : List Insn). program) (IsProgramIn files path) (Ok code))) same said
 
 -- a setting is refused
-setting_stops : (P : SettledUnit → Type 0) (files : Files) (unit path : List ℕ) (inputs : UnitInputs) (code : List Insn) (why : Stop)
+setting_stops : (P : SettledUnit → Type 0) (files : Files) (unit path : List ℕ) (inputs : UnitInputs) (code : List Insn) (why : CommandError)
     → AreRead files unit inputs → IsProgramIn files path (Ok code)
     → Prepares P (refusals_of unit (inputs_view inputs)) (Err why) → IsPrepared files unit path (Err why)
 setting_stops P files unit path inputs code (stop.Refused line) read program said =
@@ -64,7 +64,7 @@ setting_stops P files unit path inputs code stop.ReadFault read program said = t
 setting_stops P files unit path inputs code stop.Memory read program said = tt
 
 pub stops_at_settings : (P : SettledUnit → Type 0) (told : Option Files) (unit path : List ℕ) (inputs : UnitInputs) (code : List Insn)
-    (why : Stop)
+    (why : CommandError)
     → IfSome told (λ files. AreRead files unit inputs) → IfSome told (λ files. IsProgramIn files path (Ok code))
     → Prepares P (refusals_of unit (inputs_view inputs)) (Err why) → IfSome told (λ files. IsPrepared files unit path (Err why))
 stops_at_settings P None unit path inputs code why read program said = tt
@@ -83,20 +83,20 @@ is_prepared (Some files) unit path inputs code one same none read program =
     (record { inputs_are = read.1; program_is = program; settings_stand = none })
 
 -- the bytes of the file are not there
-bytes_stop : {T : Type 0} (see : T → List ℕ) (files : Files) (path : List ℕ) (why : Stop) → IsAnswer see (Err why) (bytes_in files path)
+bytes_stop : {T : Type 0} (see : T → List ℕ) (files : Files) (path : List ℕ) (why : CommandError) → IsAnswer see (Err why) (bytes_in files path)
     → IsSaid {T = List Insn} (λ program. program) (IsProgramIn files path) (Err why)
 bytes_stop see files path (stop.Refused line) said = no_file line.items said
 bytes_stop see files path stop.ReadFault said = tt
 bytes_stop see files path stop.Memory said = tt
 
-pub no_bytes : {T : Type 0} (see : T → List ℕ) (told : Option Files) (path : List ℕ) (why : Stop)
+pub no_bytes : {T : Type 0} (see : T → List ℕ) (told : Option Files) (path : List ℕ) (why : CommandError)
     → IfSome told (λ files. IsAnswer see (Err why) (bytes_in files path))
     → IfSome told (λ files. IsSaid {T = List Insn} (λ program. program) (IsProgramIn files path) (Err why))
 no_bytes see None path why said = tt
 no_bytes see (Some files) path why said = bytes_stop see files path why said
 
 -- or they are some program, or none
-pub some_bytes : (told : Option Files) (path bytes : List ℕ) (result : Result (List Insn) Stop)
+pub some_bytes : (told : Option Files) (path bytes : List ℕ) (result : Result (List Insn) CommandError)
     → IfSome told (λ files. bytes_in files path ≡ Ok bytes) → IsSaid (λ (program : List Insn). program) (IsProgramOf path bytes) result
     → IfSome told (λ files. IsSaid (λ (program : List Insn). program) (IsProgramIn files path) result)
 some_bytes None path bytes result are said = tt

@@ -2,8 +2,8 @@
 use Rattle.std.specs.Prelude.{ℕ, List, [], ◌∷◌, ◌++◌, codes, flat_map}
 use Rattle.std.specs.Fmt.{decimal}
 use Rattle.filter_check.specs.bpf_code.declared.machine.CallData.{CallData}
-use Rattle.unit_inputs.specs.declared.command_answers.ending.Ending.{Ending}
-use Rattle.unit_inputs.specs.declared.command_answers.ending.Ending.TheVariants as ending
+use Rattle.unit_inputs.specs.declared.command_answers.exit_status.ExitStatus.{ExitStatus}
+use Rattle.unit_inputs.specs.declared.command_answers.exit_status.ExitStatus.TheVariants as status
 use Rattle.filter_check.specs.declared.outcome.Outcome.{Outcome}
 use Rattle.filter_check.specs.declared.outcome.Outcome.TheVariants.{Same, Differs}
 
@@ -33,6 +33,6 @@ outcome_text (Same count) = same_line count
 outcome_text (Differs at theirs ours) = differs_line at theirs ours
 
 -- how a run ends after this outcome
-abbrev pub ending_by : Outcome → Ending
-ending_by (Same count) = ending.Done
-ending_by (Differs at theirs ours) = ending.Differs
+abbrev pub status_by : Outcome → ExitStatus
+status_by (Same count) = status.Done
+status_by (Differs at theirs ours) = status.Differs

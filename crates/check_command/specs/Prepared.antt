@@ -2,9 +2,9 @@
 use Rattle.std.specs.Prelude.{◌≡◌, ℕ, List, Some, None, Result, Ok, Err}
 use Rattle.unit_inputs.specs.host_io.Files.{Files}
 use Rattle.filter_check.specs.bpf_code.declared.machine.Insn.{Insn}
-use Rattle.unit_inputs.specs.command_answers.Stops.{first_refusal}
-use Rattle.unit_inputs.specs.declared.command_answers.stop.Stop.{Stop}
-use Rattle.unit_inputs.specs.declared.command_answers.stop.Stop.TheVariants as stop
+use Rattle.unit_inputs.specs.command_answers.CommandErrors.{first_refusal}
+use Rattle.unit_inputs.specs.declared.command_answers.error.CommandError.{CommandError}
+use Rattle.unit_inputs.specs.declared.command_answers.error.CommandError.TheVariants as stop
 use Rattle.unit_inputs.specs.Inputs.{Inputs, input_refusals, inputs_of, inputs_view}
 use Rattle.unit_inputs.specs.Settled.{refusals_of}
 use Rattle.check_command.specs.Programs.{IsProgramIn}
@@ -28,7 +28,7 @@ abbrev pub inputs_in : Prepared → Inputs
 inputs_in prepared = inputs_view prepared.unit.inputs
 
 -- the inputs and the program are ready, or the line is the line of the first refusal, unless a read failed or memory ran out
-abbrev pub IsPrepared : Files → List ℕ → List ℕ → Result Prepared Stop → Type 0
+abbrev pub IsPrepared : Files → List ℕ → List ℕ → Result Prepared CommandError → Type 0
 IsPrepared files unit path (Ok prepared) = AreReady files unit path (inputs_in prepared) prepared.program
 IsPrepared files unit path (Err (stop.Refused line)) = RefusesBefore files unit path line.items
 IsPrepared files unit path (Err stop.ReadFault) = Unit {0}

@@ -3,7 +3,7 @@ ghost use Rattle.unit_inputs.specs.command_answers.Asking.{course};
 ghost use Rattle.unit_inputs.specs.command_answers.Laws.{IsAdmitted};
 ghost use Rattle.unit_inputs.specs.Asking.{AsksInOrder, asks_with_file};
 ghost use Rattle.unit_inputs.specs.ReadsFor.{ReadsFor};
-ghost use Rattle.check_command.specs.Checked.{checked_text, ending_of};
+ghost use Rattle.check_command.specs.Checked.{checked_text, status_of};
 ghost use Rattle.check_command.specs.Prints.{check_laws};
 
 use crate::comparing::compare;
@@ -11,7 +11,7 @@ use crate::preparing::read_all;
 use crate::ready::Checked;
 use host_io::Shelf;
 use std::alloc::Global;
-use unit_inputs::command_answers::Stop;
+use unit_inputs::command_answers::CommandError;
 
 /// Prepares `check`, the name of a unit, the name of a filter and the path of a file. It reads the unit, calls.txt,
 /// site.toml and the file, and finds the first refusal of them and of the settings. Then it compares the program of
@@ -23,8 +23,8 @@ pub fn prepare<S: Shelf>(
     unit: &str,
     name: &str,
     path: &str,
-) -> Result<Checked, Stop>
-    ensures prepares { IsAdmitted (check_laws (S.told shelf.old) unit.now name.now path.now) ending_of checked_text result }
+) -> Result<Checked, CommandError>
+    ensures prepares { IsAdmitted (check_laws (S.told shelf.old) unit.now name.now path.now) status_of checked_text result }
     ensures asks_in_order { AsksInOrder S.asks (S.told shelf.old) (λ files. asks_with_file files unit.now path.now) shelf.old shelf.new (course result) }
     ensures reads_for_the_unit { ReadsFor S.told S.faults unit.now shelf.old shelf.new result }
 {

@@ -14,7 +14,7 @@ use crate::preparing::Prepared;
 use crate::ready::Checked;
 use filter_check::{CheckError, Program, RuleSet, check};
 use std::alloc::{AllocError, Global};
-use unit_inputs::command_answers::{Stop, refuse, refused_line};
+use unit_inputs::command_answers::{CommandError, refuse, refused_line};
 use unit_inputs::push_word;
 
 // Why a program is not compared.
@@ -51,14 +51,14 @@ fn compare_rules(
     path: &str,
     program: &Program,
     rules: &RuleSet,
-) -> Result<Checked, Stop>
+) -> Result<Checked, CommandError>
     requires can_be_compiled { CanCompile rules.now }
     ensures compares { IsSaid (λ checked. checked.outcome) (Compares path.now program.now (wanted_by rules.now)) result }
-    ensures reads_nothing { IsErrOf result Stop.ReadFault → ⊥ }
+    ensures reads_nothing { IsErrOf result CommandError.ReadFault → ⊥ }
 {
     match check(alloc, program, rules) {
         Ok(outcome) => Ok(Checked { outcome }),
-        Err(CheckError::Memory) => Err(Stop::Memory),
+        Err(CheckError::Memory) => Err(CommandError::Memory),
         Err(error) => Err(refuse(check_line(alloc, path, error))),
     }
 }
@@ -70,10 +70,10 @@ pub fn compare(
     name: &str,
     path: &str,
     prepared: &Prepared,
-) -> Result<Checked, Stop>
+) -> Result<Checked, CommandError>
     requires settled { AreSettled (inputs_in prepared.now) prepared.now.unit.settings.value }
     ensures compares { IsSaid (λ checked. checked.outcome) (ComparesNamed unit.now name.now path.now (unit_filters (inputs_in prepared.now).unit (inputs_in prepared.now).calls) (inputs_in prepared.now).calls prepared.now.program) result }
-    ensures reads_nothing { IsErrOf result Stop.ReadFault → ⊥ }
+    ensures reads_nothing { IsErrOf result CommandError.ReadFault → ⊥ }
 {
     let one = &prepared.unit;
     match named_filter(&one.inputs.calls, one.settings.filters.as_slice(), name) {

@@ -10,7 +10,7 @@ use crate::programs::read_program;
 use filter_check::Program;
 use host_io::Shelf;
 use std::alloc::Global;
-use unit_inputs::command_answers::Stop;
+use unit_inputs::command_answers::CommandError;
 use unit_inputs::{SettledUnit, read_inputs, settle};
 
 /// All that a comparison is made from.
@@ -28,7 +28,7 @@ pub fn read_all<S: Shelf>(
     shelf: &mut S,
     unit: &str,
     path: &str,
-) -> Result<Prepared, Stop>
+) -> Result<Prepared, CommandError>
     ensures prepares { IfSome (S.told shelf.old) (λ files. IsPrepared files unit.now path.now result) }
     ensures settled { IfOk result (λ prepared. AreSettled (inputs_in prepared) prepared.unit.settings.value) }
     ensures asks_in_order { AsksInOrder S.asks (S.told shelf.old) (λ files. asks_with_file files unit.now path.now) shelf.old shelf.new (course result) }

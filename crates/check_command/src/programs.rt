@@ -1,8 +1,8 @@
 //! The program of a file, with the lines of its refusals.
 ghost use Rattle.std.specs.Prelude.{◌≡◌, ◌∷◌, [], IfOk, IfSome, IsErrOf};
-ghost use Rattle.unit_inputs.specs.host_io.Calls.{Went};
+ghost use Rattle.unit_inputs.specs.host_io.Calls.{AsksExactly};
 ghost use Rattle.unit_inputs.specs.command_answers.Asking.{course, input_file};
-ghost use Rattle.unit_inputs.specs.command_answers.Stops.{HasReadCause};
+ghost use Rattle.unit_inputs.specs.command_answers.CommandErrors.{HasReadCause};
 ghost use Rattle.unit_inputs.specs.command_answers.Said.{IsSaid};
 ghost use Rattle.check_command.specs.Causes.{file_cause, file_line, placed, program_cause};
 ghost use Rattle.check_command.specs.Programs.{IsProgramIn, IsProgramOf};
@@ -11,7 +11,7 @@ use filter_check::filter_lines::{FileError, read_program as read_bytes};
 use filter_check::{Program, ProgramError};
 use host_io::Shelf;
 use std::alloc::{AllocError, Global};
-use unit_inputs::command_answers::{Stop, refuse, refused_line};
+use unit_inputs::command_answers::{CommandError, refuse, refused_line};
 use unit_inputs::read_input;
 
 // A cause, and the number of the instruction.
@@ -62,21 +62,25 @@ fn file_line(alloc: Global, path: &str, error: FileError) -> Result<Vec<u8>, All
 }
 
 // The program that the bytes of a file are.
-fn program_of_bytes(alloc: Global, path: &str, bytes: &[u8]) -> Result<Program, Stop>
+fn program_of_bytes(alloc: Global, path: &str, bytes: &[u8]) -> Result<Program, CommandError>
     ensures says { IsSaid (λ program. program) (IsProgramOf path.now bytes.now) result }
-    ensures reads_nothing { IsErrOf result Stop.ReadFault → ⊥ }
+    ensures reads_nothing { IsErrOf result CommandError.ReadFault → ⊥ }
 {
     match read_bytes(alloc, bytes) {
         Ok(program) => Ok(program),
-        Err(FileError::Memory) => Err(Stop::Memory),
+        Err(FileError::Memory) => Err(CommandError::Memory),
         Err(error) => Err(refuse(file_line(alloc, path, error))),
     }
 }
 
 /// The program of the file at a path, or the line of its first refusal.
-pub fn read_program<S: Shelf>(alloc: Global, shelf: &mut S, path: &str) -> Result<Program, Stop>
+pub fn read_program<S: Shelf>(
+    alloc: Global,
+    shelf: &mut S,
+    path: &str,
+) -> Result<Program, CommandError>
     ensures reads_the_program { IfSome (S.told shelf.old) (λ files. IsSaid (λ program. program) (IsProgramIn files path.now) result) }
-    ensures asks_for_it { Went S.asks shelf.old shelf.new (input_file path.now ∷ []) (course result) }
+    ensures asks_for_it { AsksExactly S.asks shelf.old shelf.new (input_file path.now ∷ []) (course result) }
     ensures map_stays { S.told shelf.new ≡ S.told shelf.old }
     ensures fault_rose { HasReadCause (S.faults shelf.old) (S.faults shelf.new) result }
 {

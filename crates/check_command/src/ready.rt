@@ -1,12 +1,12 @@
 //! The outcome of a comparison, ready to be printed.
 ghost use Rattle.std.specs.Prelude.{◌≡◌};
-ghost use Rattle.check_command.specs.Lines.{ending_by};
+ghost use Rattle.check_command.specs.Lines.{status_by};
 
 use crate::lines::outcome_line;
 use filter_check::Outcome;
 use host_io::{Sink, SinkError};
 use std::alloc::Global;
-use unit_inputs::command_answers::{Ending, Ready, put_line};
+use unit_inputs::command_answers::{ExitStatus, Ready, put_line};
 
 /// What the comparison of a program with a filter of a unit found.
 #[derive(Drop)]
@@ -15,24 +15,24 @@ pub struct Checked {
 }
 
 // How a run ends after this outcome.
-fn ending_by(outcome: &Outcome) -> Ending
-    ensures { result ≡ ending_by outcome.now }
+fn status_by(outcome: &Outcome) -> ExitStatus
+    ensures { result ≡ status_by outcome.now }
 {
     match outcome {
-        Outcome::Same(_) => Ending::Done,
-        Outcome::Differs { .. } => Ending::Differs,
+        Outcome::Same(_) => ExitStatus::Done,
+        Outcome::Differs { .. } => ExitStatus::Differs,
     }
 }
 
 impl Ready for Checked {
-    ghost use Rattle.check_command.specs.Checked.{checked_text, ending_of};
+    ghost use Rattle.check_command.specs.Checked.{checked_text, status_of};
 
     ghost text = { checked_text };
 
-    ghost ending = { ending_of };
+    ghost status = { status_of };
 
-    fn ending(&self) -> Ending {
-        ending_by(&self.outcome)
+    fn status(&self) -> ExitStatus {
+        status_by(&self.outcome)
     }
 
     fn print<K: Sink>(&mut self, alloc: Global, out: &mut K) -> Result<(), SinkError> {

@@ -19,7 +19,7 @@ use Rattle.cred_settings.proofs.NamedMembers.{members_named}
 -- ---- one line
 
 -- each of the 41 is one of all
-in_all : (number : ℕ) → number ≤ 40 → has all number ≡ true
+pub in_all : (number : ℕ) → number ≤ 40 → has all number ≡ true
 in_all number small = has_all number ∙ le-leb number 40 small
 
 -- a plain line, by whether it begins anew and whether it names the capability
@@ -90,7 +90,7 @@ last_hides : {X : Type 0} (x : X) (xs : List X) (old other : X) → unwrap_or (l
 last_hides x [] old other = refl
 last_hides x (y ∷ xs) old other = last_hides y xs old other
 
-last_behind : {X : Type 0} (o : Option X) (xs : List X) (old : X)
+pub last_behind : {X : Type 0} (o : Option X) (xs : List X) (old : X)
     → unwrap_or (last_of xs) (unwrap_or o old) ≡ unwrap_or (last_of (cons_option o xs)) old
 last_behind None xs old = refl
 last_behind (Some x) [] old = refl

@@ -3,6 +3,7 @@ pub mod CapsNamed
 pub mod WritingLemmas
 pub mod NamedMembers
 pub mod LastLineLemmas
+pub mod LastSumLemmas
 pub mod Folding
 pub mod InRange
 pub mod DynamicUsers

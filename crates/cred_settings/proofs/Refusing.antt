@@ -1,11 +1,12 @@
 -- Words that name no group, and the refusal of the first.
-use Rattle.std.proofs.Common.{◌≡◌, ℕ, suc, ◌+◌, ◌<◌, Bool, true, false, cond, Some, None, List, [], ◌∷◌, ◌++◌, length, take, drop, get_or}
+use Rattle.std.proofs.Common.{◌≡◌, ℕ, suc, ◌+◌, ◌<◌, Bool, true, false, cond, Option, Some, None, List, [], ◌∷◌, ◌++◌, length, take, drop, get_or}
 use Rattle.std.proofs.Common.{sym, ap, ◌∙◌}
 use Rattle.std.specs.Prelude.{find, not, is_some}
 use Rattle.std.specs.Option.{option_or}
 use Rattle.std.proofs.lemmas.List.{take_more, take-append-drop}
 use Rattle.std.proofs.lemmas.List.Folds.{find-append}
 use Rattle.std.proofs.Math.Seq.{drop-cons}
+use Rattle.dropin_merge.specs.unit_names.declared.version.Version.{Version}
 use Rattle.site_table.specs.Table.{Site}
 use Rattle.cred_settings.specs.Groups.{gid_meant}
 use Rattle.cred_settings.specs.Identities.{names_no_group}
@@ -27,8 +28,10 @@ first_found p xs i x lt is before here =
     ∙ ap (find p) (drop-cons xs i x lt ∙ ap (λ y. y ∷ drop (suc i) xs) (sym is))
     ∙ ap (λ b. cond b (Some x) (find p (drop (suc i) xs))) here
 
-pub names_one : (site : Site) (word : List ℕ) (gid : ℕ) → Some gid ≡ gid_meant site word → names_no_group site word ≡ false
-names_one site word gid e = ap (λ o. not (is_some o)) (sym e)
+pub names_one : (systemd : Option Version) (site : Site) (word : List ℕ) (gid : ℕ) → Some gid ≡ gid_meant systemd site word
+    → names_no_group systemd site word ≡ false
+names_one systemd site word gid e = ap (λ o. not (is_some o)) (sym e)
 
-pub names_none : (site : Site) (word : List ℕ) → None ≡ gid_meant site word → names_no_group site word ≡ true
-names_none site word e = ap (λ o. not (is_some o)) (sym e)
+pub names_none : (systemd : Option Version) (site : Site) (word : List ℕ) → None ≡ gid_meant systemd site word
+    → names_no_group systemd site word ≡ true
+names_none systemd site word e = ap (λ o. not (is_some o)) (sym e)

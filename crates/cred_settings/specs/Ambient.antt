@@ -1,5 +1,5 @@
 -- systemd.exec(5), AmbientCapabilities=: the capabilities that a service starts with in its ambient set (capabilities(7)).
-use Rattle.std.specs.Prelude.{ℕ, List, codes}
+use Rattle.std.specs.Prelude.{ℕ, List, Some, codes}
 use Rattle.dropin_merge.specs.declared.resolved.Resolved.{Resolved}
 use Rattle.dropin_merge.specs.declared.unit_values.value.FileNote.{FileNote}
 use Rattle.site_table.specs.cap_sets.Sets.{none}
@@ -7,7 +7,7 @@ use Rattle.cred_settings.specs.CapLists.{unit_caps, unit_caps_notes}
 
 -- the default is none
 abbrev pub ambient_of : Resolved → ℕ
-ambient_of unit = unit_caps unit (codes "AmbientCapabilities") none
+ambient_of unit = unit_caps unit (codes "AmbientCapabilities") (Some none)
 
 abbrev pub ambient_notes : Resolved → List FileNote
 ambient_notes unit = unit_caps_notes unit (codes "AmbientCapabilities")

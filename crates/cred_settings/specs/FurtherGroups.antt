@@ -1,9 +1,11 @@
 -- systemd.exec(5), SupplementaryGroups=: the further groups of a service.
-use Rattle.std.specs.Prelude.{ℕ, codes, List, [], ◌++◌}
+use Rattle.std.specs.Prelude.{ℕ, ◌==◌, ◌&&◌, not, Bool, cond, codes, Option, List, [], ◌∷◌, ◌++◌}
 use Rattle.std.specs.List.{filter_map}
 use Rattle.dropin_merge.specs.declared.resolved.Resolved.{Resolved}
 use Rattle.dropin_merge.specs.declared.unit_values.value.FileNote.{FileNote}
 use Rattle.dropin_merge.specs.unit_values.Words.{unit_words, unit_words_notes}
+use Rattle.dropin_merge.specs.unit_names.Versions.{is_known}
+use Rattle.dropin_merge.specs.unit_names.declared.version.Version.{Version}
 use Rattle.site_table.specs.Table.{Site}
 use Rattle.cred_settings.specs.declared.accounts.Account.{Account}
 use Rattle.cred_settings.specs.declared.accounts.Account.TheVariants.{Dynamic, Fixed}
@@ -14,9 +16,20 @@ abbrev pub groups_of_account : Account → List ℕ
 groups_of_account Dynamic = []
 groups_of_account (Fixed identity) = identity.groups
 
+-- a version of systemd gives a service with a user and another group than 0 the groups that initgroups(3) gives: those of the user, and
+-- its group. Any other service has none
+abbrev pub initial_groups : Bool → ℕ → List ℕ → List ℕ
+initial_groups has_user gid groups = cond (has_user && not (gid == 0)) (groups ++ gid ∷ []) []
+
+-- the groups that a service with this gid has by its account
+abbrev pub account_groups : Option Version → Bool → ℕ → Account → List ℕ
+account_groups systemd has_user gid account =
+    cond (is_known systemd) (initial_groups has_user gid (groups_of_account account)) (groups_of_account account)
+
 -- the groups of the words come after them, in order and with doubles
-abbrev pub groups_of : Site → Account → List (List ℕ) → List ℕ
-groups_of site account words = groups_of_account account ++ filter_map (gid_meant site) words
+abbrev pub groups_of : Option Version → Site → Bool → ℕ → Account → List (List ℕ) → List ℕ
+groups_of systemd site has_user gid account words =
+    account_groups systemd has_user gid account ++ filter_map (gid_meant systemd site) words
 
 -- the words that the files of a unit give, and their notes
 abbrev pub further_words : Resolved → List (List ℕ)

@@ -1,23 +1,36 @@
 -- systemd.exec(5), Group=: the group that a service runs as.
-use Rattle.std.specs.Prelude.{ℕ, codes, List, [], ◌∷◌, Option, None, option_map, unwrap_or}
+use Rattle.std.specs.Prelude.{ℕ, ◌==◌, cond, codes, find, List, [], ◌∷◌, Option, None, option_and_then, option_map, unwrap_or}
 use Rattle.std.specs.Option.{option_or}
 use Rattle.dropin_merge.specs.declared.resolved.Resolved.{Resolved}
 use Rattle.dropin_merge.specs.declared.unit_values.value.FileNote.{FileNote}
 use Rattle.dropin_merge.specs.unit_values.Values.{notes_of}
 use Rattle.dropin_merge.specs.unit_values.Lasting.{unit_last_text}
+use Rattle.dropin_merge.specs.unit_names.Versions.{is_known}
+use Rattle.dropin_merge.specs.unit_names.declared.version.Version.{Version}
+use Rattle.site_table.specs.declared.accounts.Group.{Group}
 use Rattle.site_table.specs.Table.{Site, group_named}
 use Rattle.cred_settings.specs.declared.accounts.Account.{Account}
 use Rattle.cred_settings.specs.declared.accounts.Account.TheVariants.{Dynamic, Fixed}
 use Rattle.cred_settings.specs.Ids.{id_number}
 
+-- the first group with this gid
+abbrev pub group_with : List Group → ℕ → Option Group
+group_with groups gid = find (λ group. group.gid == gid) groups
+
+-- a number is a group by itself; a version of systemd asks for a group of the site that has the number
+abbrev pub gid_numbered : Option Version → Site → Option ℕ → Option ℕ
+gid_numbered systemd site number =
+    cond (is_known systemd) (option_map (λ group. group.gid) (option_and_then (group_with site.groups) number)) number
+
 -- the group that a word names: a group of the site by its name, else a number
-abbrev pub gid_meant : Site → List ℕ → Option ℕ
-gid_meant site word = option_or (option_map (λ group. group.gid) (group_named site.groups word)) (id_number word)
+abbrev pub gid_meant : Option Version → Site → List ℕ → Option ℕ
+gid_meant systemd site word =
+    option_or (option_map (λ group. group.gid) (group_named site.groups word)) (gid_numbered systemd site (id_number word))
 
 -- an empty word names no group
-abbrev pub chosen_gid : Site → List ℕ → Option ℕ
-chosen_gid site [] = None
-chosen_gid site (byte ∷ word) = gid_meant site (byte ∷ word)
+abbrev pub chosen_gid : Option Version → Site → List ℕ → Option ℕ
+chosen_gid systemd site [] = None
+chosen_gid systemd site (byte ∷ word) = gid_meant systemd site (byte ∷ word)
 
 -- a chosen group takes the place of the user's group, and has no effect beside the dynamic uid
 abbrev pub gid_of : Site → Option ℕ → Account → ℕ

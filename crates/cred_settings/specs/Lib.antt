@@ -5,6 +5,7 @@ pub mod FurtherGroups
 pub mod Identities
 pub mod Answers
 pub mod CapNames
+pub mod CapSums
 pub mod CapLists
 pub mod Bounding
 pub mod Ambient
@@ -12,6 +13,7 @@ pub mod NewPrivileges
 pub mod Steps
 pub mod Writings
 pub mod LastLines
+pub mod LastSums
 pub mod Ranges
 pub mod dropin_merge
 pub mod site_table

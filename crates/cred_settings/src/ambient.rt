@@ -9,10 +9,11 @@ use site_table::CapSet;
 use std::alloc::{AllocError, Global};
 
 /// Reads the ambient set that a service starts with, by AmbientCapabilities=; without that key it is empty. Lines are
-/// read as those of the bounding set are, with the same notes.
+/// read as those of the bounding set are, with the same notes. For a version of systemd an empty ambient set is one
+/// that no line has changed.
 pub fn ambient_set(alloc: Global, unit: &Resolved) -> Result<Said<CapSet>, AllocError>
     ensures line_by_line { IfOk result (λ said. said.what ≡ ambient_of unit.now) }
     ensures noted { IfOk result (λ said. said.notes.items ≡ ambient_notes unit.now) }
 {
-    cap_set_of_key(alloc, unit, "AmbientCapabilities", CapSet::empty())
+    cap_set_of_key(alloc, unit, "AmbientCapabilities", Some(CapSet::empty()))
 }

@@ -14,11 +14,16 @@ use std::alloc::{AllocError, Global};
 /// names if the set equals its default, and takes its names off any other. `~` alone is all, and an empty value is
 /// the empty set. Names are read in any case.
 ///
+/// A version of systemd goes by the capabilities that a line comes to. A line that names none, and a line on a set
+/// that is unset, begins anew: a plain one is its capabilities, and an inverted one all others. The set is unset
+/// before the first line, and after an inverted line that names no capability; it counts as all then. Any other plain
+/// line adds to the set, and any other inverted line takes off it.
+///
 /// Notes come first for values that cannot be expanded. Then come those for lines that cannot be split, which change
 /// nothing, and for names that are not known, which are skipped.
 pub fn bounding_set(alloc: Global, unit: &Resolved) -> Result<Said<CapSet>, AllocError>
     ensures line_by_line { IfOk result (λ said. said.what ≡ bounding_of unit.now) }
     ensures noted { IfOk result (λ said. said.notes.items ≡ bounding_notes unit.now) }
 {
-    cap_set_of_key(alloc, unit, "CapabilityBoundingSet", CapSet::full())
+    cap_set_of_key(alloc, unit, "CapabilityBoundingSet", None)
 }

@@ -1,11 +1,12 @@
 //! Makes sets of capabilities by lines that add to them or take off (systemd.exec(5)).
 ghost use Rattle.std.specs.Prelude.{◌≡◌, ◌++◌, IfOk, OnOk, flat_map};
-ghost use Rattle.cred_settings.specs.CapLists.{with_plain, with_inverted, with_listed, caps_by, names_notes, unit_caps, unit_caps_notes};
+ghost use Rattle.cred_settings.specs.CapLists.{with_plain, with_inverted, with_listed, caps_by, caps_read, names_notes, unit_caps, unit_caps_notes};
 
 use crate::cap_names::{named_caps, note_words};
+use crate::cap_sums::{counted, summed};
 use dropin_merge::unit_values::{FileNote, Listed, Said, lines_of_key};
 use dropin_merge::{Resolved, Text};
-use site_table::CapSet;
+use site_table::{CapSet, Version};
 use std::alloc::{AllocError, Global};
 
 // Returns the set after a plain line with these capabilities.
@@ -55,6 +56,17 @@ fn caps_by(default: CapSet, lines: &[Listed]) -> CapSet
     set
 }
 
+// Returns the set that the lines of such a key make, by the rules of this version of systemd.
+fn caps_read(systemd: Option<Version>, default: &Option<CapSet>, lines: &[Listed]) -> CapSet
+    ensures { result ≡ caps_read systemd default.now lines.now }
+{
+    if systemd.is_some() {
+        counted(&summed(default, lines))
+    } else {
+        caps_by(counted(default), lines)
+    }
+}
+
 // Notes the words of all lines that name no capability.
 fn note_names(notes: &mut Vec<FileNote>, lines: &[Listed]) -> Result<(), AllocError>
     ensures { OnOk result (notes.new.items ≡ notes.old.items ++ flat_map names_notes lines.now) }
@@ -65,14 +77,15 @@ fn note_names(notes: &mut Vec<FileNote>, lines: &[Listed]) -> Result<(), AllocEr
     Ok(())
 }
 
-/// Returns the set that the files of a unit give to a key such as CapabilityBoundingSet. Notes come for values that
-/// cannot be expanded, then for those that cannot be split, and then for names that are not known.
+/// Returns the set that the files of a unit give to a key such as CapabilityBoundingSet, which is unset by default or
+/// has this set. Notes come for values that cannot be expanded, then for those that cannot be split, and then for names
+/// that are not known.
 #[tactic(auto, unfolding(crate::specs::CapLists::unit_caps, crate::specs::CapLists::unit_caps_notes))]
 pub fn cap_set_of_key(
     alloc: Global,
     unit: &Resolved,
     key: &str,
-    default: CapSet,
+    default: Option<CapSet>,
 ) -> Result<Said<CapSet>, AllocError>
     ensures means { IfOk result (λ said. said.what ≡ unit_caps unit.now key.now default) }
     ensures noted { IfOk result (λ said. said.notes.items ≡ unit_caps_notes unit.now key.now) }
@@ -83,7 +96,7 @@ pub fn cap_set_of_key(
     } = lines_of_key(alloc, unit, key)?;
     note_names(&mut notes, lines.as_slice())?;
     Ok(Said {
-        what: caps_by(default, lines.as_slice()),
+        what: caps_read(unit.systemd, &default, lines.as_slice()),
         notes,
     })
 }

@@ -5,7 +5,7 @@ ghost use Rattle.cred_settings.specs.declared.error.IdentityError.TheVariants.{M
 ghost use Rattle.cred_settings.specs.Users.{user_word};
 ghost use Rattle.cred_settings.specs.Groups.{gid_meant, chosen_gid, filled, group_word};
 ghost use Rattle.cred_settings.specs.FurtherGroups.{further_words};
-ghost use Rattle.cred_settings.specs.Steps.{begun};
+ghost use Rattle.cred_settings.specs.Steps.{begun, groups_with};
 ghost use Rattle.cred_settings.specs.Identities.{names_no_group, bad_group, identity_with, unless_bad, identity_from, identity_of, identity_notes};
 ghost use Rattle.cred_settings.specs.Answers.{IsUnlessMemory, IsOfGroup};
 
@@ -15,7 +15,7 @@ use crate::groups::gid_meant;
 use crate::users::account;
 use dropin_merge::unit_values::{Said, Words, last_text_of_key, words_of_key};
 use dropin_merge::{Resolved, Text};
-use site_table::SiteTable;
+use site_table::{SiteTable, Version};
 use std::alloc::{AllocError, Global};
 
 // The refusal of a user.
@@ -39,15 +39,20 @@ fn no_such_group(alloc: Global, word: &str) -> IdentityError
 }
 
 // The group that the word of Group= chooses, if there is one.
-fn chosen_gid(alloc: Global, site: &SiteTable, word: &str) -> Result<Option<u32>, IdentityError>
-    ensures chosen { IfOk result (λ gid. gid ≡ chosen_gid site.now word.now) }
-    ensures none_is_bad { OnOk result (find (names_no_group site.now) (filled word.now) ≡ None) }
-    ensures refused { IfErr result (IsOfGroup (find (names_no_group site.now) (filled word.now))) }
+fn chosen_gid(
+    alloc: Global,
+    systemd: Option<Version>,
+    site: &SiteTable,
+    word: &str,
+) -> Result<Option<u32>, IdentityError>
+    ensures chosen { IfOk result (λ gid. gid ≡ chosen_gid systemd site.now word.now) }
+    ensures none_is_bad { OnOk result (find (names_no_group systemd site.now) (filled word.now) ≡ None) }
+    ensures refused { IfErr result (IsOfGroup (find (names_no_group systemd site.now) (filled word.now))) }
 {
     if word.is_empty() {
         return Ok(None);
     }
-    match gid_meant(site, word) {
+    match gid_meant(systemd, site, word) {
         Some(gid) => Ok(Some(gid)),
         None => Err(no_such_group(alloc, word)),
     }
@@ -56,16 +61,17 @@ fn chosen_gid(alloc: Global, site: &SiteTable, word: &str) -> Result<Option<u32>
 // Adds the groups of the words after those that are there.
 fn add_groups(
     alloc: Global,
+    systemd: Option<Version>,
     site: &SiteTable,
     words: &[Text],
     groups: &mut Gids,
 ) -> Result<(), IdentityError>
-    ensures added { OnOk result (groups.new ≡ groups.old ++ filter_map (gid_meant site.now) words.now) }
-    ensures none_is_bad { OnOk result (find (names_no_group site.now) words.now ≡ None) }
-    ensures refused { IfErr result (IsOfGroup (find (names_no_group site.now) words.now)) }
+    ensures added { OnOk result (groups.new ≡ groups.old ++ filter_map (gid_meant systemd site.now) words.now) }
+    ensures none_is_bad { OnOk result (find (names_no_group systemd site.now) words.now ≡ None) }
+    ensures refused { IfErr result (IsOfGroup (find (names_no_group systemd site.now) words.now)) }
 {
     for word in words {
-        match gid_meant(site, word.as_str()) {
+        match gid_meant(systemd, site, word.as_str()) {
             Some(gid) => groups.push(gid)?,
             None => return Err(no_such_group(alloc, word.as_str())),
         }
@@ -73,7 +79,7 @@ fn add_groups(
     Ok(())
 }
 
-// The ids of an account with the group that is chosen, before the words of SupplementaryGroups=.
+// The ids of an account with the group that is chosen, and with the further groups of its user.
 fn begun(alloc: Global, site: &SiteTable, account: Account, chosen: Option<u32>) -> Identity
     ensures { result ≡ begun site.now chosen account }
 {
@@ -91,41 +97,76 @@ fn begun(alloc: Global, site: &SiteTable, account: Account, chosen: Option<u32>)
     }
 }
 
+// The groups that a service with this gid has by its account, whose user has these further groups.
+fn account_groups(
+    alloc: Global,
+    systemd: Option<Version>,
+    with_user: bool,
+    gid: u32,
+    mut groups: Gids,
+) -> Result<Gids, AllocError>
+    ensures { IfOk result (λ all. all ≡ groups_with systemd with_user gid groups) }
+{
+    if systemd.is_none() {
+        return Ok(groups);
+    }
+    if !with_user || gid == 0 {
+        return Ok(Gids::empty(alloc));
+    }
+    groups.push(gid)?;
+    Ok(groups)
+}
+
 // The ids of an account with its groups, or the refusal of the first word that names none.
 fn with_groups(
     alloc: Global,
+    systemd: Option<Version>,
     site: &SiteTable,
+    with_user: bool,
+    leaves_ids: bool,
     account: Account,
     group: &str,
     further: &[Text],
 ) -> Result<Identity, IdentityError>
-    ensures { IsUnlessMemory result (unless_bad (bad_group site.now group.now further.now) (identity_with site.now account group.now further.now)) }
+    ensures { IsUnlessMemory result (unless_bad (bad_group systemd site.now group.now further.now)
+        (identity_with systemd site.now with_user leaves_ids account group.now further.now)) }
 {
-    let chosen = chosen_gid(alloc, site, group)?;
-    let Identity {
-        uid,
-        gid,
-        mut groups,
-    } = begun(alloc, site, account, chosen);
-    add_groups(alloc, site, further, &mut groups)?;
+    let chosen = chosen_gid(alloc, systemd, site, group)?;
+    let Identity { uid, gid, groups } = begun(alloc, site, account, chosen);
+    let mut groups = account_groups(alloc, systemd, with_user, gid, groups)?;
+    if leaves_ids {
+        add_groups(alloc, systemd, site, further, &mut Gids::empty(alloc))?;
+        return Ok(Identity {
+            uid: 0,
+            gid: 0,
+            groups,
+        });
+    }
+    add_groups(alloc, systemd, site, further, &mut groups)?;
     Ok(Identity { uid, gid, groups })
 }
 
 // The ids that the words of the keys give, or the first refusal.
 fn identity_from(
     alloc: Global,
+    systemd: Option<Version>,
     site: &SiteTable,
     is_dynamic: bool,
-    user: &str,
-    group: &str,
-    further: &[Text],
+    leaves_ids: bool,
+    words: &IdentityWords,
 ) -> Result<Identity, IdentityError>
-    ensures { IsUnlessMemory result (identity_from site.now is_dynamic user.now group.now further.now) }
+    ensures { IsUnlessMemory result (identity_from systemd site.now is_dynamic leaves_ids words.now.user words.now.group words.now.further) }
 {
-    match account(alloc, site, is_dynamic, user)? {
-        Some(account) => with_groups(alloc, site, account, group, further),
-        None => Err(no_such_user(alloc, user)),
-    }
+    let user = words.user.as_str();
+    let Some(account) = account(alloc, systemd, site, is_dynamic, user)? else {
+        return Err(no_such_user(alloc, user));
+    };
+    let with_user = is_dynamic || !user.is_empty();
+    let group = words.group.as_str();
+    let further = words.further.list();
+    with_groups(
+        alloc, systemd, site, with_user, leaves_ids, account, group, further,
+    )
 }
 
 // The words that the files of a unit give to the keys.
@@ -159,13 +200,13 @@ fn identity_words(alloc: Global, unit: &Resolved) -> Result<Said<IdentityWords>,
 }
 
 /// Returns the ids that the files of a unit give by User=, Group= and SupplementaryGroups= (systemd.exec(5)).
-/// `is_dynamic` says if DynamicUser= is on.
+/// `is_dynamic` says if DynamicUser= is on, and `leaves_ids` if the command has the prefix `!` (systemd.service(5)).
 ///
 /// A word is the name of a user or a group of the site, else a decimal number from 0 to 4,294,967,294. Without User=
 /// a service runs as the superuser. A number is the first user of the site that has it, and else itself, with itself
 /// as group. With DynamicUser= the dynamic uid of the site replaces a missing User= and one that names nobody, and
 /// then Group= has no effect. Group= replaces the user's group, and SupplementaryGroups= adds to the user's further
-/// groups.
+/// groups. With the prefix `!` the service starts as the superuser, with the user's groups alone.
 ///
 /// `NoSuchUser` comes if User= names nobody and DynamicUser= is off. Then `NoSuchGroup` comes for the first word that
 /// names no group, of Group= and then of SupplementaryGroups=. `Memory` may come for any unit. Values that cannot be
@@ -176,20 +217,14 @@ pub fn identity_of_unit(
     unit: &Resolved,
     site: &SiteTable,
     is_dynamic: bool,
+    leaves_ids: bool,
 ) -> Result<Said<Identity>, IdentityError>
-    ensures ids_of_the_keys { IfOk result (λ said. identity_of unit.now site.now is_dynamic ≡ Ok said.what) }
-    ensures first_refusal { IfErr result (λ error. error ≢ Memory → identity_of unit.now site.now is_dynamic ≡ Err error) }
+    ensures ids_of_the_keys { IfOk result (λ said. identity_of unit.now site.now is_dynamic leaves_ids ≡ Ok said.what) }
+    ensures first_refusal { IfErr result (λ error. error ≢ Memory → identity_of unit.now site.now is_dynamic leaves_ids ≡ Err error) }
     ensures noted { IfOk result (λ said. said.notes.items ≡ identity_notes unit.now) }
 {
     let Said { what: words, notes } = identity_words(alloc, unit)?;
-    let identity = identity_from(
-        alloc,
-        site,
-        is_dynamic,
-        words.user.as_str(),
-        words.group.as_str(),
-        words.further.list(),
-    )?;
+    let identity = identity_from(alloc, unit.systemd, site, is_dynamic, leaves_ids, &words)?;
     Ok(Said {
         what: identity,
         notes,

@@ -1,5 +1,5 @@
 //! The laws of users, groups and capabilities. Each is the contract of a function that does nothing.
-ghost use Rattle.std.specs.Prelude.{◌≡◌, ◌≢◌, ℕ, ◌≤◌, ◌++◌, [], ◌∷◌, List, Bool, true, false, Ok, Err};
+ghost use Rattle.std.specs.Prelude.{◌≡◌, ◌≢◌, ℕ, ◌≤◌, ◌++◌, [], ◌∷◌, List, Bool, true, false, Ok, Err, Option};
 ghost use Rattle.std.specs.List.{list_any};
 ghost use Rattle.dropin_merge.specs.declared.unit_values.listed.Listed.{Listed};
 ghost use Rattle.dropin_merge.specs.unit_values.Listed.{is_reset};
@@ -14,17 +14,19 @@ ghost use Rattle.cred_settings.specs.CapNames.{named_caps};
 ghost use Rattle.cred_settings.specs.CapLists.{caps_by};
 ghost use Rattle.cred_settings.specs.Writings.{IsLine, is_name_of};
 ghost use Rattle.cred_settings.specs.LastLines.{is_taken_in};
+ghost use Rattle.cred_settings.specs.LastSums.{is_taken_in as is_taken_in_by_sums};
+ghost use Rattle.cred_settings.specs.CapSums.{counted, summed};
 
 /// Each id of a unit of a site is one that the kernel takes.
 pub fn ids_in_range()
-    ensures in_range { (unit : Resolved) (site : Site) (is_dynamic : Bool) (identity : Identity) → IsSite site
-        → identity_of unit site is_dynamic ≡ Ok identity → HasIds identity }
+    ensures in_range { (unit : Resolved) (site : Site) (is_dynamic leaves_ids : Bool) (identity : Identity) → IsSite site
+        → identity_of unit site is_dynamic leaves_ids ≡ Ok identity → HasIds identity }
 {}
 
 /// With DynamicUser= no User= is refused.
 pub fn dynamic_users()
-    ensures nobody_is_refused { (unit : Resolved) (site : Site) (word : List ℕ)
-        → identity_of unit site true ≢ Err (NoSuchUser word) }
+    ensures nobody_is_refused { (unit : Resolved) (site : Site) (leaves_ids : Bool) (word : List ℕ)
+        → identity_of unit site true leaves_ids ≢ Err (NoSuchUser word) }
 {}
 
 /// A named set has the capabilities that the words name, in any case.
@@ -37,6 +39,10 @@ pub fn named_members()
 pub fn each_capability()
     ensures last_line_decides { (default number : ℕ) (lines : List Listed) → number ≤ 40
         → has (caps_by default lines) number ≡ is_taken_in default number lines }
+
+    // So it is for a version of systemd, whose lines begin anew where they name no capability too.
+    ensures last_sum_decides { (default : Option ℕ) (number : ℕ) (lines : List Listed) → number ≤ 40
+        → has (counted (summed default lines)) number ≡ is_taken_in_by_sums default number lines }
 {}
 
 /// Common writings of CapabilityBoundingSet= and AmbientCapabilities= have these meanings.

@@ -12,6 +12,7 @@ mod ambient;
 mod bounding;
 mod cap_lists;
 mod cap_names;
+mod cap_sums;
 mod error;
 mod groups;
 mod identities;
@@ -25,7 +26,7 @@ pub use ambient::ambient_set;
 pub use bounding::bounding_set;
 pub use dropin_merge::unit_values::{
     FileNote, Place, Value, flag_of_key, in_force, note_value, read_words, service_assignments,
-    values_of_key, words_of_key,
+    values_of_key, words_of_key, written_values,
 };
 pub use dropin_merge::{
     Assignment, Assignments, Held, HeldList, ItemList, Line, NoteCause, Notes, ResolveError,
@@ -35,4 +36,4 @@ pub use dropin_merge::{
 pub use error::IdentityError;
 pub use identities::identity_of_unit;
 pub use new_privileges::{is_no_new_privileges_set, no_new_privs};
-pub use site_table::{CapSet, Row, RowCause, RowKind, SiteError, SiteTable, read_site};
+pub use site_table::{CapSet, Row, RowCause, RowKind, SiteError, SiteTable, Version, read_site};

@@ -1,19 +1,33 @@
 //! Reads NoNewPrivileges= (systemd.exec(5)).
 ghost use Rattle.std.specs.Prelude.{◌≡◌, IfOk};
-ghost use Rattle.cred_settings.specs.NewPrivileges.{is_in_effect, is_set_by, new_privileges_notes};
+ghost use Rattle.cred_settings.specs.NewPrivileges.{is_in_effect_in, is_set_by, new_privileges_notes};
 
 use dropin_merge::Resolved;
 use dropin_merge::linux_numbers::capabilities::CAP_SYS_ADMIN;
 use dropin_merge::unit_values::{Said, flag_of_key};
-use site_table::CapSet;
+use site_table::{CapSet, Version};
 use std::alloc::{AllocError, Global};
 
 /// Returns whether NoNewPrivileges= is in effect: it is set, or a filter is on for a service whose uid is not 0 and
 /// whose ambient set lacks CAP_SYS_ADMIN.
-pub fn no_new_privs(is_set: bool, has_filter: bool, uid: u32, ambient: CapSet) -> bool
-    ensures set_or_implied { result ≡ is_in_effect is_set has_filter uid ambient }
+///
+/// In systemd 252 the ambient set does not matter, and `is_filtered` decides in place of `has_filter`: a filter is on,
+/// or a setting that this version counts as one.
+pub fn no_new_privs(
+    systemd: Option<Version>,
+    is_set: bool,
+    has_filter: bool,
+    is_filtered: bool,
+    uid: u32,
+    ambient: CapSet,
+) -> bool
+    ensures set_or_implied { result ≡ is_in_effect_in systemd is_set has_filter is_filtered uid ambient }
 {
-    is_set || has_filter && uid != 0 && !ambient.contains(CAP_SYS_ADMIN)
+    let is_implied = match systemd {
+        Some(Version::V252) => is_filtered,
+        Some(Version::V257) | None => has_filter && !ambient.contains(CAP_SYS_ADMIN),
+    };
+    is_set || is_implied && uid != 0
 }
 
 /// Reads whether NoNewPrivileges= is set. The last value that can be read decides; an empty one or none is false.

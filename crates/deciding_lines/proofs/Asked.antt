@@ -5,9 +5,9 @@ use Rattle.std.specs.declared.alloc.AllocError.{AllocError}
 use Rattle.asked_service.proofs.Exact.{all_at}
 use Rattle.asked_service.specs.Asked.{IsBounded, is_open_by}
 use Rattle.asked_service.specs.declared.bounding.Bounded.{Bounded}
-use Rattle.asked_service.specs.unit_inputs.command_answers.Stops.{Prepares}
-use Rattle.asked_service.specs.unit_inputs.declared.command_answers.stop.Stop.{Stop}
-use Rattle.asked_service.specs.unit_inputs.declared.command_answers.stop.Stop.TheVariants as stop
+use Rattle.asked_service.specs.unit_inputs.command_answers.CommandErrors.{Prepares}
+use Rattle.asked_service.specs.unit_inputs.declared.command_answers.error.CommandError.{CommandError}
+use Rattle.asked_service.specs.unit_inputs.declared.command_answers.error.CommandError.TheVariants as stop
 use Rattle.asked_service.specs.call_table.Table as calls
 use Rattle.asked_service.specs.dropin_merge.declared.resolved.Resolved.{Resolved}
 use Rattle.asked_service.specs.kernel_laws.Bound.{is_open}
@@ -102,7 +102,7 @@ module _ (name : List ℕ) (inputs : Inputs) (places : List Place) (less : Resol
   starts_as (Refused refusal) prepared (Ok (started.Launched service)) told = absurd told
   starts_as (Refused refusal) prepared (Ok (started.Refused line)) told = refuses_launch refusal line.items told prepared
 
-  pub stops_as : (why : Stop) → Prepares {T = UnitLaunch} (StartsAs (given less inputs.calls inputs.site))
+  pub stops_as : (why : CommandError) → Prepares {T = UnitLaunch} (StartsAs (given less inputs.calls inputs.site))
       (start_refusals name (given less inputs.calls inputs.site)) (Err why) → (result : Result Started AllocError)
       → IfOk result (TellsStop why) → IfOk result (IsStarted name (inputs_without inputs places))
   stops_as why refuses (Err none) told = tt

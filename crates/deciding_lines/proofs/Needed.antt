@@ -18,6 +18,7 @@ use Rattle.asked_service.specs.declared.unit_launch.launching.UnitLaunch.TheVari
 use Rattle.deciding_lines.specs.Deciding.{AreDeciding, AreNeededOf, CanGo, IsLaunchedWith, IsReasonAt, all_go, needed_stay}
 use Rattle.deciding_lines.specs.Searching.{DeniesWithout}
 use Rattle.deciding_lines.specs.Tried.{IsNotLaunched, IsOpenWithout, IsShutWithout, TellsOpen, Tried, inputs_without}
+use Rattle.asked_service.specs.unit_names.declared.version.Version.{Version}
 use Rattle.deciding_lines.specs.unit_lines.Without.{all_but, file_without, is_among, is_place, is_taken, left_of, without}
 use Rattle.deciding_lines.specs.unit_lines.Lines.{is_in_force}
 use Rattle.deciding_lines.specs.declared.reason.Reason.{Reason}
@@ -28,29 +29,29 @@ all_pass : {X : Type 0} (xs : List X) → filter (λ x. true) xs ≡ xs
 all_pass [] = refl
 all_pass (x ∷ xs) = ap (λ rest. x ∷ rest) (all_pass xs)
 
-none_taken : (number : ℕ) (assignment : Assignment) → not (is_taken [] number assignment) ≡ true
-none_taken number assignment = by (is_in_force assignment) where
+none_taken : (systemd : Option Version) (number : ℕ) (assignment : Assignment) → not (is_taken systemd [] number assignment) ≡ true
+none_taken systemd number assignment = by (is_in_force systemd assignment) where
   by : (b : Bool) → not (b && false) ≡ true
   by true = refl
   by false = refl
 
-same_left : (number : ℕ) (assignments : List Assignment) → left_of [] number assignments ≡ assignments
-same_left number assignments =
-    filter_agree (λ assignment. not (is_taken [] number assignment)) (λ assignment. true) (none_taken number) assignments ∙ all_pass assignments
+same_left : (systemd : Option Version) (number : ℕ) (assignments : List Assignment) → left_of systemd [] number assignments ≡ assignments
+same_left systemd number assignments =
+    filter_agree (λ assignment. not (is_taken systemd [] number assignment)) (λ assignment. true) (none_taken systemd number) assignments ∙ all_pass assignments
 
-same_file : (number : ℕ) (file : UnitFile) → file_without [] (number, file) ≡ file
-same_file number file = ap (λ (left : List Assignment). record {
+same_file : (systemd : Option Version) (number : ℕ) (file : UnitFile) → file_without systemd [] (number, file) ≡ file
+same_file systemd number file = ap (λ (left : List Assignment). record {
   path = file.path;
   text = record { assignments = left; notes = file.text.notes };
-}) (same_left number file.text.assignments)
+}) (same_left systemd number file.text.assignments)
 
-same_files : (files : List UnitFile) (number : ℕ) → map (file_without []) (enumerate_from number files) ≡ files
-same_files [] number = refl
-same_files (file ∷ files) number = ap₂ (λ (one : UnitFile) (rest : List UnitFile). one ∷ rest) (same_file number file) (same_files files _)
+same_files : (systemd : Option Version) (files : List UnitFile) (number : ℕ) → map (file_without systemd []) (enumerate_from number files) ≡ files
+same_files systemd [] number = refl
+same_files systemd (file ∷ files) number = ap₂ (λ (one : UnitFile) (rest : List UnitFile). one ∷ rest) (same_file systemd number file) (same_files systemd files _)
 
 without_none : (unit : Resolved) → without [] unit ≡ unit
 unfolding without
-without_none unit = ap (λ (files : List UnitFile). record { name = unit.name; files = files }) (same_files unit.files 0)
+without_none unit = ap (λ (files : List UnitFile). record unit { files = files }) (same_files unit.systemd unit.files 0)
 
 -- ---- of some lines all stay
 is_itself : (place : Place) → is_place place place ≡ true

@@ -8,8 +8,8 @@ use Rattle.asked_service.specs.launcher.declared.launched.Launched.{Launched as 
 use Rattle.asked_service.specs.kernel_laws.declared.question_types.question.Question.{Question}
 use Rattle.asked_service.specs.started_units.Starting.{StartsAs, first_start, given}
 use Rattle.asked_service.specs.unit_inputs.Inputs.{Inputs}
-use Rattle.asked_service.specs.unit_inputs.declared.command_answers.stop.Stop.{Stop}
-use Rattle.asked_service.specs.unit_inputs.declared.command_answers.stop.Stop.TheVariants as stop
+use Rattle.asked_service.specs.unit_inputs.declared.command_answers.error.CommandError.{CommandError}
+use Rattle.asked_service.specs.unit_inputs.declared.command_answers.error.CommandError.TheVariants as stop
 use Rattle.asked_service.specs.unit_launch.Refusals as launch
 use Rattle.asked_service.specs.declared.unit_launch.launching.UnitLaunch.{UnitLaunch}
 use Rattle.asked_service.specs.declared.unit_launch.launching.UnitLaunch.TheVariants.{Launched, Refused}
@@ -95,7 +95,7 @@ abbrev pub TellsLaunch : UnitLaunch → Started → Type 0
 TellsLaunch (Launched service) told = told ≡ started.Launched service
 TellsLaunch (Refused refusal) told = IsRefusedBy (launch.refusal_line refusal) told
 
-abbrev pub TellsStop : Stop → Started → Type 0
+abbrev pub TellsStop : CommandError → Started → Type 0
 TellsStop (stop.Refused line) told = told ≡ started.Refused line
 TellsStop stop.ReadFault told = ⊥
 TellsStop stop.Memory told = ⊥

@@ -6,7 +6,7 @@ ghost use Rattle.deciding_lines.specs.Tried.{IsStarted, TellsLaunch, TellsStop, 
 use crate::unit_lines::without;
 use asked_service::started_units::start;
 use asked_service::unit_launch::{UnitLaunch, refusal_line};
-use asked_service::{CallTable, Launched, Place, Resolved, SiteTable, Stop};
+use asked_service::{CallTable, CommandError, Launched, Place, Resolved, SiteTable};
 use std::alloc::{AllocError, Global};
 
 /// What a unit starts as.
@@ -29,12 +29,12 @@ fn of_launch<'a>(alloc: Global, launch: UnitLaunch<'a>) -> Result<Started<'a>, A
 }
 
 // The line of a stop before the launch.
-fn of_stop<'a>(stop: Stop) -> Result<Started<'a>, AllocError>
+fn of_stop<'a>(stop: CommandError) -> Result<Started<'a>, AllocError>
     ensures { IfOk result (TellsStop stop) }
 {
     match stop {
-        Stop::Refused(line) => Ok(Started::Refused(line)),
-        Stop::ReadFault | Stop::Memory => Err(AllocError),
+        CommandError::Refused(line) => Ok(Started::Refused(line)),
+        CommandError::ReadFault | CommandError::Memory => Err(AllocError),
     }
 }
 

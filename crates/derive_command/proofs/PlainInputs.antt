@@ -8,7 +8,7 @@ use Rattle.replay_command.specs.call_table.Table.{Table}
 use Rattle.replay_command.specs.call_table.declared.causes.CallsError.{CallsError}
 use Rattle.replay_command.specs.unit_inputs.command_answers.ReadFiles.{Content, Holds, IsMissing, IsTooLarge, content_of, content_at}
 use Rattle.replay_command.specs.unit_inputs.command_answers.ReadFiles.{table_path}
-use Rattle.replay_command.specs.unit_inputs.command_answers.Stops.{and_then, or_line}
+use Rattle.replay_command.specs.unit_inputs.command_answers.CommandErrors.{and_then, or_line}
 use Rattle.trace_profile.specs.dropin_merge.declared.resolved.Resolved.{Resolved}
 use Rattle.replay_command.specs.site_table.Table.{Site}
 use Rattle.trace_profile.specs.PlainNames.{HasPlainNames}

@@ -4,13 +4,13 @@ use Rattle.std.specs.Prelude.{◌⊎◌, IfSome, IsTrue, option_map}
 use Rattle.replay_command.specs.host_io.Files.{Files}
 use Rattle.replay_command.specs.call_table.Table.{Table}
 use Rattle.replay_command.specs.kernel_model.declared.kernel_calls.call.Call.{Call}
-use Rattle.replay_command.specs.unit_inputs.command_answers.Endings.{is_answer}
+use Rattle.replay_command.specs.unit_inputs.command_answers.ExitStatuses.{is_answer}
 use Rattle.replay_command.specs.unit_inputs.command_answers.Laws.{AcceptsFiles, GoTogether, IsAdmitted, laws_over}
-use Rattle.replay_command.specs.unit_inputs.command_answers.Stops.{IsAnswer, Prepares, first_refusal}
-use Rattle.replay_command.specs.unit_inputs.declared.command_answers.ending.Ending.{Ending}
-use Rattle.replay_command.specs.unit_inputs.declared.command_answers.ending.Ending.TheVariants.{Done, LaunchRefused}
-use Rattle.replay_command.specs.unit_inputs.declared.command_answers.stop.Stop.{Stop}
-use Rattle.replay_command.specs.unit_inputs.declared.command_answers.stop.Stop.TheVariants as stop
+use Rattle.replay_command.specs.unit_inputs.command_answers.CommandErrors.{IsAnswer, Prepares, first_refusal}
+use Rattle.replay_command.specs.unit_inputs.declared.command_answers.exit_status.ExitStatus.{ExitStatus}
+use Rattle.replay_command.specs.unit_inputs.declared.command_answers.exit_status.ExitStatus.TheVariants.{Done, LaunchRefused}
+use Rattle.replay_command.specs.unit_inputs.declared.command_answers.error.CommandError.{CommandError}
+use Rattle.replay_command.specs.unit_inputs.declared.command_answers.error.CommandError.TheVariants as stop
 use Rattle.replay_command.proofs.OfUnitInputs.FileCommands.{go_together, ready_is_admitted, stop_is_admitted}
 use Rattle.replay_command.proofs.OfUnitInputs.Refusing.{stops_as}
 use Rattle.replay_command.specs.exec_settings.Mounts.{unit_mentions}
@@ -37,7 +37,7 @@ use Rattle.replay_command.specs.unit_inputs.SettingsRefusals.{settings_line}
 use Rattle.replay_command.specs.unit_inputs.Settled.{refusals_by}
 use Rattle.replay_command.proofs.OfUnitInputs.Steps as steps
 use Rattle.replay_command.proofs.OfUnitInputs.Steps.{AreRead, refusals_with}
-use Rattle.replay_command.specs.unit_inputs.command_answers.ReadyTexts.{ending_of, text_of}
+use Rattle.replay_command.specs.unit_inputs.command_answers.ReadyTexts.{status_of, text_of}
 use Rattle.derive_command.specs.Prints.{PrintsAnswer, PrintsDerived, derived, refused, derive_laws}
 use Rattle.derive_command.specs.Refusals.{derive_refusals, opened, refusals_behind, refusals_behind_script, refusals_by_script}
 use Rattle.derive_command.specs.Refusals.{seccomp_line}
@@ -88,49 +88,49 @@ module _ (unit path : List ℕ) (inputs : Inputs) (script : List Call) where
   pub answers_derived : (names : List ℕ) (allowing : ReadyText) → first_seccomp inputs.calls script ≡ None
       → IsDerived inputs.unit inputs.calls inputs.site script names
       → (HasPlainNames inputs.calls → IsOnlyOne inputs.unit inputs.calls inputs.site script names)
-      → allowing.text.items ≡ drop_in_text inputs.calls names → allowing.ending ≡ Done
-      → (first_refusal (refusals_behind_script unit path inputs script) ≡ None) × AnswersCalls inputs script (ending_of allowing)
+      → allowing.text.items ≡ drop_in_text inputs.calls names → allowing.status ≡ Done
+      → (first_refusal (refusals_behind_script unit path inputs script) ≡ None) × AnswersCalls inputs script (status_of allowing)
       (text_of allowing)
-  answers_derived names allowing none is only text ending = (
+  answers_derived names allowing none is only text status = (
     none_refused is.opened.plan none is.opened.accepted is.opened.is_plan is.opened.fits,
-    subst (λ e. AnswersCalls inputs script e (text_of allowing)) (sym ending)
+    subst (λ e. AnswersCalls inputs script e (text_of allowing)) (sym status)
         (subst (AnswersCalls inputs script Done) (sym text) (allowed names is only)),
   )
 
   -- the launch is refused
   pub answers_refused : (refusal : LaunchRefusal) (allowing : ReadyText) → first_seccomp inputs.calls script ≡ None
       → IsRefusedUnit (open_unit inputs.unit inputs.calls) inputs.calls inputs.site refusal
-      → allowing.text.items ≡ refusal_line refusal → allowing.ending ≡ LaunchRefused
-      → (first_refusal (refusals_behind_script unit path inputs script) ≡ None) × AnswersCalls inputs script (ending_of allowing)
+      → allowing.text.items ≡ refusal_line refusal → allowing.status ≡ LaunchRefused
+      → (first_refusal (refusals_behind_script unit path inputs script) ≡ None) × AnswersCalls inputs script (status_of allowing)
       (text_of allowing)
-  answers_refused refusal allowing none is text ending = (
+  answers_refused refusal allowing none is text status = (
     none_refused is.plan none is.accepted is.is_plan is.fits,
-    subst (λ e. AnswersCalls inputs script e (text_of allowing)) (sym ending)
+    subst (λ e. AnswersCalls inputs script e (text_of allowing)) (sym status)
         (subst (AnswersCalls inputs script LaunchRefused) (sym text) (not_launched refusal is)),
   )
 
 -- what answers over a table with plain names is printed
-printed_answer : (inputs : Inputs) (script : List Call) → HasPlainNames inputs.calls → (ending : Ending) (text : List ℕ)
-    → AnswersCalls inputs script ending text → PrintsAnswer inputs script ending text
+printed_answer : (inputs : Inputs) (script : List Call) → HasPlainNames inputs.calls → (status : ExitStatus) (text : List ℕ)
+    → AnswersCalls inputs script status text → PrintsAnswer inputs script status text
 printed_answer inputs script plain _ _ (allowed names is only) = derived names is (only plain)
 printed_answer inputs script plain _ _ (not_launched refusal is) = refused refusal is
 
 -- ---- the whole
 module _ (told : Option Files) (unit path : List ℕ) where
   -- each ending behind what is derived is an answer
-  answered : (ending : Ending) → (derive_laws unit path).may_end ending → IsTrue (is_answer ending)
-  answered ending (inl done) = subst (λ e. IsTrue (is_answer e)) (sym done) refl
-  answered ending (inr launch) = subst (λ e. IsTrue (is_answer e)) (sym launch) refl
+  answered : (status : ExitStatus) → (derive_laws unit path).may_end status → IsTrue (is_answer status)
+  answered status (inl done) = subst (λ e. IsTrue (is_answer e)) (sym done) refl
+  answered status (inr launch) = subst (λ e. IsTrue (is_answer e)) (sym launch) refl
 
   pub together : GoTogether (laws_over told (derive_laws unit path))
   together = go_together (derive_laws unit path) told answered
 
 -- an input is refused
-pub stops_at_inputs : (P : Files → UnitInputs → Type 0) (told : Option Files) (unit path : List ℕ) (stop : Stop)
+pub stops_at_inputs : (P : Files → UnitInputs → Type 0) (told : Option Files) (unit path : List ℕ) (stop : CommandError)
     → IfSome told (λ files. Prepares (P files) (input_refusals files unit) (Err stop))
-    → IsAdmitted (laws_over told (derive_laws unit path)) ending_of text_of (Err stop)
+    → IsAdmitted (laws_over told (derive_laws unit path)) status_of text_of (Err stop)
 stops_at_inputs P told unit path stop said =
-    stop_is_admitted (derive_laws unit path) ending_of text_of (λ (allowing : ReadyText). Unit {0}) told stop
+    stop_is_admitted (derive_laws unit path) status_of text_of (λ (allowing : ReadyText). Unit {0}) told stop
     (steps.stops_at_inputs P (λ files (allowing : ReadyText). Unit {0}) told unit
     (λ files. refusals_by (refusals_behind files unit path) (inputs_of files unit)) stop said)
 
@@ -142,20 +142,20 @@ behind_inputs files unit path inputs read = refusals_with files unit (input_refu
     (inputs_view inputs) read.0 read.1
 
 -- the script is refused
-refused_script : (unit path : List ℕ) (inputs : Inputs) (found : Result (List Call) (List ℕ)) (stop : Stop)
+refused_script : (unit path : List ℕ) (inputs : Inputs) (found : Result (List Call) (List ℕ)) (stop : CommandError)
     → IsAnswer {T = List Call} (λ script. script) (Err stop) found
     → Prepares (λ (allowing : ReadyText). Unit {0}) (refusals_by_script unit path inputs found) (Err stop)
 refused_script unit path inputs found (stop.Refused line) is = ap (λ one. first_refusal (refusals_by_script unit path inputs one)) is
 refused_script unit path inputs found stop.ReadFault is = tt
 refused_script unit path inputs found stop.Memory is = tt
 
-pub stops_at_script : (told now : Option Files) (unit path : List ℕ) (inputs : UnitInputs) (table : Table) (stop : Stop) → now ≡ told
+pub stops_at_script : (told now : Option Files) (unit path : List ℕ) (inputs : UnitInputs) (table : Table) (stop : CommandError) → now ≡ told
     → table ≡ (inputs_view inputs).calls
     → IfSome told (λ files. AreRead files unit inputs)
     → IfSome now (λ files. IsAnswer {T = List Call} (λ script. script) (Err stop) (script_in files path table))
-    → IsAdmitted (laws_over told (derive_laws unit path)) ending_of text_of (Err stop)
+    → IsAdmitted (laws_over told (derive_laws unit path)) status_of text_of (Err stop)
 stops_at_script told now unit path inputs table stop same by read said =
-    stop_is_admitted (derive_laws unit path) ending_of text_of (λ (allowing : ReadyText). Unit {0}) told stop (at_script told same read)
+    stop_is_admitted (derive_laws unit path) status_of text_of (λ (allowing : ReadyText). Unit {0}) told stop (at_script told same read)
   where
     at_script : (told : Option Files) → now ≡ told → IfSome told (λ files. AreRead files unit inputs)
         → IfSome told (λ files. Prepares (λ (allowing : ReadyText). Unit {0}) (derive_refusals files unit path) (Err stop))
@@ -189,30 +189,30 @@ module _ (told now : Option Files) (unit path : List ℕ) (inputs : UnitInputs) 
       ∙ ap (λ one. first_refusal (refusals_by_script unit path (inputs_view inputs) one)) (script_is files e)
 
   -- what is answered is admitted
-  admitted : (result : Result ReadyText Stop)
-      → Prepares (λ allowing. AnswersCalls (inputs_view inputs) script (ending_of allowing) (text_of allowing))
+  admitted : (result : Result ReadyText CommandError)
+      → Prepares (λ allowing. AnswersCalls (inputs_view inputs) script (status_of allowing) (text_of allowing))
       (refusals_behind_script unit path (inputs_view inputs) script) result
-      → IsAdmitted (laws_over told (derive_laws unit path)) ending_of text_of result
-  admitted (Err stop) answers = stop_is_admitted (derive_laws unit path) ending_of text_of
-      (λ allowing. AnswersCalls (inputs_view inputs) script (ending_of allowing) (text_of allowing)) told stop (at_stop told refl)
+      → IsAdmitted (laws_over told (derive_laws unit path)) status_of text_of result
+  admitted (Err stop) answers = stop_is_admitted (derive_laws unit path) status_of text_of
+      (λ allowing. AnswersCalls (inputs_view inputs) script (status_of allowing) (text_of allowing)) told stop (at_stop told refl)
     where
       at_stop : (own : Option Files) → told ≡ own → IfSome own
-          (λ files. Prepares (λ allowing. AnswersCalls (inputs_view inputs) script (ending_of allowing) (text_of allowing))
+          (λ files. Prepares (λ allowing. AnswersCalls (inputs_view inputs) script (status_of allowing) (text_of allowing))
           (derive_refusals files unit path) (Err stop))
       at_stop None e = tt
-      at_stop (Some files) e = stops_as (λ allowing. AnswersCalls (inputs_view inputs) script (ending_of allowing) (text_of allowing))
+      at_stop (Some files) e = stops_as (λ allowing. AnswersCalls (inputs_view inputs) script (status_of allowing) (text_of allowing))
           stop (refusals_behind_script unit path (inputs_view inputs) script) (derive_refusals files unit path)
           (behind_script files e) answers
-  admitted (Ok allowing) answers = ready_is_admitted (derive_laws unit path) ending_of text_of told allowing
-      (ends_so (ending_of allowing) (text_of allowing) answers.1) (printed told refl)
+  admitted (Ok allowing) answers = ready_is_admitted (derive_laws unit path) status_of text_of told allowing
+      (ends_so (status_of allowing) (text_of allowing) answers.1) (printed told refl)
     where
-      ends_so : (ending : Ending) (text : List ℕ) → AnswersCalls (inputs_view inputs) script ending text
-          → (ending ≡ Done) ⊎ (ending ≡ LaunchRefused)
+      ends_so : (status : ExitStatus) (text : List ℕ) → AnswersCalls (inputs_view inputs) script status text
+          → (status ≡ Done) ⊎ (status ≡ LaunchRefused)
       ends_so _ _ (allowed names is only) = inl refl
       ends_so _ _ (not_launched refusal is) = inr refl
 
       printed : (own : Option Files) → told ≡ own → IfSome own
-          (λ files. AcceptsFiles (derive_laws unit path) files × PrintsDerived files unit path (ending_of allowing) (text_of allowing))
+          (λ files. AcceptsFiles (derive_laws unit path) files × PrintsDerived files unit path (status_of allowing) (text_of allowing))
       printed None e = tt
       printed (Some files) e = (
         behind_script files e ∙ answers.0,
@@ -222,18 +222,18 @@ module _ (told now : Option Files) (unit path : List ℕ) (inputs : UnitInputs) 
           script = script;
           script_is = script_is files e;
           is_the_answer = printed_answer (inputs_view inputs) script
-              (inputs_are_plain files unit (inputs_view inputs) (read_is files e).1) (ending_of allowing) (text_of allowing) answers.1;
+              (inputs_are_plain files unit (inputs_view inputs) (read_is files e).1) (status_of allowing) (text_of allowing) answers.1;
         },
       )
 
   -- also where the inputs are lent
-  pub admitted_as : (own : Inputs) (lent : List Call) (result : Result ReadyText Stop) → own ≡ inputs_view inputs → lent ≡ script
-      → Prepares (λ allowing. AnswersCalls own lent (ending_of allowing) (text_of allowing))
+  pub admitted_as : (own : Inputs) (lent : List Call) (result : Result ReadyText CommandError) → own ≡ inputs_view inputs → lent ≡ script
+      → Prepares (λ allowing. AnswersCalls own lent (status_of allowing) (text_of allowing))
       (refusals_behind_script unit path own lent) result
-      → IsAdmitted (laws_over told (derive_laws unit path)) ending_of text_of result
+      → IsAdmitted (laws_over told (derive_laws unit path)) status_of text_of result
   admitted_as own lent result is lends answers =
       admitted result
-      (subst (λ these. Prepares (λ allowing. AnswersCalls (inputs_view inputs) these (ending_of allowing) (text_of allowing))
+      (subst (λ these. Prepares (λ allowing. AnswersCalls (inputs_view inputs) these (status_of allowing) (text_of allowing))
       (refusals_behind_script unit path (inputs_view inputs) these) result) lends
-      (subst (λ these. Prepares (λ allowing. AnswersCalls these lent (ending_of allowing) (text_of allowing))
+      (subst (λ these. Prepares (λ allowing. AnswersCalls these lent (status_of allowing) (text_of allowing))
       (refusals_behind_script unit path these lent) result) is answers))

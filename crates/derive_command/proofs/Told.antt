@@ -4,11 +4,11 @@ use Rattle.std.specs.Prelude.{IsErrOf}
 use Rattle.replay_command.specs.call_table.Table.{Table}
 use Rattle.trace_profile.specs.dropin_merge.declared.resolved.Resolved.{Resolved}
 use Rattle.replay_command.specs.kernel_model.declared.kernel_calls.call.Call.{Call}
-use Rattle.replay_command.specs.unit_inputs.command_answers.Stops.{Prepares, first_refusal}
-use Rattle.replay_command.specs.unit_inputs.declared.command_answers.ending.Ending.{Ending}
-use Rattle.replay_command.specs.unit_inputs.declared.command_answers.ending.Ending.TheVariants.{Done, LaunchRefused}
-use Rattle.replay_command.specs.unit_inputs.declared.command_answers.stop.Stop.{Stop}
-use Rattle.replay_command.specs.unit_inputs.declared.command_answers.stop.Stop.TheVariants as stop
+use Rattle.replay_command.specs.unit_inputs.command_answers.CommandErrors.{Prepares, first_refusal}
+use Rattle.replay_command.specs.unit_inputs.declared.command_answers.exit_status.ExitStatus.{ExitStatus}
+use Rattle.replay_command.specs.unit_inputs.declared.command_answers.exit_status.ExitStatus.TheVariants.{Done, LaunchRefused}
+use Rattle.replay_command.specs.unit_inputs.declared.command_answers.error.CommandError.{CommandError}
+use Rattle.replay_command.specs.unit_inputs.declared.command_answers.error.CommandError.TheVariants as stop
 use Rattle.replay_command.specs.site_table.Table.{Site}
 use Rattle.trace_profile.specs.Derived.{Derives}
 use Rattle.trace_profile.specs.Extended.{drop_in_text}
@@ -16,33 +16,33 @@ use Rattle.trace_profile.specs.declared.derived.DeriveError.{DeriveError}
 use Rattle.trace_profile.specs.declared.derived.DeriveError.TheVariants.{Seccomp, Settings, Plan, Launch, Memory}
 use Rattle.trace_profile.specs.declared.derived.Derived.{Derived}
 use Rattle.replay_command.specs.asked_service.started_units.Starting.{given}
-use Rattle.replay_command.specs.unit_inputs.command_answers.ReadyTexts.{ending_of, text_of}
+use Rattle.replay_command.specs.unit_inputs.command_answers.ReadyTexts.{status_of, text_of}
 use Rattle.derive_command.specs.Refusals.{refusals_behind_script}
 use Rattle.derive_command.specs.Telling.{AnswersCalls, IsOutOfMemory, IsReady, StopsWith, Tells}
 use Rattle.replay_command.specs.unit_inputs.declared.command_answers.ready_text.ReadyText.{ReadyText}
 use Rattle.derive_command.proofs.Prepared.{answers_derived, answers_refused, at_paths, at_seccomp, at_settings}
 
 -- nothing was read
-pub ready_reads_nothing : (text : List ℕ) (ending : Ending) (result : Result ReadyText Stop) → IsReady text ending result
+pub ready_reads_nothing : (text : List ℕ) (status : ExitStatus) (result : Result ReadyText CommandError) → IsReady text status result
     → IsErrOf result stop.ReadFault → ⊥
-ready_reads_nothing text ending (Ok allowing) ready e = cc
-ready_reads_nothing text ending (Err (stop.Refused told)) ready e = absurd ready
-ready_reads_nothing text ending (Err stop.ReadFault) ready e = absurd ready
-ready_reads_nothing text ending (Err stop.Memory) ready e = cc
+ready_reads_nothing text status (Ok allowing) ready e = cc
+ready_reads_nothing text status (Err (stop.Refused told)) ready e = absurd ready
+ready_reads_nothing text status (Err stop.ReadFault) ready e = absurd ready
+ready_reads_nothing text status (Err stop.Memory) ready e = cc
 
-stop_reads_nothing : (line : List ℕ) (result : Result ReadyText Stop) → StopsWith line result → IsErrOf result stop.ReadFault → ⊥
+stop_reads_nothing : (line : List ℕ) (result : Result ReadyText CommandError) → StopsWith line result → IsErrOf result stop.ReadFault → ⊥
 stop_reads_nothing line (Ok allowing) stops e = absurd stops
 stop_reads_nothing line (Err (stop.Refused told)) stops e = cc
 stop_reads_nothing line (Err stop.ReadFault) stops e = absurd stops
 stop_reads_nothing line (Err stop.Memory) stops e = cc
 
-out_reads_nothing : (result : Result ReadyText Stop) → IsOutOfMemory result → IsErrOf result stop.ReadFault → ⊥
+out_reads_nothing : (result : Result ReadyText CommandError) → IsOutOfMemory result → IsErrOf result stop.ReadFault → ⊥
 out_reads_nothing (Ok allowing) out e = absurd out
 out_reads_nothing (Err (stop.Refused told)) out e = absurd out
 out_reads_nothing (Err stop.ReadFault) out e = absurd out
 out_reads_nothing (Err stop.Memory) out e = cc
 
-pub telling_reads_nothing : (name path : List ℕ) (error : DeriveError) (result : Result ReadyText Stop) → Tells name path error result
+pub telling_reads_nothing : (name path : List ℕ) (error : DeriveError) (result : Result ReadyText CommandError) → Tells name path error result
     → IsErrOf result stop.ReadFault → ⊥
 telling_reads_nothing name path (Seccomp number) result tells = stop_reads_nothing _ result tells
 telling_reads_nothing name path (Settings error) result tells = stop_reads_nothing _ result tells
@@ -51,26 +51,26 @@ telling_reads_nothing name path (Launch refusal) result tells = ready_reads_noth
 telling_reads_nothing name path Memory result tells = out_reads_nothing result tells
 
 module _ (name path : List ℕ) (unit : Resolved) (table : Table) (site : Site) (script : List Call) where
-  abbrev Answers : Result ReadyText Stop → Type 0
-  Answers result = Prepares (λ made. AnswersCalls (given unit table site) script (ending_of made) (text_of made))
+  abbrev Answers : Result ReadyText CommandError → Type 0
+  Answers result = Prepares (λ made. AnswersCalls (given unit table site) script (status_of made) (text_of made))
       (refusals_behind_script name path (given unit table site) script) result
 
   -- a line that is the first refusal answers
-  by_line : (line : List ℕ) (result : Result ReadyText Stop)
+  by_line : (line : List ℕ) (result : Result ReadyText CommandError)
       → first_refusal (refusals_behind_script name path (given unit table site) script) ≡ Some line → StopsWith line result → Answers result
   by_line line (Ok allowing) first stops = absurd stops
   by_line line (Err (stop.Refused told)) first stops = first ∙ ap Some (sym stops)
   by_line line (Err stop.ReadFault) first stops = tt
   by_line line (Err stop.Memory) first stops = tt
 
-  by_memory : (result : Result ReadyText Stop) → IsOutOfMemory result → Answers result
+  by_memory : (result : Result ReadyText CommandError) → IsOutOfMemory result → Answers result
   by_memory (Ok allowing) out = absurd out
   by_memory (Err (stop.Refused told)) out = absurd out
   by_memory (Err stop.ReadFault) out = absurd out
   by_memory (Err stop.Memory) out = tt
 
   -- what is told of an error answers
-  pub error_answers : (error : DeriveError) (result : Result ReadyText Stop) → Derives unit table site script (Err error)
+  pub error_answers : (error : DeriveError) (result : Result ReadyText CommandError) → Derives unit table site script (Err error)
       → Tells name path error result → Answers result
   error_answers (Seccomp number) result derives tells = by_line _ result
       (at_seccomp name path (given unit table site) script number derives) tells
@@ -86,7 +86,7 @@ module _ (name path : List ℕ) (unit : Resolved) (table : Table) (site : Site) 
   error_answers Memory result derives tells = by_memory result tells
 
   -- and so does the drop-in of what is derived
-  pub derived_answers : (derived : Derived) (lent : List ℕ) (result : Result ReadyText Stop) → Derives unit table site script (Ok derived)
+  pub derived_answers : (derived : Derived) (lent : List ℕ) (result : Result ReadyText CommandError) → Derives unit table site script (Ok derived)
       → lent ≡ derived.names → IsReady (drop_in_text table lent) Done result → Answers result
   derived_answers derived lent (Ok allowing) derives lends ready =
       answers_derived name path (given unit table site) script derived.names allowing derives.0 derives.1 derives.2

@@ -3,8 +3,8 @@ use Rattle.std.specs.Prelude.{◌≡◌, ◌⊎◌, ℕ, IsSome, List, Some, Ok}
 use Rattle.replay_command.specs.host_io.Files.{Files}
 use Rattle.replay_command.specs.kernel_model.declared.kernel_calls.call.Call.{Call}
 use Rattle.replay_command.specs.unit_inputs.command_answers.Laws.{FileLaws}
-use Rattle.replay_command.specs.unit_inputs.declared.command_answers.ending.Ending.{Ending}
-use Rattle.replay_command.specs.unit_inputs.declared.command_answers.ending.Ending.TheVariants.{Done, LaunchRefused}
+use Rattle.replay_command.specs.unit_inputs.declared.command_answers.exit_status.ExitStatus.{ExitStatus}
+use Rattle.replay_command.specs.unit_inputs.declared.command_answers.exit_status.ExitStatus.TheVariants.{Done, LaunchRefused}
 use Rattle.replay_command.specs.asked_service.launched_units.Launching.{IsRefusedUnit}
 use Rattle.replay_command.specs.Scripts.{script_in}
 use Rattle.trace_profile.specs.Derived.{IsDerived, IsOnlyOne}
@@ -16,7 +16,7 @@ use Rattle.replay_command.specs.unit_names.Cutting.{name_of}
 use Rattle.derive_command.specs.Refusals.{derive_refusals}
 
 -- the drop-in that allows the least list, which is the only one; or the line of the launch that is refused though every call is allowed
-pub data PrintsAnswer (inputs : Inputs) (script : List Call) : Ending → List ℕ → Type 0 where
+pub data PrintsAnswer (inputs : Inputs) (script : List Call) : ExitStatus → List ℕ → Type 0 where
   derived : (names : List ℕ) → IsDerived inputs.unit inputs.calls inputs.site script names
       → IsOnlyOne inputs.unit inputs.calls inputs.site script names
       → PrintsAnswer inputs script Done (drop_in_text inputs.calls names)
@@ -24,18 +24,18 @@ pub data PrintsAnswer (inputs : Inputs) (script : List Call) : Ending → List �
       → PrintsAnswer inputs script LaunchRefused (refusal_line refusal)
 
 -- the inputs of the unit and the script, as the table of calls reads it, and what is derived from them
-pub record PrintsDerived (files : Files) (unit path : List ℕ) (ending : Ending) (text : List ℕ) : Type 0 where
+pub record PrintsDerived (files : Files) (unit path : List ℕ) (status : ExitStatus) (text : List ℕ) : Type 0 where
   pub inputs : Inputs
   pub inputs_are : inputs_of files unit ≡ Some inputs
   pub script : List Call
   pub script_is : script_in files path inputs.calls ≡ Ok script
-  pub is_the_answer : PrintsAnswer inputs script ending text
+  pub is_the_answer : PrintsAnswer inputs script status text
 
 -- the refusals in their order; if the launch is refused, the status is 7
 abbrev pub derive_laws : List ℕ → List ℕ → FileLaws
 derive_laws unit path = record {
   refusals = λ files. derive_refusals files unit path;
-  prints = λ files ending text. PrintsDerived files unit path ending text;
-  may_end = λ ending. (ending ≡ Done) ⊎ (ending ≡ LaunchRefused);
+  prints = λ files status text. PrintsDerived files unit path status text;
+  may_end = λ status. (status ≡ Done) ⊎ (status ≡ LaunchRefused);
   reads = IsSome (name_of unit);
 }

@@ -1,10 +1,10 @@
 -- The text for a derived list, or for the reason why no list exists. If memory runs out, there is no text.
 use Rattle.std.specs.Prelude.{◌≡◌, ℕ, List, Result, Ok, Err}
 use Rattle.replay_command.specs.kernel_model.declared.kernel_calls.call.Call.{Call}
-use Rattle.replay_command.specs.unit_inputs.declared.command_answers.ending.Ending.{Ending}
-use Rattle.replay_command.specs.unit_inputs.declared.command_answers.ending.Ending.TheVariants.{Done, LaunchRefused}
-use Rattle.replay_command.specs.unit_inputs.declared.command_answers.stop.Stop.{Stop}
-use Rattle.replay_command.specs.unit_inputs.declared.command_answers.stop.Stop.TheVariants as stop
+use Rattle.replay_command.specs.unit_inputs.declared.command_answers.exit_status.ExitStatus.{ExitStatus}
+use Rattle.replay_command.specs.unit_inputs.declared.command_answers.exit_status.ExitStatus.TheVariants.{Done, LaunchRefused}
+use Rattle.replay_command.specs.unit_inputs.declared.command_answers.error.CommandError.{CommandError}
+use Rattle.replay_command.specs.unit_inputs.declared.command_answers.error.CommandError.TheVariants as stop
 use Rattle.replay_command.specs.asked_service.launched_units.Launching.{IsRefusedUnit}
 use Rattle.replay_command.specs.plan_command.Refusals.{error_line}
 use Rattle.trace_profile.specs.Derived.{IsDerived, IsOnlyOne}
@@ -20,28 +20,28 @@ use Rattle.derive_command.specs.Refusals.{seccomp_line}
 use Rattle.replay_command.specs.unit_inputs.declared.command_answers.ready_text.ReadyText.{ReadyText}
 
 -- a refusal with this line
-abbrev pub StopsWith : List ℕ → Result ReadyText Stop → Type 0
+abbrev pub StopsWith : List ℕ → Result ReadyText CommandError → Type 0
 StopsWith line (Ok allowing) = ⊥
 StopsWith line (Err (stop.Refused told)) = told.items ≡ line
 StopsWith line (Err stop.ReadFault) = ⊥
 StopsWith line (Err stop.Memory) = Unit {0}
 
 -- this text and its ending are ready
-abbrev pub IsReady : List ℕ → Ending → Result ReadyText Stop → Type 0
-IsReady text ending (Ok allowing) = (allowing.text.items ≡ text) × (allowing.ending ≡ ending)
-IsReady text ending (Err (stop.Refused told)) = ⊥
-IsReady text ending (Err stop.ReadFault) = ⊥
-IsReady text ending (Err stop.Memory) = Unit {0}
+abbrev pub IsReady : List ℕ → ExitStatus → Result ReadyText CommandError → Type 0
+IsReady text status (Ok allowing) = (allowing.text.items ≡ text) × (allowing.status ≡ status)
+IsReady text status (Err (stop.Refused told)) = ⊥
+IsReady text status (Err stop.ReadFault) = ⊥
+IsReady text status (Err stop.Memory) = Unit {0}
 
 -- there is no text
-abbrev pub IsOutOfMemory : Result ReadyText Stop → Type 0
+abbrev pub IsOutOfMemory : Result ReadyText CommandError → Type 0
 IsOutOfMemory (Ok allowing) = ⊥
 IsOutOfMemory (Err (stop.Refused told)) = ⊥
 IsOutOfMemory (Err stop.ReadFault) = ⊥
 IsOutOfMemory (Err stop.Memory) = Unit {0}
 
 -- why nothing is derived: the line of what is refused, of the script or of the unit; a launch that is refused is the text
-abbrev pub Tells : List ℕ → List ℕ → DeriveError → Result ReadyText Stop → Type 0
+abbrev pub Tells : List ℕ → List ℕ → DeriveError → Result ReadyText CommandError → Type 0
 Tells name path (Seccomp number) result = StopsWith (seccomp_line path number) result
 Tells name path (Settings error) result = StopsWith (settings_line name error) result
 Tells name path (Plan error) result = StopsWith (error_line name error) result
@@ -50,7 +50,7 @@ Tells name path Memory result = IsOutOfMemory result
 
 -- the answer for a script over any table. If a list exists, it is the drop-in that allows the least list; that list is the only
 -- one if the names of the table are plain. Otherwise it is the line of a launch that is refused although every call is allowed
-pub data AnswersCalls (inputs : Inputs) (script : List Call) : Ending → List ℕ → Type 0 where
+pub data AnswersCalls (inputs : Inputs) (script : List Call) : ExitStatus → List ℕ → Type 0 where
   allowed : (names : List ℕ) → IsDerived inputs.unit inputs.calls inputs.site script names
       → (HasPlainNames inputs.calls → IsOnlyOne inputs.unit inputs.calls inputs.site script names)
       → AnswersCalls inputs script Done (drop_in_text inputs.calls names)

@@ -1,45 +1,50 @@
 //! What `derive` prints.
 
 ghost use Rattle.std.specs.Prelude.{IsErrOf};
-ghost use Rattle.replay_command.specs.unit_inputs.command_answers.Stops.{Prepares};
+ghost use Rattle.replay_command.specs.unit_inputs.command_answers.CommandErrors.{Prepares};
 ghost use Rattle.replay_command.specs.asked_service.unit_launch.Refusals.{refusal_line};
 ghost use Rattle.trace_profile.specs.Extended.{drop_in_text};
-ghost use Rattle.replay_command.specs.unit_inputs.declared.command_answers.ending.Ending.TheVariants.{Done, LaunchRefused};
+ghost use Rattle.replay_command.specs.unit_inputs.declared.command_answers.exit_status.ExitStatus.TheVariants.{Done, LaunchRefused};
 ghost use Rattle.replay_command.specs.asked_service.started_units.Starting.{given};
 ghost use Rattle.derive_command.specs.Telling.{AnswersCalls, IsReady, Tells};
-ghost use Rattle.replay_command.specs.unit_inputs.command_answers.ReadyTexts.{ending_of, text_of};
+ghost use Rattle.replay_command.specs.unit_inputs.command_answers.ReadyTexts.{status_of, text_of};
 ghost use Rattle.derive_command.specs.Refusals.{refusals_behind_script};
 
 use crate::refusals::seccomp_line;
 use replay_command::{
-    CallTable, Ending, LaunchRefusal, ReadyText, ScriptTextScript as Script, SiteTable, Stop,
-    plan_line, refusal_line, refuse, settings_line,
+    CallTable, CommandError, ExitStatus, LaunchRefusal, ReadyText, ScriptTextScript as Script,
+    SiteTable, plan_line, refusal_line, refuse, settings_line,
 };
 use std::alloc::Global;
 use trace_profile::{DeriveError, Resolved, derive, drop_in};
 
 // The drop-in that allows these names.
-fn allow_names(alloc: Global, calls: &CallTable, names: &[u32]) -> Result<ReadyText, Stop>
+fn allow_names(alloc: Global, calls: &CallTable, names: &[u32]) -> Result<ReadyText, CommandError>
     ensures { IsReady (drop_in_text calls.now names.now) Done result }
 {
     Ok(ReadyText {
         text: drop_in(alloc, calls, names)?,
-        ending: Ending::Done,
+        status: ExitStatus::Done,
     })
 }
 
 // The line of a launch that is refused.
-fn refuse_launch(alloc: Global, refusal: &LaunchRefusal) -> Result<ReadyText, Stop>
+fn refuse_launch(alloc: Global, refusal: &LaunchRefusal) -> Result<ReadyText, CommandError>
     ensures { IsReady (refusal_line refusal.now) LaunchRefused result }
 {
     Ok(ReadyText {
         text: refusal_line(alloc, refusal)?,
-        ending: Ending::LaunchRefused,
+        status: ExitStatus::LaunchRefused,
     })
 }
 
 // The text of the reason why nothing is derived.
-fn tell(alloc: Global, name: &str, path: &str, error: DeriveError) -> Result<ReadyText, Stop>
+fn tell(
+    alloc: Global,
+    name: &str,
+    path: &str,
+    error: DeriveError,
+) -> Result<ReadyText, CommandError>
     ensures { Tells name.now path.now error result }
 {
     match error {
@@ -47,7 +52,7 @@ fn tell(alloc: Global, name: &str, path: &str, error: DeriveError) -> Result<Rea
         DeriveError::Settings(error) => Err(refuse(settings_line(alloc, name, &error))),
         DeriveError::Plan(error) => Err(refuse(plan_line(alloc, name, &error))),
         DeriveError::Launch(refusal) => refuse_launch(alloc, &refusal),
-        DeriveError::Memory => Err(Stop::Memory),
+        DeriveError::Memory => Err(CommandError::Memory),
     }
 }
 
@@ -61,9 +66,9 @@ pub fn answer(
     calls: &CallTable,
     site: &SiteTable,
     script: &Script,
-) -> Result<ReadyText, Stop>
-    ensures answers { Prepares (λ made. AnswersCalls (given unit.now calls.now site.now) script.now (ending_of made) (text_of made)) (refusals_behind_script name.now path.now (given unit.now calls.now site.now) script.now) result }
-    ensures reads_nothing { IsErrOf result Stop.ReadFault → ⊥ }
+) -> Result<ReadyText, CommandError>
+    ensures answers { Prepares (λ made. AnswersCalls (given unit.now calls.now site.now) script.now (status_of made) (text_of made)) (refusals_behind_script name.now path.now (given unit.now calls.now site.now) script.now) result }
+    ensures reads_nothing { IsErrOf result CommandError.ReadFault → ⊥ }
 {
     match derive(alloc, unit, calls, site, script) {
         Ok(derived) => allow_names(alloc, calls, derived.names.list()),

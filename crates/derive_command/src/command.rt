@@ -4,12 +4,12 @@ ghost use Rattle.replay_command.specs.unit_inputs.command_answers.Asking.{course
 ghost use Rattle.replay_command.specs.unit_inputs.command_answers.Laws.{IsAdmitted, laws_over};
 ghost use Rattle.replay_command.specs.unit_inputs.Asking.{AsksInOrder, asks_with_file};
 ghost use Rattle.replay_command.specs.unit_inputs.ReadsFor.{ReadsFor};
-ghost use Rattle.replay_command.specs.unit_inputs.command_answers.ReadyTexts.{ending_of, text_of};
+ghost use Rattle.replay_command.specs.unit_inputs.command_answers.ReadyTexts.{status_of, text_of};
 ghost use Rattle.derive_command.specs.Prints.{derive_laws};
 
 use crate::answering::answer;
 use host_io::Shelf;
-use replay_command::{ReadyText, Stop, read_inputs, read_script};
+use replay_command::{CommandError, ReadyText, read_inputs, read_script};
 use std::alloc::Global;
 
 /// Prepares `derive`, the name of a unit and the path of a script.
@@ -21,8 +21,8 @@ pub fn prepare<S: Shelf>(
     shelf: &mut S,
     unit: &str,
     script: &str,
-) -> Result<ReadyText, Stop>
-    ensures prepares { IsAdmitted (laws_over (S.told shelf.old) (derive_laws unit.now script.now)) ending_of text_of result }
+) -> Result<ReadyText, CommandError>
+    ensures prepares { IsAdmitted (laws_over (S.told shelf.old) (derive_laws unit.now script.now)) status_of text_of result }
     ensures asks_in_order { AsksInOrder S.asks (S.told shelf.old) (λ files. asks_with_file files unit.now script.now) shelf.old shelf.new (course result) }
     ensures reads_for_the_unit { ReadsFor S.told S.faults unit.now shelf.old shelf.new result }
 {

@@ -3,7 +3,7 @@ use Rattle.std.proofs.Common.{◌≡◌, ℕ, ◌+◌, ◌<◌, Bool, true, fals
 use Rattle.std.proofs.Common.{Ok, Err, map, Vec, String, Global, refl, sym, ap, ◌∙◌, subst}
 use Rattle.std.specs.Prelude.{IfSome, IsErrOf, is_some, string_bytes, unwrap_or}
 use Rattle.host_io.specs.declared.reading.ShelfError.{ShelfError}
-use Rattle.host_io.specs.Calls.{Ask, ShelfCall, call_of, course_of, Course, Whole, Cut, Went, NamesIn, up_to}
+use Rattle.host_io.specs.Calls.{Ask, ShelfCall, call_of, course_of, Course, Whole, Cut, AsksExactly, NamesIn, up_to}
 use Rattle.host_io.specs.Files.{Files, bytes_at, names_in}
 use Rattle.host_io.proofs.Calling.{Going, goes_on, one_call, stops_there, went_cut}
 use Rattle.dropin_merge.specs.Answers.{IsUnlessFailed}
@@ -25,12 +25,12 @@ use Rattle.dropin_merge.proofs.Reading.{told_from, told_to}
 module _ {S : Type 0} (asks : S → ShelfCall → S → Type 0) (a b : S) (ask : Ask) where
   -- by what the shelf answered
   pub call_ends : {T : Type 0} (result end : Result T ShelfError) → result ≡ end → asks a (call_of ask result) b
-      → Went asks a b (ask ∷ []) (course_of end)
-  call_ends result end is made = subst (Went asks a b (ask ∷ [])) (ap course_of is) (one_call asks a b ask result made)
+      → AsksExactly asks a b (ask ∷ []) (course_of end)
+  call_ends result end is made = subst (AsksExactly asks a b (ask ∷ [])) (ap course_of is) (one_call asks a b ask result made)
 
   -- a file that was read is judged
-  pub judged_then : (T U : Type 0) (e : ResolveError) → (IsErrOf {T = U} (Err e) ReadFault → ⊥) → Went asks a b (ask ∷ []) Whole
-      → Went asks a b (ask ∷ []) (course {T = T} (Err e))
+  pub judged_then : (T U : Type 0) (e : ResolveError) → (IsErrOf {T = U} (Err e) ReadFault → ⊥) → AsksExactly asks a b (ask ∷ []) Whole
+      → AsksExactly asks a b (ask ∷ []) (course {T = T} (Err e))
   judged_then T U BadName quiet made = made
   judged_then T U NotFound quiet made = made
   judged_then T U Masked quiet made = made
@@ -102,15 +102,15 @@ course_as T U Memory = refl
 -- ---- texts in turn, up to the first of which something holds
 module _ {S : Type 0} (asks : S → ShelfCall → S → Type 0) (is_last : List ℕ → Bool) (ask : List ℕ → Ask) (whole : List Ask) (a b c : S) (xs : List (String Global)) (i : ℕ) (x : String Global) (text : List ℕ) where
   pub text_more : i < length xs → x ≡ get_or xs i x → text ≡ string_bytes x → is_last text ≡ false
-      → Going asks a b whole (map ask (up_to is_last (map string_bytes (drop i xs)))) → Went asks b c (ask text ∷ []) Whole
+      → Going asks a b whole (map ask (up_to is_last (map string_bytes (drop i xs)))) → AsksExactly asks b c (ask text ∷ []) Whole
       → Going asks a c whole (map ask (up_to is_last (map string_bytes (drop (i + 1) xs))))
   text_more h is said other going made =
       goes_on asks is_last ask a b c whole text (map string_bytes (drop (i + 1) xs)) other
       (subst (λ left. Going asks a b whole (map ask (up_to is_last left))) (left_more xs i x text h is said) going) made
 
   pub text_stops : (how : Course) → i < length xs → x ≡ get_or xs i x → text ≡ string_bytes x → (how ≡ Whole → is_last text ≡ true)
-      → Going asks a b whole (map ask (up_to is_last (map string_bytes (drop i xs)))) → Went asks b c (ask text ∷ []) how
-      → Went asks a c whole how
+      → Going asks a b whole (map ask (up_to is_last (map string_bytes (drop i xs)))) → AsksExactly asks b c (ask text ∷ []) how
+      → AsksExactly asks a c whole how
   text_stops how h is said last going made =
       stops_there asks is_last ask a b c whole text (map string_bytes (drop (i + 1) xs)) how last
       (subst (λ left. Going asks a b whole (map ask (up_to is_last left))) (left_more xs i x text h is said) going) made
@@ -119,7 +119,7 @@ module _ {S : Type 0} (asks : S → ShelfCall → S → Type 0) (is_last : List 
 module _ {S : Type 0} (asks : S → ShelfCall → S → Type 0) (start told : Option Files) (same : told ≡ start) (a b c : S) (xs : List (String Global)) (i : ℕ) (x : String Global) (text : List ℕ) (h : i < length xs) (is : x ≡ get_or xs i x) (said : text ≡ string_bytes x) where
   -- a path at which no fragment is
   pub fragment_more : IfSome told (λ files. IsUnlessFailed {T = Found} (Ok Missing) (file_at text (bytes_at files text)))
-      → Went asks b c (unit_file text ∷ []) Whole
+      → AsksExactly asks b c (unit_file text ∷ []) Whole
       → ((files : Files) → start ≡ Some files → Going asks a b (fragment_asks files (map string_bytes xs))
       (fragment_asks files (map string_bytes (drop i xs))))
       → (files : Files) → start ≡ Some files → Going asks a c (fragment_asks files (map string_bytes xs))
@@ -134,12 +134,12 @@ module _ {S : Type 0} (asks : S → ShelfCall → S → Type 0) (start told : Op
   -- one at which it is
   pub fragment_found : (found : Found) → (found ≡ Missing → ⊥)
       → IfSome told (λ files. IsUnlessFailed {T = Found} (Ok found) (file_at text (bytes_at files text)))
-      → Went asks b c (unit_file text ∷ []) Whole
+      → AsksExactly asks b c (unit_file text ∷ []) Whole
       → ((files : Files) → start ≡ Some files → Going asks a b (fragment_asks files (map string_bytes xs))
       (fragment_asks files (map string_bytes (drop i xs))))
-      → IfSome start (λ files. Went asks a c (fragment_asks files (map string_bytes xs)) Whole)
+      → IfSome start (λ files. AsksExactly asks a c (fragment_asks files (map string_bytes xs)) Whole)
   fragment_found found other read made going =
-      told_to (λ files. Went asks a c (fragment_asks files (map string_bytes xs)) Whole) start
+      told_to (λ files. AsksExactly asks a c (fragment_asks files (map string_bytes xs)) Whole) start
       (λ files known.
       text_stops asks (is_there files) unit_file (fragment_asks files (map string_bytes xs)) a b c xs i x text Whole h is said
       (λ whole. there_if text (bytes_at files text) (Ok found)
@@ -148,14 +148,14 @@ module _ {S : Type 0} (asks : S → ShelfCall → S → Type 0) (start told : Op
       (going files known) made)
 
   pub fragment_stops : (e : ResolveError) → IfSome told (λ files. IsUnlessFailed {T = Found} (Err e) (file_at text (bytes_at files text)))
-      → Went asks b c (unit_file text ∷ []) (course {T = Found} (Err e))
+      → AsksExactly asks b c (unit_file text ∷ []) (course {T = Found} (Err e))
       → ((files : Files) → start ≡ Some files → Going asks a b (fragment_asks files (map string_bytes xs))
       (fragment_asks files (map string_bytes (drop i xs))))
-      → IfSome start (λ files. Went asks a c (fragment_asks files (map string_bytes xs)) (course {T = UnitFile} (Err e)))
+      → IfSome start (λ files. AsksExactly asks a c (fragment_asks files (map string_bytes xs)) (course {T = UnitFile} (Err e)))
   fragment_stops e read made going =
-      told_to (λ files. Went asks a c (fragment_asks files (map string_bytes xs)) (course {T = UnitFile} (Err e))) start
+      told_to (λ files. AsksExactly asks a c (fragment_asks files (map string_bytes xs)) (course {T = UnitFile} (Err e))) start
       (λ files known.
-      subst (Went asks a c (fragment_asks files (map string_bytes xs))) (course_as Found UnitFile e)
+      subst (AsksExactly asks a c (fragment_asks files (map string_bytes xs))) (course_as Found UnitFile e)
       (text_stops asks (is_there files) unit_file (fragment_asks files (map string_bytes xs)) a b c xs i x text
       (course {T = Found} (Err e)) h is said
       (refused_is_there text (bytes_at files text) e
@@ -164,7 +164,7 @@ module _ {S : Type 0} (asks : S → ShelfCall → S → Type 0) (start told : Op
 
   -- a drop-in that is not refused
   pub dropin_more : (found : Found) → IfSome told (λ files. IsUnlessFailed {T = Found} (Ok found) (file_at text (bytes_at files text)))
-      → Went asks b c (unit_file text ∷ []) Whole
+      → AsksExactly asks b c (unit_file text ∷ []) Whole
       → ((files : Files) → start ≡ Some files → Going asks a b (dropin_asks files (map string_bytes xs))
       (dropin_asks files (map string_bytes (drop i xs))))
       → (files : Files) → start ≡ Some files → Going asks a c (dropin_asks files (map string_bytes xs))
@@ -176,14 +176,14 @@ module _ {S : Type 0} (asks : S → ShelfCall → S → Type 0) (start told : Op
       (going files known) made
 
   pub dropin_stops : (e : ResolveError) → IfSome told (λ files. IsUnlessFailed {T = Found} (Err e) (file_at text (bytes_at files text)))
-      → Went asks b c (unit_file text ∷ []) (course {T = Found} (Err e))
+      → AsksExactly asks b c (unit_file text ∷ []) (course {T = Found} (Err e))
       → ((files : Files) → start ≡ Some files → Going asks a b (dropin_asks files (map string_bytes xs))
       (dropin_asks files (map string_bytes (drop i xs))))
-      → IfSome start (λ files. Went asks a c (dropin_asks files (map string_bytes xs)) (course {T = List UnitFile} (Err e)))
+      → IfSome start (λ files. AsksExactly asks a c (dropin_asks files (map string_bytes xs)) (course {T = List UnitFile} (Err e)))
   dropin_stops e read made going =
-      told_to (λ files. Went asks a c (dropin_asks files (map string_bytes xs)) (course {T = List UnitFile} (Err e))) start
+      told_to (λ files. AsksExactly asks a c (dropin_asks files (map string_bytes xs)) (course {T = List UnitFile} (Err e))) start
       (λ files known.
-      subst (Went asks a c (dropin_asks files (map string_bytes xs))) (course_as Found (List UnitFile) e)
+      subst (AsksExactly asks a c (dropin_asks files (map string_bytes xs))) (course_as Found (List UnitFile) e)
       (text_stops asks (is_refused files) unit_file (dropin_asks files (map string_bytes xs)) a b c xs i x text
       (course {T = Found} (Err e)) h is said
       (refused_is_refused (file_at text (bytes_at files text)) e
@@ -192,19 +192,19 @@ module _ {S : Type 0} (asks : S → ShelfCall → S → Type 0) (start told : Op
 
   -- where memory ran out behind one that was read
   pub dropin_cut : (found : Found) → IfSome told (λ files. IsUnlessFailed {T = Found} (Ok found) (file_at text (bytes_at files text)))
-      → Went asks b c (unit_file text ∷ []) Whole
+      → AsksExactly asks b c (unit_file text ∷ []) Whole
       → ((files : Files) → start ≡ Some files → Going asks a b (dropin_asks files (map string_bytes xs))
       (dropin_asks files (map string_bytes (drop i xs))))
-      → IfSome start (λ files. Went asks a c (dropin_asks files (map string_bytes xs)) Cut)
+      → IfSome start (λ files. AsksExactly asks a c (dropin_asks files (map string_bytes xs)) Cut)
   dropin_cut found read made going =
-      told_to (λ files. Went asks a c (dropin_asks files (map string_bytes xs)) Cut) start
+      told_to (λ files. AsksExactly asks a c (dropin_asks files (map string_bytes xs)) Cut) start
       (λ files known.
       text_stops asks (is_refused files) unit_file (dropin_asks files (map string_bytes xs)) a b c xs i x text Cut h is said (λ e. cc)
       (going files known) (went_cut asks b c (unit_file text ∷ []) made))
 
   -- a folder that is not overfull
   pub folder_more : (names : Vec (String Global) Global) → IfSome told (λ files. ListsPlace (names_in files text) (Ok names))
-      → Went asks b c (NamesIn text ∷ []) Whole
+      → AsksExactly asks b c (NamesIn text ∷ []) Whole
       → ((files : Files) → start ≡ Some files → Going asks a b (folder_asks files (map string_bytes xs))
       (folder_asks files (map string_bytes (drop i xs))))
       → (files : Files) → start ≡ Some files → Going asks a c (folder_asks files (map string_bytes xs))
@@ -214,25 +214,25 @@ module _ {S : Type 0} (asks : S → ShelfCall → S → Type 0) (start told : Op
       (told_from (λ files. ListsPlace (names_in files text) (Ok names)) told listed files (same ∙ known)).1
       (going files known) made
 
-  pub folder_cut : Went asks b c (NamesIn text ∷ []) Whole
+  pub folder_cut : AsksExactly asks b c (NamesIn text ∷ []) Whole
       → ((files : Files) → start ≡ Some files → Going asks a b (folder_asks files (map string_bytes xs))
       (folder_asks files (map string_bytes (drop i xs))))
-      → IfSome start (λ files. Went asks a c (folder_asks files (map string_bytes xs)) Cut)
+      → IfSome start (λ files. AsksExactly asks a c (folder_asks files (map string_bytes xs)) Cut)
   folder_cut made going =
-      told_to (λ files. Went asks a c (folder_asks files (map string_bytes xs)) Cut) start
+      told_to (λ files. AsksExactly asks a c (folder_asks files (map string_bytes xs)) Cut) start
       (λ files known.
       text_stops asks (is_overfull files) NamesIn (folder_asks files (map string_bytes xs)) a b c xs i x text Cut h is said (λ e. cc)
       (going files known) (went_cut asks b c (NamesIn text ∷ []) made))
 
   pub folder_stops : (T : Type 0) (e : ResolveError) → IfSome told (λ files. ListsPlace (names_in files text) (Err e))
-      → Went asks b c (NamesIn text ∷ []) (course {T = Vec (String Global) Global} (Err e))
+      → AsksExactly asks b c (NamesIn text ∷ []) (course {T = Vec (String Global) Global} (Err e))
       → ((files : Files) → start ≡ Some files → Going asks a b (folder_asks files (map string_bytes xs))
       (folder_asks files (map string_bytes (drop i xs))))
-      → IfSome start (λ files. Went asks a c (folder_asks files (map string_bytes xs)) (course {T = T} (Err e)))
+      → IfSome start (λ files. AsksExactly asks a c (folder_asks files (map string_bytes xs)) (course {T = T} (Err e)))
   folder_stops T e listed made going =
-      told_to (λ files. Went asks a c (folder_asks files (map string_bytes xs)) (course {T = T} (Err e))) start
+      told_to (λ files. AsksExactly asks a c (folder_asks files (map string_bytes xs)) (course {T = T} (Err e))) start
       (λ files known.
-      subst (Went asks a c (folder_asks files (map string_bytes xs))) (course_as (Vec (String Global) Global) T e)
+      subst (AsksExactly asks a c (folder_asks files (map string_bytes xs))) (course_as (Vec (String Global) Global) T e)
       (text_stops asks (is_overfull files) NamesIn (folder_asks files (map string_bytes xs)) a b c xs i x text
       (course {T = Vec (String Global) Global} (Err e)) h is said
       (refused_is_overfull files text e (told_from (λ files. ListsPlace (names_in files text) (Err e)) told listed files (same ∙ known)))

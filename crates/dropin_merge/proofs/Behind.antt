@@ -6,7 +6,7 @@ use Rattle.std.specs.List.{list_any}
 use Rattle.std.specs.Map.{values_of}
 use Rattle.std.specs.String.{string_cmp}
 use Rattle.std.specs.BTreeMap.{BTreeMap, IsOrdered}
-use Rattle.host_io.specs.Calls.{Ask, ShelfCall, Course, Whole, Faulted, Cut, Went, unless_refused}
+use Rattle.host_io.specs.Calls.{Ask, ShelfCall, Course, Whole, Faulted, Cut, AsksExactly, unless_refused}
 use Rattle.host_io.specs.Files.{Files}
 use Rattle.host_io.proofs.Calling.{if_told, told_behind, told_short, went_cut}
 use Rattle.unit_names.specs.Names.{Name}
@@ -44,16 +44,16 @@ overfull_by files places ReadFault h whole = cc
 overfull_by files places Memory h whole = cc
 
 module _ {S : Type 0} (asks : S → ShelfCall → S → Type 0) (told : Option Files) (unit : Name) (a b : S) (places : List (List ℕ)) (named : places ≡ dropin_places unit) where
-  folders_of_it : (how : Course) → IfSome told (λ files. Went asks a b (folder_asks files places) how)
-      → IfSome told (λ files. Went asks a b (folder_asks files (dropin_places unit)) how)
-  folders_of_it how made = subst (λ ps. IfSome told (λ files. Went asks a b (folder_asks files ps) how)) named made
+  folders_of_it : (how : Course) → IfSome told (λ files. AsksExactly asks a b (folder_asks files places) how)
+      → IfSome told (λ files. AsksExactly asks a b (folder_asks files (dropin_places unit)) how)
+  folders_of_it how made = subst (λ ps. IfSome told (λ files. AsksExactly asks a b (folder_asks files ps) how)) named made
 
   -- a folder is overfull, or the listing failed
   pub folders_stop : (e : ResolveError) → IfSome told (λ files. CollectsWinners files places (Err e))
-      → IfSome told (λ files. Went asks a b (folder_asks files places) (course {T = Winners} (Err e)))
-      → IfSome told (λ files. Went asks a b (behind_fragment files unit) (course {T = List UnitFile} (Err e)))
+      → IfSome told (λ files. AsksExactly asks a b (folder_asks files places) (course {T = Winners} (Err e)))
+      → IfSome told (λ files. AsksExactly asks a b (behind_fragment files unit) (course {T = List UnitFile} (Err e)))
   folders_stop e collected made =
-      subst (λ how. IfSome told (λ files. Went asks a b (behind_fragment files unit) how)) (course_as Winners (List UnitFile) e)
+      subst (λ how. IfSome told (λ files. AsksExactly asks a b (behind_fragment files unit) how)) (course_as Winners (List UnitFile) e)
       (told_short asks told a b (λ files. folder_asks files (dropin_places unit)) (winning_asks unit) (course {T = Winners} (Err e))
       (folders_of_it (course {T = Winners} (Err e)) made)
       (if_told (λ files. CollectsWinners files places (Err e))
@@ -64,18 +64,18 @@ module _ {S : Type 0} (asks : S → ShelfCall → S → Type 0) (told : Option F
       collected))
 
   -- memory ran out behind the listing
-  pub folders_cut : IfSome told (λ files. Went asks a b (folder_asks files places) Whole)
-      → IfSome told (λ files. Went asks a b (behind_fragment files unit) Cut)
+  pub folders_cut : IfSome told (λ files. AsksExactly asks a b (folder_asks files places) Whole)
+      → IfSome told (λ files. AsksExactly asks a b (behind_fragment files unit) Cut)
   folders_cut made =
       told_short asks told a b (λ files. folder_asks files (dropin_places unit)) (winning_asks unit) Cut
-      (if_told (λ files. Went asks a b (folder_asks files (dropin_places unit)) Whole)
-      (λ files. Went asks a b (folder_asks files (dropin_places unit)) Cut) told
+      (if_told (λ files. AsksExactly asks a b (folder_asks files (dropin_places unit)) Whole)
+      (λ files. AsksExactly asks a b (folder_asks files (dropin_places unit)) Cut) told
       (λ files whole. went_cut asks a b (folder_asks files (dropin_places unit)) whole) (folders_of_it Whole made))
       (told_to (λ files. Cut ≡ Whole → winning_asks unit files ≡ []) told (λ files known e. cc))
 
-  module _ (m : Winners) (ordered : IsOrdered string_cmp m) (collected : IfSome told (λ files. CollectsWinners files places (Ok m))) (made : IfSome told (λ files. Went asks a b (folder_asks files places) Whole)) where
+  module _ (m : Winners) (ordered : IsOrdered string_cmp m) (collected : IfSome told (λ files. CollectsWinners files places (Ok m))) (made : IfSome told (λ files. AsksExactly asks a b (folder_asks files places) Whole)) where
     -- too many drop-ins win
-    pub folders_alone : 256 < length m.entries → IfSome told (λ files. Went asks a b (behind_fragment files unit) Whole)
+    pub folders_alone : 256 < length m.entries → IfSome told (λ files. AsksExactly asks a b (behind_fragment files unit) Whole)
     folders_alone many =
         told_short asks told a b (λ files. folder_asks files (dropin_places unit)) (winning_asks unit) Whole (folders_of_it Whole made)
         (if_told (λ files. CollectsWinners files places (Ok m)) (λ files. Whole ≡ Whole → winning_asks unit files ≡ []) told
@@ -86,8 +86,8 @@ module _ {S : Type 0} (asks : S → ShelfCall → S → Type 0) (told : Option F
     -- the drop-ins are read
     pub dropins_behind : (c : S) (between : Option Files) (paths : List (String Global)) (how : Course) → between ≡ told
         → length m.entries ≤ 256 → paths ≡ values_of m.entries
-        → IfSome between (λ files. Went asks b c (dropin_asks files (map string_bytes paths)) how)
-        → IfSome told (λ files. Went asks a c (behind_fragment files unit) how)
+        → IfSome between (λ files. AsksExactly asks b c (dropin_asks files (map string_bytes paths)) how)
+        → IfSome told (λ files. AsksExactly asks a c (behind_fragment files unit) how)
     dropins_behind c between paths how same few given read =
         told_behind asks told a b c between (λ files. folder_asks files (dropin_places unit))
         (λ files. dropin_asks files (map string_bytes paths)) (winning_asks unit) how same (folders_of_it Whole made) read
@@ -104,14 +104,14 @@ module _ {S : Type 0} (asks : S → ShelfCall → S → Type 0) (told : Option F
   -- the fragment is missing or refused, or its reading failed
   pub fragment_alone : (e : ResolveError)
       → IfSome told (λ files. IsUnlessFailed {T = UnitFile} (Err e) (fragment_read files (fragment_of files paths)))
-      → IfSome told (λ files. Went asks a b (fragment_asks files paths) (course {T = UnitFile} (Err e)))
-      → IfSome told (λ files. Went asks a b (unit_asks files unit) (course {T = Resolved} (Err e)))
+      → IfSome told (λ files. AsksExactly asks a b (fragment_asks files paths) (course {T = UnitFile} (Err e)))
+      → IfSome told (λ files. AsksExactly asks a b (unit_asks files unit) (course {T = Resolved} (Err e)))
   fragment_alone e read made =
-      subst (λ how. IfSome told (λ files. Went asks a b (unit_asks files unit) how)) (course_as UnitFile Resolved e)
+      subst (λ how. IfSome told (λ files. AsksExactly asks a b (unit_asks files unit) how)) (course_as UnitFile Resolved e)
       (told_short asks told a b (λ files. fragment_asks files (fragment_paths unit))
       (λ files. unless_refused (fragment_read files (fragment_of files (fragment_paths unit))) (behind_fragment files unit))
       (course {T = UnitFile} (Err e))
-      (subst (λ ps. IfSome told (λ files. Went asks a b (fragment_asks files ps) (course {T = UnitFile} (Err e)))) named made)
+      (subst (λ ps. IfSome told (λ files. AsksExactly asks a b (fragment_asks files ps) (course {T = UnitFile} (Err e)))) named made)
       (if_told (λ files. IsUnlessFailed {T = UnitFile} (Err e) (fragment_read files (fragment_of files paths)))
       (λ files. course {T = UnitFile} (Err e) ≡ Whole → unless_refused (fragment_read files (fragment_of files (fragment_paths unit)))
       (behind_fragment files unit) ≡ []) told
@@ -134,13 +134,13 @@ module _ {S : Type 0} (asks : S → ShelfCall → S → Type 0) (told : Option F
   -- what is read behind it
   pub behind_it : (c : S) (between : Option Files) (fragment : UnitFile) (how : Course) → between ≡ told
       → IfSome told (λ files. IsUnlessFailed {T = UnitFile} (Ok fragment) (fragment_read files (fragment_of files paths)))
-      → IfSome told (λ files. Went asks a b (fragment_asks files paths) Whole)
-      → IfSome between (λ files. Went asks b c (behind_fragment files unit) how)
-      → IfSome told (λ files. Went asks a c (unit_asks files unit) how)
+      → IfSome told (λ files. AsksExactly asks a b (fragment_asks files paths) Whole)
+      → IfSome between (λ files. AsksExactly asks b c (behind_fragment files unit) how)
+      → IfSome told (λ files. AsksExactly asks a c (unit_asks files unit) how)
   behind_it c between fragment how same read made behind =
       told_behind asks told a b c between (λ files. fragment_asks files (fragment_paths unit)) (λ files. behind_fragment files unit)
       (λ files. unless_refused (fragment_read files (fragment_of files (fragment_paths unit))) (behind_fragment files unit)) how same
-      (subst (λ ps. IfSome told (λ files. Went asks a b (fragment_asks files ps) Whole)) named made) behind
+      (subst (λ ps. IfSome told (λ files. AsksExactly asks a b (fragment_asks files ps) Whole)) named made) behind
       (if_told (λ files. IsUnlessFailed {T = UnitFile} (Ok fragment) (fragment_read files (fragment_of files paths)))
       (λ files. behind_fragment files unit ≡ unless_refused (fragment_read files (fragment_of files (fragment_paths unit)))
       (behind_fragment files unit)) told

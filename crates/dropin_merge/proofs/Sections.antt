@@ -6,7 +6,7 @@ use Rattle.dropin_merge.specs.declared.resolved.Resolved.{Resolved}
 use Rattle.dropin_merge.specs.declared.resolved.UnitFile.{UnitFile}
 use Rattle.dropin_merge.specs.unit_values.Assignments.{is_of_service, placed, service_in, service_from, service_assignments, service_alone}
 use Rattle.dropin_merge.specs.unit_values.Assignments.{without_others}
-use Rattle.dropin_merge.specs.unit_values.Values.{given_by, note_of, values_of, notes_of}
+use Rattle.dropin_merge.specs.unit_values.Values.{given_by, note_of, values_of, notes_of, written_by, written_values}
 
 -- what passes a test once passes it twice
 once_more : {X : Type 0} (p : X → Bool) (b : Bool) (x : X) (xs : List X) → p x ≡ b → filter p xs ≡ filter p (filter p xs)
@@ -31,7 +31,10 @@ unfolding service_assignments
 same_assignments unit = same_from 0 unit.files
 
 pub same_values : (unit : Resolved) (key : List ℕ) → values_of (service_alone unit) key ≡ values_of unit key
-same_values unit key = ap (filter_map (given_by unit.name key)) (same_assignments unit)
+same_values unit key = ap (filter_map (given_by unit.systemd unit.name key)) (same_assignments unit)
 
 pub same_notes : (unit : Resolved) (key : List ℕ) → notes_of (service_alone unit) key ≡ notes_of unit key
-same_notes unit key = ap (filter_map (note_of unit.name key)) (same_assignments unit)
+same_notes unit key = ap (filter_map (note_of unit.systemd unit.name key)) (same_assignments unit)
+
+pub same_written : (unit : Resolved) (key : List ℕ) → written_values (service_alone unit) key ≡ written_values unit key
+same_written unit key = ap (filter_map (written_by key)) (same_assignments unit)

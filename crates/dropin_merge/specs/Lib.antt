@@ -1,5 +1,6 @@
 pub mod Answers
 pub mod Asking
+pub mod Changed
 pub mod Judging
 pub mod Places
 pub mod Ranks

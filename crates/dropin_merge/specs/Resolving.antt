@@ -58,13 +58,13 @@ with_fragment files unit (Ok fragment) = files_of files unit fragment
 with_fragment files unit (Err refusal) = Err refusal
 
 abbrev pub as_resolved : Name → Result (List UnitFile) ResolveError → Result Resolved ResolveError
-as_resolved unit (Ok files) = Ok (record { name = unit; files = files })
+as_resolved unit (Ok files) = Ok (record { name = unit; files = files; systemd = None })
 as_resolved unit (Err refusal) = Err refusal
 
 abbrev pub for_unit : Files → Option Name → Result Resolved ResolveError
 for_unit files None = Err BadName
 for_unit files (Some unit) = as_resolved unit (with_fragment files unit (fragment_read files (fragment_of files (fragment_paths unit))))
 
--- the unit of a name over some files: the first refusal, or its files in force
+-- the unit of a name over some files: the first refusal, or its files in force, which are read without a version
 abbrev pub resolved_of : Files → List ℕ → Result Resolved ResolveError
 resolved_of files text = for_unit files (name_of text)

@@ -2,4 +2,5 @@
 pub use Rattle.unit_names.specs.Cutting as Cutting
 pub use Rattle.unit_names.specs.Expansion as Expansion
 pub use Rattle.unit_names.specs.Names as Names
+pub use Rattle.unit_names.specs.Versions as Versions
 pub use Rattle.unit_names.specs.declared as declared

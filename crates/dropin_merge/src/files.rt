@@ -1,6 +1,6 @@
 // A file of a unit, read from the shelf and judged.
 ghost use Rattle.std.specs.Prelude.{◌≡◌, ◌∷◌, [], IfOk, IfSome, IsErrOf};
-ghost use Rattle.host_io.specs.Calls.{Went};
+ghost use Rattle.host_io.specs.Calls.{AsksExactly};
 ghost use Rattle.host_io.specs.Causes.{StaysUnless};
 ghost use Rattle.host_io.specs.Files.{bytes_at};
 ghost use Rattle.unit_grammar.specs.Reading.{unit_of};
@@ -50,7 +50,7 @@ pub fn file_at<S: Shelf>(alloc: Global, shelf: &mut S, path: &str) -> Result<Fou
     ensures has_the_path { IfOk result (LiesAt path.now) }
     ensures refuses_the_path { RefusesAt (λ p. p ≡ path.now) result }
     ensures reads_the_file { IfSome (S.told shelf.old) (λ files. IsUnlessFailed result (file_at path.now (bytes_at files path.now))) }
-    ensures asks_for_it { Went S.asks shelf.old shelf.new (unit_file path.now ∷ []) (course result) }
+    ensures asks_for_it { AsksExactly S.asks shelf.old shelf.new (unit_file path.now ∷ []) (course result) }
     ensures map_stays { S.told shelf.new ≡ S.told shelf.old }
     ensures fault_rose { HasCause (S.faults shelf.old) (S.faults shelf.new) result }
     ensures no_other_fault { StaysUnless ReadFault (S.faults shelf.old) (S.faults shelf.new) result }

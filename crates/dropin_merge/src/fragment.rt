@@ -2,7 +2,7 @@
 ghost use Rattle.std.specs.Prelude.{◌≡◌, IfOk, IfSome, map};
 ghost use Rattle.std.specs.List.{Contains};
 ghost use Rattle.std.specs.String.{string_bytes};
-ghost use Rattle.host_io.specs.Calls.{Went};
+ghost use Rattle.host_io.specs.Calls.{AsksExactly};
 ghost use Rattle.host_io.specs.Causes.{StaysUnless};
 ghost use Rattle.dropin_merge.specs.Answers.{HasCause, IsUnlessFailed};
 ghost use Rattle.dropin_merge.specs.Asking.{course, fragment_asks};
@@ -25,7 +25,7 @@ pub fn read_fragment<S: Shelf>(
     ensures has_a_path { IfOk result (λ file. Contains (map string_bytes paths.now) file.path) }
     ensures refuses_a_path { RefusesAt (Contains (map string_bytes paths.now)) result }
     ensures reads_the_first { IfSome (S.told shelf.old) (λ files. IsUnlessFailed result (fragment_read files (fragment_of files (map string_bytes paths.now)))) }
-    ensures asks_in_order { IfSome (S.told shelf.old) (λ files. Went S.asks shelf.old shelf.new (fragment_asks files (map string_bytes paths.now)) (course result)) }
+    ensures asks_in_order { IfSome (S.told shelf.old) (λ files. AsksExactly S.asks shelf.old shelf.new (fragment_asks files (map string_bytes paths.now)) (course result)) }
     ensures map_stays { S.told shelf.new ≡ S.told shelf.old }
     ensures fault_rose { HasCause (S.faults shelf.old) (S.faults shelf.new) result }
     ensures no_other_fault { StaysUnless ReadFault (S.faults shelf.old) (S.faults shelf.new) result }

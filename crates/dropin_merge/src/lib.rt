@@ -25,4 +25,4 @@ pub use unit_grammar::{
     UnitText, linux_numbers, push_u64, push_word, read_bool, read_decimal, read_lines, read_text,
     read_unit, words,
 };
-pub use unit_names::{NameError, UnitName, expand};
+pub use unit_names::{ExpandError, NameError, UnitName, Version, expand};

@@ -1,11 +1,12 @@
-// A unit that has been resolved: its name and its files in force.
+// A unit that has been resolved: its name, its files in force, and the systemd that reads them.
 //
 // Contracts see the files as a list.
-ghost use Rattle.std.specs.Prelude.{◌≡◌, ◌++◌, ◌∷◌, [], IfOk};
+ghost use Rattle.std.specs.Prelude.{◌≡◌, IfOk};
+ghost use Rattle.dropin_merge.specs.Changed.{extended, read_by};
 
 use std::alloc::{AllocError, Global};
 use unit_grammar::{ItemList, Text, UnitText};
-use unit_names::UnitName;
+use unit_names::{UnitName, Version};
 
 /// A file in force.
 #[derive(Drop)]
@@ -47,13 +48,21 @@ fn copied(alloc: Global, files: &[UnitFile]) -> Result<Vec<UnitFile>, AllocError
 pub struct Resolved {
     pub name: UnitName,
     pub files: UnitFiles,
+    /// The systemd by whose rules the files are read; with none they are read by the rules of the base profile.
+    pub systemd: Option<Version>,
 }
 
 impl Resolved {
-    /// The same unit with one more file behind its files, which has no path and says `more`.
+    /// Has the files read by the rules of this version of systemd.
+    pub fn read_by(&mut self, systemd: Option<Version>)
+        ensures same_files { self.new ≡ read_by systemd self.old }
+    {
+        self.systemd = systemd;
+    }
+
+    /// The same unit with one more file after its files, which has no path and says `more`.
     pub fn extended(&self, alloc: Global, more: UnitText) -> Result<Resolved, AllocError>
-        ensures same_unit { IfOk result (λ longer. longer.name ≡ self.now.name) }
-        ensures one_more_file { IfOk result (λ longer. longer.files ≡ self.now.files ++ record { path = []; text = more } ∷ []) }
+        ensures one_more_file { IfOk result (λ longer. longer ≡ extended self.now more) }
     {
         let mut files = copied(alloc, self.files.list())?;
         files.push(UnitFile {
@@ -63,6 +72,7 @@ impl Resolved {
         Ok(Resolved {
             name: self.name.copy(alloc)?,
             files: UnitFiles::new(files),
+            systemd: self.systemd,
         })
     }
 }

@@ -1,6 +1,6 @@
 // A unit, resolved over a shelf.
 ghost use Rattle.std.specs.Prelude.{◌≡◌, ◌↔◌, List, ℕ, Some, IfOk, IfSome};
-ghost use Rattle.host_io.specs.Calls.{Went};
+ghost use Rattle.host_io.specs.Calls.{AsksExactly};
 ghost use Rattle.host_io.specs.Causes.{StaysUnless};
 ghost use Rattle.host_io.specs.Files.{Files};
 ghost use Rattle.unit_names.specs.Names.{Name};
@@ -31,7 +31,7 @@ fn resolve_unit<S: Shelf>(
     ensures has_its_files { IfOk result (λ resolved. AreUnitFiles unit resolved.files) }
     ensures refuses_a_file { RefusesAt (IsUnitPath unit) result }
     ensures resolves_by_the_files { IfSome (S.told shelf.old) (λ files. IsUnlessFailed result (for_unit files (Some unit))) }
-    ensures asks_in_order { IfSome (S.told shelf.old) (λ files. Went S.asks shelf.old shelf.new (unit_asks files unit) (course result)) }
+    ensures asks_in_order { IfSome (S.told shelf.old) (λ files. AsksExactly S.asks shelf.old shelf.new (unit_asks files unit) (course result)) }
     ensures map_stays { S.told shelf.new ≡ S.told shelf.old }
     ensures fault_rose { HasCause (S.faults shelf.old) (S.faults shelf.new) result }
     ensures no_other_fault { StaysUnless ReadFault (S.faults shelf.old) (S.faults shelf.new) result }
@@ -39,7 +39,11 @@ fn resolve_unit<S: Shelf>(
     let paths = fragment_paths(alloc, &unit)?;
     let fragment = read_fragment(alloc, shelf, paths.as_slice())?;
     let files = read_files(alloc, shelf, &unit, fragment)?;
-    Ok(Resolved { name: unit, files })
+    Ok(Resolved {
+        name: unit,
+        files,
+        systemd: None,
+    })
 }
 
 // The unit that a text names.
@@ -51,7 +55,7 @@ fn resolve_text<S: Shelf>(
     ensures resolves_by_the_files { IfSome (S.told shelf.old) (λ files. IsUnlessFailed result (resolved_of files text.now)) }
     ensures names_the_unit { NamesUnit text.now result }
     ensures lies_in_its_places { LiesInPlaces text.now result }
-    ensures asks_in_order { IfSome (S.told shelf.old) (λ files. Went S.asks shelf.old shelf.new (resolve_asks files text.now) (course result)) }
+    ensures asks_in_order { IfSome (S.told shelf.old) (λ files. AsksExactly S.asks shelf.old shelf.new (resolve_asks files text.now) (course result)) }
     ensures map_stays { S.told shelf.new ≡ S.told shelf.old }
     ensures fault_rose { HasCause (S.faults shelf.old) (S.faults shelf.new) result }
     ensures no_other_fault { StaysUnless ReadFault (S.faults shelf.old) (S.faults shelf.new) result }
@@ -81,7 +85,7 @@ pub fn resolve<S: Shelf>(alloc: Global, shelf: &mut S, name: &str) -> Result<Res
     ensures resolves_by_the_files { IfSome (S.told shelf.old) (λ files. IsUnlessFailed result (resolved_of files name.now)) }
     ensures names_the_unit { NamesUnit name.now result }
     ensures lies_in_its_places { LiesInPlaces name.now result }
-    ensures asks_in_order { IfSome (S.told shelf.old) (λ files. Went S.asks shelf.old shelf.new (resolve_asks files name.now) (course result)) }
+    ensures asks_in_order { IfSome (S.told shelf.old) (λ files. AsksExactly S.asks shelf.old shelf.new (resolve_asks files name.now) (course result)) }
     ensures map_stays { S.told shelf.new ≡ S.told shelf.old }
     ensures fault_rose { HasCause (S.faults shelf.old) (S.faults shelf.new) result }
     ensures no_other_fault { StaysUnless ReadFault (S.faults shelf.old) (S.faults shelf.new) result }

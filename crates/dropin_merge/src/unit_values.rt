@@ -18,6 +18,7 @@ mod noting;
 mod reading;
 mod value;
 mod words;
+mod written;
 
 pub use assignments::{ServiceAssignments, service_assignments};
 pub use flags::flag_of_key;
@@ -30,3 +31,4 @@ pub use noting::{note_causes, note_value};
 pub use reading::{value_at, values_of_key};
 pub use value::{FileNote, Place, Said, Value};
 pub use words::words_of_key;
+pub use written::written_values;

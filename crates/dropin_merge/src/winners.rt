@@ -6,7 +6,7 @@ ghost use Rattle.std.specs.List.{Contains};
 ghost use Rattle.std.specs.Map.{values_of};
 ghost use Rattle.std.specs.String.{string_bytes};
 ghost use Rattle.std.specs.Option.{option_or};
-ghost use Rattle.host_io.specs.Calls.{Went};
+ghost use Rattle.host_io.specs.Calls.{AsksExactly};
 ghost use Rattle.host_io.specs.Causes.{StaysUnless};
 ghost use Rattle.dropin_merge.specs.Answers.{HasCause};
 ghost use Rattle.dropin_merge.specs.Asking.{course, folder_asks};
@@ -73,7 +73,7 @@ pub fn collect_winners<S: Shelf>(
     ensures keeps_to_places { IfOk result (KeepsTo (map string_bytes places.now)) }
     ensures refuses_no_path { RefusesAt (λ _. ⊥) result }
     ensures collects_the_winners { IfSome (S.told shelf.old) (λ files. CollectsWinners files (map string_bytes places.now) result) }
-    ensures asks_in_order { IfSome (S.told shelf.old) (λ files. Went S.asks shelf.old shelf.new (folder_asks files (map string_bytes places.now)) (course result)) }
+    ensures asks_in_order { IfSome (S.told shelf.old) (λ files. AsksExactly S.asks shelf.old shelf.new (folder_asks files (map string_bytes places.now)) (course result)) }
     ensures map_stays { S.told shelf.new ≡ S.told shelf.old }
     ensures fault_rose { HasCause (S.faults shelf.old) (S.faults shelf.new) result }
     ensures no_other_fault { StaysUnless ReadFault (S.faults shelf.old) (S.faults shelf.new) result }

@@ -4,8 +4,8 @@ use Rattle.std.specs.Prelude.{map}
 use Rattle.judge_command.specs.Asked.{IsAsked, launch_in, world_in}
 use Rattle.judge_command.specs.declared.asking.Asked.{Asked}
 use Rattle.judge_command.specs.call_table.Table as calls
-use Rattle.judge_command.specs.unit_inputs.declared.command_answers.ending.Ending.{Ending}
-use Rattle.judge_command.specs.unit_inputs.declared.command_answers.ending.Ending.TheVariants.{Done}
+use Rattle.judge_command.specs.unit_inputs.declared.command_answers.exit_status.ExitStatus.{ExitStatus}
+use Rattle.judge_command.specs.unit_inputs.declared.command_answers.exit_status.ExitStatus.TheVariants.{Done}
 use Rattle.judge_command.specs.kernel_laws.Launched.{launch_of}
 use Rattle.judge_command.specs.kernel_laws.Questions.{questions}
 use Rattle.judge_command.specs.launcher.declared.launched.Launched.{Launched as Service}
@@ -51,9 +51,9 @@ module _ (table : calls.Table) (site : Site) (before after : Service) (one : IsO
       (changes_by (launch_of before.world) (launch_of after.world) after.program (questions t s) s.rows))
       (own_calls table site after other) (own_site table site after other)
 
-  pub compared : ChangesAreTrue → IsAsked second → (ending : Ending) (text : List ℕ) → ending ≡ Done → text ≡ told_text first second
-      → TellsBoth table site (Launched before) (Launched after) ending text
-  compared are_true is ending text ends says = (
+  pub compared : ChangesAreTrue → IsAsked second → (status : ExitStatus) (text : List ℕ) → status ≡ Done → text ≡ told_text first second
+      → TellsBoth table site (Launched before) (Launched after) status text
+  compared are_true is status text ends says = (
     ends,
     (
       found,

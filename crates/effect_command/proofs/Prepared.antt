@@ -4,13 +4,13 @@ use Rattle.std.specs.Prelude.{◌⊎◌, IfOk, IfSome, IsErrOf, IsTrue, option_m
 use Rattle.judge_command.specs.host_io.Files.{Files}
 use Rattle.judge_command.specs.call_table.Table.{Table}
 use Rattle.judge_command.specs.site_table.Table.{Site}
-use Rattle.judge_command.specs.unit_inputs.command_answers.Endings.{is_answer}
+use Rattle.judge_command.specs.unit_inputs.command_answers.ExitStatuses.{is_answer}
 use Rattle.judge_command.specs.unit_inputs.command_answers.Laws.{AcceptsFiles, GoTogether, IsAdmitted, laws_over}
-use Rattle.judge_command.specs.unit_inputs.command_answers.Stops.{IsAnswer, Prepares, first_refusal}
-use Rattle.judge_command.specs.unit_inputs.declared.command_answers.ending.Ending.{Ending}
-use Rattle.judge_command.specs.unit_inputs.declared.command_answers.ending.Ending.TheVariants.{Done, LaunchRefused}
-use Rattle.judge_command.specs.unit_inputs.declared.command_answers.stop.Stop.{Stop}
-use Rattle.judge_command.specs.unit_inputs.declared.command_answers.stop.Stop.TheVariants as stop
+use Rattle.judge_command.specs.unit_inputs.command_answers.CommandErrors.{IsAnswer, Prepares, first_refusal}
+use Rattle.judge_command.specs.unit_inputs.declared.command_answers.exit_status.ExitStatus.{ExitStatus}
+use Rattle.judge_command.specs.unit_inputs.declared.command_answers.exit_status.ExitStatus.TheVariants.{Done, LaunchRefused}
+use Rattle.judge_command.specs.unit_inputs.declared.command_answers.error.CommandError.{CommandError}
+use Rattle.judge_command.specs.unit_inputs.declared.command_answers.error.CommandError.TheVariants as stop
 use Rattle.judge_command.proofs.OfUnitInputs.FileCommands.{go_together, ready_is_admitted, stop_is_admitted}
 use Rattle.judge_command.proofs.OfUnitInputs.Refusing.{stops_as}
 use Rattle.judge_command.specs.dropin_merge.declared.resolved.Resolved.{Resolved}
@@ -28,7 +28,7 @@ use Rattle.judge_command.proofs.OfUnitInputs.Steps.{AreRead, refusals_with}
 use Rattle.effect_command.specs.Lines.{with_line}
 use Rattle.judge_command.specs.asked_service.started_units.Starting.{StartsAs, first_start, given, start_refusals}
 use Rattle.effect_command.specs.Longer.{dropin_in, longer_unit, with_dropin}
-use Rattle.judge_command.specs.unit_inputs.command_answers.ReadyTexts.{IsReadyWith, ending_of, text_of}
+use Rattle.judge_command.specs.unit_inputs.command_answers.ReadyTexts.{IsReadyWith, status_of, text_of}
 use Rattle.effect_command.specs.Prints.{PrintsEffect, TellsBoth, TellsWith, effect_laws}
 use Rattle.effect_command.specs.Refusals.{effect_refusals, refusals_behind, refusals_behind_dropin, refusals_by_dropin}
 use Rattle.effect_command.specs.Stopping.{StartsOver}
@@ -36,11 +36,11 @@ use Rattle.judge_command.specs.unit_inputs.declared.command_answers.ready_text.R
 
 -- ---- behind the drop-in
 module _ (unit : List ℕ) (inputs : Inputs) (more : UnitText) where
-  abbrev Answers : Result ReadyText Stop → Type 0
-  Answers result = Prepares (λ made. TellsWith inputs more (ending_of made) (text_of made)) (refusals_behind_dropin unit inputs more) result
+  abbrev Answers : Result ReadyText CommandError → Type 0
+  Answers result = Prepares (λ made. TellsWith inputs more (status_of made) (text_of made)) (refusals_behind_dropin unit inputs more) result
 
   -- the unit is refused
-  pub answers_refused : (stop : Stop) → Prepares {T = UnitLaunch} (StartsAs inputs) (start_refusals unit inputs) (Err stop)
+  pub answers_refused : (stop : CommandError) → Prepares {T = UnitLaunch} (StartsAs inputs) (start_refusals unit inputs) (Err stop)
       → Answers (Err stop)
   answers_refused (stop.Refused line) is =
       ap (λ found. first_refusal (found ∷ (option_map with_line (first_start unit (with_dropin inputs more)) ∷ []))) is
@@ -53,15 +53,15 @@ module _ (unit : List ℕ) (inputs : Inputs) (more : UnitText) where
     behind_unit = ap (λ found. first_refusal (found ∷ (option_map with_line (first_start unit (with_dropin inputs more)) ∷ []))) starts.0
 
     -- the unit with the drop-in is
-    pub answers_refused_with : (why : Stop) → Prepares {T = UnitLaunch} (StartsAs (with_dropin inputs more))
+    pub answers_refused_with : (why : CommandError) → Prepares {T = UnitLaunch} (StartsAs (with_dropin inputs more))
         (option_map with_line (first_start unit (with_dropin inputs more)) ∷ []) (Err why) → Answers (Err why)
-    answers_refused_with why is = stops_as (λ made. TellsWith inputs more (ending_of made) (text_of made)) why
+    answers_refused_with why is = stops_as (λ made. TellsWith inputs more (status_of made) (text_of made)) why
         (option_map with_line (first_start unit (with_dropin inputs more)) ∷ []) (refusals_behind_dropin unit inputs more) behind_unit
         (as_any why is)
       where
-        as_any : (why : Stop) → Prepares {T = UnitLaunch} (StartsAs (with_dropin inputs more))
+        as_any : (why : CommandError) → Prepares {T = UnitLaunch} (StartsAs (with_dropin inputs more))
             (option_map with_line (first_start unit (with_dropin inputs more)) ∷ []) (Err why)
-            → Prepares (λ (made : ReadyText). TellsWith inputs more (ending_of made) (text_of made))
+            → Prepares (λ (made : ReadyText). TellsWith inputs more (status_of made) (text_of made))
             (option_map with_line (first_start unit (with_dropin inputs more)) ∷ []) (Err why)
         as_any (stop.Refused line) is = is
         as_any stop.ReadFault is = tt
@@ -70,29 +70,19 @@ module _ (unit : List ℕ) (inputs : Inputs) (more : UnitText) where
     -- both start, and are compared
     pub answers_both : (second : UnitLaunch) → Prepares (StartsAs (with_dropin inputs more))
         (option_map with_line (first_start unit (with_dropin inputs more)) ∷ []) (Ok second)
-        → (result : Result ReadyText Stop) → IsReadyWith (TellsBoth inputs.calls inputs.site first second) result → Answers result
+        → (result : Result ReadyText CommandError) → IsReadyWith (TellsBoth inputs.calls inputs.site first second) result → Answers result
     answers_both second starts_with (Ok effect) ready = (behind_unit ∙ starts_with.0, record { first = first; starts = starts.1; second = second; starts_with = starts_with.1; tells = ready })
     answers_both second starts_with (Err (stop.Refused line)) ready = absurd ready
     answers_both second starts_with (Err stop.ReadFault) ready = absurd ready
     answers_both second starts_with (Err stop.Memory) ready = tt
-
-abbrev unit_with : (name : Name) (files : List UnitFile) → Resolved
-unit_with name files = record { name = name; files = files }
 
 -- what starts for a unit starts over its tables
 pub starts_over : (inputs : Inputs) (launch : UnitLaunch) → StartsAs inputs launch → StartsOver inputs.calls inputs.site launch
 starts_over inputs (Launched service) is = record { settings = is.settings; plan = is.plan; launched = is.comes_to }
 starts_over inputs (Refused refusal) is = tt
 
--- the unit with the drop-in
-pub longer_is : (unit : Resolved) (more : UnitText) (result : Result Resolved AllocError)
-    → IfOk result (λ longer. longer.name ≡ unit.name) → IfOk result
-    (λ longer. longer.files ≡ unit.files ++ record { path = []; text = more } ∷ []) → IfOk result (λ longer. longer ≡ longer_unit unit more)
-longer_is unit more (Err error) named filed = tt
-longer_is unit more (Ok longer) named filed = ap (λ name. unit_with name longer.files) named ∙ ap (unit_with unit.name) filed
-
 pub with_longer : (name : List ℕ) (calls : Table) (site : Site) (unit : Resolved) (more : UnitText) (own : Resolved)
-    → own ≡ longer_unit unit more → (result : Result UnitLaunch Stop)
+    → own ≡ longer_unit unit more → (result : Result UnitLaunch CommandError)
     → Prepares (StartsAs (given own calls site)) (option_map with_line (first_start name (given own calls site)) ∷ []) result
     → Prepares (StartsAs (with_dropin (given unit calls site) more))
     (option_map with_line (first_start name (with_dropin (given unit calls site) more)) ∷ []) result
@@ -101,28 +91,28 @@ with_longer name calls site unit more own is result said = subst
     (option_map with_line (first_start name (given these calls site)) ∷ []) result) is said
 
 -- each ends as it may
-ends_so : (table : Table) (site : Site) (first second : UnitLaunch) (ending : Ending) (text : List ℕ)
-    → TellsBoth table site first second ending text → (ending ≡ Done) ⊎ (ending ≡ LaunchRefused)
-ends_so table site (Refused refusal) second ending text tells = inr tells.0
-ends_so table site (Launched before) (Refused refusal) ending text tells = inr tells.0
-ends_so table site (Launched before) (Launched after) ending text tells = inl tells.0
+ends_so : (table : Table) (site : Site) (first second : UnitLaunch) (status : ExitStatus) (text : List ℕ)
+    → TellsBoth table site first second status text → (status ≡ Done) ⊎ (status ≡ LaunchRefused)
+ends_so table site (Refused refusal) second status text tells = inr tells.0
+ends_so table site (Launched before) (Refused refusal) status text tells = inr tells.0
+ends_so table site (Launched before) (Launched after) status text tells = inl tells.0
 
 -- ---- the whole
 module _ (told : Option Files) (unit path : List ℕ) where
   -- each ending behind an effect is an answer
-  answered : (ending : Ending) → (effect_laws unit path).may_end ending → IsTrue (is_answer ending)
-  answered ending (inl done) = subst (λ e. IsTrue (is_answer e)) (sym done) refl
-  answered ending (inr launch) = subst (λ e. IsTrue (is_answer e)) (sym launch) refl
+  answered : (status : ExitStatus) → (effect_laws unit path).may_end status → IsTrue (is_answer status)
+  answered status (inl done) = subst (λ e. IsTrue (is_answer e)) (sym done) refl
+  answered status (inr launch) = subst (λ e. IsTrue (is_answer e)) (sym launch) refl
 
   pub together : GoTogether (laws_over told (effect_laws unit path))
   together = go_together (effect_laws unit path) told answered
 
 -- an input is refused
-pub stops_at_inputs : (P : Files → UnitInputs → Type 0) (told : Option Files) (unit path : List ℕ) (stop : Stop)
+pub stops_at_inputs : (P : Files → UnitInputs → Type 0) (told : Option Files) (unit path : List ℕ) (stop : CommandError)
     → IfSome told (λ files. Prepares (P files) (input_refusals files unit) (Err stop))
-    → IsAdmitted (laws_over told (effect_laws unit path)) ending_of text_of (Err stop)
+    → IsAdmitted (laws_over told (effect_laws unit path)) status_of text_of (Err stop)
 stops_at_inputs P told unit path stop said =
-    stop_is_admitted (effect_laws unit path) ending_of text_of (λ (made : ReadyText). Unit {0}) told stop
+    stop_is_admitted (effect_laws unit path) status_of text_of (λ (made : ReadyText). Unit {0}) told stop
     (steps.stops_at_inputs P (λ files (made : ReadyText). Unit {0}) told unit
     (λ files. refusals_by (refusals_behind files unit path) (inputs_of files unit)) stop said)
 
@@ -133,19 +123,19 @@ behind_inputs files unit path inputs read = refusals_with files unit (input_refu
     (inputs_view inputs) read.0 read.1
 
 -- the drop-in is refused
-refused_dropin : (unit : List ℕ) (inputs : Inputs) (found : Result UnitText (List ℕ)) (stop : Stop)
+refused_dropin : (unit : List ℕ) (inputs : Inputs) (found : Result UnitText (List ℕ)) (stop : CommandError)
     → IsAnswer {T = UnitText} (λ more. more) (Err stop) found
     → Prepares (λ (made : ReadyText). Unit {0}) (refusals_by_dropin unit inputs found) (Err stop)
 refused_dropin unit inputs found (stop.Refused line) is = ap (λ one. first_refusal (refusals_by_dropin unit inputs one)) is
 refused_dropin unit inputs found stop.ReadFault is = tt
 refused_dropin unit inputs found stop.Memory is = tt
 
-pub stops_at_dropin : (told now : Option Files) (unit path : List ℕ) (inputs : UnitInputs) (stop : Stop) → now ≡ told
+pub stops_at_dropin : (told now : Option Files) (unit path : List ℕ) (inputs : UnitInputs) (stop : CommandError) → now ≡ told
     → IfSome told (λ files. AreRead files unit inputs)
     → IfSome now (λ files. IsAnswer {T = UnitText} (λ more. more) (Err stop) (dropin_in files path))
-    → IsAdmitted (laws_over told (effect_laws unit path)) ending_of text_of (Err stop)
+    → IsAdmitted (laws_over told (effect_laws unit path)) status_of text_of (Err stop)
 stops_at_dropin told now unit path inputs stop same read said =
-    stop_is_admitted (effect_laws unit path) ending_of text_of (λ (made : ReadyText). Unit {0}) told stop (at_dropin told same read)
+    stop_is_admitted (effect_laws unit path) status_of text_of (λ (made : ReadyText). Unit {0}) told stop (at_dropin told same read)
   where
     at_dropin : (told : Option Files) → now ≡ told → IfSome told (λ files. AreRead files unit inputs)
         → IfSome told (λ files. Prepares (λ (made : ReadyText). Unit {0}) (effect_refusals files unit path) (Err stop))
@@ -173,24 +163,24 @@ module _ (told now : Option Files) (unit path : List ℕ) (inputs : UnitInputs) 
       ∙ ap (λ one. first_refusal (refusals_by_dropin unit (inputs_view inputs) one)) (dropin_is files e)
 
   -- what is answered is admitted
-  admitted : (result : Result ReadyText Stop) → Prepares (λ made. TellsWith (inputs_view inputs) more (ending_of made) (text_of made))
+  admitted : (result : Result ReadyText CommandError) → Prepares (λ made. TellsWith (inputs_view inputs) more (status_of made) (text_of made))
       (refusals_behind_dropin unit (inputs_view inputs) more) result
-      → IsAdmitted (laws_over told (effect_laws unit path)) ending_of text_of result
-  admitted (Err stop) answers = stop_is_admitted (effect_laws unit path) ending_of text_of
-      (λ made. TellsWith (inputs_view inputs) more (ending_of made) (text_of made)) told stop (at_stop told refl)
+      → IsAdmitted (laws_over told (effect_laws unit path)) status_of text_of result
+  admitted (Err stop) answers = stop_is_admitted (effect_laws unit path) status_of text_of
+      (λ made. TellsWith (inputs_view inputs) more (status_of made) (text_of made)) told stop (at_stop told refl)
     where
       at_stop : (own : Option Files) → told ≡ own → IfSome own
-          (λ files. Prepares (λ made. TellsWith (inputs_view inputs) more (ending_of made) (text_of made))
+          (λ files. Prepares (λ made. TellsWith (inputs_view inputs) more (status_of made) (text_of made))
           (effect_refusals files unit path) (Err stop))
       at_stop None e = tt
-      at_stop (Some files) e = stops_as (λ made. TellsWith (inputs_view inputs) more (ending_of made) (text_of made)) stop
+      at_stop (Some files) e = stops_as (λ made. TellsWith (inputs_view inputs) more (status_of made) (text_of made)) stop
           (refusals_behind_dropin unit (inputs_view inputs) more) (effect_refusals files unit path) (behind_dropin files e) answers
-  admitted (Ok made) answers = ready_is_admitted (effect_laws unit path) ending_of text_of told made
-      (ends_so (inputs_view inputs).calls (inputs_view inputs).site answers.1.first answers.1.second (ending_of made)
+  admitted (Ok made) answers = ready_is_admitted (effect_laws unit path) status_of text_of told made
+      (ends_so (inputs_view inputs).calls (inputs_view inputs).site answers.1.first answers.1.second (status_of made)
       (text_of made) answers.1.tells) (printed told refl)
     where
       printed : (own : Option Files) → told ≡ own → IfSome own
-          (λ files. AcceptsFiles (effect_laws unit path) files × PrintsEffect files unit path (ending_of made) (text_of made))
+          (λ files. AcceptsFiles (effect_laws unit path) files × PrintsEffect files unit path (status_of made) (text_of made))
       printed None e = tt
       printed (Some files) e = (
         behind_dropin files e ∙ answers.0,
@@ -204,9 +194,9 @@ module _ (told now : Option Files) (unit path : List ℕ) (inputs : UnitInputs) 
       )
 
   -- also where the inputs are lent
-  pub admitted_as : (own : Inputs) (result : Result ReadyText Stop) → own ≡ inputs_view inputs
-      → Prepares (λ made. TellsWith own more (ending_of made) (text_of made)) (refusals_behind_dropin unit own more) result
-      → IsAdmitted (laws_over told (effect_laws unit path)) ending_of text_of result
+  pub admitted_as : (own : Inputs) (result : Result ReadyText CommandError) → own ≡ inputs_view inputs
+      → Prepares (λ made. TellsWith own more (status_of made) (text_of made)) (refusals_behind_dropin unit own more) result
+      → IsAdmitted (laws_over told (effect_laws unit path)) status_of text_of result
   admitted_as own result is answers =
-      admitted result (subst (λ these. Prepares (λ made. TellsWith these more (ending_of made) (text_of made))
+      admitted result (subst (λ these. Prepares (λ made. TellsWith these more (status_of made) (text_of made))
       (refusals_behind_dropin unit these more) result) is answers)

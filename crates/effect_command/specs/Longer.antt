@@ -1,7 +1,8 @@
 -- The unit with a drop-in after its files. The drop-in is read from a file of its own.
-use Rattle.std.specs.Prelude.{ℕ, List, [], ◌∷◌, ◌++◌, Result, Ok, Err}
+use Rattle.std.specs.Prelude.{ℕ, List, Result, Ok, Err}
 use Rattle.judge_command.specs.unit_inputs.command_answers.Refusals.{refused_line}
-use Rattle.judge_command.specs.unit_inputs.command_answers.Stops.{and_then, or_line}
+use Rattle.judge_command.specs.unit_inputs.command_answers.CommandErrors.{and_then, or_line}
+use Rattle.judge_command.specs.dropin_merge.Changed.{extended}
 use Rattle.judge_command.specs.dropin_merge.declared.resolved.Resolved.{Resolved}
 use Rattle.judge_command.specs.host_io.Files.{Files}
 use Rattle.judge_command.specs.unit_grammar.Reading.{unit_of}
@@ -20,7 +21,7 @@ dropin_in files path = and_then (bytes_in files path) (dropin_said path)
 
 -- systemd.unit(5): the drop-in follows all files of the unit, so it is applied last
 abbrev pub longer_unit : Resolved → UnitText → Resolved
-longer_unit unit more = record { name = unit.name; files = unit.files ++ record { path = []; text = more } ∷ [] }
+longer_unit unit more = extended unit more
 
 -- the inputs with that unit
 abbrev pub with_dropin : Inputs → UnitText → Inputs

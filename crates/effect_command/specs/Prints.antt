@@ -4,8 +4,8 @@ use Rattle.judge_command.specs.host_io.Files.{Files}
 use Rattle.judge_command.specs.call_table.Table as calls
 use Rattle.judge_command.specs.site_table.Table.{Site}
 use Rattle.judge_command.specs.unit_inputs.command_answers.Laws.{FileLaws}
-use Rattle.judge_command.specs.unit_inputs.declared.command_answers.ending.Ending.{Ending}
-use Rattle.judge_command.specs.unit_inputs.declared.command_answers.ending.Ending.TheVariants.{Done, LaunchRefused}
+use Rattle.judge_command.specs.unit_inputs.declared.command_answers.exit_status.ExitStatus.{ExitStatus}
+use Rattle.judge_command.specs.unit_inputs.declared.command_answers.exit_status.ExitStatus.TheVariants.{Done, LaunchRefused}
 use Rattle.judge_command.specs.asked_service.started_units.Starting.{StartsAs}
 use Rattle.judge_command.specs.unit_grammar.declared.unit.UnitText.{UnitText}
 use Rattle.judge_command.specs.unit_inputs.Inputs.{Inputs, inputs_of}
@@ -20,34 +20,34 @@ use Rattle.effect_command.specs.Refusals.{effect_refusals}
 
 -- the launch of the unit is refused; or the launch with the drop-in is refused, and its line follows the word `with`; or both
 -- succeed. Then the text has exactly the changes from the first service to the second, with their counts
-abbrev pub TellsBoth : calls.Table → Site → UnitLaunch → UnitLaunch → Ending → List ℕ → Type 0
-TellsBoth table site (Refused refusal) second ending text = (ending ≡ LaunchRefused) × (text ≡ refusal_line refusal)
-TellsBoth table site (Launched before) (Refused refusal) ending text = (ending ≡ LaunchRefused) × (text ≡ with_line (refusal_line refusal))
-TellsBoth table site (Launched before) (Launched after) ending text =
-    (ending ≡ Done) × ((changes : List Change) ×
+abbrev pub TellsBoth : calls.Table → Site → UnitLaunch → UnitLaunch → ExitStatus → List ℕ → Type 0
+TellsBoth table site (Refused refusal) second status text = (status ≡ LaunchRefused) × (text ≡ refusal_line refusal)
+TellsBoth table site (Launched before) (Refused refusal) status text = (status ≡ LaunchRefused) × (text ≡ with_line (refusal_line refusal))
+TellsBoth table site (Launched before) (Launched after) status text =
+    (status ≡ Done) × ((changes : List Change) ×
     (AreChanges table site before.world after.world changes × (text ≡ effect_text table site changes)))
 
 -- the launches of the unit and of the unit with the drop-in, and the text for them
-pub record TellsWith (inputs : Inputs) (more : UnitText) (ending : Ending) (text : List ℕ) : Type 0 where
+pub record TellsWith (inputs : Inputs) (more : UnitText) (status : ExitStatus) (text : List ℕ) : Type 0 where
   pub first : UnitLaunch
   pub starts : StartsAs inputs first
   pub second : UnitLaunch
   pub starts_with : StartsAs (with_dropin inputs more) second
-  pub tells : TellsBoth inputs.calls inputs.site first second ending text
+  pub tells : TellsBoth inputs.calls inputs.site first second status text
 
 -- by the inputs of the unit and the drop-in
-pub record PrintsEffect (files : Files) (unit path : List ℕ) (ending : Ending) (text : List ℕ) : Type 0 where
+pub record PrintsEffect (files : Files) (unit path : List ℕ) (status : ExitStatus) (text : List ℕ) : Type 0 where
   pub inputs : Inputs
   pub inputs_are : inputs_of files unit ≡ Some inputs
   pub more : UnitText
   pub dropin_is : dropin_in files path ≡ Ok more
-  pub tells : TellsWith inputs more ending text
+  pub tells : TellsWith inputs more status text
 
 -- the refusals in their order; if a launch is refused, the status is 7
 abbrev pub effect_laws : List ℕ → List ℕ → FileLaws
 effect_laws unit path = record {
   refusals = λ files. effect_refusals files unit path;
-  prints = λ files ending text. PrintsEffect files unit path ending text;
-  may_end = λ ending. (ending ≡ Done) ⊎ (ending ≡ LaunchRefused);
+  prints = λ files status text. PrintsEffect files unit path status text;
+  may_end = λ status. (status ≡ Done) ⊎ (status ≡ LaunchRefused);
   reads = IsSome (name_of unit);
 }

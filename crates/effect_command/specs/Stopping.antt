@@ -1,8 +1,8 @@
 -- What the steps of an answer ask of each other.
 use Rattle.std.specs.Prelude.{◌≡◌, List}
 use Rattle.judge_command.specs.call_table.Table as calls
-use Rattle.judge_command.specs.unit_inputs.declared.command_answers.stop.Stop.{Stop}
-use Rattle.judge_command.specs.unit_inputs.declared.command_answers.stop.Stop.TheVariants as stop
+use Rattle.judge_command.specs.unit_inputs.declared.command_answers.error.CommandError.{CommandError}
+use Rattle.judge_command.specs.unit_inputs.declared.command_answers.error.CommandError.TheVariants as stop
 use Rattle.judge_command.specs.exec_settings.declared.service.Settings.{Settings}
 use Rattle.judge_command.specs.kern_mounts.declared.step.MountStep.{MountStep}
 use Rattle.judge_command.specs.launcher.declared.launched.Launched.{Launched as Service}
@@ -13,7 +13,7 @@ use Rattle.judge_command.specs.asked_service.declared.unit_launch.launching.Unit
 use Rattle.effect_command.specs.Lines.{with_line}
 
 -- the same refusal, of the unit with the drop-in, unless memory ran out
-abbrev pub IsBehindWith : Stop → Stop → Type 0
+abbrev pub IsBehindWith : CommandError → CommandError → Type 0
 IsBehindWith (stop.Refused line) (stop.Refused told) = told.items ≡ with_line line.items
 IsBehindWith (stop.Refused line) stop.ReadFault = ⊥
 IsBehindWith (stop.Refused line) stop.Memory = Unit {0}

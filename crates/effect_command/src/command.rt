@@ -4,13 +4,13 @@ ghost use Rattle.judge_command.specs.unit_inputs.command_answers.Asking.{course}
 ghost use Rattle.judge_command.specs.unit_inputs.command_answers.Laws.{IsAdmitted, laws_over};
 ghost use Rattle.judge_command.specs.unit_inputs.Asking.{AsksInOrder, asks_with_file};
 ghost use Rattle.judge_command.specs.unit_inputs.ReadsFor.{ReadsFor};
-ghost use Rattle.judge_command.specs.unit_inputs.command_answers.ReadyTexts.{ending_of, text_of};
+ghost use Rattle.judge_command.specs.unit_inputs.command_answers.ReadyTexts.{status_of, text_of};
 ghost use Rattle.effect_command.specs.Prints.{effect_laws};
 
 use crate::answering::answer;
 use crate::dropin::read_dropin;
 use host_io::Shelf;
-use judge_command::{ReadyText, Stop, read_inputs};
+use judge_command::{CommandError, ReadyText, read_inputs};
 use std::alloc::Global;
 
 /// Prepares `effect`, the name of a unit and the path of a drop-in. It reads the unit, calls.txt, site.toml and the
@@ -21,8 +21,8 @@ pub fn prepare<S: Shelf>(
     shelf: &mut S,
     unit: &str,
     path: &str,
-) -> Result<ReadyText, Stop>
-    ensures prepares { IsAdmitted (laws_over (S.told shelf.old) (effect_laws unit.now path.now)) ending_of text_of result }
+) -> Result<ReadyText, CommandError>
+    ensures prepares { IsAdmitted (laws_over (S.told shelf.old) (effect_laws unit.now path.now)) status_of text_of result }
     ensures asks_in_order { AsksInOrder S.asks (S.told shelf.old) (λ files. asks_with_file files unit.now path.now) shelf.old shelf.new (course result) }
     ensures reads_for_the_unit { ReadsFor S.told S.faults unit.now shelf.old shelf.new result }
 {

@@ -1,7 +1,7 @@
 //! The text for two launches.
 ghost use Rattle.std.specs.Prelude.{◌≡◌, IfOk};
 ghost use Rattle.judge_command.specs.call_table.Table.{Table};
-ghost use Rattle.judge_command.specs.unit_inputs.declared.command_answers.ending.Ending.TheVariants.{LaunchRefused};
+ghost use Rattle.judge_command.specs.unit_inputs.declared.command_answers.exit_status.ExitStatus.TheVariants.{LaunchRefused};
 ghost use Rattle.judge_command.specs.site_table.Table.{Site};
 ghost use Rattle.judge_command.specs.asked_service.unit_launch.Refusals.{refusal_line};
 ghost use Rattle.effect_command.specs.Lines.{with_line};
@@ -14,28 +14,28 @@ use crate::lines::with_line;
 use crate::telling::effect_text;
 use judge_command::verdict_changes::changes_are_true;
 use judge_command::{
-    Ending, LaunchRefusal, Launched, ReadyText, Stop, UnitLaunch, ask, refusal_line,
+    CommandError, ExitStatus, LaunchRefusal, Launched, ReadyText, UnitLaunch, ask, refusal_line,
 };
 use std::alloc::Global;
 
 // The line of a launch of the unit that is refused.
-fn tell_refused(alloc: Global, refusal: &LaunchRefusal) -> Result<ReadyText, Stop>
-    ensures { IsReadyWith (λ ending text. (ending ≡ LaunchRefused) × (text ≡ refusal_line refusal.now)) result }
+fn tell_refused(alloc: Global, refusal: &LaunchRefusal) -> Result<ReadyText, CommandError>
+    ensures { IsReadyWith (λ status text. (status ≡ LaunchRefused) × (text ≡ refusal_line refusal.now)) result }
 {
     Ok(ReadyText {
         text: refusal_line(alloc, refusal)?,
-        ending: Ending::LaunchRefused,
+        status: ExitStatus::LaunchRefused,
     })
 }
 
 // The text for a refused launch of the unit with the drop-in.
-fn tell_refused_with(alloc: Global, refusal: &LaunchRefusal) -> Result<ReadyText, Stop>
-    ensures { IsReadyWith (λ ending text. (ending ≡ LaunchRefused) × (text ≡ with_line (refusal_line refusal.now))) result }
+fn tell_refused_with(alloc: Global, refusal: &LaunchRefusal) -> Result<ReadyText, CommandError>
+    ensures { IsReadyWith (λ status text. (status ≡ LaunchRefused) × (text ≡ with_line (refusal_line refusal.now))) result }
 {
     let line = refusal_line(alloc, refusal)?;
     Ok(ReadyText {
         text: with_line(alloc, line.as_slice())?,
-        ending: Ending::LaunchRefused,
+        status: ExitStatus::LaunchRefused,
     })
 }
 
@@ -44,7 +44,7 @@ fn compare_services(
     alloc: Global,
     before: Launched<'_>,
     after: Launched<'_>,
-) -> Result<ReadyText, Stop>
+) -> Result<ReadyText, CommandError>
     requires together { AreTogether before after }
     ensures { (table : Table) (site : Site) → IsOver table site before.entry → IsOver table site after.entry → IsReadyWith (TellsBoth table site (Done before.entry) (Done after.entry)) result }
 {
@@ -54,7 +54,7 @@ fn compare_services(
     let second = ask(alloc, after)?;
     Ok(ReadyText {
         text: effect_text(alloc, &first, &second)?,
-        ending: Ending::Done,
+        status: ExitStatus::Done,
     })
 }
 
@@ -63,7 +63,7 @@ fn compare_with(
     alloc: Global,
     before: Launched<'_>,
     second: UnitLaunch<'_>,
-) -> Result<ReadyText, Stop>
+) -> Result<ReadyText, CommandError>
     requires together { StartTogether (Done before) second }
     ensures { (table : Table) (site : Site) → IsOver table site before.entry → StartsOver table site second.entry → IsReadyWith (TellsBoth table site (Done before.entry) second.entry) result }
 {
@@ -79,7 +79,7 @@ pub fn compare(
     alloc: Global,
     first: UnitLaunch<'_>,
     second: UnitLaunch<'_>,
-) -> Result<ReadyText, Stop>
+) -> Result<ReadyText, CommandError>
     requires together { StartTogether first second }
     ensures tells { (table : Table) (site : Site) → StartsOver table site first.entry → StartsOver table site second.entry → IsReadyWith (TellsBoth table site first.entry second.entry) result }
 {

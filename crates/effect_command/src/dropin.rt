@@ -1,15 +1,15 @@
 //! The drop-in, with the lines of its refusals.
 ghost use Rattle.std.specs.Prelude.{◌≡◌, ◌∷◌, [], IfOk, IfSome, IsErrOf};
-ghost use Rattle.judge_command.specs.host_io.Calls.{Went};
+ghost use Rattle.judge_command.specs.host_io.Calls.{AsksExactly};
 ghost use Rattle.judge_command.specs.unit_inputs.command_answers.Asking.{course, input_file};
 ghost use Rattle.judge_command.specs.unit_inputs.command_answers.Refusals.{refused_line};
-ghost use Rattle.judge_command.specs.unit_inputs.command_answers.Stops.{HasReadCause, IsAnswer};
+ghost use Rattle.judge_command.specs.unit_inputs.command_answers.CommandErrors.{HasReadCause, IsAnswer};
 ghost use Rattle.judge_command.specs.unit_inputs.UnitRefusals.{text_cause};
 ghost use Rattle.effect_command.specs.Longer.{dropin_in, dropin_said};
 
 use host_io::Shelf;
 use judge_command::{
-    ResolveError, Stop, Text, UnitError, UnitText, read_input, read_unit, refuse, unit_line,
+    CommandError, ResolveError, Text, UnitError, UnitText, read_input, read_unit, refuse, unit_line,
 };
 use std::alloc::{AllocError, Global};
 
@@ -22,21 +22,25 @@ fn text_line(alloc: Global, path: &str, error: UnitError) -> Result<Vec<u8>, All
 }
 
 // What the bytes of a drop-in say.
-fn said(alloc: Global, path: &str, bytes: &[u8]) -> Result<UnitText, Stop>
+fn said(alloc: Global, path: &str, bytes: &[u8]) -> Result<UnitText, CommandError>
     ensures says { IsAnswer (λ text. text) result (dropin_said path.now bytes.now) }
-    ensures reads_nothing { IsErrOf result Stop.ReadFault → ⊥ }
+    ensures reads_nothing { IsErrOf result CommandError.ReadFault → ⊥ }
 {
     match read_unit(alloc, bytes) {
         Ok(text) => Ok(text),
-        Err(UnitError::Memory) => Err(Stop::Memory),
+        Err(UnitError::Memory) => Err(CommandError::Memory),
         Err(error) => Err(refuse(text_line(alloc, path, error))),
     }
 }
 
 /// The drop-in at a path, or the line of its first refusal: it is there, has at most 1 MiB, and can be read as a file of a unit.
-pub fn read_dropin<S: Shelf>(alloc: Global, shelf: &mut S, path: &str) -> Result<UnitText, Stop>
+pub fn read_dropin<S: Shelf>(
+    alloc: Global,
+    shelf: &mut S,
+    path: &str,
+) -> Result<UnitText, CommandError>
     ensures reads_the_dropin { IfSome (S.told shelf.old) (λ files. IsAnswer (λ text. text) result (dropin_in files path.now)) }
-    ensures asks_for_it { Went S.asks shelf.old shelf.new (input_file path.now ∷ []) (course result) }
+    ensures asks_for_it { AsksExactly S.asks shelf.old shelf.new (input_file path.now ∷ []) (course result) }
     ensures map_stays { S.told shelf.new ≡ S.told shelf.old }
     ensures fault_rose { HasReadCause (S.faults shelf.old) (S.faults shelf.new) result }
 {

@@ -1,11 +1,11 @@
 -- The settings of a unit whose service has a command alone.
 use Rattle.mount_settings.specs.abs_path.Paths.{Path}
 use Rattle.std.specs.Option.{option_map, option_map_or}
-use Rattle.cred_settings.specs.unit_grammar.declared.notes.NoteCause.TheVariants.{Value as ValueCause, Unjudged}
+use Rattle.cred_settings.specs.unit_grammar.declared.notes.NoteCause.TheVariants.{Unjudged}
 use Rattle.mount_settings.specs.unit_names.Expansion.{expansion}
 use Rattle.cred_settings.specs.dropin_merge.declared.unit_values.value.Place.{Place}
 use Rattle.cred_settings.specs.dropin_merge.declared.unit_values.value.Value.{Value}
-use Rattle.cred_settings.specs.dropin_merge.unit_values.Notes.{note_at, noted}
+use Rattle.cred_settings.specs.dropin_merge.unit_values.Notes.{noted}
 use Rattle.cred_settings.specs.dropin_merge.unit_values.Lines.{listed_line}
 use Rattle.cred_settings.proofs.OfDropinMerge.OneMore.{after_last-push}
 use Rattle.std.proofs.Common.{◌≡◌, ℕ, Bool, true, false, Ok, Option, Some, None, List, [], ◌∷◌, ◌++◌, map, codes, refl, sym, ap, ◌∙◌}
@@ -14,20 +14,24 @@ use Rattle.std.specs.Prelude.{◌||◌, ◌&&◌, ◌==◌, not, is_some, nat_lt
 use Rattle.std.specs.Prelude.{option_and_then}
 use Rattle.std.specs.List.{cons_option, filter_map, list_any}
 use Rattle.std.specs.Str.{bytes_eq}
+use Rattle.mount_settings.specs.unit_names.declared.version.Version.{Version}
 use Rattle.cred_settings.specs.dropin_merge.declared.resolved.Resolved.{Resolved}
 use Rattle.cred_settings.specs.dropin_merge.unit_values.Flags.{flag_value, unit_flag, unit_flag_notes}
 use Rattle.cred_settings.specs.dropin_merge.unit_values.Lasting.{last_read, last_text, unit_last, unit_last_notes, unit_last_text}
 use Rattle.cred_settings.specs.dropin_merge.unit_values.Lasting.{unread_notes}
 use Rattle.cred_settings.specs.dropin_merge.unit_values.Listed.{listed, unit_listed, unit_listed_notes}
 use Rattle.cred_settings.specs.dropin_merge.unit_values.Values.{expanded_at, given_by, in_force as in_force_values, note_of, noted_unless}
-use Rattle.cred_settings.specs.dropin_merge.unit_values.Values.{notes_of, unexpanded_at, values_of}
+use Rattle.cred_settings.specs.dropin_merge.unit_values.Values.{notes_of, unexpanded_at, values_of, written_by, written_values}
+use Rattle.cred_settings.specs.dropin_merge.unit_values.Assignments.{service_assignments}
+use Rattle.mount_settings.specs.unit_names.declared.version.Version.{Version}
 use Rattle.cred_settings.specs.dropin_merge.unit_values.Words.{split, unit_words, unit_words_notes, words_in}
-use Rattle.cred_settings.specs.cap_sets.Sets.{all, minus, none, union}
+use Rattle.cred_settings.specs.cap_sets.Sets.{all, cut, has, minus, none, union}
+use Rattle.cred_settings.proofs.OfCapSets.Members.{has_cut, has_none, same_sets}
 use Rattle.filter_settings.specs.call_rules.declared.actions.Action.TheVariants.{KillProcess}
 use Rattle.filter_settings.specs.declared.filter_rules.namespace_types.NamespaceTypes.{NamespaceTypes}
 use Rattle.filter_settings.specs.call_table.Table.{Table}
 use Rattle.cred_settings.specs.site_table.Table.{Site}
-use Rattle.mount_settings.specs.path_settings.Keys.{name_of, path_keys}
+use Rattle.mount_settings.specs.path_settings.Keys.{key_named}
 use Rattle.filter_settings.specs.filter_rules.Names.{all_programs}
 use Rattle.filter_settings.specs.filter_rules.Installed.{place_of, is_installed, installed}
 use Rattle.filter_settings.specs.call_table.Table.{Abi}
@@ -45,61 +49,62 @@ use Rattle.filter_settings.specs.Settings.{settings_of}
 use Rattle.cred_settings.specs.declared.accounts.Identity.{Identity}
 use Rattle.cred_settings.specs.declared.error.IdentityError.{IdentityError}
 use Rattle.cred_settings.specs.Ambient.{ambient_of}
-use Rattle.cred_settings.specs.CapLists.{caps_by, names_notes, unit_caps, unit_caps_notes}
+use Rattle.cred_settings.specs.CapLists.{caps_read, names_notes, unit_caps, unit_caps_notes}
+use Rattle.cred_settings.specs.dropin_merge.unit_names.Versions.{is_252, is_known}
+use Rattle.cred_settings.specs.dropin_merge.unit_names.declared.version.Version.TheVariants.{V252, V257}
+use Rattle.cred_settings.specs.dropin_merge.unit_names.declared.version.Version.{Version}
+use Rattle.cred_settings.specs.CapSums.{counted}
 use Rattle.cred_settings.specs.Groups.{group_word}
 use Rattle.cred_settings.specs.FurtherGroups.{further_words}
 use Rattle.cred_settings.specs.Identities.{identity_from, identity_notes, identity_of}
-use Rattle.cred_settings.specs.NewPrivileges.{is_in_effect}
+use Rattle.cred_settings.specs.NewPrivileges.{is_in_effect, is_in_effect_in_252, is_in_effect_in}
 use Rattle.cred_settings.specs.Users.{superuser}
-use Rattle.mount_settings.specs.declared.protections.HomeProtection.TheVariants as home
-use Rattle.mount_settings.specs.declared.protections.Protections.{Protections}
 use Rattle.mount_settings.specs.declared.protections.Switches.{Switches}
-use Rattle.mount_settings.specs.declared.protections.SystemProtection.TheVariants as system
-use Rattle.mount_settings.specs.Assigned.{assigned_by, given_to}
-use Rattle.mount_settings.specs.Home.{home_value}
-use Rattle.mount_settings.specs.Implied.{implied}
-use Rattle.mount_settings.specs.Protections.{protection_notes, unit_protections}
+use Rattle.mount_settings.specs.Assigned.{assigned_by, dialect_of, given_to, key_of}
+use Rattle.mount_settings.specs.Protections.{protection_notes}
 use Rattle.mount_settings.specs.Notes.{given_notes, notes_by, written_notes}
-use Rattle.mount_settings.specs.Settings.{mentions_of, protections_of}
-use Rattle.mount_settings.specs.System.{system_value}
-use Rattle.mount_settings.specs.Tmp.{tmp_value}
+use Rattle.mount_settings.specs.Settings.{all_mentions}
 use Rattle.mount_settings.specs.Written.{unit_written, written}
 use Rattle.exec_settings.specs.declared.service.Settings.{Settings}
 use Rattle.exec_settings.specs.AreSettings.{AreSettings}
 use Rattle.exec_settings.specs.Bare.{HasCommandAlone, AreBare, MeansItsCommand}
-use Rattle.exec_settings.specs.declared.commands.Command.{Command}
 use Rattle.exec_settings.specs.declared.errors.SettingsError.{SettingsError}
 use Rattle.exec_settings.specs.declared.errors.SettingsError.TheVariants.{MissingGroup, TooManyPaths}
 use Rattle.exec_settings.specs.Groups.{missing_group}
 use Rattle.exec_settings.specs.Refusals.{command_refusal, first_reason, group_refusal, identity_reason, identity_refusal, refusal_of}
 use Rattle.exec_settings.specs.Bounding.{taken_caps}
-use Rattle.exec_settings.specs.Commands.{command_notes, command_of, later_causes, launched_of, unit_command, unit_command_notes}
+use Rattle.exec_settings.specs.Launched.{command_in, command_notes, later_causes, launched_of, note_by, reading_of, unexpanded_by}
+use Rattle.exec_settings.specs.Launched.{unit_command, unit_command_notes, unit_leaves_ids, values_by}
+use Rattle.exec_settings.specs.declared.commands.Reading.{Reading}
+use Rattle.exec_settings.specs.declared.commands.Reading.TheVariants.{Launches, Noted}
 use Rattle.exec_settings.specs.Judged.{unjudged_at, unjudged_notes}
 use Rattle.exec_settings.specs.Keys.{is_judged, keys}
 use Rattle.exec_settings.specs.Notes.{all_notes, credential_notes, grammar_notes, text_notes}
 use Rattle.exec_settings.specs.Order.{AreInOrder}
 use Rattle.exec_settings.specs.Dynamic.{dynamic_notes, is_dynamic, sets_new_privileges, unit_filters, with_dynamic_user}
 use Rattle.exec_settings.specs.Mounts.{paths_refusal, unit_mentions, unit_switches}
-use Rattle.exec_settings.specs.Settings.{has_filter, program_path, unit_bounding, unit_new_privileges, unit_program}
+use Rattle.exec_settings.specs.RunsAs.{unit_identity}
+use Rattle.exec_settings.specs.Filtered.{counts_as_filter, has_filter, has_value}
+use Rattle.exec_settings.specs.Settings.{ambient_within, program_path, unit_ambient, unit_bounding, unit_new_privileges, unit_program}
 use Rattle.filter_settings.proofs.Joined.{made}
 use Rattle.exec_settings.proofs.FilterSame.{same_settings}
+use Rattle.mount_settings.proofs.SameUnits.{each_but, mentions_nothing, mount_keys, noted_keys, notes_nothing}
 
 abbrev any_namespace : NamespaceTypes
 any_namespace = record { cgroup = true; ipc = true; net = true; mnt = true; pid = true; user = true; uts = true }
 
-abbrev bare : FilterSettings
-bare = made false false false false false false false false false KillProcess any_namespace None None false
-
-abbrev unprotected : Protections
-unprotected = record { protect_system = system.No; protect_home = home.No; private_tmp = false; protect_kernel_tunables = false; protect_control_groups = false }
+abbrev bare : Option Version → FilterSettings
+bare systemd = made false false false false false false false false false KillProcess any_namespace None None false systemd false
 
 abbrev unswitched : Switches
 unswitched = record { private_devices = false; protect_kernel_modules = false; protect_kernel_logs = false; dynamic_user = false }
 
 -- nothing of bare settings is installed
-none_installed : (second : Option Abi) → filter (is_installed bare) (all_programs second) ≡ []
-none_installed None = refl
-none_installed (Some second) = refl
+none_installed : (systemd : Option Version) (second : Option Abi) → filter (is_installed (bare systemd)) (all_programs second) ≡ []
+none_installed None None = refl
+none_installed None (Some second) = refl
+none_installed (Some version) None = refl
+none_installed (Some version) (Some second) = refl
 
 no_names : (filters : List Filter) → map place_of filters ≡ [] → filters ≡ []
 no_names [] e = refl
@@ -107,6 +112,31 @@ no_names (one ∷ filters) e = cc
 
 same_identity : (own other : Identity) (answer : Result Identity IdentityError) → answer ≡ Ok own → answer ≡ Ok other → own ≡ other
 same_identity own other answer e f = cc
+
+-- the same for all versions
+either_way : {X : Type 0} (b : Bool) (x y : X) → x ≡ y → cond b x y ≡ y
+either_way true x y e = e
+either_way false x y e = refl
+
+abbrev superuser_in : List ℕ → Result Identity IdentityError
+superuser_in groups = Ok (record { uid = 0; gid = 0; groups = groups })
+
+superuser_is : (systemd : Option Version) (site : Site) (leaves : Bool) → identity_from systemd site false leaves [] [] [] ≡ Ok superuser
+superuser_is systemd site true = ap superuser_in (either_way (is_known systemd) [] [] refl)
+superuser_is systemd site false = ap superuser_in (append-nil (cond (is_known systemd) [] []) ∙ either_way (is_known systemd) [] [] refl)
+
+unsaid_caps : (systemd : Option Version) (default : Option ℕ) → caps_read systemd default [] ≡ counted default
+unsaid_caps systemd default = either_way (is_known systemd) (counted default) (counted default) refl
+
+cut_none : (set : ℕ) → cut none set ≡ none
+cut_none set = same_sets (cut none set) none
+    (λ number. has_cut none set number ∙ ap (λ b. b && has set number) (has_none number) ∙ sym (has_none number))
+
+none_within : (systemd : Option Version) (bounding : ℕ) → ambient_within systemd none bounding ≡ none
+none_within systemd bounding = either_way (is_known systemd) (cut none bounding) none (cut_none bounding)
+
+never : (systemd : Option Version) (uid ambient : ℕ) → is_in_effect_in systemd false false false uid ambient ≡ false
+never systemd uid ambient = either_way (is_252 systemd) (is_in_effect_in_252 false false uid) (is_in_effect false false uid ambient) refl
 
 first_alone : (reason : Option SettingsError) → first_reason (reason ∷ None ∷ None ∷ None ∷ []) ≡ reason
 first_alone None = refl
@@ -118,45 +148,48 @@ none_of a b e f = ap (λ xs. xs ++ b) e ∙ f
 still : {X : Type 0} (a b c : List X) → a ≡ c → b ≡ [] → a ++ b ≡ c
 still a b c e f = ap (λ xs. a ++ xs) f ∙ append-nil a ∙ e
 
--- a value by itself that is launched is in force and is not noted
-launched_value : (value : Value) (path : Path) (b : Bool) (o : Option Command)
-    → program_path (slice_get (cond b [] (cons_option o [])) 0) ≡ Some path →
-    cons_option (cond (not b && not (is_some o)) (Some (note_at value ValueCause)) None) [] ≡ []
-launched_value value path true o launched = refl
-launched_value value path false None launched = cc
-launched_value value path false (Some command) launched = refl
+later_alone : (unit : Resolved) (value : Value) (b : Bool) → noted (later_causes unit) (cond b [] (value ∷ [])) ≡ []
+later_alone unit value true = refl
+later_alone unit value false = refl
 
-later_alone : (value : Value) (b : Bool) → noted later_causes (cond b [] (value ∷ [])) ≡ []
-later_alone value true = refl
-later_alone value false = refl
+module _ (unit : Resolved) (site : Site) (path : Path) where
+  -- a value by itself that is launched is in force and is not noted
+  launched_value : (value : Value) (b : Bool) (reading : Reading)
+      → program_path unit site (slice_get (cond b [] (cons_option (command_in reading) [])) 0) ≡ Some path
+      → cons_option (cond b None (note_by value reading)) [] ≡ []
+  launched_value value true reading launched = refl
+  launched_value value false (Noted cause) launched = cc
+  launched_value value false (Launches command) launched = refl
 
-cond_commands : (value : Value) (b : Bool) → filter_map (λ one. command_of one.text) (cond b [] (value ∷ []))
-    ≡ cond b [] (cons_option (command_of value.text) [])
-cond_commands value true = refl
-cond_commands value false = refl
+  cond_commands : (value : Value) (b : Bool) → filter_map (λ one. command_in (reading_of unit one)) (cond b [] (value ∷ []))
+      ≡ cond b [] (cons_option (command_in (reading_of unit value)) [])
+  cond_commands value true = refl
+  cond_commands value false = refl
 
-launched_one : (value : Value) (path : Path) → program_path (launched_of (value ∷ [])) ≡ Some path → command_notes (value ∷ []) ≡ []
-launched_one value path launched =
-    let kept : in_force_values (value ∷ []) ≡ cond (length value.text == 0) [] (value ∷ []) = after_last-push (λ one. length one.text == 0) [] value in
-    none_of _ _
-    (launched_value value path (length value.text == 0) (command_of value.text)
-    (sym (ap (λ commands. program_path (slice_get commands 0))
-    (ap (filter_map (λ one. command_of one.text)) kept ∙ cond_commands value (length value.text == 0))) ∙ launched))
-    (ap (noted later_causes) kept ∙ later_alone value (length value.text == 0))
+  launched_one : (value : Value) → program_path unit site (launched_of unit (value ∷ [])) ≡ Some path
+      → command_notes unit (value ∷ []) ≡ []
+  launched_one value launched =
+      let kept : in_force_values (value ∷ []) ≡ cond (length value.text == 0) [] (value ∷ []) = after_last-push
+      (λ one. length one.text == 0) [] value in
+      none_of _ _
+      (launched_value value (length value.text == 0) (reading_of unit value)
+      (sym (ap (λ commands. program_path unit site (slice_get commands 0))
+      (ap (filter_map (λ one. command_in (reading_of unit one))) kept ∙ cond_commands value (length value.text == 0))) ∙ launched))
+      (ap (noted (later_causes unit)) kept ∙ later_alone unit value (length value.text == 0))
 
-launched_alone : (place : Place) (path : Path) (text : Option (List ℕ))
-    → program_path (launched_of (cons_option (option_map (λ text. record { place = place; text = text }) text) [])) ≡ Some path →
-    cons_option (noted_unless text place) [] ++ command_notes
-    (cons_option (option_map (λ text. record { place = place; text = text }) text) []) ≡ []
-launched_alone place path None launched = cc
-launched_alone place path (Some text) launched = launched_one (record { place = place; text = text }) path launched
+  launched_alone : (place : Place) (text : Option (List ℕ))
+      → program_path unit site (launched_of unit (cons_option (option_map (λ text. record { place = place; text = text }) text) []))
+      ≡ Some path → cons_option (noted_unless text place) [] ++ command_notes unit
+      (cons_option (option_map (λ text. record { place = place; text = text }) text) []) ≡ []
+  launched_alone place None launched = cc
+  launched_alone place (Some text) launched = launched_one (record { place = place; text = text }) launched
 
 module _ (unit : Resolved) (h : HasCommandAlone unit) where
   -- every other key has no value
   nothing : (key : List ℕ) → bytes_eq (codes "ExecStart") key ≡ false → values_of unit key ≡ []
   nothing key differs =
-      ap (filter_map (given_by unit.name key)) h.alone
-      ∙ ap (λ is. cons_option (cond is (expanded_at unit.name (h.place, h.assignment)) None) [])
+      ap (filter_map (given_by unit.systemd unit.name key)) h.alone
+      ∙ ap (λ is. cons_option (cond is (expanded_at unit.systemd unit.name (h.place, h.assignment)) None) [])
       (ap (λ name. bytes_eq name key) h.command ∙ differs)
 
   unsaid : {X : Type 0} (read : List ℕ → Option X) (default : X) (key : List ℕ) → bytes_eq (codes "ExecStart") key ≡ false
@@ -182,15 +215,24 @@ module _ (unit : Resolved) (h : HasCommandAlone unit) where
   -- filters
   no_calls : (table : Table) → unit_call_list unit table (codes "SystemCallFilter") ≡ None
   unfolding unit_call_list
-  no_calls table = ap (λ lines. call_list table (in_force lines)) (unlisted (codes "SystemCallFilter") refl)
+  no_calls table = ap (λ lines. call_list unit.systemd table (in_force lines)) (unlisted (codes "SystemCallFilter") refl) ∙ by unit.systemd
+    where
+      by : (systemd : Option Version) → call_list systemd table [] ≡ None
+      by None = refl
+      by (Some version) = refl
 
   no_families : (table : Table) → unit_family_list unit table (codes "RestrictAddressFamilies") ≡ None
   unfolding unit_family_list
-  no_families table = ap (λ lines. family_list table (in_force lines)) (unlisted (codes "RestrictAddressFamilies") refl)
+  no_families table = ap (λ lines. family_list unit.systemd table (in_force lines)) (unlisted (codes "RestrictAddressFamilies") refl)
+      ∙ by unit.systemd
+    where
+      by : (systemd : Option Version) → family_list systemd table [] ≡ None
+      by None = refl
+      by (Some version) = refl
 
   all_namespaces : unit_namespaces unit (codes "RestrictNamespaces") ≡ any_namespace
   unfolding unit_namespaces
-  all_namespaces = ap namespaces_of (unlisted (codes "RestrictNamespaces") refl)
+  all_namespaces = ap (namespaces_of unit.systemd) (unlisted (codes "RestrictNamespaces") refl)
 
   killing : unit_error_action unit (codes "SystemCallErrorNumber") ≡ KillProcess
   killing = ap (λ value. value.action) (unsaid error_action_value default_action (codes "SystemCallErrorNumber") refl)
@@ -204,62 +246,95 @@ module _ (unit : Resolved) (h : HasCommandAlone unit) where
       (nothing (codes "SystemCallArchitectures") refl)
       ∙ and_right (is_some table.second) false refl
 
-  settings_bare : (table : Table) → settings_of unit table ≡ bare
+  settings_bare : (table : Table) → settings_of unit table ≡ bare unit.systemd
   settings_bare table =
-      same_settings _ None _ KillProcess _ None _ any_namespace _ false _ false _ false _ false _ false _ false _ false _ false _ false _
-      false
-      (no_calls table) killing (no_families table) all_namespaces (off (codes "MemoryDenyWriteExecute") refl)
+      same_settings _ None _ KillProcess _ None _ any_namespace _ unit.systemd _ false _ false _ false _ false _ false _ false _ false
+      _ false _ false _ false _ false
+      (no_calls table) killing (no_families table) all_namespaces refl (off (codes "MemoryDenyWriteExecute") refl)
       (off (codes "RestrictRealtime") refl) (off (codes "RestrictSUIDSGID") refl)
       (off (codes "LockPersonality") refl) (off (codes "ProtectHostname") refl) (off (codes "ProtectKernelModules") refl)
       (off (codes "ProtectKernelLogs") refl) (off (codes "ProtectClock") refl) (off (codes "PrivateDevices") refl)
-      (no_second_refused table)
+      (no_second_refused table) (off (codes "ProtectKernelTunables") refl)
 
   not_dynamic : is_dynamic unit ≡ false
   unfolding is_dynamic
   not_dynamic = off (codes "DynamicUser") refl
 
-  filters_bare : (table : Table) → unit_filters unit table ≡ bare
+  filters_bare : (table : Table) → unit_filters unit table ≡ bare unit.systemd
   unfolding unit_filters
   filters_bare table = ap (λ on. with_dynamic_user on (settings_of unit table)) not_dynamic
       ∙ ap (with_dynamic_user false) (settings_bare table)
 
   none_on : (table : Table) → installed (unit_filters unit table) table ≡ []
-  none_on table = ap (λ settings. installed settings table) (filters_bare table) ∙ none_installed table.second
+  none_on table = ap (λ settings. installed settings table) (filters_bare table) ∙ none_installed unit.systemd table.second
 
   -- users, groups and capabilities
-  is_superuser : (site : Site) → identity_of unit site (is_dynamic unit) ≡ Ok superuser
+  is_superuser : (site : Site) → unit_identity unit site ≡ Ok superuser
   unfolding identity_of
   is_superuser site =
-      ap (identity_of unit site) not_dynamic
-      ∙ ap (λ word. identity_from site false word (group_word unit) (further_words unit)) (textless (codes "User") refl)
-      ∙ ap (λ word. identity_from site false [] word (further_words unit)) (textless (codes "Group") refl)
-      ∙ ap (identity_from site false [] []) (wordless (codes "SupplementaryGroups") refl)
+      ap (λ on. identity_of unit site on (unit_leaves_ids unit)) not_dynamic
+      ∙ ap (λ word. identity_from unit.systemd site false (unit_leaves_ids unit) word (group_word unit) (further_words unit))
+      (textless (codes "User") refl)
+      ∙ ap (λ word. identity_from unit.systemd site false (unit_leaves_ids unit) [] word (further_words unit)) (textless (codes "Group") refl)
+      ∙ ap (identity_from unit.systemd site false (unit_leaves_ids unit) [] []) (wordless (codes "SupplementaryGroups") refl)
+      ∙ superuser_is unit.systemd site (unit_leaves_ids unit)
 
   bounding_all : (table : Table) → unit_bounding unit table ≡ all
   unfolding taken_caps unit_caps all minus union none
   bounding_all table =
-      ap (λ lines. minus (caps_by all lines) (taken_caps (unit_filters unit table))) (unlisted (codes "CapabilityBoundingSet") refl)
+      ap (λ lines. minus (caps_read unit.systemd None lines) (taken_caps (unit_filters unit table)))
+      (unlisted (codes "CapabilityBoundingSet") refl)
+      ∙ ap (λ set. minus set (taken_caps (unit_filters unit table))) (unsaid_caps unit.systemd None)
       ∙ ap (λ settings. minus all (taken_caps settings)) (filters_bare table)
 
-  ambient_none : ambient_of unit ≡ none
+  key_of_none : ambient_of unit ≡ none
   unfolding unit_caps
-  ambient_none = ap (caps_by none) (unlisted (codes "AmbientCapabilities") refl)
+  key_of_none = ap (caps_read unit.systemd (Some none)) (unlisted (codes "AmbientCapabilities") refl)
+      ∙ unsaid_caps unit.systemd (Some none)
+
+  ambient_none : (table : Table) → unit_ambient unit table ≡ none
+  ambient_none table = ap (λ set. ambient_within unit.systemd set (unit_bounding unit table)) key_of_none
+      ∙ none_within unit.systemd (unit_bounding unit table)
+
+  valueless : (key : List ℕ) → bytes_eq (codes "ExecStart") key ≡ false → has_value unit key ≡ false
+  valueless key differs = ap (λ (values : List Value). not (length (in_force_values values) == 0)) (nothing key differs)
+
+  none_counts : counts_as_filter unit ≡ false
+  unfolding counts_as_filter
+  none_counts =
+      ap (λ on. on || (has_value unit (codes "SystemCallArchitectures") || has_value unit (codes "SystemCallLog")))
+      (off (codes "ProtectKernelTunables") refl)
+      ∙ ap (λ on. on || has_value unit (codes "SystemCallLog")) (valueless (codes "SystemCallArchitectures") refl)
+      ∙ valueless (codes "SystemCallLog") refl
 
   unset : sets_new_privileges unit ≡ false
   unset = ap (λ on. on || is_dynamic unit) (off (codes "NoNewPrivileges") refl) ∙ not_dynamic
 
   no_new : (table : Table) (uid : ℕ) → unit_new_privileges unit table uid ≡ false
   no_new table uid =
-      ap (λ on. is_in_effect on (has_filter (unit_filters unit table) table) uid (ambient_of unit)) unset
-      ∙ ap (λ places. is_in_effect false (not (length places == 0)) uid (ambient_of unit)) (none_on table)
+      ap (λ on. is_in_effect_in unit.systemd on (has_filter (unit_filters unit table) table)
+      (has_filter (unit_filters unit table) table || counts_as_filter unit) uid (unit_ambient unit table)) unset
+      ∙ ap (λ places. is_in_effect_in unit.systemd false (not (length places == 0)) (not (length places == 0) || counts_as_filter unit) uid
+      (unit_ambient unit table)) (none_on table)
+      ∙ ap (λ on. is_in_effect_in unit.systemd false false on uid (unit_ambient unit table)) none_counts
+      ∙ never unit.systemd uid (unit_ambient unit table)
 
   -- paths
+  no_path_key : (systemd : Option Version) → key_named (dialect_of systemd) (codes "ExecStart") ≡ None
+  no_path_key None = refl
+  no_path_key (Some V252) = refl
+  no_path_key (Some V257) = refl
+
+  speaks_of_no_path : key_of unit.systemd h.assignment ≡ None
+  speaks_of_no_path = ap (key_named (dialect_of unit.systemd)) h.command ∙ no_path_key unit.systemd
+
   nothing_written : unit_written unit ≡ []
   unfolding unit_written
   nothing_written =
-      ap (λ assignments. written (filter_map (assigned_by unit.name) assignments)) h.alone
-      ∙ ap (λ key. written (cons_option (option_and_then (given_to unit.name (h.place, h.assignment)) key) []))
-      (ap (λ name. find (λ key. bytes_eq (name_of key) name) path_keys) h.command)
+      let dialect = dialect_of unit.systemd in
+      ap (λ assignments. written dialect (filter_map (assigned_by unit.systemd unit.name) assignments)) h.alone
+      ∙ ap (λ key. written dialect (cons_option (option_and_then (given_to unit.systemd unit.name (h.place, h.assignment)) key) []))
+      speaks_of_no_path
 
   none_switched : unit_switches unit ≡ unswitched
   unfolding unit_switches
@@ -270,28 +345,18 @@ module _ (unit : Resolved) (h : HasCommandAlone unit) where
       let d = not_dynamic in
       cc
 
-  none_protected : unit_protections unit ≡ unprotected
-  unfolding unit_protections
-  none_protected =
-      let a = unsaid system_value system.No (codes "ProtectSystem") refl in
-      let b = unsaid home_value home.No (codes "ProtectHome") refl in
-      let c = ap (λ value. value.on) (unsaid tmp_value (record { on = false }) (codes "PrivateTmp") refl) in
-      let d = off (codes "ProtectKernelTunables") refl in
-      let e = off (codes "ProtectControlGroups") refl in
-      cc
-
   no_mentions : (site : Site) → unit_mentions unit site ≡ []
-  unfolding unit_mentions mentions_of implied
+  unfolding unit_mentions
   no_mentions site =
-      ap (λ switches. mentions_of site switches (protections_of unit switches) (unit_written unit)) none_switched
-      ∙ ap (λ protections. mentions_of site unswitched protections (unit_written unit)) none_protected
-      ∙ ap (mentions_of site unswitched unprotected) nothing_written
+      ap (λ switches. all_mentions unit site switches (unit_written unit)) none_switched
+      ∙ ap (all_mentions unit site unswitched) nothing_written
+      ∙ mentions_nothing unit (each_but (codes "ExecStart") (λ key. values_of unit key ≡ []) nothing mount_keys refl) site
 
   -- notes
   unnoted : (key : List ℕ) → bytes_eq (codes "ExecStart") key ≡ false → notes_of unit key ≡ []
   unnoted key differs =
-      ap (filter_map (note_of unit.name key)) h.alone
-      ∙ ap (λ is. cons_option (cond is (unexpanded_at unit.name (h.place, h.assignment)) None) [])
+      ap (filter_map (note_of unit.systemd unit.name key)) h.alone
+      ∙ ap (λ is. cons_option (cond is (unexpanded_at unit.systemd unit.name (h.place, h.assignment)) None) [])
       (ap (λ name. bytes_eq name key) h.command ∙ differs)
 
   read_unnoted : {X : Type 0} (read : List ℕ → Option X) (key : List ℕ) → bytes_eq (codes "ExecStart") key ≡ false
@@ -317,17 +382,17 @@ module _ (unit : Resolved) (h : HasCommandAlone unit) where
   calls_unnoted : (table : Table) → unit_call_list_notes unit table (codes "SystemCallFilter") ≡ []
   unfolding unit_call_list_notes
   calls_unnoted table = none_of _ _ (lines_unnoted (codes "SystemCallFilter") refl)
-      (ap (call_notes table) (unlisted (codes "SystemCallFilter") refl))
+      (ap (call_notes unit.systemd table) (unlisted (codes "SystemCallFilter") refl))
 
   families_unnoted : (table : Table) → unit_family_list_notes unit table (codes "RestrictAddressFamilies") ≡ []
   unfolding unit_family_list_notes
   families_unnoted table = none_of _ _ (lines_unnoted (codes "RestrictAddressFamilies") refl)
-      (ap (family_notes table) (unlisted (codes "RestrictAddressFamilies") refl))
+      (ap (family_notes unit.systemd table) (unlisted (codes "RestrictAddressFamilies") refl))
 
   types_unnoted : unit_namespaces_notes unit (codes "RestrictNamespaces") ≡ []
   unfolding unit_namespaces_notes
   types_unnoted = none_of _ _ (lines_unnoted (codes "RestrictNamespaces") refl)
-      (ap namespaces_notes (unlisted (codes "RestrictNamespaces") refl))
+      (ap (namespaces_notes unit.systemd) (unlisted (codes "RestrictNamespaces") refl))
 
   architectures_unnoted : (table : Table) → unit_architectures_notes unit table (codes "SystemCallArchitectures") ≡ []
   unfolding unit_architectures_notes
@@ -364,26 +429,28 @@ module _ (unit : Resolved) (h : HasCommandAlone unit) where
       (none_of _ _ (flag_unnoted (codes "NoNewPrivileges") refl) identity_unnoted)))
 
   protections_unnoted : protection_notes unit ≡ []
-  unfolding protection_notes
   protections_unnoted =
-      none_of _ _
-      (none_of _ _ (none_of _ _
-      (none_of _ _ (read_unnoted system_value (codes "ProtectSystem") refl) (read_unnoted home_value (codes "ProtectHome") refl))
-      (read_unnoted tmp_value (codes "PrivateTmp") refl)) (flag_unnoted (codes "ProtectKernelTunables") refl))
-      (flag_unnoted (codes "ProtectControlGroups") refl)
+      notes_nothing unit (each_but (codes "ExecStart") (λ key. values_of unit key ≡ []) nothing mount_keys refl)
+      (each_but (codes "ExecStart") (λ key. notes_of unit key ≡ []) unnoted noted_keys refl)
 
   paths_unnoted : written_notes unit ≡ []
   unfolding written_notes
   paths_unnoted =
-      ap (flat_map (notes_by unit.name)) h.alone
-      ∙ ap (λ key. option_map_or (given_notes unit.name (h.place, h.assignment)) key [] ++ [])
-      (ap (λ name. find (λ key. bytes_eq (name_of key) name) path_keys) h.command)
+      ap (flat_map (notes_by unit.systemd unit.name)) h.alone
+      ∙ ap (λ key. option_map_or (given_notes unit.systemd unit.name (h.place, h.assignment)) key [] ++ []) speaks_of_no_path
+
+  judged_by : (systemd : Option Version) → filter_map (unjudged_at systemd) (service_assignments unit) ≡ []
+  unfolding keys
+  judged_by None =
+      ap (filter_map (unjudged_at None)) h.alone
+      ∙ ap (λ name. cons_option (cond (is_judged None name) None (Some (record { place = h.place; cause = Unjudged }))) []) h.command
+  judged_by (Some version) =
+      ap (filter_map (unjudged_at (Some version))) h.alone
+      ∙ ap (λ name. cons_option (cond (is_judged (Some version) name) None (Some (record { place = h.place; cause = Unjudged }))) []) h.command
 
   all_judged : unjudged_notes unit ≡ []
-  unfolding unjudged_notes keys
-  all_judged =
-      ap (filter_map unjudged_at) h.alone
-      ∙ ap (λ name. cons_option (cond (is_judged name) None (Some (record { place = h.place; cause = Unjudged }))) []) h.command
+  unfolding unjudged_notes
+  all_judged = judged_by unit.systemd
 
   text_by_grammar : text_notes unit ≡ grammar_notes unit
   unfolding text_notes
@@ -391,46 +458,63 @@ module _ (unit : Resolved) (h : HasCommandAlone unit) where
 
   -- the one value of ExecStart=, if it can be expanded
   command_value : values_of unit (codes "ExecStart") ≡ cons_option
-      (option_map (λ text. record { place = h.place; text = text }) (expansion unit.name h.assignment.value)) []
+      (option_map (λ text. record { place = h.place; text = text }) (expansion unit.systemd unit.name h.assignment.value)) []
   command_value =
-      ap (filter_map (given_by unit.name (codes "ExecStart"))) h.alone
-      ∙ ap (λ name. cons_option (cond (bytes_eq name (codes "ExecStart")) (expanded_at unit.name (h.place, h.assignment)) None) [])
+      ap (filter_map (given_by unit.systemd unit.name (codes "ExecStart"))) h.alone
+      ∙ ap (λ name. cons_option (cond (bytes_eq name (codes "ExecStart")) (expanded_at unit.systemd unit.name (h.place, h.assignment)) None) [])
       h.command
 
-  command_note : notes_of unit (codes "ExecStart") ≡ cons_option (noted_unless (expansion unit.name h.assignment.value) h.place) []
+  command_note : notes_of unit (codes "ExecStart") ≡ cons_option (noted_unless (expansion unit.systemd unit.name h.assignment.value) h.place) []
   command_note =
-      ap (filter_map (note_of unit.name (codes "ExecStart"))) h.alone
-      ∙ ap (λ name. cons_option (cond (bytes_eq name (codes "ExecStart")) (unexpanded_at unit.name (h.place, h.assignment)) None) [])
+      ap (filter_map (note_of unit.systemd unit.name (codes "ExecStart"))) h.alone
+      ∙ ap (λ name. cons_option (cond (bytes_eq name (codes "ExecStart")) (unexpanded_at unit.systemd unit.name (h.place, h.assignment)) None) [])
       h.command
 
-  command_unnoted : (path : Path) → unit_program unit ≡ Some path → unit_command_notes unit ≡ []
-  unfolding unit_program unit_command unit_command_notes
-  command_unnoted path launched =
-      ap (λ notes. notes ++ command_notes (values_of unit (codes "ExecStart"))) command_note
-      ∙ ap (λ values. cons_option (noted_unless (expansion unit.name h.assignment.value) h.place) [] ++ command_notes values) command_value
-      ∙ launched_alone h.place path (expansion unit.name h.assignment.value)
-      (sym (ap (λ values. program_path (launched_of values)) command_value) ∙ launched)
+  -- as it is written
+  written_value : written_values unit (codes "ExecStart") ≡ record { place = h.place; text = h.assignment.value } ∷ []
+  written_value =
+      ap (filter_map (written_by (codes "ExecStart"))) h.alone
+      ∙ ap (λ name. cons_option (cond (bytes_eq name (codes "ExecStart")) (Some (record { place = h.place; text = h.assignment.value })) None)
+      []) h.command
 
-  noted_by_grammar : (table : Table) (path : Path) → unit_program unit ≡ Some path → all_notes unit table ≡ grammar_notes unit
+  unnoted_by : (systemd : Option Version) (site : Site) (path : Path)
+      → program_path unit site (launched_of unit (values_by systemd unit)) ≡ Some path
+      → unexpanded_by systemd unit ++ command_notes unit (values_by systemd unit) ≡ []
+  unnoted_by None site path launched =
+      ap (λ notes. notes ++ command_notes unit (values_of unit (codes "ExecStart"))) command_note
+      ∙ ap (λ values. cons_option (noted_unless (expansion unit.systemd unit.name h.assignment.value) h.place) []
+      ++ command_notes unit values) command_value
+      ∙ launched_alone unit site path h.place (expansion unit.systemd unit.name h.assignment.value)
+      (sym (ap (λ values. program_path unit site (launched_of unit values)) command_value) ∙ launched)
+  unnoted_by (Some version) site path launched =
+      ap (command_notes unit) written_value
+      ∙ launched_one unit site path (record { place = h.place; text = h.assignment.value })
+      (sym (ap (λ values. program_path unit site (launched_of unit values)) written_value) ∙ launched)
+
+  command_unnoted : (site : Site) (path : Path) → unit_program unit site ≡ Some path → unit_command_notes unit ≡ []
+  unfolding unit_program unit_command unit_command_notes
+  command_unnoted site path launched = unnoted_by unit.systemd site path launched
+
+  noted_by_grammar : (table : Table) (site : Site) (path : Path) → unit_program unit site ≡ Some path → all_notes unit table ≡ grammar_notes unit
   unfolding all_notes
-  noted_by_grammar table path launched =
-      still _ _ _ (still _ _ _ (still _ _ _ (still _ _ _ (still _ _ _ text_by_grammar paths_unnoted) (command_unnoted path launched))
+  noted_by_grammar table site path launched =
+      still _ _ _ (still _ _ _ (still _ _ _ (still _ _ _ (still _ _ _ text_by_grammar paths_unnoted) (command_unnoted site path launched))
       credentials_unnoted) (filters_unnoted table)) protections_unnoted
 
   settings_are_bare : (table : Table) (site : Site) (made : Settings) → AreSettings unit table site made → AreBare unit made
   settings_are_bare table site made are =
-      let ids = same_identity (record { uid = made.uid; gid = made.gid; groups = made.groups }) superuser (identity_of unit site (is_dynamic unit)) are.runs_as (is_superuser site) in
+      let ids = same_identity (record { uid = made.uid; gid = made.gid; groups = made.groups }) superuser (unit_identity unit site) are.runs_as (is_superuser site) in
       record {
         uid = ap (λ one. one.uid) ids;
         gid = ap (λ one. one.gid) ids;
         groups = ap (λ one. one.groups) ids;
         bounding = are.bounding_without_what_is_taken ∙ bounding_all table;
-        ambient = are.ambient ∙ ambient_none;
+        ambient = are.ambient ∙ ambient_none table;
         new_privileges = are.new_privileges ∙ no_new table made.uid;
         filters = no_names made.filters.items (are.filters_as_wanted.exactly_those_on ∙ none_on table);
         mentions = are.mentions_written_and_implied ∙ no_mentions site;
         notes = subst (λ notes. AreInOrder notes made.notes.items)
-            (noted_by_grammar table made.program are.launches_the_first_command) are.all_notes_in_order;
+            (noted_by_grammar table site made.program are.launches_the_first_command) are.all_notes_in_order;
       }
 
   -- refusals
@@ -446,13 +530,13 @@ module _ (unit : Resolved) (h : HasCommandAlone unit) where
   unfolding paths_refusal
   few_paths = ap (λ all. cond (nat_lt 128 (length all)) (Some TooManyPaths) None) nothing_written
 
-  refused : (table : Table) (site : Site) → refusal_of unit table site ≡ command_refusal unit
+  refused : (table : Table) (site : Site) → refusal_of unit table site ≡ command_refusal unit site
   unfolding refusal_of
   refused table site =
-      ap (λ reason. first_reason (command_refusal unit ∷ reason ∷ group_refusal unit table ∷ paths_refusal unit ∷ [])) (some_user site)
-      ∙ ap (λ reason. first_reason (command_refusal unit ∷ None ∷ reason ∷ paths_refusal unit ∷ [])) (no_group table)
-      ∙ ap (λ reason. first_reason (command_refusal unit ∷ None ∷ None ∷ reason ∷ [])) few_paths
-      ∙ first_alone (command_refusal unit)
+      ap (λ reason. first_reason (command_refusal unit site ∷ reason ∷ group_refusal unit table ∷ paths_refusal unit ∷ [])) (some_user site)
+      ∙ ap (λ reason. first_reason (command_refusal unit site ∷ None ∷ reason ∷ paths_refusal unit ∷ [])) (no_group table)
+      ∙ ap (λ reason. first_reason (command_refusal unit site ∷ None ∷ None ∷ reason ∷ [])) few_paths
+      ∙ first_alone (command_refusal unit site)
 
   pub means_its_command : (table : Table) (site : Site) → MeansItsCommand unit table site
   means_its_command table site = record { refused_by_the_command = refused table site; bare = settings_are_bare table site }

@@ -1,5 +1,6 @@
 -- Settings of filters that are the same part by part.
 use Rattle.std.proofs.Common.{◌≡◌, Bool, Option}
+use Rattle.mount_settings.specs.unit_names.declared.version.Version.{Version}
 use Rattle.filter_settings.specs.call_rules.declared.actions.Action.{Action}
 use Rattle.filter_settings.specs.declared.filter_rules.mentions.CallList.{CallList}
 use Rattle.filter_settings.specs.declared.filter_rules.mentions.FamilyList.{FamilyList}
@@ -7,9 +8,10 @@ use Rattle.filter_settings.specs.declared.filter_rules.namespace_types.Namespace
 use Rattle.filter_settings.proofs.Joined.{made}
 
 pub same_settings : (calls calls' : Option CallList) (action action' : Action) (families families' : Option FamilyList)
-    (types types' : NamespaceTypes) (a a' b b' c c' d d' e e' f f' g g' h h' i i' j j' : Bool) →
-    calls ≡ calls' → action ≡ action' → families ≡ families' → types ≡ types' → a ≡ a' → b ≡ b' → c ≡ c' → d ≡ d' → e ≡ e' → f ≡ f'
-    → g ≡ g' → h ≡ h' → i ≡ i' → j ≡ j' →
-    made a b c d e f g h i action types families calls j ≡ made a' b' c' d' e' f' g' h' i' action' types' families' calls' j'
-same_settings calls calls' action action' families families' types types' a a' b b' c c' d d' e e' f f' g g' h h' i i' j j' same_calls
-    same_action same_families same_types same_a same_b same_c same_d same_e same_f same_g same_h same_i same_j = cc
+    (types types' : NamespaceTypes) (systemd systemd' : Option Version) (a a' b b' c c' d d' e e' f f' g g' h h' i i' j j' k k' : Bool) →
+    calls ≡ calls' → action ≡ action' → families ≡ families' → types ≡ types' → systemd ≡ systemd' → a ≡ a' → b ≡ b' → c ≡ c' → d ≡ d' → e ≡ e' → f ≡ f'
+    → g ≡ g' → h ≡ h' → i ≡ i' → j ≡ j' → k ≡ k' →
+    made a b c d e f g h i action types families calls j systemd k
+    ≡ made a' b' c' d' e' f' g' h' i' action' types' families' calls' j' systemd' k'
+same_settings calls calls' action action' families families' types types' systemd systemd' a a' b b' c c' d d' e e' f f' g g' h h' i i' j j' k k' same_calls
+    same_action same_families same_types same_systemd same_a same_b same_c same_d same_e same_f same_g same_h same_i same_j same_k = cc

@@ -13,6 +13,7 @@ pub mod Whole
 pub mod OtherSites
 pub mod OfCredSettings
 pub mod OfFilterSettings
+pub mod OfMountSettings
 pub use Rattle.mount_settings.proofs.OfAbsPath as OfAbsPath
 pub use Rattle.cred_settings.proofs.OfCapSets as OfCapSets
 pub use Rattle.cred_settings.proofs.OfDropinMerge as OfDropinMerge

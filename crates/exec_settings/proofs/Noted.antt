@@ -8,7 +8,7 @@ use Rattle.filter_settings.specs.Settings.{filter_notes}
 use Rattle.mount_settings.specs.Notes.{written_notes}
 use Rattle.mount_settings.specs.Protections.{protection_notes}
 use Rattle.cred_settings.specs.dropin_merge.declared.unit_values.value.FileNote.{FileNote}
-use Rattle.exec_settings.specs.Commands.{unit_command_notes}
+use Rattle.exec_settings.specs.Launched.{unit_command_notes}
 use Rattle.exec_settings.specs.Notes.{all_notes, credential_notes, text_notes}
 use Rattle.exec_settings.specs.Order.{AreInOrder, place_cmp, place_of}
 

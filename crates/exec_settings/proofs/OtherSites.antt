@@ -1,8 +1,9 @@
--- Refusals and settings ask a site for accounts and for implied paths alone.
+-- Refusals and settings ask a site for accounts, for implied paths and for the paths of a program alone.
 use Rattle.std.proofs.Common.{◌≡◌, ◌∙◌, ℕ, zero, suc, length, ltb, arith, Bool, true, false, cond, List, [], ◌∷◌, ◌++◌, Option, Some, None}
 use Rattle.std.proofs.Common.{refl, ap, sym}
-use Rattle.std.specs.Prelude.{find, position, is_some, option_map, slice_get, filter, Result}
+use Rattle.std.specs.Prelude.{◌&&◌, not, find, position, is_some, option_map, slice_get, filter, Result}
 use Rattle.std.specs.List.{AllByRecursion, position_or_len}
+use Rattle.std.specs.Option.{option_map_or}
 use Rattle.std.proofs.lemmas.Bool.Decides.{nat_tests}
 use Rattle.std.proofs.lemmas.List.Folds.{find_at}
 use Rattle.mount_settings.specs.abs_path.Prefix.{is_same}
@@ -11,23 +12,26 @@ use Rattle.cred_settings.specs.declared.accounts.Identity.{Identity}
 use Rattle.cred_settings.specs.declared.error.IdentityError.{IdentityError}
 use Rattle.cred_settings.specs.dropin_merge.declared.resolved.Resolved.{Resolved}
 use Rattle.mount_settings.specs.Effects.{stands}
-use Rattle.mount_settings.specs.Implied.{implied}
-use Rattle.mount_settings.specs.Settings.{as_written, mentions_of}
 use Rattle.mount_settings.specs.Written.{unit_written}
 use Rattle.mount_settings.specs.path_settings.declared.mentions.Mention.{Mention}
 use Rattle.cred_settings.specs.site_table.declared.row.Row.{Row}
 use Rattle.cred_settings.specs.site_table.Table.{Site, site_with, kind_at}
-use Rattle.exec_settings.specs.Dynamic.{is_dynamic}
-use Rattle.exec_settings.specs.Mounts.{paths_refusal, unit_mentions}
+use Rattle.cred_settings.specs.site_table.Kinds.{is_exe}
+use Rattle.mount_settings.specs.abs_path.Paths.{Path}
+use Rattle.exec_settings.specs.declared.commands.Command.{Command}
+use Rattle.exec_settings.specs.declared.commands.Program.{Program}
+use Rattle.exec_settings.specs.declared.commands.Program.TheVariants.{Absolute, Relative, Named}
+use Rattle.exec_settings.specs.declared.errors.SettingsError.TheVariants.{OutsideProfile}
+use Rattle.exec_settings.specs.Launched.{unit_command}
+use Rattle.exec_settings.specs.Profile.{outside_key}
+use Rattle.exec_settings.specs.Search.{has_exe, looked_up, path_of, searched, searched_for}
+use Rattle.exec_settings.specs.Settings.{program_path, unit_program}
+use Rattle.mount_settings.proofs.OtherSites.{same_for_sites}
+use Rattle.exec_settings.specs.Mounts.{paths_refusal, unit_mentions, unit_switches}
 use Rattle.exec_settings.specs.OtherSites.{AreSameFor, implied_by, RefusalRestsOnFew, SettingsRestOnFew}
-use Rattle.exec_settings.specs.Refusals.{command_refusal, first_reason, group_refusal, identity_reason, identity_refusal, refusal_of}
-
--- tests that agree on each leave the same
-filter_agrees : (p q : Mention → Bool) (mentions : List Mention) → AllByRecursion (λ mention. p mention ≡ q mention) mentions
-    → filter p mentions ≡ filter q mentions
-filter_agrees p q [] same = refl
-filter_agrees p q (mention ∷ mentions) same = ap (λ b. cond b (mention ∷ filter p mentions) (filter p mentions)) same.0
-    ∙ ap (λ (rest : List Mention). cond (q mention) (mention ∷ rest) rest) (filter_agrees p q mentions same.1)
+use Rattle.exec_settings.specs.Refusals.{command_refusal, first_reason, group_refusal, identity_reason, identity_refusal, no_command}
+use Rattle.exec_settings.specs.Refusals.{outside, privileged, refusal_of}
+use Rattle.exec_settings.specs.RunsAs.{unit_identity}
 
 -- ---- implied paths
 -- where a row is found it has a place
@@ -65,32 +69,78 @@ each_stands site other (mention ∷ mentions) same = (stands_same site other men
 mentions_same : (unit : Resolved) (site other : Site) → AllByRecursion
     (λ mention. kind_at other.rows mention.path ≡ kind_at site.rows mention.path) (implied_by unit)
     → unit_mentions unit other ≡ unit_mentions unit site
-unfolding unit_mentions mentions_of implied
+unfolding unit_mentions
 mentions_same unit site other same =
-    ap (λ (more : List Mention). as_written (unit_written unit) ++ more)
-    (filter_agrees (stands other) (stands site) (implied_by unit) (each_stands site other (implied_by unit) same))
+    same_for_sites site other unit (unit_switches unit) (unit_written unit) unit.systemd (each_stands site other (implied_by unit) same)
 
 -- ---- ids ask a site for no row
-ids_same : (unit : Resolved) (site other : Site) → AreSameFor unit site other
-    → identity_of unit other (is_dynamic unit) ≡ identity_of unit site (is_dynamic unit)
+ids_same : (unit : Resolved) (site other : Site) → AreSameFor unit site other → unit_identity unit other ≡ unit_identity unit site
 unfolding identity_of
 ids_same unit site other agree =
-    ap (λ uid. identity_of unit (site_with uid other.user_namespaces other.rows other.users other.groups) (is_dynamic unit))
+    ap (λ uid. unit_identity unit (site_with uid other.user_namespaces other.systemd other.rows other.users other.groups))
     agree.dynamic_uid
-    ∙ ap (λ (users : _). identity_of unit (site_with site.dynamic_uid other.user_namespaces other.rows users other.groups)
-    (is_dynamic unit)) agree.users
-    ∙ ap (λ (groups : _). identity_of unit (site_with site.dynamic_uid other.user_namespaces other.rows site.users groups)
-    (is_dynamic unit)) agree.groups
+    ∙ ap (λ (users : _). unit_identity unit (site_with site.dynamic_uid other.user_namespaces other.systemd other.rows users other.groups))
+    agree.users
+    ∙ ap (λ (groups : _). unit_identity unit (site_with site.dynamic_uid other.user_namespaces other.systemd other.rows site.users groups))
+    agree.groups
+
+-- ---- the program is looked for at few paths
+kind_same : (site other : Site) (path : Path) → kind_at other.rows path ≡ kind_at site.rows path → has_exe other path ≡ has_exe site path
+kind_same site other path same = ap (λ kind. option_map_or is_exe kind false) same
+
+first_same : (site other : Site) (paths : List Path) → AllByRecursion (λ path. kind_at other.rows path ≡ kind_at site.rows path) paths
+    → find (has_exe other) paths ≡ find (has_exe site) paths
+first_same site other [] same = refl
+first_same site other (path ∷ paths) same =
+    ap (λ b. cond b (Some path) (find (has_exe other) paths)) (kind_same site other path same.0)
+    ∙ ap (λ (found : Option Path). cond (has_exe site path) (Some path) found) (first_same site other paths same.1)
+
+module _ (unit : Resolved) (site other : Site) where
+  path_same : (one : Program) → AllByRecursion (λ path. kind_at other.rows path ≡ kind_at site.rows path) (searched_for unit one)
+      → path_of unit other one ≡ path_of unit site one
+  unfolding looked_up
+  path_same (Absolute path) same = refl
+  path_same Relative same = refl
+  path_same (Named name) same = first_same site other (searched unit name) same
+
+  -- the paths of a command that may be missing
+  AreSearchedAlike : Option Command → Type 0
+  AreSearchedAlike command = AllByRecursion (λ path. kind_at other.rows path ≡ kind_at site.rows path)
+      (option_map_or (λ (one : Command). searched_for unit one.program) command [])
+
+  paths_same : (command : Option Command) → AreSearchedAlike command → program_path unit other command ≡ program_path unit site command
+  unfolding AreSearchedAlike
+  paths_same None same = refl
+  paths_same (Some command) same = path_same command.program same
+
+  outside_same : (command : Option Command) → AreSearchedAlike command → outside unit other command ≡ outside unit site command
+  unfolding AreSearchedAlike
+  outside_same None same = refl
+  outside_same (Some command) same =
+      ap (λ path. option_map OutsideProfile (outside_key unit (not (is_some path)))) (path_same command.program same)
+
+  program_same : AreSameFor unit site other → unit_program unit other ≡ unit_program unit site
+  unfolding unit_program AreSearchedAlike
+  program_same agree = paths_same (unit_command unit) agree.searched
+
+  command_same : AreSameFor unit site other → command_refusal unit other ≡ command_refusal unit site
+  unfolding command_refusal AreSearchedAlike
+  command_same agree =
+      ap (λ reason. first_reason (no_command (unit_command unit) ∷ privileged (unit_command unit) ∷ reason ∷ []))
+      (outside_same (unit_command unit) agree.searched)
 
 pub refusal_rests : RefusalRestsOnFew
 unfolding refusal_of identity_refusal
 refusal_rests unit table site other same =
-    ap (λ (ids : Result Identity IdentityError). first_reason
-    (command_refusal unit ∷ identity_reason ids ∷ group_refusal unit table ∷ paths_refusal unit ∷ [])) (ids_same unit site other same)
+    ap (λ reason. first_reason
+    (reason ∷ identity_reason (unit_identity unit other) ∷ group_refusal unit table ∷ paths_refusal unit ∷ []))
+    (command_same unit site other same)
+    ∙ ap (λ (ids : Result Identity IdentityError). first_reason
+    (command_refusal unit site ∷ identity_reason ids ∷ group_refusal unit table ∷ paths_refusal unit ∷ [])) (ids_same unit site other same)
 
 pub settings_rest : SettingsRestOnFew
 settings_rest unit table site other made same own = record {
-  launches_the_first_command = own.launches_the_first_command;
+  launches_the_first_command = program_same unit site other same ∙ own.launches_the_first_command;
   runs_as = ids_same unit site other same ∙ own.runs_as;
   bounding_without_what_is_taken = own.bounding_without_what_is_taken;
   ambient = own.ambient;

@@ -1,10 +1,10 @@
 -- What is said by a unit without its other sections.
 use Rattle.std.proofs.Common.{◌≡◌, ℕ, ◌+◌, Bool, cond, Option, Some, None, List, [], ◌∷◌, ◌++◌, map, codes, refl, sym, ap, ◌∙◌, subst}
-use Rattle.std.specs.Prelude.{◌||◌, ◌&&◌, not, is_some, false, length, nat_lt, find, flat_map, unwrap_or}
-use Rattle.std.specs.Option.{option_map}
+use Rattle.std.specs.Prelude.{◌||◌, ◌&&◌, ◌==◌, not, is_some, false, length, nat_lt, find, flat_map, unwrap_or}
+use Rattle.std.specs.Option.{option_map, option_map_or}
 use Rattle.std.specs.List.{enumerate_from, filter_map, list_any}
 use Rattle.cred_settings.specs.dropin_merge.declared.unit_values.value.Value.{Value}
-use Rattle.cred_settings.specs.dropin_merge.unit_values.Values.{values_of, in_force as in_force_values}
+use Rattle.cred_settings.specs.dropin_merge.unit_values.Values.{notes_of, values_of, in_force as in_force_values}
 use Rattle.cred_settings.specs.dropin_merge.declared.resolved.Resolved.{Resolved}
 use Rattle.cred_settings.specs.dropin_merge.declared.resolved.UnitFile.{UnitFile}
 use Rattle.cred_settings.specs.unit_grammar.Before.{last_of}
@@ -15,7 +15,7 @@ use Rattle.cred_settings.specs.dropin_merge.unit_values.Lasting.{unread_notes}
 use Rattle.cred_settings.specs.dropin_merge.unit_values.Lines.{listed_line}
 use Rattle.cred_settings.specs.dropin_merge.unit_values.Listed.{listed, unit_listed, unit_listed_notes}
 use Rattle.cred_settings.specs.dropin_merge.unit_values.Words.{split, unit_words, unit_words_notes, words_in}
-use Rattle.cred_settings.proofs.OfDropinMerge.Sections.{same_assignments, same_notes, same_values}
+use Rattle.cred_settings.proofs.OfDropinMerge.Sections.{same_assignments, same_notes, same_values, same_written}
 use Rattle.filter_settings.specs.call_table.Table.{Table}
 use Rattle.cred_settings.specs.site_table.Table.{Site}
 use Rattle.filter_settings.specs.CallLists.{call_list, call_notes, unit_call_list, unit_call_list_notes}
@@ -28,22 +28,17 @@ use Rattle.filter_settings.specs.Settings.{filter_notes, list_notes, protection_
 use Rattle.filter_settings.specs.Settings.{settings_of}
 use Rattle.cred_settings.specs.Ambient.{ambient_of}
 use Rattle.cred_settings.specs.Bounding.{bounding_of}
-use Rattle.cred_settings.specs.CapLists.{caps_by, names_notes, unit_caps, unit_caps_notes}
+use Rattle.cred_settings.specs.CapLists.{caps_read, names_notes, unit_caps, unit_caps_notes}
 use Rattle.cred_settings.specs.FurtherGroups.{further_words}
 use Rattle.cred_settings.specs.Groups.{group_word}
 use Rattle.cred_settings.specs.Identities.{identity_from, identity_notes, identity_of}
-use Rattle.cred_settings.specs.NewPrivileges.{is_in_effect}
+use Rattle.cred_settings.specs.NewPrivileges.{is_in_effect_in}
 use Rattle.cred_settings.specs.Users.{user_word}
-use Rattle.mount_settings.specs.declared.protections.HomeProtection.TheVariants as home
-use Rattle.mount_settings.specs.declared.protections.SystemProtection.TheVariants as system
-use Rattle.mount_settings.specs.Assigned.{assigned_by}
-use Rattle.mount_settings.specs.Home.{home_value}
+use Rattle.mount_settings.specs.Assigned.{assigned_by, dialect_of}
 use Rattle.mount_settings.specs.Notes.{notes_by, written_notes}
-use Rattle.mount_settings.specs.Protections.{in_effect, protection_notes, unit_protections}
+use Rattle.mount_settings.specs.Protections.{protection_notes}
 use Rattle.mount_settings.specs.Roots.{mentions_root}
-use Rattle.mount_settings.specs.Settings.{mentions_of, protections_of}
-use Rattle.mount_settings.specs.System.{system_value}
-use Rattle.mount_settings.specs.Tmp.{tmp_value}
+use Rattle.mount_settings.specs.Settings.{all_mentions}
 use Rattle.mount_settings.specs.Written.{unit_written, written}
 use Rattle.exec_settings.specs.declared.commands.Command.{Command}
 use Rattle.exec_settings.specs.declared.keys.Meaning.{Meaning}
@@ -52,7 +47,12 @@ use Rattle.exec_settings.specs.declared.errors.SettingsError.TheVariants.{Missin
 use Rattle.exec_settings.specs.declared.service.Settings.{Settings}
 use Rattle.exec_settings.specs.AreSettings.{AreFilters, AreSettings}
 use Rattle.exec_settings.specs.Bounding.{left_of}
-use Rattle.exec_settings.specs.Commands.{command_notes, launched_of, unit_command, unit_command_notes}
+use Rattle.exec_settings.specs.Launched.{command_notes, launched_of, reading_of, unexpanded_by, unit_command, unit_command_notes}
+use Rattle.exec_settings.specs.Launched.{unit_leaves_ids, values_by}
+use Rattle.exec_settings.specs.Search.{folders_of, has_exe, is_relative, looked_up, path_in, path_of}
+use Rattle.mount_settings.specs.unit_names.declared.version.Version.{Version}
+use Rattle.exec_settings.specs.declared.commands.Program.{Program}
+use Rattle.exec_settings.specs.declared.commands.Program.TheVariants.{Absolute, Relative, Named}
 use Rattle.exec_settings.specs.Dynamic.{dynamic_notes, is_dynamic, sets_new_privileges, unit_filters, with_dynamic_user}
 use Rattle.exec_settings.specs.Groups.{missing_group}
 use Rattle.exec_settings.specs.Judged.{unjudged_at, unjudged_notes}
@@ -63,8 +63,11 @@ use Rattle.exec_settings.specs.Order.{AreInOrder}
 use Rattle.exec_settings.specs.Profile.{asked_by, is_asked, is_outside, is_outside_by, outside_key}
 use Rattle.exec_settings.specs.Refusals.{command_refusal, first_reason, group_refusal, identity_reason, identity_refusal, no_command}
 use Rattle.exec_settings.specs.Refusals.{outside, privileged, refusal_of}
+use Rattle.exec_settings.specs.RunsAs.{unit_identity}
 use Rattle.exec_settings.specs.Sections.{SameWithoutOthers}
-use Rattle.exec_settings.specs.Settings.{has_filter, program_path, unit_bounding, unit_new_privileges, unit_program}
+use Rattle.exec_settings.specs.Filtered.{counts_as_filter, has_filter, has_value}
+use Rattle.exec_settings.specs.Settings.{ambient_within, program_path, unit_ambient, unit_bounding, unit_new_privileges, unit_program}
+use Rattle.mount_settings.proofs.SameUnits.{SameValues, each_of, mount_keys, noted_keys, same_mentions, same_protection_notes}
 use Rattle.exec_settings.proofs.FilterSame.{same_settings}
 
 same_grammar : (number : ℕ) (files : List UnitFile) →
@@ -133,27 +136,27 @@ module _ (unit : Resolved) where
   -- filters
   calls : (table : Table) (key : List ℕ) → unit_call_list alone table key ≡ unit_call_list unit table key
   unfolding unit_call_list
-  calls table key = ap (λ all. call_list table (in_force all)) (lines key)
+  calls table key = ap (λ all. call_list unit.systemd table (in_force all)) (lines key)
 
   calls_notes : (table : Table) (key : List ℕ) → unit_call_list_notes alone table key ≡ unit_call_list_notes unit table key
   unfolding unit_call_list_notes
-  calls_notes table key = both _ _ _ _ (lines_notes key) (ap (call_notes table) (lines key))
+  calls_notes table key = both _ _ _ _ (lines_notes key) (ap (call_notes unit.systemd table) (lines key))
 
   families : (table : Table) (key : List ℕ) → unit_family_list alone table key ≡ unit_family_list unit table key
   unfolding unit_family_list
-  families table key = ap (λ all. family_list table (in_force all)) (lines key)
+  families table key = ap (λ all. family_list unit.systemd table (in_force all)) (lines key)
 
   families_notes : (table : Table) (key : List ℕ) → unit_family_list_notes alone table key ≡ unit_family_list_notes unit table key
   unfolding unit_family_list_notes
-  families_notes table key = both _ _ _ _ (lines_notes key) (ap (family_notes table) (lines key))
+  families_notes table key = both _ _ _ _ (lines_notes key) (ap (family_notes unit.systemd table) (lines key))
 
   types : (key : List ℕ) → unit_namespaces alone key ≡ unit_namespaces unit key
   unfolding unit_namespaces
-  types key = ap namespaces_of (lines key)
+  types key = ap (namespaces_of unit.systemd) (lines key)
 
   types_notes : (key : List ℕ) → unit_namespaces_notes alone key ≡ unit_namespaces_notes unit key
   unfolding unit_namespaces_notes
-  types_notes key = both _ _ _ _ (lines_notes key) (ap namespaces_notes (lines key))
+  types_notes key = both _ _ _ _ (lines_notes key) (ap (namespaces_notes unit.systemd) (lines key))
 
   unpermitted : (table : Table) (key : List ℕ) → unit_refuses_second alone table key ≡ unit_refuses_second unit table key
   unfolding unit_refuses_second
@@ -171,18 +174,19 @@ module _ (unit : Resolved) where
   settings_same table =
       same_settings _ (unit_call_list unit table (codes "SystemCallFilter")) _ (unit_error_action unit (codes "SystemCallErrorNumber")) _
       (unit_family_list unit table (codes "RestrictAddressFamilies")) _ (unit_namespaces unit (codes "RestrictNamespaces"))
-      _ (unit_flag unit (codes "MemoryDenyWriteExecute")) _ (unit_flag unit (codes "RestrictRealtime")) _
+      _ unit.systemd _ (unit_flag unit (codes "MemoryDenyWriteExecute")) _ (unit_flag unit (codes "RestrictRealtime")) _
       (unit_flag unit (codes "RestrictSUIDSGID")) _ (unit_flag unit (codes "LockPersonality"))
       _ (unit_flag unit (codes "ProtectHostname")) _ (unit_flag unit (codes "ProtectKernelModules")) _
       (unit_flag unit (codes "ProtectKernelLogs")) _ (unit_flag unit (codes "ProtectClock")) _
       (unit_flag unit (codes "PrivateDevices")) _ (unit_refuses_second unit table (codes "SystemCallArchitectures"))
-      (calls table (codes "SystemCallFilter"))
+      _ (unit_flag unit (codes "ProtectKernelTunables")) (calls table (codes "SystemCallFilter"))
       (ap (λ value. value.action) (last error_action_value default_action (codes "SystemCallErrorNumber")))
       (families table (codes "RestrictAddressFamilies")) (types (codes "RestrictNamespaces"))
-      (flag (codes "MemoryDenyWriteExecute")) (flag (codes "RestrictRealtime")) (flag (codes "RestrictSUIDSGID"))
+      refl (flag (codes "MemoryDenyWriteExecute")) (flag (codes "RestrictRealtime")) (flag (codes "RestrictSUIDSGID"))
       (flag (codes "LockPersonality"))
       (flag (codes "ProtectHostname")) (flag (codes "ProtectKernelModules")) (flag (codes "ProtectKernelLogs"))
       (flag (codes "ProtectClock")) (flag (codes "PrivateDevices")) (unpermitted table (codes "SystemCallArchitectures"))
+      (flag (codes "ProtectKernelTunables"))
 
   dynamic : is_dynamic alone ≡ is_dynamic unit
   unfolding is_dynamic
@@ -217,19 +221,16 @@ module _ (unit : Resolved) where
   filters_noted table = both _ _ _ _ (both _ _ _ _ restrictions_noted flags_noted) (lists_noted table)
 
   -- users, groups and capabilities
-  identity : (site : Site) (on : Bool) → identity_of alone site on ≡ identity_of unit site on
+  identity : (site : Site) (on leaves : Bool) → identity_of alone site on leaves ≡ identity_of unit site on leaves
   unfolding identity_of
-  identity site on =
-      ap (λ word. identity_from site on word (group_word alone) (further_words alone)) (text (codes "User"))
-      ∙ ap (λ word. identity_from site on (user_word unit) word (further_words alone)) (text (codes "Group"))
-      ∙ ap (identity_from site on (user_word unit) (group_word unit)) (words (codes "SupplementaryGroups"))
+  identity site on leaves =
+      ap (λ word. identity_from unit.systemd site on leaves word (group_word alone) (further_words alone)) (text (codes "User"))
+      ∙ ap (λ word. identity_from unit.systemd site on leaves (user_word unit) word (further_words alone)) (text (codes "Group"))
+      ∙ ap (identity_from unit.systemd site on leaves (user_word unit) (group_word unit)) (words (codes "SupplementaryGroups"))
 
-  runs_as : (site : Site) → identity_of alone site (is_dynamic alone) ≡ identity_of unit site (is_dynamic unit)
-  runs_as site = ap (identity_of alone site) dynamic ∙ identity site (is_dynamic unit)
-
-  caps : (key : List ℕ) (default : ℕ) → unit_caps alone key default ≡ unit_caps unit key default
+  caps : (key : List ℕ) (default : Option ℕ) → unit_caps alone key default ≡ unit_caps unit key default
   unfolding unit_caps
-  caps key default = ap (caps_by default) (lines key)
+  caps key default = ap (caps_read unit.systemd default) (lines key)
 
   caps_notes : (key : List ℕ) → unit_caps_notes alone key ≡ unit_caps_notes unit key
   unfolding unit_caps_notes
@@ -239,8 +240,25 @@ module _ (unit : Resolved) where
   bounding table = ap (λ set. left_of set (unit_filters alone table)) (caps (codes "CapabilityBoundingSet") _)
       ∙ ap (left_of (bounding_of unit)) (filters table)
 
-  ambient : ambient_of alone ≡ ambient_of unit
-  ambient = caps (codes "AmbientCapabilities") _
+  ambient_key : ambient_of alone ≡ ambient_of unit
+  ambient_key = caps (codes "AmbientCapabilities") _
+
+  ambient : (table : Table) → unit_ambient alone table ≡ unit_ambient unit table
+  ambient table = ap (λ set. ambient_within unit.systemd set (unit_bounding alone table)) ambient_key
+      ∙ ap (ambient_within unit.systemd (ambient_of unit)) (bounding table)
+
+  valued : (key : List ℕ) → has_value alone key ≡ has_value unit key
+  valued key = ap (λ (values : List Value). not (length (in_force_values values) == 0)) (same_values unit key)
+
+  counted : counts_as_filter alone ≡ counts_as_filter unit
+  unfolding counts_as_filter
+  counted =
+      ap (λ on. on || (has_value alone (codes "SystemCallArchitectures") || has_value alone (codes "SystemCallLog")))
+      (flag (codes "ProtectKernelTunables"))
+      ∙ ap (λ on. unit_flag unit (codes "ProtectKernelTunables") || (on || has_value alone (codes "SystemCallLog")))
+      (valued (codes "SystemCallArchitectures"))
+      ∙ ap (λ on. unit_flag unit (codes "ProtectKernelTunables") || (has_value unit (codes "SystemCallArchitectures") || on))
+      (valued (codes "SystemCallLog"))
 
   sets : sets_new_privileges alone ≡ sets_new_privileges unit
   sets = ap (λ on. on || is_dynamic alone) (flag (codes "NoNewPrivileges"))
@@ -248,9 +266,14 @@ module _ (unit : Resolved) where
 
   new_privileges : (table : Table) (uid : ℕ) → unit_new_privileges alone table uid ≡ unit_new_privileges unit table uid
   new_privileges table uid =
-      ap (λ on. is_in_effect on (has_filter (unit_filters alone table) table) uid (ambient_of alone)) sets
-      ∙ ap (λ settings. is_in_effect (sets_new_privileges unit) (has_filter settings table) uid (ambient_of alone)) (filters table)
-      ∙ ap (is_in_effect (sets_new_privileges unit) (has_filter (unit_filters unit table) table) uid) ambient
+      ap (λ on. is_in_effect_in unit.systemd on (has_filter (unit_filters alone table) table)
+      (has_filter (unit_filters alone table) table || counts_as_filter alone) uid (unit_ambient alone table)) sets
+      ∙ ap (λ settings. is_in_effect_in unit.systemd (sets_new_privileges unit) (has_filter settings table)
+      (has_filter settings table || counts_as_filter alone) uid (unit_ambient alone table)) (filters table)
+      ∙ ap (λ on. is_in_effect_in unit.systemd (sets_new_privileges unit) (has_filter (unit_filters unit table) table)
+      (has_filter (unit_filters unit table) table || on) uid (unit_ambient alone table)) counted
+      ∙ ap (is_in_effect_in unit.systemd (sets_new_privileges unit) (has_filter (unit_filters unit table) table)
+      (has_filter (unit_filters unit table) table || counts_as_filter unit) uid) (ambient table)
 
   identity_noted : identity_notes alone ≡ identity_notes unit
   unfolding identity_notes
@@ -266,11 +289,11 @@ module _ (unit : Resolved) where
   -- paths
   paths : unit_written alone ≡ unit_written unit
   unfolding unit_written
-  paths = ap (λ assignments. written (filter_map (assigned_by unit.name) assignments)) (same_assignments unit)
+  paths = ap (λ assignments. written (dialect_of unit.systemd) (filter_map (assigned_by unit.systemd unit.name) assignments)) (same_assignments unit)
 
   paths_noted : written_notes alone ≡ written_notes unit
   unfolding written_notes
-  paths_noted = ap (flat_map (notes_by unit.name)) (same_assignments unit)
+  paths_noted = ap (flat_map (notes_by unit.systemd unit.name)) (same_assignments unit)
 
   switches : unit_switches alone ≡ unit_switches unit
   unfolding unit_switches
@@ -281,51 +304,72 @@ module _ (unit : Resolved) where
       let d = dynamic in
       cc
 
-  protections : unit_protections alone ≡ unit_protections unit
-  unfolding unit_protections
-  protections =
-      let a = last system_value system.No (codes "ProtectSystem") in
-      let b = last home_value home.No (codes "ProtectHome") in
-      let c = ap (λ value. value.on) (last tmp_value (record { on = false }) (codes "PrivateTmp")) in
-      let d = flag (codes "ProtectKernelTunables") in
-      let e = flag (codes "ProtectControlGroups") in
-      cc
+  same_mounts : SameValues unit alone
+  same_mounts = each_of (λ key. values_of alone key ≡ values_of unit key) (λ key. same_values unit key) mount_keys
 
   protections_noted : protection_notes alone ≡ protection_notes unit
-  unfolding protection_notes
   protections_noted =
-      five _ _ _ _ _ _ _ _ _ _ (last_notes system_value (codes "ProtectSystem")) (last_notes home_value (codes "ProtectHome"))
-      (last_notes tmp_value (codes "PrivateTmp")) (flag_notes (codes "ProtectKernelTunables"))
-      (flag_notes (codes "ProtectControlGroups"))
+      same_protection_notes unit alone refl same_mounts
+      (each_of (λ key. notes_of alone key ≡ notes_of unit key) (λ key. same_notes unit key) noted_keys)
 
   mentions : (site : Site) → unit_mentions alone site ≡ unit_mentions unit site
   unfolding unit_mentions
   mentions site =
-      ap (λ on. mentions_of site on (protections_of alone on) (unit_written alone)) switches
-      ∙ ap (λ said. mentions_of site (unit_switches unit) (in_effect (unit_switches unit).dynamic_user said) (unit_written alone))
-      protections
-      ∙ ap (mentions_of site (unit_switches unit) (protections_of unit (unit_switches unit))) paths
+      ap (λ on. all_mentions alone site on (unit_written alone)) switches
+      ∙ ap (all_mentions alone site (unit_switches unit)) paths
+      ∙ same_mentions unit alone refl same_mounts site (unit_switches unit) (unit_written unit)
 
   -- the command
-  command : unit_command alone ≡ unit_command unit
-  unfolding unit_command
-  command = ap launched_of (same_values unit (codes "ExecStart"))
+  values_same : (systemd : Option Version) → values_by systemd alone ≡ values_by systemd unit
+  values_same None = same_values unit (codes "ExecStart")
+  values_same (Some version) = same_written unit (codes "ExecStart")
 
-  program : unit_program alone ≡ unit_program unit
-  unfolding unit_program
-  program = ap program_path command
+  command : unit_command alone ≡ unit_command unit
+  unfolding unit_command reading_of
+  command = ap (launched_of unit) (values_same unit.systemd)
+
+  leaves_same : unit_leaves_ids alone ≡ unit_leaves_ids unit
+  unfolding unit_leaves_ids
+  leaves_same = ap (λ one. option_map_or (λ (launched : Command). launched.leaves_ids) one false) command
+
+  runs_as : (site : Site) → unit_identity alone site ≡ unit_identity unit site
+  runs_as site =
+      ap (λ on. identity_of alone site on (unit_leaves_ids alone)) dynamic
+      ∙ ap (λ leaves. identity_of alone site (is_dynamic unit) leaves) leaves_same
+      ∙ identity site (is_dynamic unit) (unit_leaves_ids unit)
+
+  unexpanded_same : (systemd : Option Version) → unexpanded_by systemd alone ≡ unexpanded_by systemd unit
+  unexpanded_same None = same_notes unit (codes "ExecStart")
+  unexpanded_same (Some version) = refl
 
   commands_noted : unit_command_notes alone ≡ unit_command_notes unit
-  unfolding unit_command_notes
-  commands_noted = both _ _ _ _ (same_notes unit (codes "ExecStart")) (ap command_notes (same_values unit (codes "ExecStart")))
+  unfolding unit_command_notes reading_of
+  commands_noted = both _ _ _ _ (unexpanded_same unit.systemd) (ap (command_notes unit) (values_same unit.systemd))
+
+  -- the path of its program
+  path_same : (site : Site) (one : Program) → path_of alone site one ≡ path_of unit site one
+  unfolding looked_up
+  path_same site (Absolute path) = refl
+  path_same site Relative = refl
+  path_same site (Named name) =
+      ap (λ values. find (has_exe site) (filter_map (path_in name)
+      (cond (not (length (in_force_values values) == 0)) [] (folders_of unit.systemd)))) (same_written unit (codes "ExecSearchPath"))
+
+  paths_same : (site : Site) (one : Option Command) → program_path alone site one ≡ program_path unit site one
+  paths_same site None = refl
+  paths_same site (Some launched) = path_same site launched.program
+
+  program : (site : Site) → unit_program alone site ≡ unit_program unit site
+  unfolding unit_program
+  program site = ap (program_path alone site) command ∙ paths_same site (unit_command unit)
 
   asked : (key : List ℕ) → is_asked alone key ≡ is_asked unit key
   asked key = ap (λ assignments. unwrap_or (last_of (filter_map (λ one. asked_by key one.1) assignments)) false) (same_assignments unit)
 
-  outside_same : (launched : Command) (row : List ℕ × Meaning) → is_outside alone launched row ≡ is_outside unit launched row
-  outside_same launched row = by row.1
+  outside_same : (relative : Bool) (row : List ℕ × Meaning) → is_outside alone relative row ≡ is_outside unit relative row
+  outside_same relative row = by row.1
     where
-      by : (meaning : Meaning) → is_outside_by alone launched row.0 meaning ≡ is_outside_by unit launched row.0 meaning
+      by : (meaning : Meaning) → is_outside_by alone relative row.0 meaning ≡ is_outside_by unit relative row.0 meaning
       by (means.Place key) = ap (λ all. mentions_root all key) paths
       by means.Command = refl
       by means.Refused = asked row.0
@@ -334,22 +378,25 @@ module _ (unit : Resolved) where
       by means.Protection = refl
       by means.Path = refl
 
-  outside_key_same : (launched : Command) → outside_key alone launched ≡ outside_key unit launched
+  outside_key_same : (relative : Bool) → outside_key alone relative ≡ outside_key unit relative
   unfolding outside_key
-  outside_key_same launched = ap (option_map (λ row. row.0))
-      (find_agree (is_outside alone launched) (is_outside unit launched) (outside_same launched) keys)
+  outside_key_same relative = ap (option_map (λ row. row.0))
+      (find_agree (is_outside alone relative) (is_outside unit relative) (outside_same relative) (keys unit.systemd))
 
-  outside_for : (launched : Option Command) → outside alone launched ≡ outside unit launched
-  outside_for None = refl
-  outside_for (Some launched) = ap (option_map OutsideProfile) (outside_key_same launched)
+  outside_for : (site : Site) (launched : Option Command) → outside alone site launched ≡ outside unit site launched
+  outside_for site None = refl
+  outside_for site (Some launched) =
+      ap (option_map OutsideProfile)
+      (outside_key_same (is_relative alone site launched.program)
+      ∙ ap (λ path. outside_key unit (not (is_some path))) (path_same site launched.program))
 
   -- why it is refused
-  command_refused : command_refusal alone ≡ command_refusal unit
+  command_refused : (site : Site) → command_refusal alone site ≡ command_refusal unit site
   unfolding command_refusal
-  command_refused =
-      ap (λ launched. first_reason (no_command launched ∷ privileged launched ∷ outside alone launched ∷ [])) command
+  command_refused site =
+      ap (λ launched. first_reason (no_command launched ∷ privileged launched ∷ outside alone site launched ∷ [])) command
       ∙ ap (λ reason. first_reason (no_command (unit_command unit) ∷ privileged (unit_command unit) ∷ reason ∷ []))
-      (outside_for (unit_command unit))
+      (outside_for site (unit_command unit))
 
   identity_refused : (site : Site) → identity_refusal alone site ≡ identity_refusal unit site
   unfolding identity_refusal
@@ -367,18 +414,18 @@ module _ (unit : Resolved) where
   unfolding refusal_of
   refused table site =
       ap (λ reason. first_reason (reason ∷ identity_refusal alone site ∷ group_refusal alone table ∷ paths_refusal alone ∷ []))
-      command_refused
-      ∙ ap (λ reason. first_reason (command_refusal unit ∷ reason ∷ group_refusal alone table ∷ paths_refusal alone ∷ []))
+      (command_refused site)
+      ∙ ap (λ reason. first_reason (command_refusal unit site ∷ reason ∷ group_refusal alone table ∷ paths_refusal alone ∷ []))
       (identity_refused site)
-      ∙ ap (λ reason. first_reason (command_refusal unit ∷ identity_refusal unit site ∷ reason ∷ paths_refusal alone ∷ []))
+      ∙ ap (λ reason. first_reason (command_refusal unit site ∷ identity_refusal unit site ∷ reason ∷ paths_refusal alone ∷ []))
       (group_refused table)
-      ∙ ap (λ reason. first_reason (command_refusal unit ∷ identity_refusal unit site ∷ group_refusal unit table ∷ reason ∷ []))
+      ∙ ap (λ reason. first_reason (command_refusal unit site ∷ identity_refusal unit site ∷ group_refusal unit table ∷ reason ∷ []))
       paths_refused
 
   -- what is noted
   text_noted : text_notes alone ≡ text_notes unit
   unfolding text_notes grammar_notes unjudged_notes
-  text_noted = both _ _ _ _ (same_grammar 0 unit.files) (ap (filter_map unjudged_at) (same_assignments unit))
+  text_noted = both _ _ _ _ (same_grammar 0 unit.files) (ap (filter_map (unjudged_at unit.systemd)) (same_assignments unit))
 
   noted : (table : Table) → all_notes alone table ≡ all_notes unit table
   unfolding all_notes
@@ -388,10 +435,10 @@ module _ (unit : Resolved) where
   -- what its settings are
   of_whole : (table : Table) (site : Site) (made : Settings) → AreSettings alone table site made → AreSettings unit table site made
   of_whole table site made are = record {
-    launches_the_first_command = sym program ∙ are.launches_the_first_command;
+    launches_the_first_command = sym (program site) ∙ are.launches_the_first_command;
     runs_as = sym (runs_as site) ∙ are.runs_as;
     bounding_without_what_is_taken = are.bounding_without_what_is_taken ∙ bounding table;
-    ambient = are.ambient ∙ ambient;
+    ambient = are.ambient ∙ ambient table;
     new_privileges = are.new_privileges ∙ new_privileges table made.uid;
     filters_as_wanted = subst (λ settings. AreFilters settings table made.filters.items) (filters table) are.filters_as_wanted;
     mentions_written_and_implied = are.mentions_written_and_implied ∙ mentions site;
@@ -402,10 +449,10 @@ module _ (unit : Resolved) where
 
   of_alone : (table : Table) (site : Site) (made : Settings) → AreSettings unit table site made → AreSettings alone table site made
   of_alone table site made are = record {
-    launches_the_first_command = program ∙ are.launches_the_first_command;
+    launches_the_first_command = program site ∙ are.launches_the_first_command;
     runs_as = runs_as site ∙ are.runs_as;
     bounding_without_what_is_taken = are.bounding_without_what_is_taken ∙ sym (bounding table);
-    ambient = are.ambient ∙ sym ambient;
+    ambient = are.ambient ∙ sym (ambient table);
     new_privileges = are.new_privileges ∙ sym (new_privileges table made.uid);
     filters_as_wanted = subst (λ settings. AreFilters settings table made.filters.items) (sym (filters table)) are.filters_as_wanted;
     mentions_written_and_implied = are.mentions_written_and_implied ∙ sym (mentions site);

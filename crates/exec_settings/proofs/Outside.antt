@@ -6,11 +6,10 @@ use Rattle.cred_settings.specs.dropin_merge.declared.resolved.Resolved.{Resolved
 use Rattle.mount_settings.specs.path_settings.declared.keys.PathKey.TheVariants as path
 use Rattle.mount_settings.specs.Roots.{mentions_root, root_key}
 use Rattle.mount_settings.specs.Written.{unit_written}
-use Rattle.exec_settings.specs.declared.commands.Command.{Command}
-use Rattle.exec_settings.specs.declared.commands.Program.TheVariants.{Relative}
+use Rattle.mount_settings.specs.unit_names.declared.version.Version.{Version}
 use Rattle.exec_settings.specs.Keys.{keys}
 use Rattle.exec_settings.specs.declared.keys.Meaning.{Meaning}
-use Rattle.exec_settings.specs.Profile.{is_outside, is_relative, outside_key}
+use Rattle.exec_settings.specs.Profile.{is_outside, outside_key}
 
 passed : {X : Type 0} (b : Bool) (x : X) (found : Option X) → cond b (Some x) found ≡ None → (b ≡ false) × (found ≡ None)
 passed false x found none = (refl, none)
@@ -34,20 +33,39 @@ none_mapped : {X Y : Type 0} (f : X → Y) (o : Option X) → option_map f o ≡
 none_mapped f None e = refl
 none_mapped f (Some x) e = cc
 
-module _ (unit : Resolved) (command : Command) (none : outside_key unit command ≡ None) where
-  unused : (i : ℕ) (row : List ℕ × Meaning) → slice_get keys i ≡ Some row → is_outside unit command row ≡ false
-  unfolding outside_key
-  unused i row is = none_passes (is_outside unit command) keys i row is
-      (none_mapped (λ row. row.0) (find (is_outside unit command) keys) none)
+module _ (unit : Resolved) (relative : Bool) where
+  -- no row of such a table
+  abbrev AllUnused : Option Version → Type 0
+  AllUnused systemd = find (is_outside unit relative) (keys systemd) ≡ None
 
-  -- the program is an absolute path
-  pub not_relative : command.program ≡ Relative → ⊥
-  unfolding keys
-  not_relative is = let no : true ≡ false = sym (ap is_relative is) ∙ unused 7 _ refl in cc
+  unused : (systemd : Option Version) → AllUnused systemd → (i : ℕ) (row : List ℕ × Meaning) → slice_get (keys systemd) i ≡ Some row
+      → is_outside unit relative row ≡ false
+  unused systemd none i row is = none_passes (is_outside unit relative) (keys systemd) i row is none
 
-  -- and nothing stands in the place of the root
-  pub no_root_key : root_key (unit_written unit) ≡ None
+  absolute_by : (systemd : Option Version) → AllUnused systemd → relative ≡ false
   unfolding keys
-  no_root_key =
+  absolute_by None none = unused None none 7 _ refl
+  absolute_by (Some version) none = unused (Some version) none 8 _ refl
+
+  rootless_by : (systemd : Option Version) → AllUnused systemd → root_key (unit_written unit) ≡ None
+  unfolding keys
+  rootless_by None none =
       none_of_four (mentions_root (unit_written unit)) path.BindPaths path.BindReadOnlyPaths path.InaccessiblePaths path.TemporaryFileSystem
-      (unused 1 _ refl) (unused 2 _ refl) (unused 11 _ refl) (unused 44 _ refl)
+      (unused None none 1 _ refl) (unused None none 2 _ refl) (unused None none 11 _ refl) (unused None none 44 _ refl)
+  rootless_by (Some version) none =
+      none_of_four (mentions_root (unit_written unit)) path.BindPaths path.BindReadOnlyPaths path.InaccessiblePaths path.TemporaryFileSystem
+      (unused (Some version) none 1 _ refl) (unused (Some version) none 2 _ refl) (unused (Some version) none 13 _ refl)
+      (unused (Some version) none 45 _ refl)
+
+  module _ (none : outside_key unit relative ≡ None) where
+    all_unused : AllUnused unit.systemd
+    unfolding outside_key
+    all_unused = none_mapped (λ row. row.0) (find (is_outside unit relative) (keys unit.systemd)) none
+
+    -- the program is not relative
+    pub not_relative : relative ≡ false
+    not_relative = absolute_by unit.systemd all_unused
+
+    -- and nothing stands in the place of the root
+    pub no_root_key : root_key (unit_written unit) ≡ None
+    no_root_key = rootless_by unit.systemd all_unused

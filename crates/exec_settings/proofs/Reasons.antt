@@ -27,7 +27,7 @@ module _ (unit : Resolved) (table : Table) (site : Site) where
   abbrev missing : Option SettingsError
   missing = group_refusal unit table
 
-  reasons : refusal_of unit table site ≡ four (command_refusal unit) (identity_refusal unit site) missing (paths_refusal unit)
+  reasons : refusal_of unit table site ≡ four (command_refusal unit site) (identity_refusal unit site) missing (paths_refusal unit)
   unfolding refusal_of
   reasons = refl
 
@@ -44,12 +44,12 @@ module _ (unit : Resolved) (table : Table) (site : Site) where
   as_reason part (NoSuchGroup word) whole is = whole (NoSuchGroup word) is
   as_reason part (MissingGroup name) whole is = whole (MissingGroup name) is
 
-  pub command_first : (error : SettingsError) → IsReason (command_refusal unit) error → IsReason (refusal_of unit table site) error
-  command_first error is = as_reason (command_refusal unit) error
+  pub command_first : (error : SettingsError) → IsReason (command_refusal unit site) error → IsReason (refusal_of unit table site) error
+  command_first error is = as_reason (command_refusal unit site) error
       (λ found e. reasons ∙ ap (λ o. four o (identity_refusal unit site) missing (paths_refusal unit)) e) is
 
   -- where the command is launched
-  module _ (launched : command_refusal unit ≡ None) where
+  module _ (launched : command_refusal unit site ≡ None) where
     behind_launched : refusal_of unit table site ≡ four None (identity_refusal unit site) missing (paths_refusal unit)
     behind_launched = reasons ∙ ap (λ o. four o (identity_refusal unit site) missing (paths_refusal unit)) launched
 

@@ -1,6 +1,6 @@
 -- The settings of a unit, put together.
 use Rattle.std.proofs.Common.{◌≡◌, ℕ, Bool, List, length, map, sym, ap, ◌∙◌, subst}
-use Rattle.std.specs.Prelude.{◌==◌, ◌≤◌, not}
+use Rattle.std.specs.Prelude.{◌==◌, ◌||◌, ◌≤◌, not}
 use Rattle.std.specs.List.{All}
 use Rattle.std.proofs.lemmas.List.{length-map}
 use Rattle.cred_settings.specs.cap_sets.Sets.{minus}
@@ -14,10 +14,11 @@ use Rattle.filter_settings.specs.declared.filter_rules.installed.Filter.{Filter}
 use Rattle.filter_settings.specs.declared.filter_rules.settings.FilterSettings.{FilterSettings}
 use Rattle.cred_settings.specs.Ambient.{ambient_of}
 use Rattle.cred_settings.specs.Bounding.{bounding_of}
-use Rattle.cred_settings.specs.NewPrivileges.{is_in_effect}
+use Rattle.cred_settings.specs.NewPrivileges.{is_in_effect_in}
 use Rattle.exec_settings.specs.AreSettings.{AreFilters, HasWantedRules}
 use Rattle.exec_settings.specs.Bounding.{taken_caps}
-use Rattle.exec_settings.specs.Settings.{has_filter, unit_bounding, unit_new_privileges}
+use Rattle.exec_settings.specs.Filtered.{counts_as_filter, has_filter}
+use Rattle.exec_settings.specs.Settings.{ambient_within, unit_ambient, unit_bounding, unit_new_privileges}
 use Rattle.exec_settings.specs.Dynamic.{sets_new_privileges, unit_filters}
 
 pub filters_are : (settings found : FilterSettings) (table : Table) (filters : List Filter) → found ≡ settings
@@ -43,12 +44,24 @@ module _ (unit : Resolved) (table : Table) where
       → not (length filters == 0) ≡ has_filter (unit_filters unit table) table
   some_filter filters named = ap (λ n. not (n == 0)) (sym (length-map filters place_of) ∙ ap length named)
 
-  pub new_privileges_are : (filters : List Filter) (is_set has on : Bool) (uid ambient : ℕ)
+  pub ambient_is : (own bounding ambient : ℕ) → own ≡ ambient_of unit → bounding ≡ unit_bounding unit table
+      → ambient ≡ ambient_within unit.systemd own bounding → ambient ≡ unit_ambient unit table
+  ambient_is own bounding ambient by_key bounded is =
+      is
+      ∙ ap (λ set. ambient_within unit.systemd set bounding) by_key
+      ∙ ap (ambient_within unit.systemd (ambient_of unit)) bounded
+
+  pub new_privileges_are : (filters : List Filter) (is_set has counts on : Bool) (uid ambient : ℕ)
       → map place_of filters ≡ installed (unit_filters unit table) table → is_set ≡ sets_new_privileges unit
-      → has ≡ not (length filters == 0) → ambient ≡ ambient_of unit → on ≡ is_in_effect is_set has uid ambient
+      → has ≡ not (length filters == 0) → counts ≡ counts_as_filter unit → ambient ≡ unit_ambient unit table
+      → on ≡ is_in_effect_in unit.systemd is_set has (has || counts) uid ambient
       → on ≡ unit_new_privileges unit table uid
-  new_privileges_are filters is_set has on uid ambient named by_keys counted kept effect =
+  new_privileges_are filters is_set has counts on uid ambient named by_keys counted others kept effect =
       effect
-      ∙ ap (λ b. is_in_effect b has uid ambient) by_keys
-      ∙ ap (λ b. is_in_effect (sets_new_privileges unit) b uid ambient) (counted ∙ some_filter filters named)
-      ∙ ap (λ set. is_in_effect (sets_new_privileges unit) (has_filter (unit_filters unit table) table) uid set) kept
+      ∙ ap (λ b. is_in_effect_in unit.systemd b has (has || counts) uid ambient) by_keys
+      ∙ ap (λ b. is_in_effect_in unit.systemd (sets_new_privileges unit) b (b || counts) uid ambient)
+      (counted ∙ some_filter filters named)
+      ∙ ap (λ b. is_in_effect_in unit.systemd (sets_new_privileges unit) (has_filter (unit_filters unit table) table)
+      (has_filter (unit_filters unit table) table || b) uid ambient) others
+      ∙ ap (λ set. is_in_effect_in unit.systemd (sets_new_privileges unit) (has_filter (unit_filters unit table) table)
+      (has_filter (unit_filters unit table) table || counts_as_filter unit) uid set) kept

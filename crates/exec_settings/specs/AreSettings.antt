@@ -5,8 +5,6 @@ use Rattle.filter_settings.specs.bpf_code.declared.machine.CallData.{CallData}
 use Rattle.filter_settings.specs.call_rules.Action.{case_action}
 use Rattle.filter_settings.specs.call_rules.Sizes.{CanCompile}
 use Rattle.filter_settings.specs.call_table.Table.{Table}
-use Rattle.cred_settings.specs.Ambient.{ambient_of}
-use Rattle.cred_settings.specs.Identities.{identity_of}
 use Rattle.cred_settings.specs.dropin_merge.declared.resolved.Resolved.{Resolved}
 use Rattle.filter_settings.specs.filter_rules.Costs.{HasShortCases, most_room}
 use Rattle.filter_settings.specs.filter_rules.Refusing.{AreRefusing}
@@ -18,11 +16,12 @@ use Rattle.mount_settings.specs.path_settings.Mentions.{leaves_the_root}
 use Rattle.mount_settings.specs.path_settings.Short.{AreShort}
 use Rattle.cred_settings.specs.site_table.Table.{Site}
 use Rattle.exec_settings.specs.declared.service.Settings.{Settings}
-use Rattle.exec_settings.specs.Dynamic.{is_dynamic, unit_filters}
+use Rattle.exec_settings.specs.Dynamic.{unit_filters}
 use Rattle.exec_settings.specs.Mounts.{unit_mentions}
 use Rattle.exec_settings.specs.Notes.{all_notes}
 use Rattle.exec_settings.specs.Order.{AreInOrder}
-use Rattle.exec_settings.specs.Settings.{unit_bounding, unit_new_privileges, unit_program}
+use Rattle.exec_settings.specs.RunsAs.{unit_identity}
+use Rattle.exec_settings.specs.Settings.{unit_ambient, unit_bounding, unit_new_privileges, unit_program}
 
 -- the rules of a filter for an ABI take on every call the action that the settings say by names and words
 abbrev pub HasWantedRules : FilterSettings → Table → Filter → Type 0
@@ -41,10 +40,10 @@ pub record AreFilters (settings : FilterSettings) (table : Table) (filters : Lis
 
 -- the settings of a unit, by the table of calls and the site
 pub record AreSettings (unit : Resolved) (table : Table) (site : Site) (made : Settings) : Type 0 where
-  pub launches_the_first_command : unit_program unit ≡ Some made.program
-  pub runs_as : identity_of unit site (is_dynamic unit) ≡ Ok (record { uid = made.uid; gid = made.gid; groups = made.groups })
+  pub launches_the_first_command : unit_program unit site ≡ Some made.program
+  pub runs_as : unit_identity unit site ≡ Ok (record { uid = made.uid; gid = made.gid; groups = made.groups })
   pub bounding_without_what_is_taken : made.bounding ≡ unit_bounding unit table
-  pub ambient : made.ambient ≡ ambient_of unit
+  pub ambient : made.ambient ≡ unit_ambient unit table
   pub new_privileges : made.no_new_privs ≡ unit_new_privileges unit table made.uid
   pub filters_as_wanted : AreFilters (unit_filters unit table) table made.filters.items
   pub mentions_written_and_implied : made.mentions ≡ unit_mentions unit site

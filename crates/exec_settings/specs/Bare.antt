@@ -35,7 +35,7 @@ pub record AreBare (unit : Resolved) (made : Settings) : Type 0 where
 
 -- it is refused by its command alone, and has these settings where it is not
 pub record MeansItsCommand (unit : Resolved) (table : Table) (site : Site) : Type 0 where
-  pub refused_by_the_command : refusal_of unit table site ≡ command_refusal unit
+  pub refused_by_the_command : refusal_of unit table site ≡ command_refusal unit site
   pub bare : (made : Settings) → AreSettings unit table site made → AreBare unit made
 
 abbrev pub CommandAloneIsBare : Type 0

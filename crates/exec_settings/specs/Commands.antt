@@ -1,7 +1,6 @@
--- The commands of a service (systemd.service(5), ExecStart=).
-use Rattle.std.specs.Prelude.{ℕ, ◌==◌, ◌||◌, ◌&&◌, not, nat_le, cond, is_some, Bool, codes, Option, Some, None, List, [], ◌∷◌, ◌++◌, length}
-use Rattle.std.specs.Prelude.{drop, take, slice_get, option_and_then}
-use Rattle.std.specs.List.{filter_map, list_any, prefix_len}
+-- What a value of ExecStart= says by the rules of the base profile (systemd.service(5)).
+use Rattle.std.specs.Prelude.{ℕ, ◌==◌, ◌||◌, nat_le, cond, false, Bool, Option, Some, None, List, length, drop, take, slice_get, option_and_then}
+use Rattle.std.specs.List.{list_any, prefix_len}
 use Rattle.std.specs.Option.{option_map}
 use Rattle.std.specs.Str.{byte as ascii}
 use Rattle.cred_settings.specs.text_forms.Words.{words_of}
@@ -9,14 +8,7 @@ use Rattle.mount_settings.specs.abs_path.declared.error.PathError.{PathError}
 use Rattle.mount_settings.specs.abs_path.declared.error.PathError.TheVariants.{TooLong, HasNul, Relative as IsRelative, DotDot, Memory}
 use Rattle.mount_settings.specs.abs_path.Paths.{parts_of, text_of}
 use Rattle.mount_settings.specs.abs_path.Read.{fault_of}
-use Rattle.cred_settings.specs.unit_grammar.declared.notes.NoteCause.{NoteCause}
-use Rattle.cred_settings.specs.unit_grammar.declared.notes.NoteCause.TheVariants.{Value as ValueCause, Unjudged}
-use Rattle.cred_settings.specs.dropin_merge.declared.resolved.Resolved.{Resolved}
-use Rattle.cred_settings.specs.dropin_merge.declared.unit_values.value.FileNote.{FileNote}
-use Rattle.cred_settings.specs.dropin_merge.declared.unit_values.value.Value.{Value}
 use Rattle.cred_settings.specs.dropin_merge.unit_values.Lines.{words_if}
-use Rattle.cred_settings.specs.dropin_merge.unit_values.Notes.{note_at, noted}
-use Rattle.cred_settings.specs.dropin_merge.unit_values.Values.{in_force, notes_of, values_of}
 use Rattle.exec_settings.specs.declared.commands.Command.{Command}
 use Rattle.exec_settings.specs.declared.commands.Program.{Program}
 use Rattle.exec_settings.specs.declared.commands.Program.TheVariants.{Absolute, Relative}
@@ -48,7 +40,12 @@ program_of text = program_by (fault_of text) text
 
 -- what the first word of a command says
 abbrev pub command_of_word : List ℕ → Option Command
-command_of_word word = option_map (λ program. record { is_privileged = list_any keeps_privileges (prefixes_of word); program = program })
+command_of_word word =
+    option_map (λ program. record {
+      is_privileged = list_any keeps_privileges (prefixes_of word);
+      leaves_ids = false;
+      program = program;
+    })
     (program_of (behind_prefixes word))
 
 abbrev pub first_word : List ℕ → Option (List ℕ)
@@ -57,36 +54,3 @@ first_word text = option_and_then (λ words. slice_get words 0) (words_if (words
 -- the command that a value is, where it can be read
 unfoldable pub command_of : List ℕ → Option Command
 command_of text = option_and_then command_of_word (first_word text)
-
-abbrev pub is_command : Value → Bool
-is_command value = is_some (command_of value.text)
-
--- the commands in force: an empty value resets those before it
-abbrev pub commands_of : List Value → List Command
-commands_of values = filter_map (λ value. command_of value.text) (in_force values)
-
--- the first command in force is the one that is launched
-abbrev pub launched_of : List Value → Option Command
-launched_of values = slice_get (commands_of values) 0
-
--- a value that is no command, and does not reset either
-abbrev pub is_unread : Value → Bool
-is_unread value = not (length value.text == 0) && not (is_command value)
-
--- a command after another one is not judged
-abbrev pub later_causes : List Value × Value → List NoteCause
-later_causes place = cond (list_any is_command place.0 && is_command place.1) (Unjudged ∷ []) []
-
-abbrev pub unread_note : Value → Option FileNote
-unread_note value = cond (is_unread value) (Some (note_at value ValueCause)) None
-
--- values that cannot be read are noted, and commands in force that are not the first
-abbrev pub command_notes : List Value → List FileNote
-command_notes values = filter_map unread_note values ++ noted later_causes (in_force values)
-
--- the command that the files of a unit launch, and what is noted of ExecStart=
-unfoldable pub unit_command : Resolved → Option Command
-unit_command unit = launched_of (values_of unit (codes "ExecStart"))
-
-unfoldable pub unit_command_notes : Resolved → List FileNote
-unit_command_notes unit = notes_of unit (codes "ExecStart") ++ command_notes (values_of unit (codes "ExecStart"))

@@ -31,6 +31,8 @@ with_dynamic_user dynamic said = record {
   protect_clock = said.protect_clock;
   private_devices = said.private_devices;
   second_abi_refused = said.second_abi_refused;
+  systemd = said.systemd;
+  protect_kernel_tunables = said.protect_kernel_tunables;
 }
 
 -- the settings of the filters, by their keys

@@ -7,12 +7,13 @@ use Rattle.cred_settings.specs.dropin_merge.declared.resolved.Resolved.{Resolved
 use Rattle.cred_settings.specs.dropin_merge.declared.unit_values.value.FileNote.{FileNote}
 use Rattle.cred_settings.specs.dropin_merge.declared.unit_values.value.Place.{Place}
 use Rattle.cred_settings.specs.dropin_merge.unit_values.Assignments.{service_assignments}
+use Rattle.mount_settings.specs.unit_names.declared.version.Version.{Version}
 use Rattle.exec_settings.specs.Keys.{is_judged}
 
 -- an assignment to another key is noted
-abbrev pub unjudged_at : Place × Assignment → Option FileNote
-unjudged_at one = cond (is_judged one.1.key) None (Some (record { place = one.0; cause = Unjudged }))
+abbrev pub unjudged_at : Option Version → Place × Assignment → Option FileNote
+unjudged_at systemd one = cond (is_judged systemd one.1.key) None (Some (record { place = one.0; cause = Unjudged }))
 
 -- over all files
 unfoldable pub unjudged_notes : Resolved → List FileNote
-unjudged_notes unit = filter_map unjudged_at (service_assignments unit)
+unjudged_notes unit = filter_map (unjudged_at unit.systemd) (service_assignments unit)

@@ -1,9 +1,14 @@
 pub mod Commands
+pub mod KnownCommands
+pub mod Launched
+pub mod Search
 pub mod Keys
 pub mod Profile
 pub mod Dynamic
+pub mod RunsAs
 pub mod Groups
 pub mod Bounding
+pub mod Filtered
 pub mod Mounts
 pub mod Judged
 pub mod Notes

@@ -6,7 +6,7 @@ use Rattle.mount_settings.specs.path_settings.declared.mentions.Mention.{Mention
 use Rattle.cred_settings.specs.site_table.Table.{Site}
 use Rattle.cred_settings.specs.dropin_merge.unit_values.Flags.{unit_flag}
 use Rattle.mount_settings.specs.declared.protections.Switches.{Switches}
-use Rattle.mount_settings.specs.Settings.{mentions_of, protections_of}
+use Rattle.mount_settings.specs.Settings.{all_mentions}
 use Rattle.mount_settings.specs.Written.{unit_written}
 use Rattle.exec_settings.specs.Dynamic.{is_dynamic}
 use Rattle.exec_settings.specs.declared.errors.SettingsError.{SettingsError}
@@ -31,7 +31,7 @@ unit_switches unit = record {
 
 -- all mentions: the written ones, and after them those that are implied
 unfoldable pub unit_mentions : Resolved → Site → List Mention
-unit_mentions unit site = mentions_of site (unit_switches unit) (protections_of unit (unit_switches unit)) (unit_written unit)
+unit_mentions unit site = all_mentions unit site (unit_switches unit) (unit_written unit)
 
 -- more than 128 written paths are refused
 unfoldable pub paths_refusal : Resolved → Option SettingsError

@@ -11,7 +11,7 @@ use Rattle.cred_settings.specs.Ambient.{ambient_notes}
 use Rattle.cred_settings.specs.Bounding.{bounding_notes}
 use Rattle.cred_settings.specs.Identities.{identity_notes}
 use Rattle.cred_settings.specs.NewPrivileges.{new_privileges_notes}
-use Rattle.exec_settings.specs.Commands.{unit_command_notes}
+use Rattle.exec_settings.specs.Launched.{unit_command_notes}
 use Rattle.exec_settings.specs.Judged.{unjudged_notes}
 use Rattle.exec_settings.specs.Dynamic.{dynamic_notes}
 use Rattle.mount_settings.specs.Notes.{written_notes}

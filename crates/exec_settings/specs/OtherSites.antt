@@ -3,26 +3,29 @@ use Rattle.std.specs.Prelude.{◌≡◌, List}
 use Rattle.std.specs.List.{AllByRecursion}
 use Rattle.filter_settings.specs.call_table.Table.{Table}
 use Rattle.cred_settings.specs.dropin_merge.declared.resolved.Resolved.{Resolved}
-use Rattle.mount_settings.specs.Implied.{asked}
-use Rattle.mount_settings.specs.Settings.{protections_of}
+use Rattle.mount_settings.specs.Settings.{deciding}
 use Rattle.mount_settings.specs.Written.{unit_written}
 use Rattle.mount_settings.specs.path_settings.declared.mentions.Mention.{Mention}
 use Rattle.cred_settings.specs.site_table.Table.{Site, kind_at}
 use Rattle.exec_settings.specs.AreSettings.{AreSettings}
 use Rattle.exec_settings.specs.Mounts.{unit_switches}
 use Rattle.exec_settings.specs.Refusals.{refusal_of}
+use Rattle.exec_settings.specs.Search.{searched_by}
 use Rattle.exec_settings.specs.declared.service.Settings.{Settings}
 
--- the paths that keys in force imply, whether or not a site has them (systemd.exec(5), Sandboxing)
+-- the paths that keys in force imply, whether or not a site has them (systemd.exec(5), Sandboxing). Before them come written paths that
+-- a version of systemd leaves as they are where a site has them
 abbrev pub implied_by : Resolved → List Mention
-implied_by unit = asked (unit_switches unit) (protections_of unit (unit_switches unit)) (unit_written unit)
+implied_by unit = deciding unit (unit_switches unit) (unit_written unit)
 
--- the same ids and accounts; and each path that a key in force implies is a row of one kind in both or a row of neither
+-- the same ids and accounts; and each path that a key in force implies, and each at which the program is looked for, is a row of one
+-- kind in both or a row of neither
 pub record AreSameFor (unit : Resolved) (site other : Site) : Type 0 where
   pub dynamic_uid : other.dynamic_uid ≡ site.dynamic_uid
   pub users : other.users ≡ site.users
   pub groups : other.groups ≡ site.groups
   pub implied : AllByRecursion (λ mention. kind_at other.rows mention.path ≡ kind_at site.rows mention.path) (implied_by unit)
+  pub searched : AllByRecursion (λ path. kind_at other.rows path ≡ kind_at site.rows path) (searched_by unit)
 
 -- such sites give a unit the same settings
 abbrev pub SettingsRestOnFew : Type 0

@@ -13,9 +13,6 @@ use Rattle.mount_settings.specs.Written.{unit_written}
 use Rattle.exec_settings.specs.Keys.{keys}
 use Rattle.exec_settings.specs.declared.keys.Meaning.{Meaning}
 use Rattle.exec_settings.specs.declared.keys.Meaning.TheVariants as means
-use Rattle.exec_settings.specs.declared.commands.Command.{Command}
-use Rattle.exec_settings.specs.declared.commands.Program.{Program}
-use Rattle.exec_settings.specs.declared.commands.Program.TheVariants.{Absolute, Relative}
 
 -- an empty text and a false boolean ask for nothing
 abbrev pub is_false : Option Bool → Bool
@@ -34,24 +31,20 @@ asked_by key assignment = cond (bytes_eq assignment.key key) (Some (asks assignm
 abbrev pub is_asked : Resolved → List ℕ → Bool
 is_asked unit key = unwrap_or (last_of (filter_map (λ one. asked_by key one.1) (service_assignments unit))) false
 
-abbrev pub is_relative : Program → Bool
-is_relative (Absolute path) = false
-is_relative Relative = true
+-- a unit uses a key of this meaning where it may not. A key that says which object is at a path may not say it of the root, a program
+-- may not be relative, and some keys may not be used at all
+abbrev pub is_outside_by : Resolved → Bool → List ℕ → Meaning → Bool
+is_outside_by unit relative key (means.Place name) = mentions_root (unit_written unit) name
+is_outside_by unit relative key means.Command = relative
+is_outside_by unit relative key means.Refused = is_asked unit key
+is_outside_by unit relative key means.Credentials = false
+is_outside_by unit relative key means.Filter = false
+is_outside_by unit relative key means.Protection = false
+is_outside_by unit relative key means.Path = false
 
--- a unit with this command uses a key of this meaning where it may not. A key that says which object is at a path may not say it of the
--- root, a program is an absolute path, and some keys may not be used at all
-abbrev pub is_outside_by : Resolved → Command → List ℕ → Meaning → Bool
-is_outside_by unit command key (means.Place name) = mentions_root (unit_written unit) name
-is_outside_by unit command key means.Command = is_relative command.program
-is_outside_by unit command key means.Refused = is_asked unit key
-is_outside_by unit command key means.Credentials = false
-is_outside_by unit command key means.Filter = false
-is_outside_by unit command key means.Protection = false
-is_outside_by unit command key means.Path = false
+abbrev pub is_outside : Resolved → Bool → List ℕ × Meaning → Bool
+is_outside unit relative row = is_outside_by unit relative row.0 row.1
 
-abbrev pub is_outside : Resolved → Command → List ℕ × Meaning → Bool
-is_outside unit command row = is_outside_by unit command row.0 row.1
-
--- the first such key in byte order
-unfoldable pub outside_key : Resolved → Command → Option (List ℕ)
-outside_key unit command = option_map (λ row. row.0) (find (is_outside unit command) keys)
+-- the first such key in byte order, by whether the program is relative
+unfoldable pub outside_key : Resolved → Bool → Option (List ℕ)
+outside_key unit relative = option_map (λ row. row.0) (find (is_outside unit relative) (keys unit.systemd))

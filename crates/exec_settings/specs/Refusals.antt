@@ -4,7 +4,6 @@ use Rattle.std.specs.Option.{option_map}
 use Rattle.filter_settings.specs.call_table.Table.{Table}
 use Rattle.cred_settings.specs.dropin_merge.declared.resolved.Resolved.{Resolved}
 use Rattle.cred_settings.specs.site_table.Table.{Site}
-use Rattle.cred_settings.specs.Identities.{identity_of}
 use Rattle.cred_settings.specs.declared.accounts.Identity.{Identity}
 use Rattle.cred_settings.specs.declared.error.IdentityError.{IdentityError}
 use Rattle.cred_settings.specs.declared.error.IdentityError.TheVariants as ids
@@ -12,11 +11,13 @@ use Rattle.exec_settings.specs.declared.commands.Command.{Command}
 use Rattle.exec_settings.specs.declared.errors.SettingsError.{SettingsError}
 use Rattle.exec_settings.specs.declared.errors.SettingsError.TheVariants.{NoCommand, PrivilegedCommand, OutsideProfile, NoSuchUser}
 use Rattle.exec_settings.specs.declared.errors.SettingsError.TheVariants.{NoSuchGroup, MissingGroup, TooManyPaths, Memory}
-use Rattle.exec_settings.specs.Commands.{unit_command}
-use Rattle.exec_settings.specs.Dynamic.{is_dynamic, unit_filters}
+use Rattle.exec_settings.specs.Launched.{unit_command}
+use Rattle.exec_settings.specs.Dynamic.{unit_filters}
 use Rattle.exec_settings.specs.Groups.{missing_group}
 use Rattle.exec_settings.specs.Mounts.{paths_refusal}
 use Rattle.exec_settings.specs.Profile.{outside_key}
+use Rattle.exec_settings.specs.Search.{is_relative}
+use Rattle.exec_settings.specs.RunsAs.{unit_identity}
 
 -- the first of these reasons that there is
 abbrev pub first_reason : List (Option SettingsError) → Option SettingsError
@@ -33,13 +34,14 @@ abbrev pub privileged : Option Command → Option SettingsError
 privileged None = None
 privileged (Some command) = cond command.is_privileged (Some PrivilegedCommand) None
 
-abbrev pub outside : Resolved → Option Command → Option SettingsError
-outside unit command = option_map OutsideProfile (option_and_then (outside_key unit) command)
+abbrev pub outside : Resolved → Site → Option Command → Option SettingsError
+outside unit site command =
+    option_map OutsideProfile (option_and_then (λ one. outside_key unit (is_relative unit site one.program)) command)
 
 -- why its command is not launched
-unfoldable pub command_refusal : Resolved → Option SettingsError
-command_refusal unit = first_reason
-    (no_command (unit_command unit) ∷ privileged (unit_command unit) ∷ outside unit (unit_command unit) ∷ [])
+unfoldable pub command_refusal : Resolved → Site → Option SettingsError
+command_refusal unit site = first_reason
+    (no_command (unit_command unit) ∷ privileged (unit_command unit) ∷ outside unit site (unit_command unit) ∷ [])
 
 -- why its users and groups are refused
 abbrev pub identity_reason : Result Identity IdentityError → Option SettingsError
@@ -49,7 +51,7 @@ identity_reason (Err (ids.NoSuchGroup word)) = Some (NoSuchGroup word)
 identity_reason (Err ids.Memory) = None
 
 unfoldable pub identity_refusal : Resolved → Site → Option SettingsError
-identity_refusal unit site = identity_reason (identity_of unit site (is_dynamic unit))
+identity_refusal unit site = identity_reason (unit_identity unit site)
 
 -- the first group of calls that its filters need and that the table lacks
 unfoldable pub group_refusal : Resolved → Table → Option SettingsError
@@ -58,7 +60,7 @@ group_refusal unit table = option_map MissingGroup (missing_group table (unit_fi
 -- the first of these: the command, users and groups, a group of calls that the table lacks, too many paths
 unfoldable pub refusal_of : Resolved → Table → Site → Option SettingsError
 refusal_of unit table site =
-    first_reason (command_refusal unit ∷ identity_refusal unit site ∷ group_refusal unit table ∷ paths_refusal unit ∷ [])
+    first_reason (command_refusal unit site ∷ identity_refusal unit site ∷ group_refusal unit table ∷ paths_refusal unit ∷ [])
 
 -- an error is this reason; it has none if memory ran out
 abbrev pub IsReason : Option SettingsError → SettingsError → Type 0

@@ -1,16 +1,12 @@
-//! Reads the commands of a service (systemd.service(5), ExecStart=).
+//! Reads a value of ExecStart= by the rules of the base profile (systemd.service(5)).
 //!
 //! Only the first word of a value is read: the prefixes, and the path of the program after them.
-ghost use Rattle.std.specs.Prelude.{◌≡◌, ◌++◌, ◌∷◌, ◌||◌, ◌&&◌, [], cond, slice_get, IfOk, OnOk};
-ghost use Rattle.std.specs.List.{cons_option, filter_map, list_any, prefix_len};
-ghost use Rattle.cred_settings.specs.unit_grammar.declared.notes.NoteCause.TheVariants.{Unjudged};
-ghost use Rattle.cred_settings.specs.dropin_merge.unit_values.Notes.{notes_at, noted};
-ghost use Rattle.exec_settings.specs.Commands.{is_command, is_prefix, is_unread, keeps_privileges, prefixes_of, behind_prefixes, program_of, command_of_word, command_of, later_causes, unread_note, unit_command, unit_command_notes};
+ghost use Rattle.std.specs.Prelude.{◌≡◌, IfOk};
+ghost use Rattle.std.specs.List.{list_any, prefix_len};
+ghost use Rattle.exec_settings.specs.Commands.{is_prefix, keeps_privileges, prefixes_of, behind_prefixes, program_of, command_of_word, command_of};
 
 use abs_path::{AbsPath, PathError};
-use cred_settings::{
-    FileNote, NoteCause, Resolved, Value, in_force, note_value, read_words, values_of_key,
-};
+use cred_settings::{NoteCause, Text, read_words};
 use std::alloc::{AllocError, Global};
 
 /// The most bytes that a path in a setting has.
@@ -23,15 +19,28 @@ pub enum Program {
     Absolute(AbsPath),
     /// A text that is no absolute path.
     Relative,
+    /// The name of a program, which is looked for.
+    Named(Text),
 }
 
 /// The first word of a command.
 #[derive(Drop)]
 pub struct Command {
-    /// Whether `+` or `!` is among its prefixes.
+    /// Whether a prefix keeps privileges: `+`, and for a unit without a version `!` too.
     pub is_privileged: bool,
+    /// Whether the prefix `!` leaves the ids as they are, which comes with a version alone.
+    pub leaves_ids: bool,
     /// The text after the prefixes.
     pub program: Program,
+}
+
+/// What a value is.
+#[derive(Drop)]
+pub enum Reading {
+    /// A command.
+    Launches(Command),
+    /// No command. It is noted for this cause.
+    Noted(NoteCause),
 }
 
 fn keeps_privileges(byte: u8) -> bool
@@ -75,9 +84,9 @@ fn is_privileged(word: &str) -> bool
     keep_privileges(&bytes[..count_prefixes(bytes)])
 }
 
-// The program that a text names, where it can be read.
+/// The program that a text names, where it can be read.
 #[tactic(auto, unfolding(crate::specs::Commands::program_of))]
-fn read_program(alloc: Global, text: &str) -> Result<Option<Program>, AllocError>
+pub(crate) fn read_program(alloc: Global, text: &str) -> Result<Option<Program>, AllocError>
     ensures { IfOk result (λ program. program ≡ program_of text.now) }
 {
     match AbsPath::read(alloc, text) {
@@ -101,15 +110,16 @@ fn read_first_word(alloc: Global, word: &str) -> Result<Option<Command>, AllocEr
     match read_program(alloc, behind_prefixes(word))? {
         Some(program) => Ok(Some(Command {
             is_privileged: is_privileged(word),
+            leaves_ids: false,
             program,
         })),
         None => Ok(None),
     }
 }
 
-// The command that a value is, where it can be read.
+/// The command that a value is, where it can be read.
 #[tactic(auto, unfolding(crate::specs::Commands::command_of))]
-fn read_command(alloc: Global, text: &str) -> Result<Option<Command>, AllocError>
+pub(crate) fn read_command(alloc: Global, text: &str) -> Result<Option<Command>, AllocError>
     ensures { IfOk result (λ command. command ≡ command_of text.now) }
 {
     let Some(words) = read_words(alloc, text)? else {
@@ -119,103 +129,4 @@ fn read_command(alloc: Global, text: &str) -> Result<Option<Command>, AllocError
         Some(word) => read_first_word(alloc, word.as_str()),
         None => Ok(None),
     }
-}
-
-// Returns whether a value is a command.
-fn is_command(alloc: Global, value: &Value) -> Result<bool, AllocError>
-    ensures { IfOk result (λ is. is ≡ is_command value.now) }
-{
-    Ok(read_command(alloc, value.text.as_str())?.is_some())
-}
-
-// Returns whether a value is not empty and no command.
-fn is_unread(alloc: Global, value: &Value) -> Result<bool, AllocError>
-    ensures { IfOk result (λ is. is ≡ is_unread value.now) }
-{
-    if value.text.as_str().is_empty() {
-        return Ok(false);
-    }
-    Ok(!is_command(alloc, value)?)
-}
-
-// Notes a value that says something and is no command.
-fn note_if_unread(alloc: Global, value: &Value, notes: &mut Vec<FileNote>) -> Result<(), AllocError>
-    ensures { OnOk result (notes.new.items ≡ notes.old.items ++ cons_option (unread_note value.now) []) }
-{
-    if is_unread(alloc, value)? {
-        note_value(notes, value, NoteCause::Value)?;
-    }
-    Ok(())
-}
-
-// Notes each of these values that says something and is no command.
-fn note_unread(alloc: Global, values: &[Value], notes: &mut Vec<FileNote>) -> Result<(), AllocError>
-    ensures { OnOk result (notes.new.items ≡ notes.old.items ++ filter_map unread_note values.now) }
-{
-    for value in values {
-        note_if_unread(alloc, value, notes)?;
-    }
-    Ok(())
-}
-
-// Notes a value that is a command, if another one was seen. Returns whether one is seen now.
-fn note_if_later(
-    alloc: Global,
-    seen: bool,
-    value: &Value,
-    notes: &mut Vec<FileNote>,
-) -> Result<bool, AllocError>
-    ensures seen { IfOk result (λ next. next ≡ (seen || is_command value.now)) }
-    ensures noted { OnOk result (notes.new.items ≡ notes.old.items ++ notes_at value.now (cond (seen && is_command value.now) (Unjudged ∷ []) [])) }
-{
-    if !is_command(alloc, value)? {
-        return Ok(seen);
-    }
-    if seen {
-        note_value(notes, value, NoteCause::Unjudged)?;
-    }
-    Ok(true)
-}
-
-// Notes the commands among these values after the first.
-fn note_later(alloc: Global, values: &[Value], notes: &mut Vec<FileNote>) -> Result<(), AllocError>
-    ensures { OnOk result (notes.new.items ≡ notes.old.items ++ noted later_causes values.now) }
-{
-    let mut seen = false;
-    for value in values {
-        seen = note_if_later(alloc, seen, value, notes)?;
-    }
-    Ok(())
-}
-
-// The first command among these values.
-fn first_command(alloc: Global, values: &[Value]) -> Result<Option<Command>, AllocError>
-    ensures { IfOk result (λ command. command ≡ slice_get (filter_map (λ value. command_of value.text) values.now) 0) }
-{
-    for value in values {
-        let command = read_command(alloc, value.text.as_str())?;
-        if command.is_some() {
-            return Ok(command);
-        }
-    }
-    Ok(None)
-}
-
-/// Returns the command that a unit launches: the first of ExecStart= that is in force. It adds notes after those that
-/// are there: for values that cannot be expanded, then for those that cannot be read, and then for commands in force
-/// after the first.
-#[tactic(auto, unfolding(crate::specs::Commands::unit_command, crate::specs::Commands::unit_command_notes))]
-pub fn launched_command(
-    alloc: Global,
-    unit: &Resolved,
-    notes: &mut Vec<FileNote>,
-) -> Result<Option<Command>, AllocError>
-    ensures first_in_force { IfOk result (λ command. command ≡ unit_command unit.now) }
-    ensures notes_the_others { OnOk result (notes.new.items ≡ notes.old.items ++ unit_command_notes unit.now) }
-{
-    let values = values_of_key(alloc, unit, "ExecStart")?.noted_in(notes)?;
-    note_unread(alloc, values.as_slice(), notes)?;
-    let commands = in_force(values.as_slice());
-    note_later(alloc, commands, notes)?;
-    first_command(alloc, commands)
 }

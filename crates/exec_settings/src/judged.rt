@@ -2,11 +2,12 @@
 ghost use Rattle.std.specs.Prelude.{◌≡◌, ◌++◌, [], OnOk};
 ghost use Rattle.std.specs.List.{cons_option, list_any};
 ghost use Rattle.std.specs.Str.{bytes_eq};
-ghost use Rattle.exec_settings.specs.Keys.{is_judged};
+ghost use Rattle.exec_settings.specs.Keys.{is_judged, is_read, noted_keys};
 ghost use Rattle.exec_settings.specs.Judged.{unjudged_at, unjudged_notes};
 
-use crate::keys::{Meaning, keys};
+use crate::keys::{Meaning, keys, noted_keys};
 use cred_settings::{Assignment, FileNote, NoteCause, Place, Resolved, service_assignments};
+use mount_settings::Version;
 use std::alloc::AllocError;
 
 fn is_named(rows: &[(&str, Meaning)], key: &str) -> bool
@@ -15,22 +16,44 @@ fn is_named(rows: &[(&str, Meaning)], key: &str) -> bool
     rows.iter().any(|row| row.0 == key)
 }
 
-/// Returns whether a key is a setting here, or refuses the unit.
-pub fn is_judged(key: &str) -> bool
-    ensures by_the_keys { result ≡ is_judged key.now }
+// Returns whether a key is a setting for this systemd, or refuses the unit.
+fn is_judged(systemd: Option<Version>, key: &str) -> bool
+    ensures by_the_keys { result ≡ is_judged systemd key.now }
 {
-    is_named(keys(), key)
+    is_named(keys(systemd), key)
+}
+
+fn is_among(names: &[&str], key: &str) -> bool
+    ensures { result ≡ list_any (λ name. bytes_eq name.now key.now) names.now }
+{
+    names.iter().any(|name| *name == key)
+}
+
+// Returns whether a key of a known systemd is noted, and it counts whether it is set.
+fn counts(key: &str) -> bool
+    ensures { result ≡ list_any (λ name. bytes_eq name key.now) noted_keys }
+{
+    is_among(noted_keys(), key)
+}
+
+/// Returns whether assignments to a key bear on a service for this systemd: the key is a setting or refuses the unit, or
+/// it is noted and it counts whether it is set.
+pub fn is_read(systemd: Option<Version>, key: &str) -> bool
+    ensures by_the_keys { result ≡ is_read systemd key.now }
+{
+    is_judged(systemd, key) || (systemd.is_some() && counts(key))
 }
 
 // Notes an assignment to a key that is not judged.
 fn note_if_unjudged(
+    systemd: Option<Version>,
     place: Place,
     assignment: &Assignment,
     notes: &mut Vec<FileNote>,
 ) -> Result<(), AllocError>
-    ensures { OnOk result (notes.new.items ≡ notes.old.items ++ cons_option (unjudged_at (place, assignment.now)) []) }
+    ensures { OnOk result (notes.new.items ≡ notes.old.items ++ cons_option (unjudged_at systemd (place, assignment.now)) []) }
 {
-    if !is_judged(assignment.key.as_str()) {
+    if !is_judged(systemd, assignment.key.as_str()) {
         notes.push(FileNote {
             place,
             cause: NoteCause::Unjudged,
@@ -45,7 +68,7 @@ pub fn note_unjudged(unit: &Resolved, notes: &mut Vec<FileNote>) -> Result<(), A
     ensures notes_each { OnOk result (notes.new.items ≡ notes.old.items ++ unjudged_notes unit.now) }
 {
     for (place, assignment) in service_assignments(unit) {
-        note_if_unjudged(place, assignment, notes)?;
+        note_if_unjudged(unit.systemd, place, assignment, notes)?;
     }
     Ok(())
 }

@@ -1,16 +1,17 @@
 //! The laws of the settings. Each is the contract of a function that does nothing.
-ghost use Rattle.std.specs.Prelude.{◌≡◌, true};
+ghost use Rattle.std.specs.Prelude.{◌≡◌, Option, true};
 ghost use Rattle.exec_settings.specs.Bare.{CommandAloneIsBare};
 ghost use Rattle.exec_settings.specs.OtherSites.{RefusalRestsOnFew, SettingsRestOnFew};
 ghost use Rattle.exec_settings.specs.Sections.{OtherSectionsChangeNothing};
+ghost use Rattle.mount_settings.specs.unit_names.declared.version.Version.{Version};
 ghost use Rattle.exec_settings.specs.Keys.{ascend_strictly, has_path_keys};
 
-/// The table of keys is in byte order. So no key occurs twice, and the first that refuses a unit is the first in byte
-/// order. Every key that speaks of paths is in the table.
+/// The table of keys of each systemd is in byte order. So no key occurs twice, and the first that refuses a unit is the first in byte
+/// order. Every name of a key that speaks of paths is in the table.
 #[tactic(auto, unfolding(crate::specs::Keys::keys, crate::specs::Keys::ascend_strictly, crate::specs::Keys::has_path_keys))]
 pub fn table_of_keys()
-    ensures in_byte_order { ascend_strictly ≡ true }
-    ensures every_path_key { has_path_keys ≡ true }
+    ensures in_byte_order { (systemd : Option Version) → ascend_strictly systemd ≡ true }
+    ensures every_path_key { (systemd : Option Version) → has_path_keys systemd ≡ true }
 {}
 
 /// A service that has ExecStart= alone is refused by its command alone. Else it runs as the superuser, without
@@ -26,7 +27,8 @@ pub fn other_sections()
     ensures no_change { OtherSectionsChangeNothing }
 {}
 
-/// Few facts of a site decide about a unit: its ids and accounts, and the kind of its row at each path that a key in force implies.
+/// Few facts of a site decide about a unit: its ids and accounts, and the kind of its row at each path that a key in force implies
+/// and at each path at which its program is looked for.
 /// Two sites that agree on these refuse the unit for the same reason, or give it the same settings.
 pub fn few_of_a_site()
     ensures rest_on_few { SettingsRestOnFew }

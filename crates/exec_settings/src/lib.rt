@@ -20,12 +20,16 @@ mod filters;
 mod groups;
 mod judged;
 mod keys;
+mod known_commands;
+mod launched;
 pub mod laws;
 mod mounts;
 mod notes;
+mod privileges;
 mod profile;
 mod program;
 mod reading;
+mod search;
 mod service;
 
 pub use cred_settings::{
@@ -43,10 +47,11 @@ pub use filter_settings::filter_rules::{
 pub use filter_settings::{
     CallLine, CallTable, CallsCause, CallsError, GroupLine, filter_settings, name_at, read_calls,
 };
-pub use judged::is_judged;
+pub use judged::is_read;
 pub use mount_settings::{
     HomeProtection, Mentions, MountSettingsError, NameError, PathKey, Protections, Switches,
-    SystemProtection, UnitName, WrittenPath, WrittenPaths, expand, mount_settings, written_paths,
+    SystemProtection, UnitName, Version, WrittenPath, WrittenPaths, expand, mount_settings,
+    written_paths,
 };
 pub use reading::settings;
 pub use service::Settings;

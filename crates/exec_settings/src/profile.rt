@@ -2,9 +2,8 @@
 ghost use Rattle.std.specs.Prelude.{◌≡◌, find, map, unwrap_or};
 ghost use Rattle.std.specs.Option.{option_map};
 ghost use Rattle.mount_settings.specs.Written.{unit_written};
-ghost use Rattle.exec_settings.specs.Profile.{asked_by, asks, is_asked, is_outside_by, is_outside, is_relative, outside_key};
+ghost use Rattle.exec_settings.specs.Profile.{asked_by, asks, is_asked, is_outside_by, is_outside, outside_key};
 
-use crate::commands::{Command, Program};
 use crate::keys::{Meaning, keys};
 use cred_settings::{Assignment, Resolved, read_bool, service_assignments};
 use mount_settings::{WrittenPaths, mentions_root};
@@ -38,29 +37,20 @@ fn is_asked(unit: &Resolved, key: &str) -> bool
     asked
 }
 
-fn is_relative(program: &Program) -> bool
-    ensures { result ≡ is_relative program.now }
-{
-    match program {
-        Program::Absolute(_) => false,
-        Program::Relative => true,
-    }
-}
-
-// Returns whether the unit with this command and these written paths uses a key of this meaning where it may not.
+// Returns whether the unit with these written paths uses a key of this meaning where it may not.
 fn is_outside(
     unit: &Resolved,
     paths: &WrittenPaths,
-    command: &Command,
+    is_relative: bool,
     key: &str,
     meaning: Meaning,
 ) -> bool
     requires of_the_unit { paths.now ≡ unit_written unit.now }
-    ensures { result ≡ is_outside_by unit.now command.now key.now meaning }
+    ensures { result ≡ is_outside_by unit.now is_relative key.now meaning }
 {
     match meaning {
         Meaning::Place(key) => mentions_root(paths, key),
-        Meaning::Command => is_relative(&command.program),
+        Meaning::Command => is_relative,
         Meaning::Refused => is_asked(unit, key),
         Meaning::Credentials | Meaning::Filter | Meaning::Protection | Meaning::Path => false,
     }
@@ -69,26 +59,26 @@ fn is_outside(
 fn first_outside(
     unit: &Resolved,
     paths: &WrittenPaths,
-    command: &Command,
+    is_relative: bool,
     rows: &'static [(&'static str, Meaning)],
 ) -> Option<&'static str>
     requires of_the_unit { paths.now ≡ unit_written unit.now }
-    ensures { option_map (λ name. name.now) result ≡ option_map (λ row. row.0) (find (is_outside unit.now command.now) (map (λ row. (row.0.now, row.1)) rows.now)) }
+    ensures { option_map (λ name. name.now) result ≡ option_map (λ row. row.0) (find (is_outside unit.now is_relative) (map (λ row. (row.0.now, row.1)) rows.now)) }
 {
     for row in rows {
-        if is_outside(unit, paths, command, row.0, row.1) {
+        if is_outside(unit, paths, is_relative, row.0, row.1) {
             return Some(row.0);
         }
     }
     None
 }
 
-/// Returns the first key in byte order by which a unit with this command and these written paths asks for something
-/// outside of the model.
+/// Returns the first key in byte order by which a unit with these written paths, whose program is relative or not, asks
+/// for something outside of the model.
 #[tactic(auto, unfolding(crate::specs::Profile::outside_key))]
-pub fn outside_key(unit: &Resolved, paths: &WrittenPaths, command: &Command) -> Option<&'static str>
+pub fn outside_key(unit: &Resolved, paths: &WrittenPaths, is_relative: bool) -> Option<&'static str>
     requires of_the_unit { paths.now ≡ unit_written unit.now }
-    ensures first_in_byte_order { option_map (λ name. name.now) result ≡ outside_key unit.now command.now }
+    ensures first_in_byte_order { option_map (λ name. name.now) result ≡ outside_key unit.now is_relative }
 {
-    first_outside(unit, paths, command, keys())
+    first_outside(unit, paths, is_relative, keys(unit.systemd))
 }

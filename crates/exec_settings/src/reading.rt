@@ -8,6 +8,7 @@ use crate::errors::SettingsError;
 use crate::filters::read_filters;
 use crate::mounts::read_mentions;
 use crate::notes::{put_in_order, text_notes};
+use crate::privileges::{ambient_within, counts_as_filter, either};
 use crate::program::launched_program;
 use crate::service::Settings;
 use cred_settings::{Identity, Resolved, SiteTable, no_new_privs};
@@ -33,21 +34,32 @@ pub fn settings(
 {
     let mut notes = text_notes(alloc, unit)?;
     let paths = written_paths(alloc, unit)?.noted_in(&mut notes)?;
-    let program = launched_program(alloc, unit, &paths, &mut notes)?;
-    let own = read_credentials(alloc, unit, site, &mut notes)?;
+    let launched = launched_program(alloc, unit, site, &paths, &mut notes)?;
+    let own = read_credentials(alloc, unit, site, launched.leaves_ids, &mut notes)?;
     let made = read_filters(alloc, unit, calls, own.is_dynamic, &mut notes)?;
     let mentions = read_mentions(alloc, unit, &paths, site, made.switches, &mut notes)?;
+    let counts = counts_as_filter(alloc, unit)?;
     put_in_order(&mut notes)?;
     let Identity { uid, gid, groups } = own.identity;
     let has_filter = !made.filters.is_empty();
+    let is_filtered = either(has_filter, counts);
+    let bounding = own.bounding.minus(made.taken);
+    let ambient = ambient_within(unit.systemd, own.ambient, bounding);
     Ok(Settings {
-        program,
+        program: launched.program,
         uid,
         gid,
         groups,
-        bounding: own.bounding.minus(made.taken),
-        ambient: own.ambient,
-        no_new_privs: no_new_privs(own.sets_no_new_privs, has_filter, uid, own.ambient),
+        bounding,
+        ambient,
+        no_new_privs: no_new_privs(
+            unit.systemd,
+            own.sets_no_new_privs,
+            has_filter,
+            is_filtered,
+            uid,
+            ambient,
+        ),
         filters: made.filters,
         mentions,
         notes,

@@ -29,4 +29,4 @@ few_written unit e = ltb-false 128 (length (unit_written unit)) (not_many (nat_l
 pub few_paths : (unit : Resolved) (table : Table) (site : Site) → refusal_of unit table site ≡ None → length (unit_written unit) ≤ 128
 unfolding refusal_of
 few_paths unit table site e =
-    few_written unit (last_is_none (command_refusal unit) (identity_refusal unit site) (group_refusal unit table) (paths_refusal unit) e)
+    few_written unit (last_is_none (command_refusal unit site) (identity_refusal unit site) (group_refusal unit table) (paths_refusal unit) e)

@@ -4,12 +4,12 @@ use Rattle.std.specs.Prelude.{IfOk, IfSome, IsTrue}
 use Rattle.unit_inputs.specs.host_io.Files.{Files}
 use Rattle.launcher.specs.filter_settings.declared.filter_rules.installed.Filter.{Filter}
 use Rattle.launcher.specs.exec_settings.Dynamic.{unit_filters}
-use Rattle.unit_inputs.specs.command_answers.Endings.{is_answer}
+use Rattle.unit_inputs.specs.command_answers.ExitStatuses.{is_answer}
 use Rattle.unit_inputs.specs.command_answers.Laws.{AcceptsFiles, GoTogether, IsAdmitted, laws_over}
-use Rattle.unit_inputs.specs.command_answers.Stops.{RefusesNothing, first_refusal}
-use Rattle.unit_inputs.specs.declared.command_answers.ending.Ending.{Ending}
-use Rattle.unit_inputs.specs.declared.command_answers.stop.Stop.{Stop}
-use Rattle.unit_inputs.specs.declared.command_answers.stop.Stop.TheVariants as stop
+use Rattle.unit_inputs.specs.command_answers.CommandErrors.{RefusesNothing, first_refusal}
+use Rattle.unit_inputs.specs.declared.command_answers.exit_status.ExitStatus.{ExitStatus}
+use Rattle.unit_inputs.specs.declared.command_answers.error.CommandError.{CommandError}
+use Rattle.unit_inputs.specs.declared.command_answers.error.CommandError.TheVariants as stop
 use Rattle.unit_inputs.proofs.FileCommands.{go_together, ready_is_admitted}
 use Rattle.unit_inputs.specs.Inputs.{inputs_of, inputs_view}
 use Rattle.unit_inputs.specs.Settled.{AreSettled, unit_refusals}
@@ -19,12 +19,12 @@ use Rattle.launcher.specs.Answers.{AreProgramsOf}
 use Rattle.launcher.specs.declared.filters.FilterProgram.{FilterProgram}
 use Rattle.filter_command.specs.Compiled.{AreFilters}
 use Rattle.filter_command.specs.Lines.{text_of}
-use Rattle.filter_command.specs.Prints.{PrintsFilters, ending_of, filter_laws, filters_text}
+use Rattle.filter_command.specs.Prints.{PrintsFilters, status_of, filter_laws, filters_text}
 use Rattle.filter_command.proofs.Wanted.{are_filters}
 
 -- the answer is printed whole
-pub done_is_answer : (unit : List ℕ) (ending : Ending) → (filter_laws unit).may_end ending → IsTrue (is_answer ending)
-done_is_answer unit ending done = subst (λ e. IsTrue (is_answer e)) (sym done) refl
+pub done_is_answer : (unit : List ℕ) (status : ExitStatus) → (filter_laws unit).may_end status → IsTrue (is_answer status)
+done_is_answer unit status done = subst (λ e. IsTrue (is_answer e)) (sym done) refl
 
 pub together : (told : Option Files) (unit : List ℕ) → GoTogether (laws_over told (filter_laws unit))
 together told unit = go_together (filter_laws unit) told (done_is_answer unit)
@@ -38,13 +38,13 @@ prints_them (Some files) unit one made settles are =
     (settles.0, record { inputs = inputs_view one.inputs; inputs_are = settles.1; filters = made; are_filters = are; is_their_text = refl })
 
 -- the programs of the settings' filters are ready
-pub prepared : (told : Option Files) (unit : List ℕ) (one : SettledUnit) (given : List Filter) (result : Result Filters Stop)
+pub prepared : (told : Option Files) (unit : List ℕ) (one : SettledUnit) (given : List Filter) (result : Result Filters CommandError)
     → given ≡ one.settings.value.filters.items → IfSome told
     (λ files. (first_refusal (unit_refusals files unit) ≡ None) × (inputs_of files unit ≡ Some (inputs_view one.inputs)))
     → AreSettled (inputs_view one.inputs) one.settings.value → IfOk result (λ made. AreProgramsOf given made.programs)
-    → RefusesNothing result → IsAdmitted (laws_over told (filter_laws unit)) ending_of filters_text result
+    → RefusesNothing result → IsAdmitted (laws_over told (filter_laws unit)) status_of filters_text result
 prepared told unit one given (Ok made) same settles are compiled refuses_nothing =
-    ready_is_admitted (filter_laws unit) ending_of filters_text told made refl
+    ready_is_admitted (filter_laws unit) status_of filters_text told made refl
     (prints_them told unit one made.programs settles
     (are_filters (unit_filters (inputs_view one.inputs).unit (inputs_view one.inputs).calls)
     (inputs_view one.inputs).calls one.settings.value.filters.items made.programs are.filters_as_wanted

@@ -3,8 +3,8 @@ use Rattle.std.specs.Prelude.{◌≡◌, ℕ, IsSome, List, Some}
 use Rattle.unit_inputs.specs.host_io.Files.{Files}
 use Rattle.launcher.specs.exec_settings.Dynamic.{unit_filters}
 use Rattle.unit_inputs.specs.command_answers.Laws.{FileLaws}
-use Rattle.unit_inputs.specs.declared.command_answers.ending.Ending.{Ending}
-use Rattle.unit_inputs.specs.declared.command_answers.ending.Ending.TheVariants.{Done}
+use Rattle.unit_inputs.specs.declared.command_answers.exit_status.ExitStatus.{ExitStatus}
+use Rattle.unit_inputs.specs.declared.command_answers.exit_status.ExitStatus.TheVariants.{Done}
 use Rattle.unit_inputs.specs.Inputs.{Inputs, inputs_of}
 use Rattle.unit_inputs.specs.unit_names.Cutting.{name_of}
 use Rattle.unit_inputs.specs.Settled.{unit_refusals}
@@ -25,8 +25,8 @@ pub record PrintsFilters (files : Files) (unit text : List ℕ) : Type 0 where
 abbrev pub filter_laws : List ℕ → FileLaws
 filter_laws unit = record {
   refusals = λ files. unit_refusals files unit;
-  prints = λ files ending text. PrintsFilters files unit text;
-  may_end = λ ending. ending ≡ Done;
+  prints = λ files status text. PrintsFilters files unit text;
+  may_end = λ status. status ≡ Done;
   reads = IsSome (name_of unit);
 }
 
@@ -34,5 +34,5 @@ filter_laws unit = record {
 abbrev pub filters_text : Filters → List ℕ
 filters_text filters = text_of filters.programs
 
-abbrev pub ending_of : Filters → Ending
-ending_of filters = Done
+abbrev pub status_of : Filters → ExitStatus
+status_of filters = Done

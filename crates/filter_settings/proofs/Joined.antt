@@ -1,5 +1,6 @@
 -- The settings of all keys together.
 use Rattle.std.proofs.Common.{◌≡◌, Bool, Option, codes, ap}
+use Rattle.dropin_merge.specs.unit_names.declared.version.Version.{Version}
 use Rattle.dropin_merge.specs.declared.resolved.Resolved.{Resolved}
 use Rattle.call_table.specs.Table.{Table}
 use Rattle.call_rules.specs.declared.actions.Action.{Action}
@@ -18,8 +19,8 @@ use Rattle.filter_settings.specs.Settings.{flags_of, settings_of}
 
 -- the settings that these make
 abbrev pub made : Bool → Bool → Bool → Bool → Bool → Bool → Bool → Bool → Bool → Action → NamespaceTypes → Option FamilyList
-    → Option CallList → Bool → FilterSettings
-made memory realtime suid personality hostname modules logs clock devices action types families calls refused =
+    → Option CallList → Bool → Option Version → Bool → FilterSettings
+made memory realtime suid personality hostname modules logs clock devices action types families calls refused systemd tunables =
     record {
       calls = calls;
       default_action = action;
@@ -35,10 +36,12 @@ made memory realtime suid personality hostname modules logs clock devices action
       protect_clock = clock;
       private_devices = devices;
       second_abi_refused = refused;
+      systemd = systemd;
+      protect_kernel_tunables = tunables;
     }
 
 pub joined_settings : (unit : Resolved) (table : Table) {memory realtime suid personality hostname modules logs clock devices : Bool}
-    {action : Action} {types : NamespaceTypes} {families : Option FamilyList} {calls : Option CallList} {refused : Bool}
+    {action : Action} {types : NamespaceTypes} {families : Option FamilyList} {calls : Option CallList} {refused tunables : Bool}
     → memory ≡ unit_flag unit (codes "MemoryDenyWriteExecute") → realtime ≡ unit_flag unit (codes "RestrictRealtime")
     → suid ≡ unit_flag unit (codes "RestrictSUIDSGID") → personality ≡ unit_flag unit (codes "LockPersonality")
     → hostname ≡ unit_flag unit (codes "ProtectHostname") → modules ≡ unit_flag unit (codes "ProtectKernelModules")
@@ -48,8 +51,10 @@ pub joined_settings : (unit : Resolved) (table : Table) {memory realtime suid pe
     → families ≡ unit_family_list unit table (codes "RestrictAddressFamilies")
     → calls ≡ unit_call_list unit table (codes "SystemCallFilter")
     → refused ≡ unit_refuses_second unit table (codes "SystemCallArchitectures")
-    → made memory realtime suid personality hostname modules logs clock devices action types families calls refused ≡ settings_of unit table
-joined_settings unit table a b c d e f g h i j k l m n = cc
+    → tunables ≡ unit_flag unit (codes "ProtectKernelTunables")
+    → made memory realtime suid personality hostname modules logs clock devices action types families calls refused unit.systemd tunables
+    ≡ settings_of unit table
+joined_settings unit table a b c d e f g h i j k l m n o = cc
 
 pub joined_flags : (unit : Resolved) {memory realtime suid personality hostname modules logs clock devices : Bool}
     → memory ≡ unit_flag unit (codes "MemoryDenyWriteExecute") → realtime ≡ unit_flag unit (codes "RestrictRealtime")
@@ -61,18 +66,19 @@ pub joined_flags : (unit : Resolved) {memory realtime suid personality hostname 
 joined_flags unit a b c d e f g h i = cc
 
 pub settings_by_flags : (unit : Resolved) (table : Table) {flags : Booleans} {action : Action} {types : NamespaceTypes}
-    {families : Option FamilyList} {calls : Option CallList} {refused : Bool}
+    {families : Option FamilyList} {calls : Option CallList} {refused tunables : Bool}
     → flags ≡ flags_of unit → action ≡ unit_error_action unit (codes "SystemCallErrorNumber")
     → types ≡ unit_namespaces unit (codes "RestrictNamespaces")
     → families ≡ unit_family_list unit table (codes "RestrictAddressFamilies")
     → calls ≡ unit_call_list unit table (codes "SystemCallFilter")
     → refused ≡ unit_refuses_second unit table (codes "SystemCallArchitectures")
+    → tunables ≡ unit_flag unit (codes "ProtectKernelTunables")
     → made flags.memory_deny_write_execute flags.restrict_realtime flags.restrict_suid_sgid flags.lock_personality flags.protect_hostname
     flags.protect_kernel_modules flags.protect_kernel_logs flags.protect_clock flags.private_devices action types families calls
-    refused ≡ settings_of unit table
-settings_by_flags unit table f a b c d e =
+    refused unit.systemd tunables ≡ settings_of unit table
+settings_by_flags unit table f a b c d e g =
     joined_settings unit table (ap (λ (x : Booleans). x.memory_deny_write_execute) f) (ap (λ (x : Booleans). x.restrict_realtime) f)
     (ap (λ (x : Booleans). x.restrict_suid_sgid) f) (ap (λ (x : Booleans). x.lock_personality) f)
     (ap (λ (x : Booleans). x.protect_hostname) f) (ap (λ (x : Booleans). x.protect_kernel_modules) f)
     (ap (λ (x : Booleans). x.protect_kernel_logs) f) (ap (λ (x : Booleans). x.protect_clock) f)
-    (ap (λ (x : Booleans). x.private_devices) f) a b c d e
+    (ap (λ (x : Booleans). x.private_devices) f) a b c d e g

@@ -1,13 +1,13 @@
 -- Marks at the calls of a table, word after word.
 use Rattle.std.proofs.Common.{◌≡◌, ◌∙◌, ℕ, zero, suc, ◌+◌, ◌<◌, ◌≤◌, Bool, true, false, cond, List, [], ◌∷◌, ◌++◌, length, get_or, take, reverse, replicate, find, map}
 use Rattle.std.proofs.Common.{Option, Some, None, refl, sym, ap, subst, arith, length-append}
-use Rattle.std.specs.Prelude.{◌==◌, ◌||◌, slice_get, unwrap_or, option_and_then}
+use Rattle.std.specs.Prelude.{◌==◌, ◌||◌, is_some, slice_get, unwrap_or, option_and_then}
 use Rattle.std.specs.Option.{option_map, option_map_or}
 use Rattle.std.specs.List.{list_any}
 use Rattle.std.specs.Str.{bytes_eq}
 use Rattle.std.proofs.lemmas.Bool.Decides.{nat_tests}
 use Rattle.std.proofs.lemmas.List.{reverse-append, take_more, take_all, map-append}
-use Rattle.std.proofs.lemmas.List.Folds.{list_any_more}
+use Rattle.std.proofs.lemmas.List.Folds.{list_any_more, list_any-append}
 use Rattle.std.proofs.lemmas.List.Quantifiers.{position-Some}
 use Rattle.std.proofs.lemmas.Option.{get_or_from_slice_get, slice_get-get_or, slice_get_within}
 use Rattle.std.proofs.lemmas.Slice.Eq.{bytes_eq-Decides}
@@ -154,6 +154,15 @@ none_marked (suc n) (suc at) = none_marked n at
 pub map_all : (table : Table) (f : CallLine → Bool) → map f (every_call table) ≡ map f table.calls ++ map f (calls_in table 1)
 map_all table f = map-append f table.calls (second_calls table.second)
     ∙ ap (λ lines. map f table.calls ++ map f lines) (second_are table.second)
+
+pub any_all : (table : Table) (p : CallLine → Bool)
+    → (list_any p table.calls || list_any p (calls_in table 1)) ≡ list_any p (every_call table)
+any_all table p = sym (list_any-append p table.calls (second_calls table.second)
+    ∙ ap (λ lines. list_any p table.calls || list_any p lines) (second_are table.second))
+
+pub some_mapped : {X Y : Type 0} (f : X → Y) (o : Option X) → is_some (option_map f o) ≡ is_some o
+some_mapped f None = refl
+some_mapped f (Some x) = refl
 
 -- the mark at a name's first call has the action by which the name is listed
 module _ (table : Table) (default : Action) (list : CallList) (marks : List Mark) (are : AreMarksOf table default list marks)

@@ -1,5 +1,6 @@
 -- Suffixes and default actions refuse.
 use Rattle.std.proofs.Common.{◌≤◌, ℕ, Bool, true, false, cond, Option, Some, None, List, [], ◌∷◌, codes}
+use Rattle.std.specs.Prelude.{◌||◌, is_some, option_and_then}
 use Rattle.std.specs.Option.{option_map, IfSome}
 use Rattle.std.specs.List.{All}
 use Rattle.std.specs.Str.{bytes_eq, byte as ascii}
@@ -8,6 +9,8 @@ use Rattle.dropin_merge.specs.linux_numbers.Limits.{max_errno}
 use Rattle.dropin_merge.specs.text_forms.Errnos.{errno_value}
 use Rattle.dropin_merge.proofs.OfTextForms.Bounded.{errno_bounded}
 use Rattle.dropin_merge.specs.unit_grammar.Kinds.{cut_at}
+use Rattle.dropin_merge.specs.unit_names.Versions.{is_257}
+use Rattle.dropin_merge.specs.unit_names.declared.version.Version.{Version}
 use Rattle.dropin_merge.specs.declared.resolved.Resolved.{Resolved}
 use Rattle.dropin_merge.specs.declared.unit_values.listed.Listed.{Listed}
 use Rattle.dropin_merge.specs.unit_values.Lasting.{unit_last}
@@ -24,8 +27,12 @@ use Rattle.filter_settings.specs.filter_rules.Refusing.{IsRefusing, HasRefusal, 
 use Rattle.filter_settings.specs.Lines.{in_force}
 use Rattle.filter_settings.specs.Modes.{list_mode, adds_to}
 use Rattle.filter_settings.specs.ErrorActions.{error_action, default_action, error_action_value, unit_error_action}
-use Rattle.filter_settings.specs.CallWords.{CallWord, may_have_suffix, suffixed, word_of_sides, word_of, is_known, mention_of, word_mention}
-use Rattle.filter_settings.specs.CallLists.{implied, line_mentions, list_of, call_list, unit_call_list}
+use Rattle.filter_settings.specs.CallWords.{CallWord, suffix_of, suffixed, word_of_sides, word_of, is_known, mention_of, word_mention}
+use Rattle.filter_settings.specs.declared.call_words.Suffix.{Suffix}
+use Rattle.filter_settings.specs.declared.call_words.Suffix.TheVariants.{IsAction, Dropped, Refused}
+use Rattle.filter_settings.specs.filter_rules.Calls.{denies_no_call}
+use Rattle.filter_settings.specs.CallLists.{implied, line_mentions, list_of, begun_by, unless_idle, later_list, as_loaded, call_list}
+use Rattle.filter_settings.specs.CallLists.{unit_call_list}
 use Rattle.filter_settings.specs.Settings.{settings_of}
 use Rattle.filter_settings.proofs.Each.{each_some, each_of_all, last_of_all}
 
@@ -57,27 +64,29 @@ default_refuses unit key = last_of_all (λ value. IsRefusing value.action) defau
 abbrev Refuses : CallWord → Type 0
 Refuses word = IfSome word.action IsRefusing
 
-suffix_refuses : (may : Bool) (name suffix : List ℕ) → IfSome (suffixed may name suffix) Refuses
-suffix_refuses true name suffix = by (error_action suffix) (action_refuses suffix)
+suffix_refuses : (kind : Suffix) (name suffix : List ℕ) → IfSome (suffixed kind name suffix) Refuses
+suffix_refuses IsAction name suffix = by (error_action suffix) (action_refuses suffix)
   where
     by : (o : Option Action) → IfSome o IsRefusing
         → IfSome (option_map (λ action. record { name = name; action = Some action; has_stray = false }) o) Refuses
     by None h = tt
     by (Some action) h = h
-suffix_refuses false name suffix = tt
+suffix_refuses Dropped name suffix = tt
+suffix_refuses Refused name suffix = tt
 
-word_refuses : (may : Bool) (word : List ℕ) → IfSome (word_of may word) Refuses
-word_refuses may word = by (cut_at (ascii ":") word)
+word_refuses : (kind : Suffix) (word : List ℕ) → IfSome (word_of kind word) Refuses
+word_refuses kind word = by (cut_at (ascii ":") word)
   where
-    by : (sides : Option (List ℕ × List ℕ)) → IfSome (word_of_sides may word sides) Refuses
+    by : (sides : Option (List ℕ × List ℕ)) → IfSome (word_of_sides kind word sides) Refuses
     by None = tt
-    by (Some sides) = suffix_refuses may sides.0 sides.1
+    by (Some sides) = suffix_refuses kind sides.0 sides.1
 
-mention_refuses : (table : Table) (mode : Mode) (adds : Bool) (word : List ℕ) → IfSome (word_mention table mode adds word) HasRefusal
-mention_refuses table mode adds word = by (word_of (may_have_suffix mode adds) word) (word_refuses (may_have_suffix mode adds) word)
+mention_refuses : (systemd : Option Version) (table : Table) (mode : Mode) (adds : Bool) (word : List ℕ)
+    → IfSome (word_mention systemd table mode adds word) HasRefusal
+mention_refuses systemd table mode adds word = by (word_of (suffix_of systemd mode adds) word) (word_refuses (suffix_of systemd mode adds) word)
   where
     known : (b : Bool) (read : CallWord) → Refuses read → IfSome
-        (cond b (Some (record { adds = adds; name = read.name; action = read.action })) None) HasRefusal
+        (cond b (Some (record { adds = adds || is_some read.action; name = read.name; action = read.action })) None) HasRefusal
     known true read h = h
     known false read h = tt
 
@@ -92,23 +101,44 @@ implied_refuse : (mode : Mode) → All HasRefusal (implied mode)
 implied_refuse Allow = All-cons HasRefusal _ [] tt (All-nil HasRefusal)
 implied_refuse Deny = All-nil HasRefusal
 
-lines_refuse : (table : Table) (mode : Mode) (lines : List Listed) → AllRefuse (list_of table mode lines)
-lines_refuse table mode lines =
+lines_refuse : (systemd : Option Version) (table : Table) (mode : Mode) (lines : List Listed) → AllRefuse (list_of systemd table mode lines)
+lines_refuse systemd table mode lines =
     All-append HasRefusal (implied mode) _ (implied_refuse mode)
-    (each_of_all HasRefusal (λ one. line_mentions table mode one.line)
-    (λ one. each_some HasRefusal (word_mention table mode (adds_to mode one.line))
-    (mention_refuses table mode (adds_to mode one.line)) one.line.words) lines)
+    (each_of_all HasRefusal (λ one. line_mentions systemd table mode one.line)
+    (λ one. each_some HasRefusal (word_mention systemd table mode (adds_to mode one.line))
+    (mention_refuses systemd table mode (adds_to mode one.line)) one.line.words) lines)
 
-list_refuses : (table : Table) (lines : List Listed) → IfSome (call_list table lines) AllRefuse
-list_refuses table lines = by (list_mode lines)
+begun_refuses : (systemd : Option Version) (table : Table) (lines : List Listed) → IfSome (begun_by systemd table lines) AllRefuse
+begun_refuses systemd table lines = by (list_mode lines)
   where
-    by : (mode : Option Mode) → IfSome (option_map (λ mode. list_of table mode lines) mode) AllRefuse
+    by : (mode : Option Mode) → IfSome (option_map (λ mode. list_of systemd table mode lines) mode) AllRefuse
     by None = tt
-    by (Some mode) = lines_refuse table mode lines
+    by (Some mode) = lines_refuse systemd table mode lines
+
+loaded_refuses : (systemd : Option Version) (list : CallList) → AllRefuse list → AllRefuse (as_loaded systemd list)
+loaded_refuses systemd list h = by (is_257 systemd)
+  where
+    by : (b : Bool) → AllRefuse (cond b (later_list list) list)
+    by true = All-append HasRefusal list.mentions _ h (All-cons HasRefusal _ [] tt (All-nil HasRefusal))
+    by false = h
+
+list_refuses : (systemd : Option Version) (table : Table) (lines : List Listed) → IfSome (call_list systemd table lines) AllRefuse
+list_refuses None table lines = begun_refuses None table lines
+list_refuses (Some version) table lines = by (begun_by (Some version) table lines) (begun_refuses (Some version) table lines)
+  where
+    unless : (b : Bool) (list : CallList) → AllRefuse list
+        → IfSome (option_map (as_loaded (Some version)) (cond b None (Some list))) AllRefuse
+    unless true list h = tt
+    unless false list h = loaded_refuses (Some version) list h
+
+    by : (begun : Option CallList) → IfSome begun AllRefuse
+        → IfSome (option_map (as_loaded (Some version)) (option_and_then (unless_idle table) begun)) AllRefuse
+    by None h = tt
+    by (Some list) h = unless (denies_no_call table list) list h
 
 suffixes_refuse : (unit : Resolved) (table : Table) (key : List ℕ) → HasRefusals (unit_call_list unit table key)
 unfolding unit_call_list
-suffixes_refuse unit table key = list_refuses table (in_force (unit_listed unit key))
+suffixes_refuse unit table key = list_refuses unit.systemd table (in_force (unit_listed unit key))
 
 pub settings_refuse : (unit : Resolved) (table : Table) → AreRefusing (settings_of unit table)
 settings_refuse unit table = record { default = default_refuses unit (codes "SystemCallErrorNumber"); suffixes = suffixes_refuse unit table (codes "SystemCallFilter") }

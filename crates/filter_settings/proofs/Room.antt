@@ -42,8 +42,8 @@ all_fit (made ∷ filters) within =
 those_on : (test : Place → Bool) (places : List Place) → sum_by taken_at (filter test places) ≤ sum_by taken_at places
 those_on test places = omega (arith, sum_by-filter_both test (λ place. not (test place)) (λ place. refl) taken_at places)
 
--- the programs of one ABI take at most 11,761 together, those of two and what ends the calls of the second at most 23,542
-all_few : (second : Option Abi) → sum_by taken_at (all_programs second) ≤ 23542
+-- the programs of one ABI take at most 11,889 together, those of two and what ends the calls of the second at most 23,798
+all_few : (second : Option Abi) → sum_by taken_at (all_programs second) ≤ 23798
 all_few None = omega arith
 all_few (Some second) = omega arith
 

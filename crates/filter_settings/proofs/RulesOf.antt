@@ -18,10 +18,11 @@ use Rattle.filter_settings.specs.declared.filter_rules.choice.Choice.{Choice}
 use Rattle.filter_settings.specs.declared.filter_rules.settings.FilterSettings.{FilterSettings}
 use Rattle.filter_settings.specs.declared.filter_rules.names.FilterName.{FilterName}
 use Rattle.filter_settings.specs.declared.filter_rules.names.FilterName.TheVariants.{Families, MemoryDenyWriteExecute, Realtime, Suid}
-use Rattle.filter_settings.specs.declared.filter_rules.names.FilterName.TheVariants.{Namespaces, Hostname, Modules, Logs, Clock, Devices}
+use Rattle.filter_settings.specs.declared.filter_rules.names.FilterName.TheVariants.{Namespaces, Tunables, Hostname, Modules, Logs, Clock, Devices}
 use Rattle.filter_settings.specs.declared.filter_rules.names.FilterName.TheVariants.{Personality, Calls, Archs}
 use Rattle.filter_settings.specs.filter_rules.Actions.{is_one_of}
-use Rattle.filter_settings.specs.filter_rules.Blocked.{is_blocked, hostname_words, modules_words, logs_words, clock_words, devices_words}
+use Rattle.filter_settings.specs.filter_rules.Blocked.{is_blocked, tunables_words, hostname_words, modules_words, logs_words, clock_words}
+use Rattle.filter_settings.specs.filter_rules.Blocked.{devices_words}
 use Rattle.filter_settings.specs.filter_rules.Choices.{choice_action}
 use Rattle.call_rules.specs.Sizes.{case_count, test_count}
 use Rattle.filter_settings.specs.filter_rules.Costs.{HasShortCases, costs, most_costs}
@@ -36,8 +37,8 @@ use Rattle.filter_settings.proofs.Counted.{AreAmong, rules_le_calls, rules_le_na
 use Rattle.filter_settings.proofs.SuitedSimple.{mapping_means, mapping_small, mapping_names, mapping_among, length_mapping_names}
 use Rattle.filter_settings.proofs.SuitedSimple.{realtime_means, realtime_small, realtime_among, personality_means, personality_small}
 use Rattle.filter_settings.proofs.SuitedSimple.{personality_among, blocked_means, blocked_small, blocked_among, calls_mean, calls_small}
-use Rattle.filter_settings.proofs.SuitedModes.{suid_means, suid_small, suid_names, suid_among, length_suid_names}
-use Rattle.filter_settings.proofs.SuitedNamespaces.{namespaces_means, namespaces_small, namespaces_names, namespaces_among}
+use Rattle.filter_settings.proofs.SuitedModes.{suid_means_in, suid_small_in, suid_names, suid_among_in, length_suid_names}
+use Rattle.filter_settings.proofs.SuitedNamespaces.{namespaces_means_in, namespaces_small_in, namespaces_names, namespaces_among_in}
 use Rattle.filter_settings.proofs.SuitedNamespaces.{length_namespaces_names}
 use Rattle.filter_settings.proofs.SuitedFamilies.{families_mean, families_small, families_among}
 
@@ -95,6 +96,9 @@ hostname_named table name =
     ap (λ b. b || (covers table (codes "setdomainname") name || false)) (covers_itself table 115 (codes "ethostname") name refl)
     ∙ ap (λ b. bytes_eq name (codes "sethostname") || (b || false)) (covers_itself table 115 (codes "etdomainname") name refl)
 
+tunables_named : (table : Table) (name : List ℕ) → is_blocked table tunables_words name ≡ is_one_of name tunables_words
+tunables_named table name = ap (λ b. b || false) (covers_itself table 95 (codes "sysctl") name refl)
+
 logs_named : (table : Table) (name : List ℕ) → is_blocked table logs_words name ≡ is_one_of name logs_words
 logs_named table name = ap (λ b. b || false) (covers_itself table 115 (codes "yslog") name refl)
 
@@ -122,11 +126,18 @@ module _ (settings : FilterSettings) (table : Table) (abi : ℕ) (ordered : List
   are_rules Realtime families known = made Realtime settings table abi ordered 1 3 1 a realtime_means realtime_small
       (few_names (choice_of Realtime settings table) (codes "sched_setscheduler" ∷ []) realtime_among) (omega arith) (omega arith)
       (omega arith) refl
-  are_rules Suid families known = made Suid settings table abi ordered 10 2 2 a suid_means suid_small
-      (few_named (choice_of Suid settings table) suid_names 10 length_suid_names suid_among) (omega arith) (omega arith) (omega arith) refl
-  are_rules Namespaces families known = made Namespaces settings table abi ordered 3 8 1 a (namespaces_means settings.namespaces)
-      (namespaces_small settings.namespaces)
-      (few_named (choice_of Namespaces settings table) namespaces_names 3 length_namespaces_names (namespaces_among settings.namespaces))
+  are_rules Suid families known = made Suid settings table abi ordered 12 2 2 a (suid_means_in settings.systemd)
+      (suid_small_in settings.systemd)
+      (few_named (choice_of Suid settings table) suid_names 12 length_suid_names (suid_among_in settings.systemd)) (omega arith)
+      (omega arith) (omega arith) refl
+  are_rules Namespaces families known = made Namespaces settings table abi ordered 4 8 1 a
+      (namespaces_means_in settings.systemd settings.namespaces) (namespaces_small_in settings.systemd settings.namespaces)
+      (few_named (choice_of Namespaces settings table) namespaces_names 4 length_namespaces_names
+      (namespaces_among_in settings.systemd settings.namespaces))
+      (omega arith) (omega arith) (omega arith) refl
+  are_rules Tunables families known = made Tunables settings table abi ordered 1 0 1 a (blocked_means table tunables_words)
+      (blocked_small table tunables_words)
+      (few_names (choice_of Tunables settings table) tunables_words (blocked_among table tunables_words (tunables_named table)))
       (omega arith) (omega arith) (omega arith) refl
   are_rules Hostname families known = made Hostname settings table abi ordered 2 0 1 a (blocked_means table hostname_words)
       (blocked_small table hostname_words)

@@ -23,7 +23,7 @@ use Rattle.filter_settings.specs.filter_rules.Personality.{refuses_personality}
 use Rattle.filter_settings.specs.filter_rules.PersonalityChoice.{personality_choice}
 use Rattle.filter_settings.specs.filter_rules.Blocked.{is_blocked}
 use Rattle.filter_settings.specs.filter_rules.BlockedChoice.{blocked_choice}
-use Rattle.filter_settings.specs.filter_rules.Calls.{call_action, rest_action, listed_by, listed_action, unlisted_action}
+use Rattle.filter_settings.specs.filter_rules.Calls.{call_action, rest_action, list_action, listed_by, listed_action, hidden_action, is_unknown}
 use Rattle.filter_settings.specs.filter_rules.CallsChoice.{calls_choice}
 use Rattle.filter_settings.proofs.LowWords.{or_false, some_whole}
 use Rattle.filter_settings.proofs.Suited.{IsSmall, AreSmall}
@@ -167,19 +167,25 @@ pub calls_mean : (table : Table) (calls : Option CallList) (default : Action) (n
     option_map_or (choice_action input) (calls_choice table calls default name) (rest_action calls default)
     ≡ call_action table calls default name
 calls_mean table None default name input = refl
-calls_mean table (Some list) default name input = by_mention (listed_by table list.mentions name)
+calls_mean table (Some list) default name input = by list.hides_unknown (listed_by table list.mentions name)
   where
-    by_mention : (o : Option Mention) →
-        option_map_or (choice_action input) (option_map (λ mention. always (listed_action list.mode default mention)) o)
-        (unlisted_action list.mode default)
-        ≡ option_map_or (listed_action list.mode default) o (unlisted_action list.mode default)
-    by_mention None = refl
-    by_mention (Some mention) = refl
+    by : (hides : Bool) (o : Option Mention) →
+        option_map_or (choice_action input)
+        (if hides then Some (always (option_map_or (listed_action list.mode default) o (hidden_action (hides && is_unknown table name) list.mode default)))
+        else option_map (λ mention. always (listed_action list.mode default mention)) o)
+        (hidden_action hides list.mode default)
+        ≡ option_map_or (listed_action list.mode default) o (hidden_action (hides && is_unknown table name) list.mode default)
+    by true o = refl
+    by false None = refl
+    by false (Some mention) = refl
 
 pub calls_small : (table : Table) (calls : Option CallList) (default : Action) → AreSmall 0 1 (calls_choice table calls default)
 calls_small table None default name = tt
-calls_small table (Some list) default name = one (listed_by table list.mentions name)
+calls_small table (Some list) default name = one list.hides_unknown (listed_by table list.mentions name)
   where
-    one : (o : Option Mention) → IfSome (option_map (λ mention. always (listed_action list.mode default mention)) o) (IsSmall 0 1)
-    one None = tt
-    one (Some mention) = always_small (listed_action list.mode default mention)
+    one : (hides : Bool) (o : Option Mention) → IfSome
+        (if hides then Some (always (list_action table default name list))
+        else option_map (λ mention. always (listed_action list.mode default mention)) o) (IsSmall 0 1)
+    one true o = always_small (list_action table default name list)
+    one false None = tt
+    one false (Some mention) = always_small (listed_action list.mode default mention)

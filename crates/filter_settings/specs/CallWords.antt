@@ -1,8 +1,9 @@
 -- systemd.exec(5), SystemCallFilter=: what a word of a line says.
-use Rattle.std.specs.Prelude.{ℕ, is_some, Bool, true, false, if◌then◌else◌, Option, Some, None, List, [], ◌∷◌, ◌++◌}
+use Rattle.std.specs.Prelude.{ℕ, is_some, not, ◌||◌, Bool, true, false, if◌then◌else◌, Option, Some, None, List, [], ◌∷◌, ◌++◌}
 use Rattle.std.specs.Option.{option_map}
 use Rattle.std.specs.Str.{byte as ascii}
 use Rattle.dropin_merge.specs.unit_grammar.Kinds.{cut_at}
+use Rattle.dropin_merge.specs.unit_names.declared.version.Version.{Version}
 use Rattle.dropin_merge.specs.unit_grammar.declared.notes.NoteCause.{NoteCause}
 use Rattle.dropin_merge.specs.unit_grammar.declared.notes.NoteCause.TheVariants.{Value as ValueCause, UnknownName}
 use Rattle.call_rules.specs.declared.actions.Action.{Action}
@@ -14,6 +15,8 @@ use Rattle.filter_settings.specs.declared.filter_rules.mentions.Mode.TheVariants
 use Rattle.filter_settings.specs.declared.filter_rules.mentions.Mention.{Mention}
 use Rattle.filter_settings.specs.ErrorActions.{error_action}
 use Rattle.filter_settings.specs.declared.call_words.CallWord.{CallWord as ReadWord}
+use Rattle.filter_settings.specs.declared.call_words.Suffix.{Suffix}
+use Rattle.filter_settings.specs.declared.call_words.Suffix.TheVariants.{IsAction, Dropped, Refused}
 
 -- a word as it is read: the name, the action of its suffix, and whether it has a suffix that counts for nothing
 pub record CallWord : Type 0 where
@@ -26,18 +29,30 @@ abbrev pub may_have_suffix : Mode → Bool → Bool
 may_have_suffix Allow adds = false
 may_have_suffix Deny adds = adds
 
--- a suffix is an action, and a word with another cannot be read; where none may stand, it is dropped
-abbrev pub suffixed : Bool → List ℕ → List ℕ → Option CallWord
-suffixed true name suffix = option_map (λ action. record { name = name; action = Some action; has_stray = false }) (error_action suffix)
-suffixed false name suffix = Some (record { name = name; action = None; has_stray = true })
+-- the word stands on a line with `~`, which takes off a list that allows and adds to one that denies
+abbrev pub is_inverted : Mode → Bool → Bool
+is_inverted Allow adds = not adds
+is_inverted Deny adds = adds
 
-abbrev pub word_of_sides : Bool → List ℕ → Option (List ℕ × List ℕ) → Option CallWord
-word_of_sides may word None = Some (record { name = word; action = None; has_stray = false })
-word_of_sides may word (Some sides) = suffixed may sides.0 sides.1
+-- where no suffix may stand, it is dropped; with a version of systemd each word of a line with `~` may have one, and
+-- no other word with one can be read
+abbrev pub suffix_of : Option Version → Mode → Bool → Suffix
+suffix_of None mode adds = if may_have_suffix mode adds then IsAction else Dropped
+suffix_of (Some version) mode adds = if is_inverted mode adds then IsAction else Refused
+
+-- a suffix is an action, and a word with another cannot be read
+abbrev pub suffixed : Suffix → List ℕ → List ℕ → Option CallWord
+suffixed IsAction name suffix = option_map (λ action. record { name = name; action = Some action; has_stray = false }) (error_action suffix)
+suffixed Dropped name suffix = Some (record { name = name; action = None; has_stray = true })
+suffixed Refused name suffix = None
+
+abbrev pub word_of_sides : Suffix → List ℕ → Option (List ℕ × List ℕ) → Option CallWord
+word_of_sides kind word None = Some (record { name = word; action = None; has_stray = false })
+word_of_sides kind word (Some sides) = suffixed kind sides.0 sides.1
 
 -- the suffix stands behind the first colon; names have none
-abbrev pub word_of : Bool → List ℕ → Option CallWord
-word_of may word = word_of_sides may word (cut_at (ascii ":") word)
+abbrev pub word_of : Suffix → List ℕ → Option CallWord
+word_of kind word = word_of_sides kind word (cut_at (ascii ":") word)
 
 abbrev pub is_known_by : Table → List ℕ → Option (List ℕ) → Bool
 is_known_by table name None = is_some (place_named name (every_call table))
@@ -47,14 +62,14 @@ is_known_by table name (Some group) = is_some (group_named group table.groups)
 abbrev pub is_known : Table → List ℕ → Bool
 is_known table name = is_known_by table name (behind_at name)
 
--- a known name is mentioned
+-- a known name is mentioned; a word with an action lists what it covers by that action
 abbrev pub mention_of : Table → Bool → Option CallWord → Option Mention
 mention_of table adds None = None
 mention_of table adds (Some word) = if is_known table word.name then Some
-    (record { adds = adds; name = word.name; action = word.action }) else None
+    (record { adds = adds || is_some word.action; name = word.name; action = word.action }) else None
 
-abbrev pub word_mention : Table → Mode → Bool → List ℕ → Option Mention
-word_mention table mode adds word = mention_of table adds (word_of (may_have_suffix mode adds) word)
+abbrev pub word_mention : Option Version → Table → Mode → Bool → List ℕ → Option Mention
+word_mention systemd table mode adds word = mention_of table adds (word_of (suffix_of systemd mode adds) word)
 
 -- a word that cannot be read is noted, or else a suffix that is dropped, and then a name that is not known
 abbrev pub causes_of : Table → Option CallWord → List NoteCause
@@ -62,8 +77,8 @@ causes_of table None = ValueCause ∷ []
 causes_of table (Some word) = (if word.has_stray then ValueCause ∷ [] else []) ++
     (if is_known table word.name then [] else UnknownName ∷ [])
 
-abbrev pub word_causes : Table → Mode → Bool → List ℕ → List NoteCause
-word_causes table mode adds word = causes_of table (word_of (may_have_suffix mode adds) word)
+abbrev pub word_causes : Option Version → Table → Mode → Bool → List ℕ → List NoteCause
+word_causes systemd table mode adds word = causes_of table (word_of (suffix_of systemd mode adds) word)
 
 -- a word as the code has it
 abbrev pub seen : ReadWord → CallWord

@@ -1,10 +1,13 @@
 -- systemd.exec(5), RestrictAddressFamilies=: which address families are listed.
-use Rattle.std.specs.Prelude.{ℕ, ◌&&◌, not, Bool, false, cond, Option, Some, None, List, [], ◌∷◌, ◌++◌, codes, flat_map}
+use Rattle.std.specs.Prelude.{ℕ, ◌&&◌, not, Bool, false, cond, if◌then◌else◌, Option, Some, None, List, [], ◌∷◌, ◌++◌, codes, flat_map, unwrap_or}
+use Rattle.std.specs.Prelude.{option_and_then}
 use Rattle.std.specs.Option.{option_map}
 use Rattle.std.specs.List.{filter_map, after_last, list_any}
 use Rattle.std.specs.Str.{bytes_eq}
 use Rattle.dropin_merge.specs.unit_grammar.declared.notes.NoteCause.{NoteCause}
 use Rattle.dropin_merge.specs.unit_grammar.declared.notes.NoteCause.TheVariants.{UnknownName}
+use Rattle.dropin_merge.specs.unit_names.Versions.{is_known}
+use Rattle.dropin_merge.specs.unit_names.declared.version.Version.{Version}
 use Rattle.dropin_merge.specs.declared.resolved.Resolved.{Resolved}
 use Rattle.dropin_merge.specs.declared.unit_values.lines.Line.{Line}
 use Rattle.dropin_merge.specs.declared.unit_values.listed.Listed.{Listed}
@@ -18,19 +21,32 @@ use Rattle.filter_settings.specs.declared.filter_rules.mentions.Mode.{Mode}
 use Rattle.filter_settings.specs.declared.filter_rules.mentions.Mode.TheVariants.{Allow}
 use Rattle.filter_settings.specs.declared.filter_rules.mentions.FamilyMention.{FamilyMention}
 use Rattle.filter_settings.specs.declared.filter_rules.mentions.FamilyList.{FamilyList}
+use Rattle.filter_settings.specs.filter_rules.Actions.{is_one_of}
+use Rattle.filter_settings.specs.filter_rules.Families.{denies_no_family}
 use Rattle.filter_settings.specs.Lines.{in_force}
 use Rattle.filter_settings.specs.Modes.{adds_to, list_mode}
 
+-- a family that has a second name goes by the first one (socket(2), address_families(7), netlink(7))
+abbrev pub first_name : List ℕ → List ℕ
+first_name word =
+    if is_one_of word (codes "AF_LOCAL" ∷ codes "AF_FILE" ∷ []) then codes "AF_UNIX"
+    else if is_one_of word (codes "AF_ROUTE" ∷ []) then codes "AF_NETLINK"
+    else word
+
+-- second names are known with a version of systemd
+abbrev pub family_name : Option Version → List ℕ → List ℕ
+family_name systemd word = if is_known systemd then first_name word else word
+
 -- the number that the table has for a family
-abbrev pub family_number : Table → List ℕ → Option ℕ
-family_number table word = option_map (λ family. family.number) (named word table.families)
+abbrev pub family_number : Option Version → Table → List ℕ → Option ℕ
+family_number systemd table word = option_map (λ family. family.number) (named (family_name systemd word) table.families)
 
 -- a known family is mentioned
-abbrev pub family_mention : Table → Bool → List ℕ → Option FamilyMention
-family_mention table adds word = option_map (λ number. record { adds = adds; number = number }) (family_number table word)
+abbrev pub family_mention : Option Version → Table → Bool → List ℕ → Option FamilyMention
+family_mention systemd table adds word = option_map (λ number. record { adds = adds; number = number }) (family_number systemd table word)
 
-abbrev pub family_mentions : Table → Mode → Line → List FamilyMention
-family_mentions table mode line = filter_map (family_mention table (adds_to mode line)) line.words
+abbrev pub family_mentions : Option Version → Table → Mode → Line → List FamilyMention
+family_mentions systemd table mode line = filter_map (family_mention systemd table (adds_to mode line)) line.words
 
 -- the word `none` alone on a line
 abbrev pub is_none_word : List (List ℕ) → Bool
@@ -41,37 +57,58 @@ is_none_word (word ∷ other ∷ words) = false
 abbrev pub is_none_line : Listed → Bool
 is_none_line one = not one.line.is_inverted && is_none_word one.line.words
 
-abbrev pub list_of : Table → Mode → List Listed → FamilyList
-list_of table mode lines = record { mode = mode; mentions = flat_map (λ one. family_mentions table mode one.line) lines }
+abbrev pub list_of : Option Version → Table → Mode → List Listed → FamilyList
+list_of systemd table mode lines =
+    record { mode = mode; mentions = flat_map (λ one. family_mentions systemd table mode one.line) lines }
 
 -- the first line fixes the mode, and the mentions of all lines stand in their order
-abbrev pub begun_by : Table → List Listed → Option FamilyList
-begun_by table lines = option_map (λ mode. list_of table mode lines) (list_mode lines)
+abbrev pub begun_by : Option Version → Table → List Listed → Option FamilyList
+begun_by systemd table lines = option_map (λ mode. list_of systemd table mode lines) (list_mode lines)
+
+-- lines behind the last `none`, if there is one, are read by themselves
+abbrev pub read_behind_none : (List Listed → FamilyList) → Option Version → Table → List Listed → Option FamilyList
+read_behind_none read systemd table lines = cond (list_any is_none_line lines) (Some (read (after_last is_none_line lines)))
+    (begun_by systemd table lines)
 
 -- behind the last `none`, if there is one, lines go on from a list that allows nothing
-abbrev pub family_list : Table → List Listed → Option FamilyList
-family_list table lines = cond (list_any is_none_line lines) (Some (list_of table Allow (after_last is_none_line lines)))
-    (begun_by table lines)
+abbrev pub going_on : Table → List Listed → Option FamilyList
+going_on table lines = read_behind_none (list_of None table Allow) None table lines
+
+abbrev pub nothing_allowed : FamilyList
+nothing_allowed = record { mode = Allow; mentions = [] }
+
+-- or the first of them begins a list of its own, and without one nothing is allowed
+abbrev pub begun_anew : Option Version → Table → List Listed → Option FamilyList
+begun_anew systemd table lines = read_behind_none (λ behind. unwrap_or (begun_by systemd table behind) nothing_allowed) systemd table lines
+
+-- a list that denies and has no family on it sets no filter
+abbrev pub unless_idle : Table → FamilyList → Option FamilyList
+unless_idle table list = cond (denies_no_family table list) None (Some list)
+
+-- the list of the lines in force
+abbrev pub family_list : Option Version → Table → List Listed → Option FamilyList
+family_list None table lines = going_on table lines
+family_list (Some version) table lines = option_and_then (unless_idle table) (begun_anew (Some version) table lines)
 
 -- an unknown family is noted
 abbrev pub family_causes : Option ℕ → List NoteCause
 family_causes None = UnknownName ∷ []
 family_causes (Some number) = []
 
-abbrev pub word_notes : Table → Value → List ℕ → List FileNote
-word_notes table value word = notes_at value (family_causes (family_number table word))
+abbrev pub word_notes : Option Version → Table → Value → List ℕ → List FileNote
+word_notes systemd table value word = notes_at value (family_causes (family_number systemd table word))
 
 -- `none` is no family; an empty value has no words
-abbrev pub line_notes : Table → Listed → List FileNote
-line_notes table one = cond (is_none_line one) [] (flat_map (word_notes table one.value) one.line.words)
+abbrev pub line_notes : Option Version → Table → Listed → List FileNote
+line_notes systemd table one = cond (is_none_line one) [] (flat_map (word_notes systemd table one.value) one.line.words)
 
-abbrev pub family_notes : Table → List Listed → List FileNote
-family_notes table all = flat_map (line_notes table) all
+abbrev pub family_notes : Option Version → Table → List Listed → List FileNote
+family_notes systemd table all = flat_map (line_notes systemd table) all
 
 -- what the files of a unit say of such a key
 unfoldable pub unit_family_list : Resolved → Table → List ℕ → Option FamilyList
-unit_family_list unit table key = family_list table (in_force (unit_listed unit key))
+unit_family_list unit table key = family_list unit.systemd table (in_force (unit_listed unit key))
 
 -- and what is noted: values that cannot be read, then words
 unfoldable pub unit_family_list_notes : Resolved → Table → List ℕ → List FileNote
-unit_family_list_notes unit table key = unit_listed_notes unit key ++ family_notes table (unit_listed unit key)
+unit_family_list_notes unit table key = unit_listed_notes unit key ++ family_notes unit.systemd table (unit_listed unit key)

@@ -13,3 +13,4 @@ pub mod call_rules
 pub mod call_table
 pub use Rattle.call_rules.specs.bpf_code as bpf_code
 pub use Rattle.dropin_merge.specs.linux_numbers as linux_numbers
+pub use Rattle.dropin_merge.specs.unit_names as unit_names

@@ -1,12 +1,13 @@
 -- systemd.exec(5), RestrictNamespaces=: which types of namespaces are permitted (namespaces(7)).
-use Rattle.std.specs.Prelude.{ℕ, ◌||◌, ◌&&◌, not, Bool, true, false, cond, if◌then◌else◌, is_some, Option, Some, None, List, [], ◌∷◌, ◌++◌}
-use Rattle.std.specs.Prelude.{flat_map, unwrap_or}
-use Rattle.std.specs.List.{filter_map, list_any}
+use Rattle.std.specs.Prelude.{ℕ, ◌||◌, ◌&&◌, not, Bool, true, false, cond, if◌then◌else◌, is_some, Option, Some, None, List, [], ◌∷◌, ◌++◌, codes}
+use Rattle.std.specs.Prelude.{flat_map, unwrap_or, filter}
+use Rattle.std.specs.List.{filter_map, list_any, list_all}
 use Rattle.std.specs.Str.{bytes_eq}
 use Rattle.dropin_merge.specs.text_forms.Booleans.{bool_value}
 use Rattle.dropin_merge.specs.unit_grammar.Before.{with_before, last_of}
 use Rattle.dropin_merge.specs.unit_grammar.declared.notes.NoteCause.{NoteCause}
 use Rattle.dropin_merge.specs.unit_grammar.declared.notes.NoteCause.TheVariants.{Value as ValueCause}
+use Rattle.dropin_merge.specs.unit_names.declared.version.Version.{Version}
 use Rattle.dropin_merge.specs.declared.resolved.Resolved.{Resolved}
 use Rattle.dropin_merge.specs.declared.unit_values.lines.Line.{Line}
 use Rattle.dropin_merge.specs.declared.unit_values.listed.Listed.{Listed}
@@ -28,9 +29,14 @@ switch_of one = bool_value one.value.text
 abbrev pub is_plain : Listed → Bool
 is_plain one = not (is_some (switch_of one)) && not one.line.is_inverted
 
--- a plain list stands before, and no empty value behind it
-abbrev pub has_plain : List Listed → Bool
-has_plain before = list_any is_plain (in_force before)
+-- a value behind which a plain list adds its types: a plain list, and with a version of systemd any other value too
+abbrev pub begins : Option Version → Listed → Bool
+begins None one = is_plain one
+begins (Some version) one = true
+
+-- such a value stands before, and no empty value behind it
+abbrev pub is_begun : Option Version → List Listed → Bool
+is_begun systemd before = list_any (begins systemd) (in_force before)
 
 abbrev pub has_word : List ℕ → Line → Bool
 has_word name line = list_any (λ word. bytes_eq word name) line.words
@@ -49,12 +55,12 @@ says_by None is_later kind line = listed_type line.is_inverted is_later (has_wor
 abbrev pub says : Bool → NamespaceType → Listed → Option Bool
 says is_later kind one = cond (is_reset one) (Some true) (says_by (switch_of one) is_later kind one.line)
 
-abbrev pub says_of : NamespaceType → List Listed × Listed → Option Bool
-says_of kind place = says (has_plain place.0) kind place.1
+abbrev pub says_of : Option Version → NamespaceType → List Listed × Listed → Option Bool
+says_of systemd kind place = says (is_begun systemd place.0) kind place.1
 
 -- the last value that says something of a type decides; without one the type is permitted
-abbrev pub is_permitted : List Listed → NamespaceType → Bool
-is_permitted all kind = unwrap_or (last_of (filter_map (says_of kind) (with_before [] all))) true
+abbrev pub is_permitted : Option Version → List Listed → NamespaceType → Bool
+is_permitted systemd all kind = unwrap_or (last_of (filter_map (says_of systemd kind) (with_before [] all))) true
 
 -- which types are permitted, type by type
 abbrev pub types_by : (NamespaceType → Bool) → NamespaceTypes
@@ -69,11 +75,24 @@ types_by permitted =
       uts = permitted Uts;
     }
 
-abbrev pub namespaces_of : List Listed → NamespaceTypes
-namespaces_of all = types_by (is_permitted all)
-
 abbrev pub is_type_name : List ℕ → Bool
 is_type_name word = list_any (λ kind. bytes_eq word (name_of kind)) all_types
+
+-- `time` is a type too, of which no filter is made (time_namespaces(7))
+abbrev pub is_type_word : List ℕ → Bool
+is_type_word word = is_type_name word || bytes_eq word (codes "time")
+
+-- a boolean, or a list of types
+abbrev pub is_valid : Listed → Bool
+is_valid one = is_some (switch_of one) || list_all is_type_word one.line.words
+
+-- with a version of systemd a value with an unknown type counts for nothing
+abbrev pub counts : Option Version → Listed → Bool
+counts None one = true
+counts (Some version) one = is_valid one
+
+abbrev pub namespaces_of : Option Version → List Listed → NamespaceTypes
+namespaces_of systemd all = types_by (is_permitted systemd (filter (counts systemd) all))
 
 abbrev pub type_causes : List ℕ → List NoteCause
 type_causes word = if is_type_name word then [] else ValueCause ∷ []
@@ -82,16 +101,21 @@ abbrev pub word_notes : Value → List ℕ → List FileNote
 word_notes value word = notes_at value (type_causes word)
 
 -- a word of a list that is no type is noted; an empty value has no words
-abbrev pub line_notes : Listed → List FileNote
-line_notes one = cond (is_some (switch_of one)) [] (flat_map (word_notes one.value) one.line.words)
+abbrev pub list_notes : Listed → List FileNote
+list_notes one = cond (is_some (switch_of one)) [] (flat_map (word_notes one.value) one.line.words)
 
-abbrev pub namespaces_notes : List Listed → List FileNote
-namespaces_notes all = flat_map line_notes all
+-- with a version of systemd the whole value is noted
+abbrev pub line_notes : Option Version → Listed → List FileNote
+line_notes None one = list_notes one
+line_notes (Some version) one = cond (is_valid one) [] (notes_at one.value (ValueCause ∷ []))
+
+abbrev pub namespaces_notes : Option Version → List Listed → List FileNote
+namespaces_notes systemd all = flat_map (line_notes systemd) all
 
 -- what the files of a unit say of such a key
 unfoldable pub unit_namespaces : Resolved → List ℕ → NamespaceTypes
-unit_namespaces unit key = namespaces_of (unit_listed unit key)
+unit_namespaces unit key = namespaces_of unit.systemd (unit_listed unit key)
 
 -- and what is noted: values that cannot be read, then words
 unfoldable pub unit_namespaces_notes : Resolved → List ℕ → List FileNote
-unit_namespaces_notes unit key = unit_listed_notes unit key ++ namespaces_notes (unit_listed unit key)
+unit_namespaces_notes unit key = unit_listed_notes unit key ++ namespaces_notes unit.systemd (unit_listed unit key)

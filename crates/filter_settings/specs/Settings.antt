@@ -27,7 +27,7 @@ flags_of unit =
       private_devices = unit_flag unit (codes "PrivateDevices");
     }
 
--- what the keys come to
+-- what the keys come to; the values of ProtectKernelTunables= are noted where its paths are read
 abbrev pub settings_of : Resolved → Table → FilterSettings
 settings_of unit table =
     record {
@@ -45,6 +45,8 @@ settings_of unit table =
       protect_clock = unit_flag unit (codes "ProtectClock");
       private_devices = unit_flag unit (codes "PrivateDevices");
       second_abi_refused = unit_refuses_second unit table (codes "SystemCallArchitectures");
+      systemd = unit.systemd;
+      protect_kernel_tunables = unit_flag unit (codes "ProtectKernelTunables");
     }
 
 -- what is noted of the boolean keys that restrict what a service does, and of those that protect the system from it

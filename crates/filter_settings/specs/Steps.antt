@@ -1,5 +1,6 @@
 -- What one more value does to what the values before it came to.
 use Rattle.std.specs.Prelude.{◌||◌, ◌&&◌, not, Bool, cond, Option, Some, None, unwrap_or}
+use Rattle.dropin_merge.specs.unit_names.declared.version.Version.{Version}
 use Rattle.dropin_merge.specs.declared.unit_values.listed.Listed.{Listed}
 use Rattle.dropin_merge.specs.unit_values.Listed.{is_reset}
 use Rattle.filter_settings.specs.declared.filter_rules.mentions.Mode.{Mode}
@@ -7,7 +8,7 @@ use Rattle.filter_settings.specs.declared.filter_rules.namespace_types.Namespace
 use Rattle.filter_settings.specs.declared.filter_rules.namespace_types.NamespaceTypes.{NamespaceTypes}
 use Rattle.filter_settings.specs.filter_rules.NamespaceTypes.{permits}
 use Rattle.filter_settings.specs.Modes.{mode_of}
-use Rattle.filter_settings.specs.Namespaces.{is_plain, says, types_by}
+use Rattle.filter_settings.specs.Namespaces.{begins, counts, says, types_by}
 
 -- the mode of a list with one more value, which may begin it or end it
 abbrev pub next_mode : Option Mode → Listed → Option Mode
@@ -19,6 +20,13 @@ next_type is_later one kind was = unwrap_or (says is_later kind one) was
 abbrev pub next_types : Bool → Listed → NamespaceTypes → NamespaceTypes
 next_types is_later one types = types_by (λ kind. next_type is_later one kind (permits types kind))
 
--- whether a plain list stands before the next value, and no empty value behind it
-abbrev pub next_plain : Bool → Listed → Bool
-next_plain had one = not (is_reset one) && (had || is_plain one)
+-- a value that counts for nothing leaves them as they are
+abbrev pub types_behind : Option Version → Bool → Listed → NamespaceTypes → NamespaceTypes
+types_behind systemd is_later one types = cond (counts systemd one) (next_types is_later one types) types
+
+-- whether a value that begins stands before the next one, and no empty value behind it
+abbrev pub next_begun : Option Version → Bool → Listed → Bool
+next_begun systemd had one = not (is_reset one) && (had || begins systemd one)
+
+abbrev pub begun_behind : Option Version → Bool → Listed → Bool
+begun_behind systemd had one = cond (counts systemd one) (next_begun systemd had one) had

@@ -4,7 +4,7 @@ ghost use Rattle.std.specs.Option.{option_map};
 ghost use Rattle.dropin_merge.specs.unit_grammar.declared.notes.NoteCause.TheVariants.{Value as ValueCause, UnknownName};
 ghost use Rattle.dropin_merge.specs.unit_values.Notes.{notes_at};
 ghost use Rattle.call_table.specs.Lookups.{group_named};
-ghost use Rattle.filter_settings.specs.CallWords.{may_have_suffix, suffixed, word_of, is_known, mention_of, seen};
+ghost use Rattle.filter_settings.specs.CallWords.{may_have_suffix, is_inverted, suffix_of, suffixed, word_of, is_known, mention_of, seen};
 
 use crate::error_actions::error_action;
 use crate::filter_rules::{Mention, Mode};
@@ -12,7 +12,7 @@ use crate::list_words::ListMention;
 use call_rules::Action;
 use call_table::{CallTable, behind_at};
 use dropin_merge::unit_values::{FileNote, Value, note_value};
-use dropin_merge::{NoteCause, Text};
+use dropin_merge::{NoteCause, Text, Version};
 use std::alloc::{AllocError, Global};
 
 /// A word of a line.
@@ -25,6 +25,17 @@ struct CallWord<'a> {
     has_stray: bool,
 }
 
+/// What the suffix of a word is.
+#[derive(Clone, Copy)]
+enum Suffix {
+    /// The action for the calls of the word.
+    IsAction,
+    /// Nothing: the word counts without it.
+    Dropped,
+    /// A reason not to read the word.
+    Refused,
+}
+
 // Only an added word of a list that denies may have a suffix.
 fn may_have_suffix(mode: Mode, adds: bool) -> bool
     ensures { result ≡ may_have_suffix mode adds }
@@ -35,32 +46,51 @@ fn may_have_suffix(mode: Mode, adds: bool) -> bool
     }
 }
 
-fn read_suffixed<'a>(may: bool, name: &'a str, suffix: &str) -> Option<CallWord<'a>>
-    ensures { option_map seen result ≡ suffixed may name.now suffix.now }
+// Returns whether the word stands on a line with `~`.
+fn is_inverted(mode: Mode, adds: bool) -> bool
+    ensures { result ≡ is_inverted mode adds }
 {
-    if !may {
-        return Some(CallWord {
+    match mode {
+        Mode::Allow => !adds,
+        Mode::Deny => adds,
+    }
+}
+
+fn suffix_of(systemd: Option<Version>, mode: Mode, adds: bool) -> Suffix
+    ensures { result ≡ suffix_of systemd mode adds }
+{
+    match systemd {
+        None if may_have_suffix(mode, adds) => Suffix::IsAction,
+        None => Suffix::Dropped,
+        Some(_) if is_inverted(mode, adds) => Suffix::IsAction,
+        Some(_) => Suffix::Refused,
+    }
+}
+
+fn read_suffixed<'a>(kind: Suffix, name: &'a str, suffix: &str) -> Option<CallWord<'a>>
+    ensures { option_map seen result ≡ suffixed kind name.now suffix.now }
+{
+    match kind {
+        Suffix::IsAction => Some(CallWord {
+            name,
+            action: Some(error_action(suffix)?),
+            has_stray: false,
+        }),
+        Suffix::Dropped => Some(CallWord {
             name,
             action: None,
             has_stray: true,
-        });
-    }
-    match error_action(suffix) {
-        Some(action) => Some(CallWord {
-            name,
-            action: Some(action),
-            has_stray: false,
         }),
-        None => None,
+        Suffix::Refused => None,
     }
 }
 
 // Reads a word, or returns None where it cannot be read.
-fn read_word(may: bool, word: &str) -> Option<CallWord<'_>>
-    ensures { option_map seen result ≡ word_of may word.now }
+fn read_word(kind: Suffix, word: &str) -> Option<CallWord<'_>>
+    ensures { option_map seen result ≡ word_of kind word.now }
 {
     match word.split_once(':') {
-        Some((name, suffix)) => read_suffixed(may, name, suffix),
+        Some((name, suffix)) => read_suffixed(kind, name, suffix),
         None => Some(CallWord {
             name: word,
             action: None,
@@ -85,7 +115,7 @@ fn is_known(table: &CallTable, name: &str) -> bool
     }
 }
 
-// Makes the mention of a known name.
+// Makes the mention of a known name. A word with an action lists its calls by it.
 fn known_mention(
     alloc: Global,
     table: &CallTable,
@@ -96,7 +126,7 @@ fn known_mention(
 {
     if is_known(table, word.name) {
         Ok(Some(Mention {
-            adds,
+            adds: adds || word.action.is_some(),
             name: Text::new(alloc, word.name)?,
             action: word.action,
         }))
@@ -138,12 +168,13 @@ impl ListMention for Mention {
     // The mention, where the word can be read and the table has its name.
     fn read(
         alloc: Global,
+        systemd: Option<Version>,
         table: &CallTable,
         mode: Mode,
         adds: bool,
         word: &str,
     ) -> Result<Option<Self>, AllocError> {
-        match read_word(may_have_suffix(mode, adds), word) {
+        match read_word(suffix_of(systemd, mode, adds), word) {
             Some(read) => known_mention(alloc, table, adds, read),
             None => Ok(None),
         }
@@ -152,6 +183,7 @@ impl ListMention for Mention {
     // Notes that the word cannot be read, or else a suffix that counts for nothing, and then a name that the table
     // lacks.
     fn note(
+        systemd: Option<Version>,
         table: &CallTable,
         mode: Mode,
         adds: bool,
@@ -159,7 +191,7 @@ impl ListMention for Mention {
         word: &str,
         notes: &mut Vec<FileNote>,
     ) -> Result<(), AllocError> {
-        match read_word(may_have_suffix(mode, adds), word) {
+        match read_word(suffix_of(systemd, mode, adds), word) {
             Some(read) => {
                 note_stray(read.has_stray, value, notes)?;
                 note_unknown(table, read.name, value, notes)

@@ -27,8 +27,8 @@ mod rules;
 mod settings;
 mod suid;
 
-pub use calls::{allowed_calls, allows_call};
-pub use families::permits_family;
+pub use calls::{allowed_calls, allows_call, denies_no_call};
+pub use families::{denies_no_family, permits_family};
 pub use installed::{Filter, filters};
 pub use mentions::{CallList, FamilyList, FamilyMention, FamilyMentions, Mention, Mentions, Mode};
 pub use names::{FilterName, FilterPlace};

@@ -1,12 +1,13 @@
 //! RestrictNamespaces=: which types of namespaces are permitted (systemd.exec(5), namespaces(7)).
 ghost use Rattle.std.specs.Prelude.{◌≡◌, ◌++◌, IfOk, OnOk, flat_map};
-ghost use Rattle.filter_settings.specs.Namespaces.{switch_of, is_plain, has_word, listed_type, says_by, says, is_type_name, word_notes, namespaces_of, namespaces_notes, unit_namespaces, unit_namespaces_notes};
-ghost use Rattle.filter_settings.specs.Steps.{next_type, next_types, next_plain};
+ghost use Rattle.filter_settings.specs.Namespaces.{switch_of, is_plain, begins, has_word, listed_type, says_by, says, is_type_name, is_type_word, is_valid, counts, word_notes, list_notes, line_notes, namespaces_of, namespaces_notes, unit_namespaces, unit_namespaces_notes};
+ghost use Rattle.std.specs.List.{list_all};
+ghost use Rattle.filter_settings.specs.Steps.{next_type, next_types, types_behind, next_begun, begun_behind};
 
 use crate::filter_rules::{NamespaceType, NamespaceTypes, all_types};
 use call_rules::read_bool;
 use dropin_merge::unit_values::{FileNote, Line, Listed, Said, Value, lines_of_key, note_value};
-use dropin_merge::{NoteCause, Resolved, Text};
+use dropin_merge::{NoteCause, Resolved, Text, Version};
 use std::alloc::{AllocError, Global};
 
 // Reads a value that is a boolean: true permits no type, false permits all.
@@ -21,6 +22,16 @@ fn is_plain(one: &Listed) -> bool
     ensures { result ≡ is_plain one.now }
 {
     switch_of(one).is_none() && !one.line.is_inverted
+}
+
+// Returns whether a plain list behind the value adds its types.
+fn begins(systemd: Option<Version>, one: &Listed) -> bool
+    ensures { result ≡ begins systemd one.now }
+{
+    match systemd {
+        None => is_plain(one),
+        Some(_) => true,
+    }
 }
 
 fn has_word(name: &str, line: &Line) -> bool
@@ -51,7 +62,7 @@ fn says_by(switch: Option<bool>, is_later: bool, kind: NamespaceType, line: &Lin
     }
 }
 
-// Returns what a value says of a type. `is_later` tells that a plain list comes before it.
+// Returns what a value says of a type. `is_later` says whether a plain list adds its types.
 fn says(is_later: bool, kind: NamespaceType, one: &Listed) -> Option<bool>
     ensures { result ≡ says is_later kind one.now }
 {
@@ -65,6 +76,40 @@ fn next_type(is_later: bool, one: &Listed, kind: NamespaceType, was: bool) -> bo
     ensures { result ≡ next_type is_later one.now kind was }
 {
     says(is_later, kind, one).unwrap_or(was)
+}
+
+fn is_type_name(word: &str) -> bool
+    ensures { result ≡ is_type_name word.now }
+{
+    all_types().iter().any(|kind| word == kind.name())
+}
+
+fn is_type_word(word: &str) -> bool
+    ensures { result ≡ is_type_word word.now }
+{
+    is_type_name(word) || word == "time"
+}
+
+fn are_type_words(words: &[Text]) -> bool
+    ensures { result ≡ list_all is_type_word words.now }
+{
+    words.iter().all(|word| is_type_word(word.as_str()))
+}
+
+// Returns whether a value is a boolean, or a list of types.
+fn is_valid(one: &Listed) -> bool
+    ensures { result ≡ is_valid one.now }
+{
+    switch_of(one).is_some() || are_type_words(one.line.words.list())
+}
+
+fn counts(systemd: Option<Version>, one: &Listed) -> bool
+    ensures { result ≡ counts systemd one.now }
+{
+    match systemd {
+        None => true,
+        Some(_) => is_valid(one),
+    }
 }
 
 // Returns the types that are permitted after one more value.
@@ -82,11 +127,38 @@ fn next_types(is_later: bool, one: &Listed, types: NamespaceTypes) -> NamespaceT
     }
 }
 
-// Returns whether a plain list comes before the next value.
-fn next_plain(had: bool, one: &Listed) -> bool
-    ensures { result ≡ next_plain had one.now }
+// Returns the types that are permitted after one more value, which may count for nothing.
+fn types_behind(
+    systemd: Option<Version>,
+    is_later: bool,
+    one: &Listed,
+    types: NamespaceTypes,
+) -> NamespaceTypes
+    ensures { result ≡ types_behind systemd is_later one.now types }
 {
-    !one.is_reset() && (had || is_plain(one))
+    if counts(systemd, one) {
+        next_types(is_later, one, types)
+    } else {
+        types
+    }
+}
+
+// Returns whether a plain list after this value adds its types.
+fn next_begun(systemd: Option<Version>, had: bool, one: &Listed) -> bool
+    ensures { result ≡ next_begun systemd had one.now }
+{
+    !one.is_reset() && (had || begins(systemd, one))
+}
+
+// The same of a value that may count for nothing.
+fn begun_behind(systemd: Option<Version>, had: bool, one: &Listed) -> bool
+    ensures { result ≡ begun_behind systemd had one.now }
+{
+    if counts(systemd, one) {
+        next_begun(systemd, had, one)
+    } else {
+        had
+    }
 }
 
 /// All types are permitted.
@@ -101,22 +173,16 @@ const ALL_PERMITTED: NamespaceTypes = NamespaceTypes {
 };
 
 // Reads the values of such a key in their order.
-fn namespaces_of(all: &[Listed]) -> NamespaceTypes
-    ensures { result ≡ namespaces_of all.now }
+fn namespaces_of(systemd: Option<Version>, all: &[Listed]) -> NamespaceTypes
+    ensures { result ≡ namespaces_of systemd all.now }
 {
     let mut types = ALL_PERMITTED;
-    let mut has_plain = false;
+    let mut is_begun = false;
     for one in all {
-        types = next_types(has_plain, one, types);
-        has_plain = next_plain(has_plain, one);
+        types = types_behind(systemd, is_begun, one, types);
+        is_begun = begun_behind(systemd, is_begun, one);
     }
     types
-}
-
-fn is_type_name(word: &str) -> bool
-    ensures { result ≡ is_type_name word.now }
-{
-    all_types().iter().any(|kind| word == kind.name())
 }
 
 fn note_words(value: &Value, words: &[Text], notes: &mut Vec<FileNote>) -> Result<(), AllocError>
@@ -130,14 +196,41 @@ fn note_words(value: &Value, words: &[Text], notes: &mut Vec<FileNote>) -> Resul
     Ok(())
 }
 
-// Notes the words of all lines.
-fn note_all(all: &[Listed], notes: &mut Vec<FileNote>) -> Result<(), AllocError>
-    ensures { OnOk result (notes.new.items ≡ notes.old.items ++ namespaces_notes all.now) }
+// Notes the words of a list that are no types.
+fn note_list(one: &Listed, notes: &mut Vec<FileNote>) -> Result<(), AllocError>
+    ensures { OnOk result (notes.new.items ≡ notes.old.items ++ list_notes one.now) }
+{
+    if switch_of(one).is_some() {
+        return Ok(());
+    }
+    note_words(&one.value, one.line.words.list(), notes)
+}
+
+// Notes what is wrong with a value.
+fn note_line(
+    systemd: Option<Version>,
+    one: &Listed,
+    notes: &mut Vec<FileNote>,
+) -> Result<(), AllocError>
+    ensures { OnOk result (notes.new.items ≡ notes.old.items ++ line_notes systemd one.now) }
+{
+    match systemd {
+        None => note_list(one, notes),
+        Some(_) if is_valid(one) => Ok(()),
+        Some(_) => note_value(notes, &one.value, NoteCause::Value),
+    }
+}
+
+// Notes what is wrong with the values.
+fn note_all(
+    systemd: Option<Version>,
+    all: &[Listed],
+    notes: &mut Vec<FileNote>,
+) -> Result<(), AllocError>
+    ensures { OnOk result (notes.new.items ≡ notes.old.items ++ namespaces_notes systemd all.now) }
 {
     for one in all {
-        if switch_of(one).is_none() {
-            note_words(&one.value, one.line.words.list(), notes)?;
-        }
+        note_line(systemd, one, notes)?;
     }
     Ok(())
 }
@@ -156,9 +249,9 @@ pub fn namespaces_of_key(
         what: all,
         mut notes,
     } = lines_of_key(alloc, unit, key)?;
-    note_all(all.as_slice(), &mut notes)?;
+    note_all(unit.systemd, all.as_slice(), &mut notes)?;
     Ok(Said {
-        what: namespaces_of(all.as_slice()),
+        what: namespaces_of(unit.systemd, all.as_slice()),
         notes,
     })
 }

@@ -91,6 +91,8 @@ fn read_settings(
             table,
             "SystemCallArchitectures",
         )?.noted_in(notes)?,
+        systemd: unit.systemd,
+        protect_kernel_tunables: flag_of_key(alloc, unit, "ProtectKernelTunables")?.what,
     })
 }
 

@@ -2,7 +2,7 @@
 use Rattle.std.proofs.Common.{◌≡◌, ◌∙◌, ℕ, Bool, true, false, cond, Box, Vec, Global, List, [], ◌∷◌, Option, Some, None, Result, Ok, Err}
 use Rattle.std.proofs.Common.{refl, sym, ap, subst}
 use Rattle.std.specs.Prelude.{◌==◌, IfSome}
-use Rattle.score_command.specs.host_io.Calls.{Ask, ShelfCall, Course, Whole, Went}
+use Rattle.score_command.specs.host_io.Calls.{Ask, ShelfCall, Course, Whole, AsksExactly}
 use Rattle.score_command.specs.host_io.Files.{Files}
 use Rattle.score_command.proofs.OfHostIo.Calling.{told_behind, told_short}
 use Rattle.score_command.specs.call_table.Table.{Table}
@@ -11,9 +11,9 @@ use Rattle.score_command.specs.exposure_score.policy_weights.Weights.{weight_of}
 use Rattle.score_command.specs.site_table.Table.{Site}
 use Rattle.score_command.specs.unit_names.Names.{Name}
 use Rattle.score_command.specs.unit_inputs.command_answers.Asking.{course, input_file, unless_told}
-use Rattle.score_command.specs.unit_inputs.command_answers.Stops.{IsAnswer, Prepares, first_refusal}
-use Rattle.score_command.specs.unit_inputs.declared.command_answers.stop.Stop.{Stop}
-use Rattle.score_command.specs.unit_inputs.declared.command_answers.stop.Stop.TheVariants as stop
+use Rattle.score_command.specs.unit_inputs.command_answers.CommandErrors.{IsAnswer, Prepares, first_refusal}
+use Rattle.score_command.specs.unit_inputs.declared.command_answers.error.CommandError.{CommandError}
+use Rattle.score_command.specs.unit_inputs.declared.command_answers.error.CommandError.TheVariants as stop
 use Rattle.score_command.proofs.OfUnitInputs.Refusing.{before_others}
 use Rattle.fleet_command.specs.fleet_names.Asking.{course as names_course, names_asks}
 use Rattle.fleet_command.specs.fleet_names.Units.{are_too_many, units_of}
@@ -36,38 +36,38 @@ use Rattle.fleet_command.proofs.Prepared.{refused_as}
 -- what the units are named by, and what they are reported by, said as of a step of preparing
 module _ {S : Type 0} (asks : S → ShelfCall → S → Type 0) (told : Option Files) (a b : S) where
   pub named_so : (result end : Result (Vec Name Global) NamesError) → result ≡ end
-      → IfSome told (λ files. Went asks a b (names_asks files) (names_course result))
+      → IfSome told (λ files. AsksExactly asks a b (names_asks files) (names_course result))
       → AsksInOrder asks told names_asks a b (names_course end)
   named_so result end same made =
       record {
         by_the_files = subst
-            (λ (own : Result (Vec Name Global) NamesError). IfSome told (λ files. Went asks a b (names_asks files) (names_course own))) same
+            (λ (own : Result (Vec Name Global) NamesError). IfSome told (λ files. AsksExactly asks a b (names_asks files) (names_course own))) same
             made;
       }
 
   pub reported_so : (inputs : FleetInputs) (stored : StoredTests) (names : List Name) (table : Table)
       (result end : Result (Vec FleetRow Global) FleetError) → names ≡ inputs.names.items → table ≡ inputs.calls.value → result ≡ end
-      → IfSome told (λ files. Went asks a b (unless_weightless (weight_of table stored inputs.policy) (rows_asks files names))
+      → IfSome told (λ files. AsksExactly asks a b (unless_weightless (weight_of table stored inputs.policy) (rows_asks files names))
       (rows_course result))
       → AsksInOrder asks told (λ files. unless_weightless (weight_of (inputs_view inputs).calls stored (inputs_view inputs).policy)
       (rows_asks files (inputs_view inputs).names)) a b (rows_course end)
   reported_so inputs stored names table result end first second same made = record {
     by_the_files =
         subst (λ own. IfSome told
-        (λ files. Went asks a b (unless_weightless (weight_of own stored inputs.policy) (rows_asks files inputs.names.items))
+        (λ files. AsksExactly asks a b (unless_weightless (weight_of own stored inputs.policy) (rows_asks files inputs.names.items))
         (rows_course end))) second
         (subst (λ own. IfSome told
-        (λ files. Went asks a b (unless_weightless (weight_of table stored inputs.policy) (rows_asks files own)) (rows_course end)))
+        (λ files. AsksExactly asks a b (unless_weightless (weight_of table stored inputs.policy) (rows_asks files own)) (rows_course end)))
         first
         (subst (λ (own : Result (Vec FleetRow Global) FleetError). IfSome told
-        (λ files. Went asks a b (unless_weightless (weight_of table stored inputs.policy) (rows_asks files names)) (rows_course own)))
+        (λ files. AsksExactly asks a b (unless_weightless (weight_of table stored inputs.policy) (rows_asks files names)) (rows_course own)))
         same made));
   }
 
 module _ {S : Type 0} (asks : S → ShelfCall → S → Type 0) (told : Option Files) (path : List ℕ) where
   -- ---- what is read before the first unit
   module _ (a b : S) where
-    pub stops_at_names : (why : Stop)
+    pub stops_at_names : (why : CommandError)
         → IfSome told (λ files. IsAnswer {T = Vec Name Global} (λ own. own.items) (Err why) (names_in files))
         → AsksInOrder asks told names_asks a b (course {T = Vec Name Global} (Err why))
         → AsksInOrder asks told (λ files. read_asks files path) a b (course {T = Vec Name Global} (Err why))
@@ -82,32 +82,32 @@ module _ {S : Type 0} (asks : S → ShelfCall → S → Type 0) (told : Option F
         order_answered asks told names_asks a b (λ (own : Vec Name Global). own.items) names_in
         (λ files. behind_names files path) c between own how same said first second
 
-    pub stops_at_table : (why : Stop)
+    pub stops_at_table : (why : CommandError)
         → IfSome told (λ files. IsAnswer {T = Box Table Global} (λ own. own.value) (Err why) (calls_in files))
-        → Went asks a b table_asks (course {T = Box Table Global} (Err why))
+        → AsksExactly asks a b table_asks (course {T = Box Table Global} (Err why))
         → AsksInOrder asks told (λ files. behind_names files path) a b (course {T = Box Table Global} (Err why))
     stops_at_table why said made =
         order_refused asks told (λ files. table_asks) a b (λ (own : Box Table Global). own.value) calls_in
         (λ files. behind_site files path) why said (asked_so asks told table_asks a b (course {T = Box Table Global} (Err why)) made)
 
     pub behind_the_table : (c : S) (between : Option Files) (own : Box Table Global) (how : Course) → between ≡ told
-        → IfSome told (λ files. calls_in files ≡ Ok own.value) → Went asks a b table_asks Whole
+        → IfSome told (λ files. calls_in files ≡ Ok own.value) → AsksExactly asks a b table_asks Whole
         → AsksInOrder asks between (λ files. behind_site files path) b c how
         → AsksInOrder asks told (λ files. behind_names files path) a c how
     behind_the_table c between own how same said first second =
         order_answered asks told (λ files. table_asks) a b (λ (own : Box Table Global). own.value) calls_in
         (λ files. behind_site files path) c between own how same said (asked_so asks told table_asks a b Whole first) second
 
-    pub stops_at_site : (why : Stop) → IfSome told (λ files. IsAnswer {T = Box Site Global} (λ own. own.value) (Err why) (site_in files))
-        → Went asks a b site_asks (course {T = Box Site Global} (Err why))
+    pub stops_at_site : (why : CommandError) → IfSome told (λ files. IsAnswer {T = Box Site Global} (λ own. own.value) (Err why) (site_in files))
+        → AsksExactly asks a b site_asks (course {T = Box Site Global} (Err why))
         → AsksInOrder asks told (λ files. behind_site files path) a b (course {T = Box Site Global} (Err why))
     stops_at_site why said made =
         order_refused asks told (λ files. site_asks) a b (λ (own : Box Site Global). own.value) site_in
         (λ files. input_file path ∷ []) why said (asked_so asks told site_asks a b (course {T = Box Site Global} (Err why)) made)
 
     pub behind_the_site : (c : S) (between : Option Files) (own : Box Site Global) (how : Course) → between ≡ told
-        → IfSome told (λ files. site_in files ≡ Ok own.value) → Went asks a b site_asks Whole
-        → Went asks b c (input_file path ∷ []) how → AsksInOrder asks told (λ files. behind_site files path) a c how
+        → IfSome told (λ files. site_in files ≡ Ok own.value) → AsksExactly asks a b site_asks Whole
+        → AsksExactly asks b c (input_file path ∷ []) how → AsksInOrder asks told (λ files. behind_site files path) a c how
     behind_the_site c between own how same said first second =
         order_answered asks told (λ files. site_asks) a b (λ (own : Box Site Global). own.value) site_in
         (λ files. input_file path ∷ []) c between own how same said (asked_so asks told site_asks a b Whole first)
@@ -116,7 +116,7 @@ module _ {S : Type 0} (asks : S → ShelfCall → S → Type 0) (told : Option F
   -- ---- the units
   module _ (stored : StoredTests) (a b : S) where
     -- something is refused, or a read failed, or memory ran out, before the first unit is read
-    stopped_none : (files : Files) (why : Stop) → Prepares {T = FleetInputs} (λ inputs. AreInputs files path (inputs_view inputs))
+    stopped_none : (files : Files) (why : CommandError) → Prepares {T = FleetInputs} (λ inputs. AreInputs files path (inputs_view inputs))
         (read_refusals files path) (Err why)
         → course {T = FleetInputs} (Err why) ≡ Whole → unless_told (first_refusal (fleet_refusals files path stored))
         (rows_asks files (units_of files)) ≡ []
@@ -126,7 +126,7 @@ module _ {S : Type 0} (asks : S → ShelfCall → S → Type 0) (told : Option F
     stopped_none files stop.ReadFault said whole = cc
     stopped_none files stop.Memory said whole = cc
 
-    pub stops_before : (why : Stop)
+    pub stops_before : (why : CommandError)
         → IfSome told (λ files. Prepares {T = FleetInputs} (λ inputs. AreInputs files path (inputs_view inputs))
         (read_refusals files path) (Err why))
         → AsksInOrder asks told (λ files. read_asks files path) a b (course {T = FleetInputs} (Err why))

@@ -2,7 +2,7 @@
 use Rattle.std.proofs.Common.{◌≡◌, ℕ, ◌+◌, ◌<◌, true, List, [], ◌∷◌, drop, get_or, length, Option, Some, Ok, Err, map, Vec, String, Global}
 use Rattle.std.proofs.Common.{Bor, refl, ◌∙◌, subst}
 use Rattle.std.specs.Prelude.{IfSome}
-use Rattle.score_command.specs.host_io.Calls.{ShelfCall, Whole, Cut, Went, NamesIn}
+use Rattle.score_command.specs.host_io.Calls.{ShelfCall, Whole, Cut, AsksExactly, NamesIn}
 use Rattle.score_command.specs.host_io.Files.{Files, names_in}
 use Rattle.score_command.proofs.OfHostIo.Calling.{Going, goes_on, stops_there, went_cut}
 use Rattle.score_command.specs.dropin_merge.Asking.{folder_asks}
@@ -44,7 +44,7 @@ module _ {S : Type 0} (asks : S → ShelfCall → S → Type 0) (start told : Op
   -- a folder that is listed
   pub folder_more : (names : Vec (String Global) Global) → IfSome told
       (λ files. ListsFolder (names_in files (get_or folders i d).now) (Ok names))
-      → Went asks b c (NamesIn (get_or folders i d).now ∷ []) Whole
+      → AsksExactly asks b c (NamesIn (get_or folders i d).now ∷ []) Whole
       → (files : Files) → start ≡ Some files → GoesThrough asks a c folders (i + 1) files
   folder_more names listed made files known =
       goes_on asks (is_overfull files) NamesIn a b c (folder_asks files (map (λ (folder : Bor (List ℕ)). folder.now) folders))
@@ -55,13 +55,13 @@ module _ {S : Type 0} (asks : S → ShelfCall → S → Type 0) (start told : Op
   -- one that is not
   pub folder_stops : (T : Type 0) (error : NamesError) → IfSome told
       (λ files. ListsFolder (names_in files (get_or folders i d).now) (Err error))
-      → Went asks b c (NamesIn (get_or folders i d).now ∷ []) (course {T = Vec (String Global) Global} (Err error))
-      → IfSome start (λ files. Went asks a c (folder_asks files (map (λ folder. folder.now) folders)) (course {T = T} (Err error)))
+      → AsksExactly asks b c (NamesIn (get_or folders i d).now ∷ []) (course {T = Vec (String Global) Global} (Err error))
+      → IfSome start (λ files. AsksExactly asks a c (folder_asks files (map (λ folder. folder.now) folders)) (course {T = T} (Err error)))
   folder_stops T error listed made =
-      told_to (λ files. Went asks a c (folder_asks files (map (λ (folder : Bor (List ℕ)). folder.now) folders))
+      told_to (λ files. AsksExactly asks a c (folder_asks files (map (λ (folder : Bor (List ℕ)). folder.now) folders))
       (course {T = T} (Err error))) start
       (λ files known.
-      subst (Went asks a c (folder_asks files (map (λ (folder : Bor (List ℕ)). folder.now) folders)))
+      subst (AsksExactly asks a c (folder_asks files (map (λ (folder : Bor (List ℕ)). folder.now) folders)))
       (course_as (Vec (String Global) Global) T error)
       (stops_there asks (is_overfull files) NamesIn a b c (folder_asks files (map (λ (folder : Bor (List ℕ)). folder.now) folders))
       (get_or folders i d).now (map (λ (folder : Bor (List ℕ)). folder.now) (drop (i + 1) folders))
@@ -71,10 +71,10 @@ module _ {S : Type 0} (asks : S → ShelfCall → S → Type 0) (start told : Op
       (at_folder files known) made))
 
   -- memory ran out behind one that is listed
-  pub folder_cut : Went asks b c (NamesIn (get_or folders i d).now ∷ []) Whole
-      → IfSome start (λ files. Went asks a c (folder_asks files (map (λ folder. folder.now) folders)) Cut)
+  pub folder_cut : AsksExactly asks b c (NamesIn (get_or folders i d).now ∷ []) Whole
+      → IfSome start (λ files. AsksExactly asks a c (folder_asks files (map (λ folder. folder.now) folders)) Cut)
   folder_cut made =
-      told_to (λ files. Went asks a c (folder_asks files (map (λ (folder : Bor (List ℕ)). folder.now) folders)) Cut) start
+      told_to (λ files. AsksExactly asks a c (folder_asks files (map (λ (folder : Bor (List ℕ)). folder.now) folders)) Cut) start
       (λ files known.
       stops_there asks (is_overfull files) NamesIn a b c (folder_asks files (map (λ (folder : Bor (List ℕ)). folder.now) folders))
       (get_or folders i d).now (map (λ (folder : Bor (List ℕ)). folder.now) (drop (i + 1) folders))

@@ -4,13 +4,13 @@ use Rattle.std.specs.Prelude.{IfSome, IsTrue}
 use Rattle.score_command.specs.host_io.Files.{Files}
 use Rattle.score_command.specs.exposure_score.StoredTests.{StoredTests}
 use Rattle.score_command.specs.exposure_score.policy_weights.Weights.{weight_of}
-use Rattle.score_command.specs.unit_inputs.command_answers.Endings.{is_answer}
+use Rattle.score_command.specs.unit_inputs.command_answers.ExitStatuses.{is_answer}
 use Rattle.score_command.specs.unit_inputs.command_answers.Laws.{AcceptsFiles, GoTogether, IsAdmitted, laws_over}
-use Rattle.score_command.specs.unit_inputs.command_answers.Stops.{Prepares, first_refusal}
-use Rattle.score_command.specs.unit_inputs.declared.command_answers.ending.Ending.{Ending}
-use Rattle.score_command.specs.unit_inputs.declared.command_answers.ending.Ending.TheVariants.{Done}
-use Rattle.score_command.specs.unit_inputs.declared.command_answers.stop.Stop.{Stop}
-use Rattle.score_command.specs.unit_inputs.declared.command_answers.stop.Stop.TheVariants as stop
+use Rattle.score_command.specs.unit_inputs.command_answers.CommandErrors.{Prepares, first_refusal}
+use Rattle.score_command.specs.unit_inputs.declared.command_answers.exit_status.ExitStatus.{ExitStatus}
+use Rattle.score_command.specs.unit_inputs.declared.command_answers.exit_status.ExitStatus.TheVariants.{Done}
+use Rattle.score_command.specs.unit_inputs.declared.command_answers.error.CommandError.{CommandError}
+use Rattle.score_command.specs.unit_inputs.declared.command_answers.error.CommandError.TheVariants as stop
 use Rattle.score_command.proofs.OfUnitInputs.FileCommands.{go_together, ready_is_admitted, stop_is_admitted}
 use Rattle.score_command.proofs.OfUnitInputs.Refusing.{behind_none, stops_as, stops_before}
 use Rattle.score_command.specs.unit_inputs.CallsRefusals.{calls_in}
@@ -18,26 +18,26 @@ use Rattle.score_command.specs.Policies.{policy_in}
 use Rattle.score_command.specs.Weights.{weight_refusal}
 use Rattle.fleet_command.specs.declared.fleet_report.rows.FleetRow.{FleetRow}
 use Rattle.fleet_command.specs.Inputs.{AreInputs, inputs_view}
-use Rattle.fleet_command.specs.Prints.{PrintsFleet, ending_of, fleet_laws, text_of}
+use Rattle.fleet_command.specs.Prints.{PrintsFleet, status_of, fleet_laws, text_of}
 use Rattle.fleet_command.specs.Refusals.{fleet_refusals, read_refusals, weights_in}
 use Rattle.fleet_command.specs.Reports.{AreFleet}
 use Rattle.fleet_command.specs.declared.preparing.FleetInputs.{FleetInputs}
 
 module _ (told : Option Files) (path : List ℕ) (stored : StoredTests) where
   -- a report ends as done
-  answered : (ending : Ending) → ending ≡ Done → IsTrue (is_answer ending)
-  answered ending done = subst (λ e. IsTrue (is_answer e)) (sym done) refl
+  answered : (status : ExitStatus) → status ≡ Done → IsTrue (is_answer status)
+  answered status done = subst (λ e. IsTrue (is_answer e)) (sym done) refl
 
   pub together : GoTogether (laws_over told (fleet_laws path stored))
   together = go_together (fleet_laws path stored) told answered
 
 module _ (told : Option Files) (path : List ℕ) (stored : StoredTests) where
   -- something is refused before the first unit is read
-  pub stops_before_units : (why : Stop)
+  pub stops_before_units : (why : CommandError)
       → IfSome told (λ files. Prepares {T = FleetInputs} (λ inputs. AreInputs files path (inputs_view inputs)) (read_refusals files path)
       (Err why))
-      → IsAdmitted (laws_over told (fleet_laws path stored)) ending_of text_of (Err why)
-  stops_before_units why said = stop_is_admitted (fleet_laws path stored) ending_of text_of (λ (inputs : FleetInputs). Unit {0}) told why
+      → IsAdmitted (laws_over told (fleet_laws path stored)) status_of text_of (Err why)
+  stops_before_units why said = stop_is_admitted (fleet_laws path stored) status_of text_of (λ (inputs : FleetInputs). Unit {0}) told why
       (refused told said)
     where
       refused : (told : Option Files)
@@ -61,14 +61,14 @@ module _ (told : Option Files) (path : List ℕ) (stored : StoredTests) where
         ∙ ap (λ calls. first_refusal (weights_in path stored calls (policy_in files path))) is.1.calls
         ∙ ap (λ policy. first_refusal (weights_in path stored (Ok (inputs_view inputs).calls) policy)) is.1.policy
 
-    pub stops_at_weights : (why : Stop)
+    pub stops_at_weights : (why : CommandError)
         → IfSome told (λ files. Prepares {T = Vec FleetRow Global} (λ rows. AreFleet files (inputs_view inputs) stored rows.items)
         (weight_refusal path (weight_of (inputs_view inputs).calls stored (inputs_view inputs).policy) ∷ []) (Err why))
-        → IsAdmitted (laws_over told (fleet_laws path stored)) ending_of text_of (Err why)
-    stops_at_weights why said = stop_is_admitted (fleet_laws path stored) ending_of text_of
+        → IsAdmitted (laws_over told (fleet_laws path stored)) status_of text_of (Err why)
+    stops_at_weights why said = stop_is_admitted (fleet_laws path stored) status_of text_of
         (λ (rows : Vec FleetRow Global). Unit {0}) told why (refused told read said)
       where
-        as_any : (refusals : List (Option (List ℕ))) (P : Vec FleetRow Global → Type 0) (why : Stop) → Prepares P refusals (Err why)
+        as_any : (refusals : List (Option (List ℕ))) (P : Vec FleetRow Global → Type 0) (why : CommandError) → Prepares P refusals (Err why)
             → Prepares (λ (rows : Vec FleetRow Global). Unit {0}) refusals (Err why)
         as_any refusals P (stop.Refused line) said = said
         as_any refusals P stop.ReadFault said = tt
@@ -92,8 +92,8 @@ module _ (told : Option Files) (path : List ℕ) (stored : StoredTests) where
     pub ready : (rows : Vec FleetRow Global)
         → IfSome told (λ files. Prepares {T = Vec FleetRow Global} (λ rows. AreFleet files (inputs_view inputs) stored rows.items)
         (weight_refusal path (weight_of (inputs_view inputs).calls stored (inputs_view inputs).policy) ∷ []) (Ok rows))
-        → IsAdmitted (laws_over told (fleet_laws path stored)) ending_of text_of (Ok (record { rows = rows }))
-    ready rows made = ready_is_admitted (fleet_laws path stored) ending_of text_of told (record { rows = rows }) refl
+        → IsAdmitted (laws_over told (fleet_laws path stored)) status_of text_of (Ok (record { rows = rows }))
+    ready rows made = ready_is_admitted (fleet_laws path stored) status_of text_of told (record { rows = rows }) refl
         (prints_it told read made)
       where
         prints_it : (told : Option Files)

@@ -12,8 +12,8 @@ use Rattle.score_command.specs.site_table.Table.{Site}
 use Rattle.score_command.specs.exposure_score.StoredTests.{StoredTests}
 use Rattle.score_command.specs.exposure_score.declared.policy_file.policy.PolicyTest.{PolicyTest}
 use Rattle.score_command.specs.exposure_score.policy_weights.Weights.{weight_of}
-use Rattle.score_command.specs.unit_inputs.command_answers.Stops.{Prepares, first_refusal, stop_of}
-use Rattle.score_command.specs.unit_inputs.declared.command_answers.stop.Stop.{Stop}
+use Rattle.score_command.specs.unit_inputs.command_answers.CommandErrors.{Prepares, first_refusal, error_of_line}
+use Rattle.score_command.specs.unit_inputs.declared.command_answers.error.CommandError.{CommandError}
 use Rattle.score_command.specs.Weights.{no_weight_line, weight_refusal}
 use Rattle.fleet_command.specs.fleet_report.Order.{AreInOrder}
 use Rattle.fleet_command.specs.fleet_report.Outcomes.{IsRowOf}
@@ -74,7 +74,7 @@ reported told path inputs stored names table site rows first second third weight
 
 -- and one that weighs nothing has its line
 pub weightless : {T : Type 0} (told : Option Files) (P : Files → T → Type 0) (path : List ℕ) (weight : ℕ)
-    (line : Result (Vec ℕ Global) AllocError) (why : Stop) → weight ≡ 0 → why ≡ stop_of line
+    (line : Result (Vec ℕ Global) AllocError) (why : CommandError) → weight ≡ 0 → why ≡ error_of_line line
     → IfOk line (λ line. line.items ≡ no_weight_line path)
     → IfSome told (λ files. Prepares (P files) (weight_refusal path weight ∷ []) (Err why))
 weightless None P path weight line why none is tells = tt
@@ -82,6 +82,6 @@ weightless (Some files) P path weight line why none is tells =
     subst (λ own. Prepares (P files) (weight_refusal path weight ∷ []) (Err own)) (sym is) (by_line line tells)
   where
     by_line : (line : Result (Vec ℕ Global) AllocError) → IfOk line (λ line. line.items ≡ no_weight_line path)
-        → Prepares (P files) (weight_refusal path weight ∷ []) (Err (stop_of line))
+        → Prepares (P files) (weight_refusal path weight ∷ []) (Err (error_of_line line))
     by_line (Ok line) tells = ap (λ n. first_refusal (weight_refusal path n ∷ [])) none ∙ ap Some (sym tells)
     by_line (Err error) tells = tt

@@ -4,7 +4,7 @@ use Rattle.score_command.specs.host_io.Calls.{Ask, unless_refused}
 use Rattle.score_command.specs.host_io.Files.{Files}
 use Rattle.score_command.specs.exposure_score.StoredTests.{StoredTests}
 use Rattle.score_command.specs.unit_inputs.command_answers.Asking.{input_file, unless_told}
-use Rattle.score_command.specs.unit_inputs.command_answers.Stops.{first_refusal}
+use Rattle.score_command.specs.unit_inputs.command_answers.CommandErrors.{first_refusal}
 use Rattle.fleet_command.specs.fleet_names.Asking.{names_asks}
 use Rattle.fleet_command.specs.fleet_names.Units.{units_of}
 use Rattle.fleet_command.specs.fleet_report.Asking.{rows_asks}

@@ -3,8 +3,8 @@ use Rattle.std.specs.Prelude.{◌≡◌, ℕ, List}
 use Rattle.score_command.specs.host_io.Files.{Files}
 use Rattle.score_command.specs.exposure_score.StoredTests.{StoredTests}
 use Rattle.score_command.specs.unit_inputs.command_answers.Laws.{FileLaws}
-use Rattle.score_command.specs.unit_inputs.declared.command_answers.ending.Ending.{Ending}
-use Rattle.score_command.specs.unit_inputs.declared.command_answers.ending.Ending.TheVariants.{Done}
+use Rattle.score_command.specs.unit_inputs.declared.command_answers.exit_status.ExitStatus.{ExitStatus}
+use Rattle.score_command.specs.unit_inputs.declared.command_answers.exit_status.ExitStatus.TheVariants.{Done}
 use Rattle.fleet_command.specs.declared.fleet_report.rows.FleetRow.{FleetRow}
 use Rattle.fleet_command.specs.Inputs.{AreInputs, Inputs}
 use Rattle.fleet_command.specs.Refusals.{fleet_refusals}
@@ -24,8 +24,8 @@ pub record PrintsFleet (files : Files) (path : List ℕ) (stored : StoredTests) 
 abbrev pub fleet_laws : List ℕ → StoredTests → FileLaws
 fleet_laws path stored = record {
   refusals = λ files. fleet_refusals files path stored;
-  prints = λ files ending text. PrintsFleet files path stored text;
-  may_end = λ ending. ending ≡ Done;
+  prints = λ files status text. PrintsFleet files path stored text;
+  may_end = λ status. status ≡ Done;
   reads = Unit {0};
 }
 
@@ -33,5 +33,5 @@ fleet_laws path stored = record {
 abbrev pub text_of : Fleet → List ℕ
 text_of fleet = fleet_text fleet.rows.items
 
-abbrev pub ending_of : Fleet → Ending
-ending_of fleet = Done
+abbrev pub status_of : Fleet → ExitStatus
+status_of fleet = Done

@@ -7,7 +7,7 @@ use Rattle.score_command.specs.exposure_score.declared.policy_file.policy.Policy
 use Rattle.score_command.specs.exposure_score.policy_weights.Weights.{weight_of}
 use Rattle.score_command.specs.unit_names.Names.{Name}
 use Rattle.score_command.specs.unit_inputs.command_answers.Refusals.{refused_line}
-use Rattle.score_command.specs.unit_inputs.command_answers.Stops.{refusal_in}
+use Rattle.score_command.specs.unit_inputs.command_answers.CommandErrors.{refusal_in}
 use Rattle.score_command.specs.unit_inputs.CallsRefusals.{calls_in}
 use Rattle.score_command.specs.unit_inputs.SiteRefusals.{site_in}
 use Rattle.score_command.specs.Policies.{policy_in}

@@ -2,16 +2,16 @@
 ghost use Rattle.std.specs.Prelude.{◌≡◌};
 ghost use Rattle.score_command.specs.unit_inputs.command_answers.Asking.{course};
 ghost use Rattle.score_command.specs.unit_inputs.command_answers.Laws.{IsAdmitted, laws_over};
-ghost use Rattle.score_command.specs.unit_inputs.command_answers.Stops.{HasReadCause};
+ghost use Rattle.score_command.specs.unit_inputs.command_answers.CommandErrors.{HasReadCause};
 ghost use Rattle.score_command.specs.unit_inputs.Asking.{AsksInOrder};
 ghost use Rattle.fleet_command.specs.Asking.{fleet_asks};
-ghost use Rattle.fleet_command.specs.Prints.{ending_of, fleet_laws, text_of};
+ghost use Rattle.fleet_command.specs.Prints.{status_of, fleet_laws, text_of};
 
 use crate::preparing::read_all;
 use crate::ready::Fleet;
 use crate::reporting::report;
 use host_io::Shelf;
-use score_command::{CustomTest, Stop, Stored};
+use score_command::{CommandError, CustomTest, Stored};
 use std::alloc::Global;
 
 /// Prepares `fleet` and the path of a policy. It lists the units, reads calls.txt, site.toml and the policy, and finds the
@@ -24,8 +24,8 @@ pub fn prepare<S: Shelf>(
     shelf: &mut S,
     path: &str,
     tests: &[CustomTest],
-) -> Result<Fleet, Stop>
-    ensures prepares { IsAdmitted (laws_over (S.told shelf.old) (fleet_laws path.now (⟦<CustomTest as Stored>⟧.stored tests.now))) ending_of text_of result }
+) -> Result<Fleet, CommandError>
+    ensures prepares { IsAdmitted (laws_over (S.told shelf.old) (fleet_laws path.now (⟦<CustomTest as Stored>⟧.stored tests.now))) status_of text_of result }
     ensures asks_in_order { AsksInOrder S.asks (S.told shelf.old) (λ files. fleet_asks files path.now (⟦<CustomTest as Stored>⟧.stored tests.now)) shelf.old shelf.new (course result) }
     ensures map_stays { S.told shelf.new ≡ S.told shelf.old }
     ensures fault_rose { HasReadCause (S.faults shelf.old) (S.faults shelf.new) result }

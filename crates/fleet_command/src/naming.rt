@@ -1,18 +1,18 @@
 //! The names of the units, with the line of their refusal.
 ghost use Rattle.std.specs.Prelude.{◌≡◌, IfSome};
 ghost use Rattle.score_command.specs.unit_inputs.command_answers.Asking.{course};
-ghost use Rattle.score_command.specs.unit_inputs.command_answers.Stops.{HasReadCause, IsAnswer};
+ghost use Rattle.score_command.specs.unit_inputs.command_answers.CommandErrors.{HasReadCause, IsAnswer};
 ghost use Rattle.fleet_command.specs.fleet_names.Asking.{names_asks};
 ghost use Rattle.score_command.specs.unit_inputs.Asking.{AsksInOrder};
 ghost use Rattle.fleet_command.specs.Refusals.{names_in};
 
 use crate::fleet_names::{NamesError, fleet_names};
 use host_io::Shelf;
-use score_command::{Stop, UnitName, refuse, refused_line};
+use score_command::{CommandError, UnitName, refuse, refused_line};
 use std::alloc::Global;
 
 /// The names of the units in byte order, or the line that there are too many.
-pub fn read_names<S: Shelf>(alloc: Global, shelf: &mut S) -> Result<Vec<UnitName>, Stop>
+pub fn read_names<S: Shelf>(alloc: Global, shelf: &mut S) -> Result<Vec<UnitName>, CommandError>
     ensures reads_the_names { IfSome (S.told shelf.old) (λ files. IsAnswer (λ names. names.items) result (names_in files)) }
     ensures asks_in_order { AsksInOrder S.asks (S.told shelf.old) names_asks shelf.old shelf.new (course result) }
     ensures map_stays { S.told shelf.new ≡ S.told shelf.old }
@@ -21,7 +21,7 @@ pub fn read_names<S: Shelf>(alloc: Global, shelf: &mut S) -> Result<Vec<UnitName
     match fleet_names(alloc, shelf) {
         Ok(names) => Ok(names),
         Err(NamesError::TooMany) => Err(refuse(refused_line(alloc, "fleet", b"too-many"))),
-        Err(NamesError::ReadFault) => Err(Stop::ReadFault),
-        Err(NamesError::Memory) => Err(Stop::Memory),
+        Err(NamesError::ReadFault) => Err(CommandError::ReadFault),
+        Err(NamesError::Memory) => Err(CommandError::Memory),
     }
 }

@@ -1,7 +1,7 @@
 //! What `fleet` reads before the first unit.
 ghost use Rattle.std.specs.Prelude.{◌≡◌, IfSome};
 ghost use Rattle.score_command.specs.unit_inputs.command_answers.Asking.{course};
-ghost use Rattle.score_command.specs.unit_inputs.command_answers.Stops.{HasReadCause, Prepares};
+ghost use Rattle.score_command.specs.unit_inputs.command_answers.CommandErrors.{HasReadCause, Prepares};
 ghost use Rattle.score_command.specs.unit_inputs.Asking.{AsksInOrder};
 ghost use Rattle.fleet_command.specs.Asking.{read_asks};
 ghost use Rattle.fleet_command.specs.Inputs.{AreInputs, inputs_view};
@@ -10,7 +10,7 @@ ghost use Rattle.fleet_command.specs.Refusals.{read_refusals};
 use crate::naming::read_names;
 use host_io::Shelf;
 use score_command::{
-    CallTable, Policy, SiteTable, Stop, UnitName, read_policy, read_site, read_table,
+    CallTable, CommandError, Policy, SiteTable, UnitName, read_policy, read_site, read_table,
 };
 use std::alloc::Global;
 
@@ -28,7 +28,11 @@ pub struct FleetInputs {
 }
 
 /// Reads the names of the units, calls.txt, site.toml and the policy, and finds the first refusal of them.
-pub fn read_all<S: Shelf>(alloc: Global, shelf: &mut S, path: &str) -> Result<FleetInputs, Stop>
+pub fn read_all<S: Shelf>(
+    alloc: Global,
+    shelf: &mut S,
+    path: &str,
+) -> Result<FleetInputs, CommandError>
     ensures prepares { IfSome (S.told shelf.old) (λ files. Prepares (λ inputs. AreInputs files path.now (inputs_view inputs)) (read_refusals files path.now) result) }
     ensures asks_in_order { AsksInOrder S.asks (S.told shelf.old) (λ files. read_asks files path.now) shelf.old shelf.new (course result) }
     ensures map_stays { S.told shelf.new ≡ S.told shelf.old }

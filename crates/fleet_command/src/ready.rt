@@ -3,7 +3,7 @@
 use crate::fleet_report::FleetRow;
 use crate::printing::print_fleet;
 use host_io::{Sink, SinkError};
-use score_command::{Ending, UnitInputsReady as Ready};
+use score_command::{ExitStatus, UnitInputsReady as Ready};
 use std::alloc::Global;
 
 /// What came of all units.
@@ -14,14 +14,14 @@ pub struct Fleet {
 }
 
 impl Ready for Fleet {
-    ghost use Rattle.fleet_command.specs.Prints.{ending_of, text_of};
+    ghost use Rattle.fleet_command.specs.Prints.{status_of, text_of};
 
     ghost text = { text_of };
 
-    ghost ending = { ending_of };
+    ghost status = { status_of };
 
-    fn ending(&self) -> Ending {
-        Ending::Done
+    fn status(&self) -> ExitStatus {
+        ExitStatus::Done
     }
 
     fn print<K: Sink>(&mut self, alloc: Global, out: &mut K) -> Result<(), SinkError> {

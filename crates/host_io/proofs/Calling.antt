@@ -4,7 +4,7 @@ use Rattle.std.proofs.Common.{◌∙◌, subst, append_assoc, append-nil}
 use Rattle.std.specs.Prelude.{IfSome}
 use Rattle.std.proofs.lemmas.List.{map-append}
 use Rattle.host_io.specs.Files.{Files}
-use Rattle.host_io.specs.Calls.{Ask, ShelfCall, Calls, Course, Whole, Faulted, Cut, Went, answers, fails, answered, call_of, course_of}
+use Rattle.host_io.specs.Calls.{Ask, ShelfCall, Calls, Course, Whole, Faulted, Cut, AsksExactly, answers, fails, answered, call_of, course_of}
 use Rattle.host_io.specs.Calls.{up_to}
 use Rattle.host_io.specs.declared.reading.ShelfError.{ShelfError}
 use Rattle.host_io.specs.declared.reading.ShelfError.TheVariants.{Missing, TooLarge, Failed, Memory}
@@ -16,7 +16,7 @@ module _ {S : Type 0} (asks : S → ShelfCall → S → Type 0) where
 
   -- one call
   pub one_call : {T : Type 0} (a b : S) (ask : Ask) (result : Result T ShelfError) → asks a (call_of ask result) b
-      → Went asks a b (ask ∷ []) (course_of result)
+      → AsksExactly asks a b (ask ∷ []) (course_of result)
   one_call a b ask (Ok value) made = (b, made, refl)
   one_call a b ask (Err Missing) made = (b, made, refl)
   one_call a b ask (Err TooLarge) made = (b, made, refl)
@@ -24,15 +24,15 @@ module _ {S : Type 0} (asks : S → ShelfCall → S → Type 0) where
   one_call a b ask (Err Memory) made = (ask ∷ [], [], refl, (b, made, refl))
 
   -- memory may run out behind the last call
-  pub went_cut : (a b : S) (x : List Ask) → Went asks a b x Whole → Went asks a b x Cut
+  pub went_cut : (a b : S) (x : List Ask) → AsksExactly asks a b x Whole → AsksExactly asks a b x Cut
   went_cut a b x made = (x, [], append-nil x, made)
 
-  pub went_as : (a b : S) (x y : List Ask) (course : Course) → x ≡ y → Went asks a b x course → Went asks a b y course
-  went_as a b x y course same made = subst (λ wanted. Went asks a b wanted course) same made
+  pub went_as : (a b : S) (x y : List Ask) (course : Course) → x ≡ y → AsksExactly asks a b x course → AsksExactly asks a b y course
+  went_as a b x y course same made = subst (λ wanted. AsksExactly asks a b wanted course) same made
 
   -- The lemma of composition: a reader behind one that went the whole way
-  pub went_behind : (a b c : S) (x y : List Ask) (course : Course) → Went asks a b x Whole → Went asks b c y course
-      → Went asks a c (x ++ y) course
+  pub went_behind : (a b c : S) (x y : List Ask) (course : Course) → AsksExactly asks a b x Whole → AsksExactly asks b c y course
+      → AsksExactly asks a c (x ++ y) course
   went_behind a b c x y Whole first second = subst (Calls asks a c) (sym (map-append answers x y))
       (calls_behind a b c (answered x) (answered y) first second)
   went_behind a b c x y Faulted first (front, rest, ask, is, second) = (
@@ -52,8 +52,8 @@ module _ {S : Type 0} (asks : S → ShelfCall → S → Type 0) where
   )
 
   -- and one that did not go the whole way leaves the other
-  pub went_short : (a b : S) (x y : List Ask) (course : Course) → (course ≡ Whole → ⊥) → Went asks a b x course
-      → Went asks a b (x ++ y) course
+  pub went_short : (a b : S) (x y : List Ask) (course : Course) → (course ≡ Whole → ⊥) → AsksExactly asks a b x course
+      → AsksExactly asks a b (x ++ y) course
   went_short a b x y Whole short made = absurd (short refl)
   went_short a b x y Faulted short (front, rest, ask, is, made) =
       (front, rest ++ y, ask, sym (append_assoc front (ask ∷ rest) y) ∙ ap (λ l. l ++ y) is, made)
@@ -65,28 +65,28 @@ module _ {S : Type 0} (asks : S → ShelfCall → S → Type 0) where
     pub is : front ++ left ≡ whole
     pub made : Calls asks before now (answered front)
 
-  pub going_more : (a b c : S) (whole x left : List Ask) → Going a b whole (x ++ left) → Went asks b c x Whole → Going a c whole left
+  pub going_more : (a b c : S) (whole x left : List Ask) → Going a b whole (x ++ left) → AsksExactly asks b c x Whole → Going a c whole left
   going_more a b c whole x left going made = record {
     front = going.front ++ x;
     is = append_assoc going.front x left ∙ going.is;
     made = went_behind a b c going.front x Whole going.made made;
   }
 
-  pub going_stops : (a b c : S) (whole left : List Ask) (course : Course) → Going a b whole left → Went asks b c left course
-      → Went asks a c whole course
+  pub going_stops : (a b c : S) (whole left : List Ask) (course : Course) → Going a b whole left → AsksExactly asks b c left course
+      → AsksExactly asks a c whole course
   going_stops a b c whole left course going made = went_as a c (going.front ++ left) whole course going.is
       (went_behind a b c going.front left course going.made made)
 
   -- through a list up to its first element of which something holds
   module _ {X : Type 0} (is_last : X → Bool) (ask : X → Ask) (a b c : S) (whole : List Ask) (x : X) (xs : List X) where
-    pub goes_on : is_last x ≡ false → Going a b whole (map ask (up_to is_last (x ∷ xs))) → Went asks b c (ask x ∷ []) Whole
+    pub goes_on : is_last x ≡ false → Going a b whole (map ask (up_to is_last (x ∷ xs))) → AsksExactly asks b c (ask x ∷ []) Whole
         → Going a c whole (map ask (up_to is_last xs))
     goes_on other going made =
         going_more a b c whole (ask x ∷ []) (map ask (up_to is_last xs))
         (subst (Going a b whole) (ap (λ t. ask x ∷ map ask (cond t [] (up_to is_last xs))) other) going) made
 
     pub stops_there : (course : Course) → (course ≡ Whole → is_last x ≡ true) → Going a b whole (map ask (up_to is_last (x ∷ xs)))
-        → Went asks b c (ask x ∷ []) course → Went asks a c whole course
+        → AsksExactly asks b c (ask x ∷ []) course → AsksExactly asks a c whole course
     stops_there Whole last going made =
         going_stops a b c whole (ask x ∷ []) Whole
         (subst (Going a b whole) (ap (λ t. ask x ∷ map ask (cond t [] (up_to is_last xs))) (last refl)) going) made
@@ -105,39 +105,39 @@ if_told P Q (Some files) by h = by files h
 module _ {S : Type 0} (asks : S → ShelfCall → S → Type 0) (told : Option Files) where
   -- a reader behind one that went the whole way, where this is all that is wanted behind it
   pub told_behind : (a b c : S) (between : Option Files) (x y z : Files → List Ask) (course : Course) → between ≡ told
-      → IfSome told (λ files. Went asks a b (x files) Whole) → IfSome between (λ files. Went asks b c (y files) course)
-      → IfSome told (λ files. y files ≡ z files) → IfSome told (λ files. Went asks a c (x files ++ z files) course)
+      → IfSome told (λ files. AsksExactly asks a b (x files) Whole) → IfSome between (λ files. AsksExactly asks b c (y files) course)
+      → IfSome told (λ files. y files ≡ z files) → IfSome told (λ files. AsksExactly asks a c (x files ++ z files) course)
   told_behind a b c between x y z course same first second tails =
-      by_told told (subst (λ o. IfSome o (λ files. Went asks b c (y files) course)) same second) first tails
+      by_told told (subst (λ o. IfSome o (λ files. AsksExactly asks b c (y files) course)) same second) first tails
     where
-      by_told : (known : Option Files) → IfSome known (λ files. Went asks b c (y files) course)
-          → IfSome known (λ files. Went asks a b (x files) Whole) → IfSome known (λ files. y files ≡ z files)
-          → IfSome known (λ files. Went asks a c (x files ++ z files) course)
+      by_told : (known : Option Files) → IfSome known (λ files. AsksExactly asks b c (y files) course)
+          → IfSome known (λ files. AsksExactly asks a b (x files) Whole) → IfSome known (λ files. y files ≡ z files)
+          → IfSome known (λ files. AsksExactly asks a c (x files ++ z files) course)
       by_told None second first tails = tt
       by_told (Some files) second first tails =
           went_as asks a c (x files ++ y files) (x files ++ z files) course (ap (λ l. x files ++ l) tails)
           (went_behind asks a b c (x files) (y files) course first second)
 
   -- one that did not go the whole way, or behind which nothing is wanted
-  pub told_short : (a b : S) (x z : Files → List Ask) (course : Course) → IfSome told (λ files. Went asks a b (x files) course)
-      → IfSome told (λ files. course ≡ Whole → z files ≡ []) → IfSome told (λ files. Went asks a b (x files ++ z files) course)
+  pub told_short : (a b : S) (x z : Files → List Ask) (course : Course) → IfSome told (λ files. AsksExactly asks a b (x files) course)
+      → IfSome told (λ files. course ≡ Whole → z files ≡ []) → IfSome told (λ files. AsksExactly asks a b (x files ++ z files) course)
   told_short a b x z course made none = by_told told made none
     where
-      by_course : (xs zs : List Ask) (course : Course) → (course ≡ Whole → zs ≡ []) → Went asks a b xs course
-          → Went asks a b (xs ++ zs) course
+      by_course : (xs zs : List Ask) (course : Course) → (course ≡ Whole → zs ≡ []) → AsksExactly asks a b xs course
+          → AsksExactly asks a b (xs ++ zs) course
       by_course xs zs Whole none made = went_as asks a b xs (xs ++ zs) Whole (sym (ap (λ l. xs ++ l) (none refl) ∙ append-nil xs)) made
       by_course xs zs Faulted none made = went_short asks a b xs zs Faulted (λ e. cc) made
       by_course xs zs Cut none made = went_short asks a b xs zs Cut (λ e. cc) made
 
-      by_told : (known : Option Files) → IfSome known (λ files. Went asks a b (x files) course)
-          → IfSome known (λ files. course ≡ Whole → z files ≡ []) → IfSome known (λ files. Went asks a b (x files ++ z files) course)
+      by_told : (known : Option Files) → IfSome known (λ files. AsksExactly asks a b (x files) course)
+          → IfSome known (λ files. course ≡ Whole → z files ≡ []) → IfSome known (λ files. AsksExactly asks a b (x files ++ z files) course)
       by_told None made none = tt
       by_told (Some files) made none = by_course (x files) (z files) course none made
 
 -- memory may run out behind the last call
 pub told_cut : {S : Type 0} (asks : S → ShelfCall → S → Type 0) (told : Option Files) (a b : S) (x : Files → List Ask)
-    → IfSome told (λ files. Went asks a b (x files) Whole) → IfSome told (λ files. Went asks a b (x files) Cut)
-told_cut asks told a b x made = if_told (λ files. Went asks a b (x files) Whole) (λ files. Went asks a b (x files) Cut) told
+    → IfSome told (λ files. AsksExactly asks a b (x files) Whole) → IfSome told (λ files. AsksExactly asks a b (x files) Cut)
+told_cut asks told a b x made = if_told (λ files. AsksExactly asks a b (x files) Whole) (λ files. AsksExactly asks a b (x files) Cut) told
     (λ files whole. went_cut asks a b (x files) whole) made
 
 -- what holds whatever the files are

@@ -60,11 +60,11 @@ answered asks = map answers asks
 
 -- the calls that were made are those that are wanted, in their order: all of them; or up to the one that failed, with that; or,
 -- where memory ran out, the first of them
-abbrev pub Went : {S : Type 0} → (S → ShelfCall → S → Type 0) → S → S → List Ask → Course → Type 0
-Went asks before now wanted Whole = Calls asks before now (answered wanted)
-Went asks before now wanted Faulted = (front rest : List Ask) × (ask : Ask) × (front ++ ask ∷ rest ≡ wanted) × Calls asks before now
+abbrev pub AsksExactly : {S : Type 0} → (S → ShelfCall → S → Type 0) → S → S → List Ask → Course → Type 0
+AsksExactly asks before now wanted Whole = Calls asks before now (answered wanted)
+AsksExactly asks before now wanted Faulted = (front rest : List Ask) × (ask : Ask) × (front ++ ask ∷ rest ≡ wanted) × Calls asks before now
     (answered front ++ fails ask ∷ [])
-Went asks before now wanted Cut = (front rest : List Ask) × (front ++ rest ≡ wanted) × Calls asks before now (answered front)
+AsksExactly asks before now wanted Cut = (front rest : List Ask) × (front ++ rest ≡ wanted) × Calls asks before now (answered front)
 
 -- a list up to its first element of which this holds, and with that
 abbrev pub up_to : {X : Type 0} → (X → Bool) → List X → List X

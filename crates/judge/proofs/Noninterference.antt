@@ -1,18 +1,15 @@
 -- What a service is blind to, it cannot tell: its settings, its plan, its launch and its replies are the same.
-use Rattle.std.proofs.Common.{◌≡◌, ◌∙◌, ◌⊎◌, ℕ, true, List, [], ◌∷◌, None, inl, inr, ap, sym, subst}
-use Rattle.std.specs.Prelude.{nat_le, length, Result}
+use Rattle.std.proofs.Common.{◌≡◌, ◌∙◌, ◌⊎◌, ℕ, true, List, inl, inr, ap, sym, subst}
+use Rattle.std.specs.Prelude.{nat_le, length}
 use Rattle.std.specs.List.{AllByRecursion}
 use Rattle.std.proofs.lemmas.Bool.{and_parts}
 use Rattle.ceilings.specs.abs_path.Paths.{Path, text_of, is_normal}
 use Rattle.ceilings.specs.call_table.Table as calls
-use Rattle.ceilings.specs.cred_settings.declared.accounts.Identity.{Identity}
-use Rattle.ceilings.specs.cred_settings.declared.error.IdentityError.{IdentityError}
 use Rattle.ceilings.specs.dropin_merge.declared.resolved.Resolved.{Resolved}
 use Rattle.ceilings.specs.exec_settings.AreSettings.{AreSettings}
-use Rattle.ceilings.specs.exec_settings.Mounts.{paths_refusal}
-use Rattle.ceilings.specs.exec_settings.Refusals.{command_refusal, first_reason, group_refusal, identity_reason, identity_refusal, refusal_of}
+use Rattle.ceilings.specs.exec_settings.OtherSites.{AreSameFor}
 use Rattle.ceilings.specs.exec_settings.declared.service.Settings.{Settings}
-use Rattle.ceilings.proofs.OfExecSettings.OtherSites.{settings_rest}
+use Rattle.ceilings.proofs.OfExecSettings.OtherSites.{refusal_rests, settings_rest}
 use Rattle.ceilings.specs.kern_mounts.Split.{Table}
 use Rattle.ceilings.specs.kernel_laws.Blind.{IsFolder, IsSmall}
 use Rattle.ceilings.specs.kernel_laws.Denied.{IsBlind}
@@ -48,15 +45,6 @@ kept_normal mentions kept =
     (and_parts (is_path mention.path) (has_whole_source mention.kind) whole).0).0)
     (all_from_test is_whole mentions kept.whole)
 
--- ---- the same facts of the site decide about the unit
-accepted_there : (unit : Resolved) (table : calls.Table) (site other : Site) (made : Settings) → AreSettings unit table site made
-    → AreSettings unit table other made → refusal_of unit table site ≡ None → refusal_of unit table other ≡ None
-unfolding refusal_of identity_refusal
-accepted_there unit table site other made here there accepted =
-    ap (λ (ids : Result Identity IdentityError). first_reason
-    (command_refusal unit ∷ identity_reason ids ∷ group_refusal unit table ∷ paths_refusal unit ∷ [])) (there.runs_as ∙ sym here.runs_as)
-    ∙ accepted
-
 -- ---- a folder of a site
 module _ (folder : Path) (unit : Resolved) (table : calls.Table) (site other : Site) (made : Settings) (plan : Table)
     (programs : List (List ℕ)) (last : World) (steps : ℕ)
@@ -79,10 +67,16 @@ module _ (folder : Path) (unit : Resolved) (table : calls.Table) (site other : S
         let sources : AreSameSources (host_of site) (host_of other) made.mentions = subst (λ (mentions : List Mention). AreSameSources (host_of site) (host_of other) mentions) (sym s.settings.mentions_written_and_implied) agree.sources in
         let planned = plan_is_blind folder (host_of site) (host_of other) made.mentions s.planned.0 (kept_normal made.mentions s.mentions) s.planned.1 sources (same_hosts folder site other agree.outside)
         (subst (λ (t : Table). ShowsNothingOf t folder) s.planned.2 nothing) in
-        let there : AreSettings unit table other made = settings_rest unit table site other made
-        (record { dynamic_uid = agree.outside.dynamic_uid; users = agree.outside.users; groups = agree.outside.groups; implied = agree.implied }) s.settings in
+        let few : AreSameFor unit site other = record {
+          dynamic_uid = agree.outside.dynamic_uid;
+          users = agree.outside.users;
+          groups = agree.outside.groups;
+          implied = agree.implied;
+          searched = agree.searched;
+        } in
+        let there : AreSettings unit table other made = settings_rest unit table site other made few s.settings in
         record {
-          accepted = accepted_there unit table site other made s.settings there s.accepted;
+          accepted = refusal_rests unit table site other few ∙ s.accepted;
           settings = there;
           planned = (s.planned.0, planned.0, s.planned.2 ∙ sym planned.1);
           launches = launch_is_blind folder table site other wanted plan last steps s.whole s.mounts can.uid s.program agree.outside blind

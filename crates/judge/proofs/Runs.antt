@@ -28,9 +28,9 @@ use Rattle.ceilings.specs.kernel_model.kern_files.Looking.{flags_at, see_answer,
 use Rattle.ceilings.specs.kernel_model.kern_files.MountCall.{ms_bind, ms_rec, ms_remount, ms_remount_bind, target_kind, or_found, hidden_at}
 use Rattle.ceilings.specs.kernel_model.kern_files.MountCall.{kind_found, flags_of, has_other_kind, after_mount, mount_onto, bind_found}
 use Rattle.ceilings.specs.kernel_model.kernel_calls.Calls.{FitsPayload, IsPath}
-use Rattle.ceilings.specs.kernel_model.kernel_calls.Doing as d
-use Rattle.ceilings.specs.kernel_model.kernel_calls.Doing.{Doing, doing_by, known_doing, asked_if, asked_by, asked_of, bare, by_path}
-use Rattle.ceilings.specs.kernel_model.kernel_calls.Doing.{by_paths, by_sets, by_ids, by_family, by_code}
+use Rattle.ceilings.specs.kernel_model.kernel_calls.Operation as d
+use Rattle.ceilings.specs.kernel_model.kernel_calls.Operation.{Operation, operation_by, known_operation, asked_if, asked_by, asked_of, bare, by_path}
+use Rattle.ceilings.specs.kernel_model.kernel_calls.Operation.{by_paths, by_sets, by_ids, by_family, by_code}
 use Rattle.ceilings.specs.kernel_model.kernel_calls.Rules.{rule_at}
 use Rattle.ceilings.specs.kernel_model.kernel_calls.Words.{low_word}
 use Rattle.ceilings.specs.kernel_model.declared.kernel_calls.call.Call.{Call}
@@ -178,52 +178,52 @@ module _ (site other : Site) where
     applied_sited f.End = refl
 
     -- what is asked for comes to the same
-    abbrev Same : Doing → Type 0
-    Same doing = effect_of (host_of (with_site other world)) (caller_of world process) doing
-        ≡ effect_of (host_of world) (caller_of world process) doing
+    abbrev Same : Operation → Type 0
+    Same operation = effect_of (host_of (with_site other world)) (caller_of world process) operation
+        ≡ effect_of (host_of world) (caller_of world process) operation
 
-    abbrev Goes : Option Doing → Type 0
-    Goes doing = answered (with_site other world) pid process (asked_if doing) ≡ sited (answered world pid process (asked_if doing))
+    abbrev Goes : Option Operation → Type 0
+    Goes operation = answered (with_site other world) pid process (asked_if operation) ≡ sited (answered world pid process (asked_if operation))
 
-    doing_goes : (doing : Doing) → Same doing → Goes (Some doing)
-    doing_goes doing same = ap (applied (with_site other world) pid process) same
-        ∙ applied_sited (effect_of (host_of world) (caller_of world process) doing)
+    operation_goes : (operation : Operation) → Same operation → Goes (Some operation)
+    operation_goes operation same = ap (applied (with_site other world) pid process) same
+        ∙ applied_sited (effect_of (host_of world) (caller_of world process) operation)
 
-    bare_goes : (doing : Doing) → Same doing → (payload : Payload) → Goes (bare doing payload)
-    bare_goes doing same pay.Nothing = doing_goes doing same
-    bare_goes doing same (pay.OnePath path) = refl
-    bare_goes doing same (pay.TwoPaths source target) = refl
-    bare_goes doing same (pay.Sets p e i) = refl
-    bare_goes doing same (pay.Ids ids) = refl
-    bare_goes doing same (pay.Family family) = refl
-    bare_goes doing same (pay.Code bytes) = refl
+    bare_goes : (operation : Operation) → Same operation → (payload : Payload) → Goes (bare operation payload)
+    bare_goes operation same pay.Nothing = operation_goes operation same
+    bare_goes operation same (pay.OnePath path) = refl
+    bare_goes operation same (pay.TwoPaths source target) = refl
+    bare_goes operation same (pay.Sets p e i) = refl
+    bare_goes operation same (pay.Ids ids) = refl
+    bare_goes operation same (pay.Family family) = refl
+    bare_goes operation same (pay.Code bytes) = refl
 
-    path_goes : (doing : Path → Doing) → ((path : Path) → FindsSame table path → Same (doing path)) → (payload : Payload)
-        → PayloadSame table payload → Goes (by_path doing payload)
-    path_goes doing same pay.Nothing found = refl
-    path_goes doing same (pay.OnePath path) found = doing_goes (doing path) (same path found)
-    path_goes doing same (pay.TwoPaths source target) found = refl
-    path_goes doing same (pay.Sets p e i) found = refl
-    path_goes doing same (pay.Ids ids) found = refl
-    path_goes doing same (pay.Family family) found = refl
-    path_goes doing same (pay.Code bytes) found = refl
+    path_goes : (operation : Path → Operation) → ((path : Path) → FindsSame table path → Same (operation path)) → (payload : Payload)
+        → PayloadSame table payload → Goes (by_path operation payload)
+    path_goes operation same pay.Nothing found = refl
+    path_goes operation same (pay.OnePath path) found = operation_goes (operation path) (same path found)
+    path_goes operation same (pay.TwoPaths source target) found = refl
+    path_goes operation same (pay.Sets p e i) found = refl
+    path_goes operation same (pay.Ids ids) found = refl
+    path_goes operation same (pay.Family family) found = refl
+    path_goes operation same (pay.Code bytes) found = refl
 
-    paths_goes : (doing : Path → Path → Doing)
-        → ((source target : Path) → FindsSame table source → FindsSame table target → Same (doing source target)) → (payload : Payload)
-        → PayloadSame table payload → Goes (by_paths doing payload)
-    paths_goes doing same pay.Nothing found = refl
-    paths_goes doing same (pay.OnePath path) found = refl
-    paths_goes doing same (pay.TwoPaths source target) found = doing_goes (doing source target) (same source target found.0 found.1)
-    paths_goes doing same (pay.Sets p e i) found = refl
-    paths_goes doing same (pay.Ids ids) found = refl
-    paths_goes doing same (pay.Family family) found = refl
-    paths_goes doing same (pay.Code bytes) found = refl
+    paths_goes : (operation : Path → Path → Operation)
+        → ((source target : Path) → FindsSame table source → FindsSame table target → Same (operation source target)) → (payload : Payload)
+        → PayloadSame table payload → Goes (by_paths operation payload)
+    paths_goes operation same pay.Nothing found = refl
+    paths_goes operation same (pay.OnePath path) found = refl
+    paths_goes operation same (pay.TwoPaths source target) found = operation_goes (operation source target) (same source target found.0 found.1)
+    paths_goes operation same (pay.Sets p e i) found = refl
+    paths_goes operation same (pay.Ids ids) found = refl
+    paths_goes operation same (pay.Family family) found = refl
+    paths_goes operation same (pay.Code bytes) found = refl
 
     sets_goes : (payload : Payload) → Goes (by_sets d.Capset payload)
     sets_goes pay.Nothing = refl
     sets_goes (pay.OnePath path) = refl
     sets_goes (pay.TwoPaths source target) = refl
-    sets_goes (pay.Sets p e i) = doing_goes (d.Capset p e i) refl
+    sets_goes (pay.Sets p e i) = operation_goes (d.Capset p e i) refl
     sets_goes (pay.Ids ids) = refl
     sets_goes (pay.Family family) = refl
     sets_goes (pay.Code bytes) = refl
@@ -233,27 +233,27 @@ module _ (site other : Site) where
     ids_goes (pay.OnePath path) = refl
     ids_goes (pay.TwoPaths source target) = refl
     ids_goes (pay.Sets p e i) = refl
-    ids_goes (pay.Ids ids) = doing_goes (d.Setgroups ids) refl
+    ids_goes (pay.Ids ids) = operation_goes (d.Setgroups ids) refl
     ids_goes (pay.Family family) = refl
     ids_goes (pay.Code bytes) = refl
 
-    family_goes : (operation : ℕ) (payload : Payload) → Goes (by_family (d.Socketcall operation) payload)
-    family_goes operation pay.Nothing = refl
-    family_goes operation (pay.OnePath path) = refl
-    family_goes operation (pay.TwoPaths source target) = refl
-    family_goes operation (pay.Sets p e i) = refl
-    family_goes operation (pay.Ids ids) = refl
-    family_goes operation (pay.Family family) = doing_goes (d.Socketcall operation family) refl
-    family_goes operation (pay.Code bytes) = refl
+    family_goes : (op : ℕ) (payload : Payload) → Goes (by_family (d.Socketcall op) payload)
+    family_goes op pay.Nothing = refl
+    family_goes op (pay.OnePath path) = refl
+    family_goes op (pay.TwoPaths source target) = refl
+    family_goes op (pay.Sets p e i) = refl
+    family_goes op (pay.Ids ids) = refl
+    family_goes op (pay.Family family) = operation_goes (d.Socketcall op family) refl
+    family_goes op (pay.Code bytes) = refl
 
-    code_goes : (operation flags : ℕ) (payload : Payload) → Goes (by_code (d.Seccomp operation flags) payload)
-    code_goes operation flags pay.Nothing = refl
-    code_goes operation flags (pay.OnePath path) = refl
-    code_goes operation flags (pay.TwoPaths source target) = refl
-    code_goes operation flags (pay.Sets p e i) = refl
-    code_goes operation flags (pay.Ids ids) = refl
-    code_goes operation flags (pay.Family family) = refl
-    code_goes operation flags (pay.Code bytes) = doing_goes (d.Seccomp operation flags bytes) refl
+    code_goes : (op flags : ℕ) (payload : Payload) → Goes (by_code (d.Seccomp op flags) payload)
+    code_goes op flags pay.Nothing = refl
+    code_goes op flags (pay.OnePath path) = refl
+    code_goes op flags (pay.TwoPaths source target) = refl
+    code_goes op flags (pay.Sets p e i) = refl
+    code_goes op flags (pay.Ids ids) = refl
+    code_goes op flags (pay.Family family) = refl
+    code_goes op flags (pay.Code bytes) = operation_goes (d.Seccomp op flags bytes) refl
 
     here : (path : Path) → FindsSame table path → finds (row_at other.rows) table path ≡ finds (row_at world.site.rows) table path
     here path same = same ∙ ap (λ (s : Site). finds (row_at s.rows) table path) (sym at_site)
@@ -265,7 +265,7 @@ module _ (site other : Site) where
         ∙ ap (λ (own : Site). after_mount (row_at own.rows) (mounts_of world process.namespace) source target flags)
         (sym at_site))
 
-    known_goes : (own : CallRule) (args : List ℕ) (payload : Payload) → PayloadSame table payload → Goes (known_doing own args payload)
+    known_goes : (own : CallRule) (args : List ℕ) (payload : Payload) → PayloadSame table payload → Goes (known_operation own args payload)
     known_goes known.See args payload same = path_goes d.See (λ path s. ap (λ found. looks (see_answer 0 found)) (here path s)) payload same
     known_goes (known.Open at) args payload same = path_goes (d.Open (low_word args (place_of at)))
         (λ path s. ap (λ found. looks (open_answer (low_word args (place_of at)) (flags_at table path) found)) (here path s)) payload same
@@ -301,7 +301,7 @@ module _ (site other : Site) where
     known_goes known.Prctl args payload same = bare_goes _ refl payload
     known_goes known.Seccomp args payload same = code_goes _ _ payload
 
-    rule_goes : (own : Rule) (args : List ℕ) (payload : Payload) → PayloadSame table payload → Goes (doing_by own args payload)
+    rule_goes : (own : Rule) (args : List ℕ) (payload : Payload) → PayloadSame table payload → Goes (operation_by own args payload)
     rule_goes (rule.Known own) args payload same = known_goes own args payload same
     rule_goes (rule.Plain number) args payload same = bare_goes _ refl payload
 

@@ -20,8 +20,8 @@ mod two_sites;
 pub use blindness::blind;
 pub use ceilings::{
     Ceiling, FilterProgram, Flags, LaunchError, Launched, Mentions, MountStep, MountSteps,
-    MountTable, PlanError, Settings, SettingsError, What, blindness as kernel_ways_blindness,
-    ceiling, is_judged, launch, openness, plan, settings,
+    MountTable, PlanError, Settings, SettingsError, Version, What,
+    blindness as kernel_ways_blindness, ceiling, is_read, launch, openness, plan, settings,
 };
 pub use judging::verdict;
 pub use questions::{Call, Reply, World, fits};

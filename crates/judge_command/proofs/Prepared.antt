@@ -6,9 +6,9 @@ use Rattle.asked_service.specs.kern_mounts.declared.step.MountStep.{MountStep}
 use Rattle.asked_service.specs.mount_plan.Host.{host_of}
 use Rattle.asked_service.specs.exec_settings.Mounts.{unit_mentions}
 use Rattle.asked_service.specs.path_settings.declared.mentions.Mention.{Mention}
-use Rattle.asked_service.specs.unit_inputs.command_answers.Stops.{Prepares, first_refusal}
-use Rattle.asked_service.specs.unit_inputs.declared.command_answers.stop.Stop.{Stop}
-use Rattle.asked_service.specs.unit_inputs.declared.command_answers.stop.Stop.TheVariants as stop
+use Rattle.asked_service.specs.unit_inputs.command_answers.CommandErrors.{Prepares, first_refusal}
+use Rattle.asked_service.specs.unit_inputs.declared.command_answers.error.CommandError.{CommandError}
+use Rattle.asked_service.specs.unit_inputs.declared.command_answers.error.CommandError.TheVariants as stop
 use Rattle.asked_service.specs.site_table.Table.{Site}
 use Rattle.asked_service.specs.unit_inputs.Inputs.{inputs_of, inputs_view}
 use Rattle.asked_service.specs.unit_inputs.Settled.{AreSettled, unit_refusals}
@@ -19,13 +19,13 @@ use Rattle.asked_service.proofs.OfPlanCommand.Prepared.{at_paths, refused_as, re
 use Rattle.judge_command.specs.Prepared.{IsPrepared}
 
 -- what stopped is told alike, whatever was wanted
-as_any : {T U : Type 0} (P : T → Type 0) (Q : U → Type 0) (refusals : List (Option (List ℕ))) (why : Stop) → Prepares P refusals (Err why)
+as_any : {T U : Type 0} (P : T → Type 0) (Q : U → Type 0) (refusals : List (Option (List ℕ))) (why : CommandError) → Prepares P refusals (Err why)
     → Prepares Q refusals (Err why)
 as_any P Q refusals (stop.Refused line) said = said
 as_any P Q refusals stop.ReadFault said = tt
 as_any P Q refusals stop.Memory said = tt
 
-as_prepared : {T : Type 0} (P : T → Type 0) (told : Option Files) (unit : List ℕ) (why : Stop)
+as_prepared : {T : Type 0} (P : T → Type 0) (told : Option Files) (unit : List ℕ) (why : CommandError)
     → IfSome told (λ files. Prepares P (plan_refusals files unit) (Err why))
     → IfSome told (λ files. Prepares (IsPrepared files unit) (plan_refusals files unit) (Err why))
 as_prepared P None unit why said = tt
@@ -37,7 +37,7 @@ IsInputOf unit one files = (first_refusal (unit_refusals files unit) ≡ None) �
 
 module _ (told : Option Files) (unit : List ℕ) where
   -- an input or a setting is refused
-  pub stops_before_paths : (told' : SettledUnit → Files → Type 0) (why : Stop)
+  pub stops_before_paths : (told' : SettledUnit → Files → Type 0) (why : CommandError)
       → IfSome told (λ files. Prepares (λ one. told' one files) (unit_refusals files unit) (Err why))
       → IfSome told (λ files. Prepares (IsPrepared files unit) (plan_refusals files unit) (Err why))
   stops_before_paths told' why said = as_prepared (λ (one : SettledUnit). Unit {0}) told unit why (refused_before (λ (one : SettledUnit). Unit {0}) told unit why (plainly told said)) where
@@ -48,7 +48,7 @@ module _ (told : Option Files) (unit : List ℕ) where
 
   module _ (one : SettledUnit) (mentions : List Mention) (site : Site) (same : mentions ≡ unit_mentions (inputs_view one.inputs).unit (inputs_view one.inputs).site) (lies : site ≡ (inputs_view one.inputs).site) where
     -- a path is refused
-    pub stops_at_paths : (why : Stop) → IfSome told (IsInputOf unit one)
+    pub stops_at_paths : (why : CommandError) → IfSome told (IsInputOf unit one)
         → Prepares (IsPlan (host_of site) mentions) (path_refusals unit (host_of site) mentions) (Err why)
         → IfSome told (λ files. Prepares (IsPrepared files unit) (plan_refusals files unit) (Err why))
     stops_at_paths why settles said = as_prepared (IsPlan (host_of site) mentions) told unit why

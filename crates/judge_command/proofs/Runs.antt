@@ -2,13 +2,13 @@
 use Rattle.std.proofs.Common.{◌≡◌, ℕ, Option, Some, None, List, Ok, Err, refl, sym, ap, subst, inl, inr}
 use Rattle.std.specs.Prelude.{◌⊎◌, IfSome, IsTrue}
 use Rattle.asked_service.specs.host_io.Files.{Files}
-use Rattle.asked_service.specs.unit_inputs.command_answers.Endings.{is_answer}
+use Rattle.asked_service.specs.unit_inputs.command_answers.ExitStatuses.{is_answer}
 use Rattle.asked_service.specs.unit_inputs.command_answers.Laws.{AcceptsFiles, GoTogether, laws_over}
 use Rattle.asked_service.specs.unit_inputs.command_answers.Runs.{IsRun, Outside}
-use Rattle.asked_service.specs.unit_inputs.command_answers.Stops.{HasReadCause, Prepares}
-use Rattle.asked_service.specs.unit_inputs.declared.command_answers.ending.Ending.{Ending}
-use Rattle.asked_service.specs.unit_inputs.declared.command_answers.ending.Ending.TheVariants.{Done, LaunchRefused}
-use Rattle.asked_service.specs.unit_inputs.declared.command_answers.stop.Stop.TheVariants as stop
+use Rattle.asked_service.specs.unit_inputs.command_answers.CommandErrors.{HasReadCause, Prepares}
+use Rattle.asked_service.specs.unit_inputs.declared.command_answers.exit_status.ExitStatus.{ExitStatus}
+use Rattle.asked_service.specs.unit_inputs.declared.command_answers.exit_status.ExitStatus.TheVariants.{Done, LaunchRefused}
+use Rattle.asked_service.specs.unit_inputs.declared.command_answers.error.CommandError.TheVariants as stop
 use Rattle.asked_service.proofs.OfUnitInputs.FileCommands.{go_together, ready_is_admitted}
 use Rattle.asked_service.proofs.OfUnitInputs.Refusing.{quiet}
 use Rattle.asked_service.proofs.OfUnitInputs.Runs.{ran}
@@ -22,7 +22,7 @@ use Rattle.judge_command.specs.Asked.{IsAsked, asked_text, launch_in, world_in}
 use Rattle.judge_command.specs.ByRule.{AnswersAreTrue, BlindFoldersAreNamed, answers_of, folders_of}
 use Rattle.judge_command.specs.Prepared.{IsPrepared, inputs_in}
 use Rattle.judge_command.specs.Prints.{PrintsReport, TellsLaunch, TellsService, judge_laws}
-use Rattle.judge_command.specs.Started.{FinishesStarted, IsStarted, ending_of, text_of, told_text}
+use Rattle.judge_command.specs.Started.{FinishesStarted, IsStarted, status_of, text_of, told_text}
 use Rattle.judge_command.specs.declared.asking.Asked.{Asked}
 use Rattle.judge_command.specs.declared.launching.Outcome.{Outcome}
 use Rattle.judge_command.specs.declared.launching.Outcome.TheVariants as outcome
@@ -30,15 +30,15 @@ use Rattle.judge_command.specs.declared.preparing.Prepared.{Prepared}
 
 module _ (told : Option Files) (unit : List ℕ) where
   -- each ending behind a report is an answer
-  answered : (ending : Ending) → (judge_laws unit).may_end ending → IsTrue (is_answer ending)
-  answered ending (inl done) = subst (λ e. IsTrue (is_answer e)) (sym done) refl
-  answered ending (inr refused) = subst (λ e. IsTrue (is_answer e)) (sym refused) refl
+  answered : (status : ExitStatus) → (judge_laws unit).may_end status → IsTrue (is_answer status)
+  answered status (inl done) = subst (λ e. IsTrue (is_answer e)) (sym done) refl
+  answered status (inr refused) = subst (λ e. IsTrue (is_answer e)) (sym refused) refl
 
   pub together : GoTogether (laws_over told (judge_laws unit))
   together = go_together (judge_laws unit) told answered
 
 -- a launch is done or refused
-ends_so : (came : Outcome) → (ending_of came ≡ Done) ⊎ (ending_of came ≡ LaunchRefused)
+ends_so : (came : Outcome) → (status_of came ≡ Done) ⊎ (status_of came ≡ LaunchRefused)
 ends_so (outcome.Asked asked) = inl refl
 ends_so (outcome.Refused refusal) = inr refl
 
@@ -69,7 +69,7 @@ module _ (answers : AnswersAreTrue) (folders : BlindFoldersAreNamed) where
     came_to (outcome.Refused refusal) started = started
 
     tells_it : (came : Outcome) → IsStarted prepared came → TellsLaunch (inputs_in prepared).calls (inputs_in prepared).site
-        (launch_by came) (ending_of came) (told_text came)
+        (launch_by came) (status_of came) (told_text came)
     tells_it (outcome.Asked asked) started =
         (refl, over asked started.1 (inputs_in prepared).calls (inputs_in prepared).site (ap (λ made. made.calls) started.0.leaves_one_process.leaves.is) (ap (λ made. made.site) started.0.leaves_one_process.leaves.is))
     tells_it (outcome.Refused refusal) started = (refl, refl)
@@ -77,7 +77,7 @@ module _ (answers : AnswersAreTrue) (folders : BlindFoldersAreNamed) where
     -- what is started prints what the files say
     prints_it : (told : Option Files) (unit : List ℕ) (came : Outcome) → IsStarted prepared came
         → IfSome told (λ files. Prepares (IsPrepared files unit) (plan_refusals files unit) (Ok prepared))
-        → IfSome told (λ files. AcceptsFiles (judge_laws unit) files × PrintsReport files unit (ending_of came)
+        → IfSome told (λ files. AcceptsFiles (judge_laws unit) files × PrintsReport files unit (status_of came)
         (text_of unit prepared came))
     prints_it None unit came started is = tt
     prints_it (Some files) unit came started is = (
@@ -98,15 +98,15 @@ module _ (answers : AnswersAreTrue) (folders : BlindFoldersAreNamed) where
     )
 
   -- a report that is prepared
-  pub ran_prepared : (told : Option Files) (unit : List ℕ) (outside : Outside) (ended : Ending) (prepared : Prepared)
+  pub ran_prepared : (told : Option Files) (unit : List ℕ) (outside : Outside) (ended : ExitStatus) (prepared : Prepared)
       → IfSome told (λ files. Prepares (IsPrepared files unit) (plan_refusals files unit) (Ok prepared))
       → HasReadCause outside.shelf_before outside.shelf_after (Ok prepared) → FinishesStarted unit prepared ended outside.sink
       → IsRun (laws_over told (judge_laws unit)) ended outside
   ran_prepared told unit outside ended prepared is cause (inl printed) =
-      ran (laws_over told (judge_laws unit)) (together told unit) outside ending_of (text_of unit prepared) (Ok printed.outcome) ended
-      (ready_is_admitted (judge_laws unit) ending_of (text_of unit prepared) told printed.outcome (ends_so printed.outcome)
+      ran (laws_over told (judge_laws unit)) (together told unit) outside status_of (text_of unit prepared) (Ok printed.outcome) ended
+      (ready_is_admitted (judge_laws unit) status_of (text_of unit prepared) told printed.outcome (ends_so printed.outcome)
       (prints_it prepared told unit printed.outcome printed.started is))
       (λ e. cc) (quiet outside.shelf_before outside.shelf_after (Ok printed.outcome) cause.no_other_fault (λ e. cc)) printed.prints
   ran_prepared told unit outside ended prepared is cause (inr out) =
-      ran (laws_over told (judge_laws unit)) (together told unit) outside ending_of (text_of unit prepared) (Err stop.Memory) ended
+      ran (laws_over told (judge_laws unit)) (together told unit) outside status_of (text_of unit prepared) (Err stop.Memory) ended
       tt (λ e. cc) (quiet outside.shelf_before outside.shelf_after (Err stop.Memory) cause.no_other_fault (λ e. cc)) out

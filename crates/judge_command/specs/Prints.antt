@@ -9,8 +9,8 @@ use Rattle.asked_service.specs.exec_settings.declared.service.Settings.{Settings
 use Rattle.asked_service.specs.call_table.Table as calls
 use Rattle.asked_service.specs.site_table.Table.{Site}
 use Rattle.asked_service.specs.unit_inputs.command_answers.Laws.{FileLaws}
-use Rattle.asked_service.specs.unit_inputs.declared.command_answers.ending.Ending.{Ending}
-use Rattle.asked_service.specs.unit_inputs.declared.command_answers.ending.Ending.TheVariants.{Done, LaunchRefused}
+use Rattle.asked_service.specs.unit_inputs.declared.command_answers.exit_status.ExitStatus.{ExitStatus}
+use Rattle.asked_service.specs.unit_inputs.declared.command_answers.exit_status.ExitStatus.TheVariants.{Done, LaunchRefused}
 use Rattle.asked_service.specs.launcher.declared.launched.Launched.{Launched as Service}
 use Rattle.asked_service.specs.unit_inputs.Inputs.{Inputs, inputs_of}
 use Rattle.asked_service.specs.unit_names.Cutting.{name_of}
@@ -36,13 +36,13 @@ pub record TellsService (table : calls.Table) (site : Site) (service : Service) 
   pub is_its_text : text ≡ service_text table site (told_of service.world service.steps) answers folders
 
 -- the same, or the line of a refused launch, with the ending after either
-abbrev pub TellsLaunch : calls.Table → Site → UnitLaunch → Ending → List ℕ → Type 0
-TellsLaunch table site (Launched service) ending text = (ending ≡ Done) × TellsService table site service text
-TellsLaunch table site (Refused refusal) ending text = (ending ≡ LaunchRefused) × (text ≡ refusal_line refusal)
+abbrev pub TellsLaunch : calls.Table → Site → UnitLaunch → ExitStatus → List ℕ → Type 0
+TellsLaunch table site (Launched service) status text = (status ≡ Done) × TellsService table site service text
+TellsLaunch table site (Refused refusal) status text = (status ≡ LaunchRefused) × (text ≡ refusal_line refusal)
 
 -- the report on a unit: the unit is launched with its inputs, its settings and the plan of its mounts. The text has the unit
 -- and the notes, then the result of the launch
-pub record PrintsReport (files : Files) (unit : List ℕ) (ending : Ending) (text : List ℕ) : Type 0 where
+pub record PrintsReport (files : Files) (unit : List ℕ) (status : ExitStatus) (text : List ℕ) : Type 0 where
   pub inputs : Inputs
   pub inputs_are : inputs_of files unit ≡ Some inputs
   pub settings : Settings
@@ -52,14 +52,14 @@ pub record PrintsReport (files : Files) (unit : List ℕ) (ending : Ending) (tex
   pub launch : UnitLaunch
   pub comes_to : ComesTo inputs.calls inputs.site settings plan launch
   pub told : List ℕ
-  pub tells : TellsLaunch inputs.calls inputs.site launch ending told
+  pub tells : TellsLaunch inputs.calls inputs.site launch status told
   pub is_its_text : text ≡ report_text unit inputs.unit.files settings.notes.items told
 
 -- the refusals of `plan`; the line of a refused launch follows the notes, with status 7
 abbrev pub judge_laws : List ℕ → FileLaws
 judge_laws unit = record {
   refusals = λ files. plan_refusals files unit;
-  prints = λ files ending text. PrintsReport files unit ending text;
-  may_end = λ ending. (ending ≡ Done) ⊎ (ending ≡ LaunchRefused);
+  prints = λ files status text. PrintsReport files unit status text;
+  may_end = λ status. (status ≡ Done) ⊎ (status ≡ LaunchRefused);
   reads = IsSome (name_of unit);
 }

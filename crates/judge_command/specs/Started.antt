@@ -1,8 +1,8 @@
 -- A launched unit, and how a run continues after the preparation.
 use Rattle.std.specs.Prelude.{◌≡◌, ◌⊎◌, ℕ, List}
 use Rattle.asked_service.specs.unit_inputs.command_answers.Printing.{IsUntouched, Output, PrintsText}
-use Rattle.asked_service.specs.unit_inputs.declared.command_answers.ending.Ending.{Ending}
-use Rattle.asked_service.specs.unit_inputs.declared.command_answers.ending.Ending.TheVariants.{Done, LaunchRefused, OutOfMemory}
+use Rattle.asked_service.specs.unit_inputs.declared.command_answers.exit_status.ExitStatus.{ExitStatus}
+use Rattle.asked_service.specs.unit_inputs.declared.command_answers.exit_status.ExitStatus.TheVariants.{Done, LaunchRefused, OutOfMemory}
 use Rattle.asked_service.specs.unit_launch.Launching.{IsLaunched, IsRefused}
 use Rattle.asked_service.specs.unit_launch.Refusals.{refusal_line}
 use Rattle.judge_command.specs.Asked.{IsAsked, asked_text}
@@ -27,20 +27,20 @@ abbrev pub told_text : Outcome → List ℕ
 told_text (Asked asked) = asked_text asked
 told_text (Refused refusal) = refusal_line refusal
 
-abbrev pub ending_of : Outcome → Ending
-ending_of (Asked asked) = Done
-ending_of (Refused refusal) = LaunchRefused
+abbrev pub status_of : Outcome → ExitStatus
+status_of (Asked asked) = Done
+status_of (Refused refusal) = LaunchRefused
 
 -- the whole text of a unit by its name
 abbrev pub text_of : List ℕ → Prepared → Outcome → List ℕ
 text_of unit prepared outcome = report_text unit (unit_in prepared.unit).files (settings_in prepared.unit).notes.items (told_text outcome)
 
 -- it is printed
-pub record PrintsStarted (unit : List ℕ) (prepared : Prepared) (ended : Ending) (output : Output) : Type 0 where
+pub record PrintsStarted (unit : List ℕ) (prepared : Prepared) (ended : ExitStatus) (output : Output) : Type 0 where
   pub outcome : Outcome
   pub started : IsStarted prepared outcome
-  pub prints : PrintsText (ending_of outcome) (text_of unit prepared outcome) ended output
+  pub prints : PrintsText (status_of outcome) (text_of unit prepared outcome) ended output
 
 -- or memory ran out, and nothing was printed
-abbrev pub FinishesStarted : List ℕ → Prepared → Ending → Output → Type 0
+abbrev pub FinishesStarted : List ℕ → Prepared → ExitStatus → Output → Type 0
 FinishesStarted unit prepared ended output = PrintsStarted unit prepared ended output ⊎ ((ended ≡ OutOfMemory) × IsUntouched output)

@@ -10,26 +10,31 @@ ghost use Rattle.judge_command.specs.Prepared.{CanBeStarted};
 ghost use Rattle.judge_command.specs.Prints.{judge_laws};
 ghost use Rattle.judge_command.specs.Started.{FinishesStarted};
 
-use crate::launching::{ending_behind, start};
+use crate::launching::{start, status_behind};
 use crate::preparing::{Prepared, prepare};
 use crate::printing::print_report;
 use crate::reasons::truths;
-use asked_service::{Ending, ending_after, finish_stop};
+use asked_service::{ExitStatus, finish_error, status_after};
 use host_io::{Shelf, Sink};
 use std::alloc::Global;
 
 // Launches what is prepared and prints the report.
-fn answer_prepared<K: Sink>(alloc: Global, unit: &str, prepared: &Prepared, out: &mut K) -> Ending
+fn answer_prepared<K: Sink>(
+    alloc: Global,
+    unit: &str,
+    prepared: &Prepared,
+    out: &mut K,
+) -> ExitStatus
     requires can_be_started { CanBeStarted prepared.now }
     ensures finishes { FinishesStarted unit.now prepared.now result (output_of K.faults K.taken K.puts out.old out.new) }
 {
     match start(alloc, prepared) {
         Ok(outcome) => {
-            let ending = ending_behind(&outcome);
+            let status = status_behind(&outcome);
             let put = print_report(alloc, unit, &prepared.unit, &outcome, out);
-            ending_after(put, ending)
+            status_after(put, status)
         }
-        Err(_) => Ending::OutOfMemory,
+        Err(_) => ExitStatus::OutOfMemory,
     }
 }
 
@@ -37,7 +42,12 @@ fn answer_prepared<K: Sink>(alloc: Global, unit: &str, prepared: &Prepared, out:
 /// them, of the settings and of the paths that they mention. It launches the service, asks every question, and prints
 /// each answer as it is found: denied if no list of calls reaches the question, and otherwise open, above a list that
 /// does.
-pub fn answer<S: Shelf, K: Sink>(alloc: Global, shelf: &mut S, unit: &str, out: &mut K) -> Ending
+pub fn answer<S: Shelf, K: Sink>(
+    alloc: Global,
+    shelf: &mut S,
+    unit: &str,
+    out: &mut K,
+) -> ExitStatus
     ensures runs { IsRun (laws_over (S.told shelf.old) (judge_laws unit.now)) result
         (record { shelf_before = S.faults shelf.old; shelf_after = S.faults shelf.new; sink = output_of K.faults K.taken K.puts out.old out.new }) }
     ensures asks_in_order { AsksInOrder S.asks (S.told shelf.old) (λ files. input_asks files unit.now) shelf.old shelf.new (course_of_run result) }
@@ -48,6 +58,6 @@ pub fn answer<S: Shelf, K: Sink>(alloc: Global, shelf: &mut S, unit: &str, out: 
     truths();
     match prepare(alloc, shelf, unit) {
         Ok(prepared) => answer_prepared(alloc, unit, &prepared, out),
-        Err(stop) => finish_stop(stop, out),
+        Err(stop) => finish_error(stop, out),
     }
 }

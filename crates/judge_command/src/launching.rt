@@ -1,11 +1,11 @@
 //! The launch of what is prepared.
 ghost use Rattle.std.specs.Prelude.{◌≡◌, IfOk};
 ghost use Rattle.judge_command.specs.Prepared.{CanBeStarted};
-ghost use Rattle.judge_command.specs.Started.{IsStarted, ending_of};
+ghost use Rattle.judge_command.specs.Started.{IsStarted, status_of};
 
 use crate::asking::{Asked, ask};
 use crate::preparing::Prepared;
-use asked_service::Ending;
+use asked_service::ExitStatus;
 use asked_service::unit_launch::{LaunchRefusal, UnitLaunch, launch_unit};
 use std::alloc::{AllocError, Global};
 
@@ -38,11 +38,11 @@ pub fn start<'a>(alloc: Global, prepared: &'a Prepared) -> Result<Outcome<'a>, A
 }
 
 /// Returns how a run ends after this outcome of the launch.
-pub fn ending_behind(outcome: &Outcome<'_>) -> Ending
-    ensures ends_so { result ≡ ending_of outcome.now }
+pub fn status_behind(outcome: &Outcome<'_>) -> ExitStatus
+    ensures ends_so { result ≡ status_of outcome.now }
 {
     match outcome {
-        Outcome::Asked(_) => Ending::Done,
-        Outcome::Refused(_) => Ending::LaunchRefused,
+        Outcome::Asked(_) => ExitStatus::Done,
+        Outcome::Refused(_) => ExitStatus::LaunchRefused,
     }
 }

@@ -24,8 +24,8 @@ pub use asked_service::launched_units::{UnitRefusal, launch_whole};
 pub use asked_service::started_units::start;
 pub use asked_service::unit_launch::{LaunchRefusal, UnitLaunch, refusal_line};
 pub use asked_service::{
-    Bounded, CallTable, Ending, Launched, Place, Ready, ReadyText, ResolveError, Resolved, Row,
-    SiteTable, Stop, Text, UnitError, UnitFile, UnitText, bound, count_open, open_lines,
+    Bounded, CallTable, CommandError, ExitStatus, Launched, Place, Ready, ReadyText, ResolveError,
+    Resolved, Row, SiteTable, Text, UnitError, UnitFile, UnitText, bound, count_open, open_lines,
     push_call_lines, push_word, put_line, question_line, read_input, read_inputs, read_unit,
     refuse, unit_inputs_unit_line as unit_line, verdict_line,
 };

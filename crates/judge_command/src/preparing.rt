@@ -1,13 +1,13 @@
 //! What `judge` reads, and what it takes from that.
 ghost use Rattle.std.specs.Prelude.{IfOk, IfSome};
 ghost use Rattle.asked_service.specs.unit_inputs.command_answers.Asking.{course};
-ghost use Rattle.asked_service.specs.unit_inputs.command_answers.Stops.{Prepares};
+ghost use Rattle.asked_service.specs.unit_inputs.command_answers.CommandErrors.{Prepares};
 ghost use Rattle.asked_service.specs.plan_command.Prints.{plan_refusals};
 ghost use Rattle.asked_service.specs.unit_inputs.Asking.{AsksInOrder, input_asks};
 ghost use Rattle.asked_service.specs.unit_inputs.ReadsFor.{ReadsFor};
 ghost use Rattle.judge_command.specs.Prepared.{CanBeStarted, IsPrepared};
 
-use asked_service::{MountSteps, SettledUnit, Stop, plan_mounts, settle_unit};
+use asked_service::{CommandError, MountSteps, SettledUnit, plan_mounts, settle_unit};
 use host_io::Shelf;
 use std::alloc::Global;
 
@@ -22,7 +22,7 @@ pub struct Prepared {
 
 /// Reads the unit, calls.txt and site.toml, finds the first refusal of them, of the settings and of the paths that they mention,
 /// and plans the mounts.
-pub fn prepare<S: Shelf>(alloc: Global, shelf: &mut S, unit: &str) -> Result<Prepared, Stop>
+pub fn prepare<S: Shelf>(alloc: Global, shelf: &mut S, unit: &str) -> Result<Prepared, CommandError>
     ensures prepares { IfSome (S.told shelf.old) (λ files. Prepares (IsPrepared files unit.now) (plan_refusals files unit.now) result) }
     ensures can_be_started { IfOk result CanBeStarted }
     ensures asks_in_order { AsksInOrder S.asks (S.told shelf.old) (λ files. input_asks files unit.now) shelf.old shelf.new (course result) }

@@ -6,7 +6,7 @@ use Rattle.filter_settings.specs.bpf_code.declared.decision.Decision.{Decision}
 use Rattle.filter_settings.specs.bpf_code.declared.decision.Decision.TheVariants as decision
 use Rattle.filter_settings.specs.bpf_code.Stack.{decision_on}
 use Rattle.kernel_model.specs.declared.kernel_calls.call.Call.{Call}
-use Rattle.kernel_model.specs.kernel_calls.Doing.{Doing, Asked, Lacking, Misformed, Does, asked_of}
+use Rattle.kernel_model.specs.kernel_calls.Operation.{Operation, Asked, Lacking, Misformed, Does, asked_of}
 use Rattle.kernel_model.specs.declared.process.Process.{Process}
 use Rattle.kernel_model.specs.Effects.{effect_of}
 use Rattle.kernel_model.specs.World.{World, living_of, host_of, caller_of}
@@ -19,9 +19,9 @@ pub record WasDone (world : World) (call : Call) : Type 0 where
   pub living : Lives world call.pid process
   pub let_through : decision_of world call process ≡ decision.Pass
   pub passed : decision_on process.stack (data_of world call) ≡ decision.Pass
-  pub doing : Doing
-  pub asks : asked_of world.calls call ≡ Does doing
-  pub done : IsDone (applied world call.pid process (effect_of (host_of world) (caller_of world process) doing)).0
+  pub operation : Operation
+  pub asks : asked_of world.calls call ≡ Does operation
+  pub done : IsDone (applied world call.pid process (effect_of (host_of world) (caller_of world process) operation)).0
 
 -- what the stack decides of a call that passes, by an ABI that the table has
 pub passed_on : (world : World) (call : Call) (process : Process) → decision_of world call process ≡ decision.Pass
@@ -43,7 +43,7 @@ was_done world call e = by (living_of world call.pid) refl e
         → asked_of world.calls call ≡ a → IsDone (answered world call.pid process a).0 → WasDone world call
     by_asked process l p Lacking is e = absurd e
     by_asked process l p Misformed is e = absurd e
-    by_asked process l p (Does doing) is e = record { process = process; living = l; let_through = p; passed = passed_on world call process p; doing = doing; asks = is; done = e }
+    by_asked process l p (Does operation) is e = record { process = process; living = l; let_through = p; passed = passed_on world call process p; operation = operation; asks = is; done = e }
 
     by_decision : (process : Process) → Lives world call.pid process → (c : Decision) → decision_of world call process ≡ c
         → IsDone (decided world call process c).0 → WasDone world call

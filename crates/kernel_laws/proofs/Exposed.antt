@@ -153,7 +153,7 @@ free path (entry ∷ later) parts none' h few =
 
 -- two letters
 abbrev letters : List ℕ
-letters = codes "abcdefghijklm"
+letters = codes "abcdefghijklmn"
 
 abbrev pairs_with : ℕ → List ℕ → List Part
 pairs_with a [] = []
@@ -303,7 +303,7 @@ exposes_seen folder table small fit e =
         let r = rest_of source folder in
         let none' = any_none (leads_to (x.entry.place ++ r)) x.later (not-true (list_any (leads_to (x.entry.place ++ r)) x.later) clear) in
         let size : length table ≡ length x.earlier + suc (length x.later) = ap (λ (t : Table). length t) x.whole ∙ length-append x.earlier (x.entry ∷ x.later) in
-        let many : length names ≡ 169 = refl in
+        let many : length names ≡ 196 = refl in
         let f = free (x.entry.place ++ r) x.later names none' names_distinct (omega (arith, size, many, small.few)) in
         let name = two_letters f.part (name_of f.part names names_are f.among) in
         let rest = r ++ f.part ∷ [] in

@@ -26,14 +26,14 @@ use Rattle.filter_settings.specs.filter_rules.Actions.{low, has_bits, unless_ref
 use Rattle.filter_settings.specs.filter_rules.Families.{refuses_family, is_refused_family}
 use Rattle.filter_settings.specs.filter_rules.Mapping.{refuses_mapping}
 use Rattle.filter_settings.specs.filter_rules.Realtime.{refuses_policy, is_ordinary}
-use Rattle.filter_settings.specs.filter_rules.Suid.{refuses_mode, sets_id_bit, has_mode}
-use Rattle.filter_settings.specs.filter_rules.Namespaces.{refuses_namespace, has_forbidden, forbidden_types}
+use Rattle.filter_settings.specs.filter_rules.Suid.{refuses_mode, sets_id_bit, has_mode, suid_action}
+use Rattle.filter_settings.specs.filter_rules.Namespaces.{refuses_namespace, has_forbidden, forbidden_types, clone_newtime, makes_time, namespace_action}
 use Rattle.filter_settings.specs.filter_rules.Personality.{refuses_personality, keeps_domain}
 use Rattle.kernel_model.specs.kernel_calls.Words.{low_word}
 use Rattle.kernel_model.specs.kern_files.Bits.{has_some, has_all}
 use Rattle.kernel_model.specs.declared.kernel_calls.payload.Payload.{Payload}
-use Rattle.kernel_model.specs.kernel_calls.Doing as d
-use Rattle.kernel_model.specs.kernel_calls.Doing.{Doing, bare, doing_by}
+use Rattle.kernel_model.specs.kernel_calls.Operation as d
+use Rattle.kernel_model.specs.kernel_calls.Operation.{Operation, bare, operation_by}
 use Rattle.kernel_laws.specs.declared.question_types.kind.CallKind.{CallKind}
 use Rattle.kernel_laws.specs.declared.question_types.kind.CallKind.TheVariants as k
 use Rattle.filter_settings.specs.declared.filter_rules.namespace_types.NamespaceType.TheVariants as namespace
@@ -44,6 +44,8 @@ use Rattle.filter_settings.specs.call_table.call_names.Known.{place_of}
 use Rattle.filter_settings.specs.call_table.declared.call_names.rule.Argument.{Argument}
 use Rattle.filter_settings.specs.call_table.declared.call_names.rule.Argument.TheVariants as argument
 use Rattle.filter_settings.specs.call_rules.Action.{word_of}
+use Rattle.filter_settings.specs.call_rules.declared.actions.Action.TheVariants.{Errno}
+use Rattle.filter_settings.specs.unit_names.declared.version.Version.{Version}
 use Rattle.kernel_model.specs.declared.kernel_calls.rule.Rule.TheVariants as rule
 use Rattle.filter_settings.specs.call_table.declared.call_names.rule.CallRule.TheVariants as known
 use Rattle.kernel_model.specs.declared.kernel_calls.rule.Rule.{Rule}
@@ -247,24 +249,55 @@ seconds = codes "chmod" ∷ codes "fchmod" ∷ codes "mkdir" ∷ codes "mknod" �
 abbrev thirds : List (List ℕ)
 thirds = codes "fchmodat" ∷ codes "mkdirat" ∷ codes "mknodat" ∷ codes "open" ∷ []
 
+-- ---- let through exactly where not refused
+off-1 : (b : Bool) → decision_of (word_of (unless_refused 1 b)) ≡ decision.Pass → b ≡ false
+off-1 true e = cc
+off-1 false e = refl
+
+off-97 : (b : Bool) → decision_of (word_of (unless_refused 97 b)) ≡ decision.Pass → b ≡ false
+off-97 true e = cc
+off-97 false e = refl
+
+carry : (number : ℕ) (x y : Bool) → ((b : Bool) → decision_of (word_of (unless_refused number b)) ≡ decision.Pass → b ≡ false)
+    → (y ≡ true → x ≡ true)
+    → decision_of (word_of (unless_refused number x)) ≡ decision.Pass → decision_of (word_of (unless_refused number y)) ≡ decision.Pass
+carry number x true off up e = let on = up refl in let no' = off x e in cc
+carry number x false off up e = refl
+
+-- a line that has a rule has no name without one
+pub named_none : (line : CallLine) (rule' : Rule) → rule_of line ≡ Some rule' → (name : List ℕ) → rule_of (with_name line name) ≡ None
+    → bytes_eq line.name name ≡ false
+named_none line rule' is name none = by (bytes_eq line.name name) refl
+  where
+    by : (b : Bool) → bytes_eq line.name name ≡ b → b ≡ false
+    by false e = refl
+    by true e =
+        let P : List ℕ → Type 0 = λ n. rule_of (with_name line n) ≡ Some rule' in
+        let clash : Some rule' ≡ None = sym (subst P ((bytes_eq-Decides line.name name).0 e) is) ∙ none in
+        cc
+
+on_by : (b : Bool) → (b || false) ≡ true → b ≡ true
+on_by true e = refl
+on_by false e = e
+
 -- ---- the filters
-module _ (line : CallLine) (rule' : Rule) (kind : CallKind) (payload : Payload) (doing : Doing) (input first : CallData)
-    (is : rule_of line ≡ Some rule') (does : doing_by rule' input.args payload ≡ Some doing)
-    (asked : asks kind doing ≡ true) (are : words kind rule' ≡ Some first.args) where
+module _ (line : CallLine) (rule' : Rule) (kind : CallKind) (payload : Payload) (operation : Operation) (input first : CallData)
+    (is : rule_of line ≡ Some rule') (does : operation_by rule' input.args payload ≡ Some operation)
+    (asked : asks kind operation ≡ true) (are : words kind rule' ≡ Some first.args) where
   words_at : (own : Rule) → own ≡ rule' → words kind own ≡ Some first.args
   words_at own e = ap (λ (r : Rule). words kind r) e ∙ are
 
   rule_is : (name : List ℕ) (own : Rule) → rule_of (with_name line name) ≡ Some own → bytes_eq line.name name ≡ true → own ≡ rule'
   rule_is = rule_named line rule' is
 
-  bare_at : (own : Rule) (what : Doing) → own ≡ rule' → ((p : Payload) → doing_by own input.args p ≡ bare what p) → asks kind what ≡ true
+  bare_at : (own : Rule) (what : Operation) → own ≡ rule' → ((p : Payload) → operation_by own input.args p ≡ bare what p) → asks kind what ≡ true
   bare_at own what e h =
-      let does' : doing_by own input.args payload ≡ Some doing = ap (λ (r : Rule). doing_by r input.args payload) e ∙ does in
-      ap (asks kind) (bare_is doing what payload (sym (h payload) ∙ does')) ∙ asked
+      let does' : operation_by own input.args payload ≡ Some operation = ap (λ (r : Rule). operation_by r input.args payload) e ∙ does in
+      ap (asks kind) (bare_is operation what payload (sym (h payload) ∙ does')) ∙ asked
 
   -- a line of this name has this rule: the call asks by it, and the words that ask first are by it
-  by_rule : {C : Type 0} (name : List ℕ) (own : Rule) (what : Doing) → rule_of (with_name line name) ≡ Some own
-      → ((p : Payload) → doing_by own input.args p ≡ bare what p)
+  by_rule : {C : Type 0} (name : List ℕ) (own : Rule) (what : Operation) → rule_of (with_name line name) ≡ Some own
+      → ((p : Payload) → operation_by own input.args p ≡ bare what p)
       → (asks kind what ≡ true → words kind own ≡ Some first.args → C) → bytes_eq line.name name ≡ true → C
   by_rule name own what named bare' then' h = let e = rule_is name own named h in then' (bare_at own what e bare') (words_at own e)
 
@@ -416,44 +449,73 @@ module _ (line : CallLine) (rule' : Rule) (kind : CallKind) (payload : Payload) 
       by false false true x y z g = opens_at z
       by false false false x y z g = cc
 
--- ---- let through exactly where not refused
-off-1 : (b : Bool) → decision_of (word_of (unless_refused 1 b)) ≡ decision.Pass → b ≡ false
-off-1 true e = cc
-off-1 false e = refl
+  -- with a version of systemd, whose further calls have no rule
+  suid_passes : (systemd : Option Version) → decision_of (word_of (suid_action systemd line.name input)) ≡ decision.Pass
+      → decision_of (word_of (suid_action systemd line.name first)) ≡ decision.Pass
+  unfolding rule_of known_call
+  suid_passes None = carry 1 (refuses_mode line.name input) (refuses_mode line.name first) off-1 suid_first
+  suid_passes (Some version) = by (bytes_eq line.name (codes "openat2")) (bytes_eq line.name (codes "fchmodat2"))
+      (named_none line rule' is (codes "openat2") refl) (named_none line rule' is (codes "fchmodat2") refl)
+    where
+      by : (a b : Bool) → a ≡ false → b ≡ false
+          → decision_of (word_of (cond a (Errno 38) (unless_refused 1 (refuses_mode line.name input || (b && sets_id_bit (low input 2)))))) ≡ decision.Pass
+          → decision_of (word_of (cond a (Errno 38) (unless_refused 1 (refuses_mode line.name first || (b && sets_id_bit (low first 2)))))) ≡ decision.Pass
+      by true b e f = cc
+      by false true e f = cc
+      by false false e f = carry 1 (refuses_mode line.name input || false) (refuses_mode line.name first || false) off-1
+          (λ h. or_left _ _ (suid_first (on_by (refuses_mode line.name first) h)))
 
-off-97 : (b : Bool) → decision_of (word_of (unless_refused 97 b)) ≡ decision.Pass → b ≡ false
-off-97 true e = cc
-off-97 false e = refl
+  time_first : makes_time line.name first ≡ true → makes_time line.name input ≡ true
+  unfolding rule_of known_call
+  time_first h =
+      let parts = and_parts (bytes_eq line.name (codes "clone")) (has_bits (low first 0) clone_newtime) h in
+      and_from _ _ parts.0
+      (by_rule (codes "clone") (rule.Known known.Clone) (d.Clone (low_word input.args 0)) refl (λ p. refl)
+      (kind-Clone kind input.args first.args) parts.0 clone_newtime parts.1)
 
-carry : (number : ℕ) (x y : Bool) → ((b : Bool) → decision_of (word_of (unless_refused number b)) ≡ decision.Pass → b ≡ false)
-    → (y ≡ true → x ≡ true)
-    → decision_of (word_of (unless_refused number x)) ≡ decision.Pass → decision_of (word_of (unless_refused number y)) ≡ decision.Pass
-carry number x true off up e = let on = up refl in let no' = off x e in cc
-carry number x false off up e = refl
+  space_passes : (systemd : Option Version) (types : NamespaceTypes)
+      → decision_of (word_of (namespace_action systemd types line.name input)) ≡ decision.Pass
+      → decision_of (word_of (namespace_action systemd types line.name first)) ≡ decision.Pass
+  unfolding rule_of known_call
+  space_passes None types = carry 1 (refuses_namespace types line.name input) (refuses_namespace types line.name first) off-1
+      (space_first types)
+  space_passes (Some version) types = by (bytes_eq line.name (codes "clone3")) (named_none line rule' is (codes "clone3") refl)
+    where
+      either : (refuses_namespace types line.name first ≡ true) ⊎ (makes_time line.name first ≡ true)
+          → (refuses_namespace types line.name input || makes_time line.name input) ≡ true
+      either (inl h) = or_left _ _ (space_first types h)
+      either (inr h) = or_right _ _ (time_first h)
+
+      by : (a : Bool) → a ≡ false
+          → decision_of (word_of (cond a (Errno 38) (unless_refused 1 (refuses_namespace types line.name input || makes_time line.name input)))) ≡ decision.Pass
+          → decision_of (word_of (cond a (Errno 38) (unless_refused 1 (refuses_namespace types line.name first || makes_time line.name first)))) ≡ decision.Pass
+      by true e = cc
+      by false e = carry 1 (refuses_namespace types line.name input || makes_time line.name input)
+          (refuses_namespace types line.name first || makes_time line.name first) off-1
+          (λ h. either (or_cases (refuses_namespace types line.name first) (makes_time line.name first) h))
 
 pub first_passes : FirstPasses
-first_passes filter.Families settings table line r kind p doing input first is does asked are =
+first_passes filter.Families settings table line r kind p operation input first is does asked are =
     carry 97 (refuses_family settings.families line.name input) (refuses_family settings.families line.name first) off-97
-    (family_first line r kind p doing input first is does asked are settings.families)
-first_passes filter.MemoryDenyWriteExecute settings table line r kind p doing input first is does asked are =
+    (family_first line r kind p operation input first is does asked are settings.families)
+first_passes filter.MemoryDenyWriteExecute settings table line r kind p operation input first is does asked are =
     carry 1 (refuses_mapping line.name input) (refuses_mapping line.name first) off-1
-    (mapping_first line r kind p doing input first is does asked are)
-first_passes filter.Realtime settings table line r kind p doing input first is does asked are =
+    (mapping_first line r kind p operation input first is does asked are)
+first_passes filter.Realtime settings table line r kind p operation input first is does asked are =
     carry 1 (refuses_policy line.name input) (refuses_policy line.name first) off-1
-    (realtime_first line r kind p doing input first is does asked are)
-first_passes filter.Suid settings table line r kind p doing input first is does asked are =
-    carry 1 (refuses_mode line.name input) (refuses_mode line.name first) off-1
-    (suid_first line r kind p doing input first is does asked are)
-first_passes filter.Namespaces settings table line r kind p doing input first is does asked are =
-    carry 1 (refuses_namespace settings.namespaces line.name input) (refuses_namespace settings.namespaces line.name first) off-1
-    (space_first line r kind p doing input first is does asked are settings.namespaces)
-first_passes filter.Personality settings table line r kind p doing input first is does asked are =
+    (realtime_first line r kind p operation input first is does asked are)
+first_passes filter.Suid settings table line r kind p operation input first is does asked are =
+    suid_passes line r kind p operation input first is does asked are settings.systemd
+first_passes filter.Namespaces settings table line r kind p operation input first is does asked are =
+    space_passes line r kind p operation input first is does asked are settings.systemd settings.namespaces
+first_passes filter.Tunables settings table line r kind p operation input first is does asked are = λ e. e
+first_passes filter.Personality settings table line r kind p operation input first is does asked are =
     carry 1 (refuses_personality line.name input) (refuses_personality line.name first) off-1
-    (personality_first line r kind p doing input first is does asked are)
-first_passes filter.Hostname settings table line r kind p doing input first is does asked are = λ e. e
-first_passes filter.Modules settings table line r kind p doing input first is does asked are = λ e. e
-first_passes filter.Logs settings table line r kind p doing input first is does asked are = λ e. e
-first_passes filter.Clock settings table line r kind p doing input first is does asked are = λ e. e
-first_passes filter.Devices settings table line r kind p doing input first is does asked are = λ e. e
-first_passes filter.Calls settings table line r kind p doing input first is does asked are = λ e. e
-first_passes filter.Archs settings table line r kind p doing input first is does asked are = λ e. e
+    (personality_first line r kind p operation input first is does asked are)
+first_passes filter.Hostname settings table line r kind p operation input first is does asked are = λ e. e
+first_passes filter.Modules settings table line r kind p operation input first is does asked are = λ e. e
+first_passes filter.Logs settings table line r kind p operation input first is does asked are = λ e. e
+first_passes filter.Clock settings table line r kind p operation input first is does asked are = λ e. e
+first_passes filter.Devices settings table line r kind p operation input first is does asked are = λ e. e
+first_passes filter.Calls settings table line r kind p operation input first is does asked are = λ e. e
+first_passes filter.Archs settings table line r kind p operation input first is does asked are = λ e. e

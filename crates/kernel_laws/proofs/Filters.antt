@@ -22,7 +22,7 @@ use Rattle.kernel_model.specs.declared.kernel_calls.call.Call.{Call}
 use Rattle.kernel_model.specs.kernel_calls.Calls.{IsCall}
 use Rattle.kernel_model.specs.declared.kernel_calls.rule.Rule.{Rule}
 use Rattle.kernel_model.specs.kernel_calls.Rules.{rule_of, rule_at}
-use Rattle.kernel_model.specs.kernel_calls.Doing.{Doing, Does, asked_if, asked_by, asked_of, doing_by, bare}
+use Rattle.kernel_model.specs.kernel_calls.Operation.{Operation, Does, asked_if, asked_by, asked_of, operation_by, bare}
 use Rattle.kernel_model.specs.declared.kernel_calls.payload.Payload.{Payload}
 use Rattle.kernel_model.specs.declared.kernel_calls.payload.Payload.TheVariants as pay
 use Rattle.kernel_laws.specs.declared.question_types.kind.CallKind.{CallKind}
@@ -32,19 +32,19 @@ use Rattle.kernel_laws.specs.Launched.{Launch, data_at, is_pass, lets_words, let
 -- what a stack above the launch programs lets through, of any kind, some call of that kind passes the launch programs with
 -- its first words
 pub record LetsThrough (launch : Launch) : Type 0 where
-  pub kinds : (newer : List (List Insn)) (call : Call) (doing : Doing) → IsCall call
+  pub kinds : (newer : List (List Insn)) (call : Call) (operation : Operation) → IsCall call
       → decision_on (launch.stack ++ newer) (data_at launch call.abi call.nr call.args) ≡ decision.Pass
-      → asked_of launch.calls call ≡ Does doing → (kind : CallKind) → asks kind doing ≡ true → lets launch kind ≡ true
+      → asked_of launch.calls call ≡ Does operation → (kind : CallKind) → asks kind operation ≡ true → lets launch kind ≡ true
 
 -- a call without a payload asks for this one thing
-pub bare_is : (doing own : Doing) (payload : Payload) → bare own payload ≡ Some doing → own ≡ doing
-bare_is doing own pay.Nothing e = cc
-bare_is doing own (pay.OnePath path) e = cc
-bare_is doing own (pay.TwoPaths source target) e = cc
-bare_is doing own (pay.Sets permitted effective inheritable) e = cc
-bare_is doing own (pay.Ids ids) e = cc
-bare_is doing own (pay.Family family) e = cc
-bare_is doing own (pay.Code bytes) e = cc
+pub bare_is : (operation own : Operation) (payload : Payload) → bare own payload ≡ Some operation → own ≡ operation
+bare_is operation own pay.Nothing e = cc
+bare_is operation own (pay.OnePath path) e = cc
+bare_is operation own (pay.TwoPaths source target) e = cc
+bare_is operation own (pay.Sets permitted effective inheritable) e = cc
+bare_is operation own (pay.Ids ids) e = cc
+bare_is operation own (pay.Family family) e = cc
+bare_is operation own (pay.Code bytes) e = cc
 
 -- a line of this number, with this rule
 pub record HasRule (calls : List CallLine) (nr : ℕ) (rule : Rule) : Type 0 where
@@ -60,25 +60,25 @@ has_rule calls nr rule e = by (numbered nr calls) refl e
     by (Some line) f e = record { line = line; found = f; is = e }
 
 -- what a call asks for
-pub record Asks (calls : List CallLine) (call : Call) (doing : Doing) : Type 0 where
+pub record Asks (calls : List CallLine) (call : Call) (operation : Operation) : Type 0 where
   pub rule : Rule
   pub at : rule_at calls call.nr ≡ Some rule
-  pub is : doing_by rule call.args call.payload ≡ Some doing
+  pub is : operation_by rule call.args call.payload ≡ Some operation
 
-pub asks_for : (table : Table) (call : Call) (doing : Doing) → asked_of table call ≡ Does doing → Asks (calls_in table call.abi) call doing
-asks_for table call doing e = by (rule_at (calls_in table call.abi) call.nr) refl e
+pub asks_for : (table : Table) (call : Call) (operation : Operation) → asked_of table call ≡ Does operation → Asks (calls_in table call.abi) call operation
+asks_for table call operation e = by (rule_at (calls_in table call.abi) call.nr) refl e
   where
     calls : List CallLine
     calls = calls_in table call.abi
 
-    by_doing : (rule : Rule) → rule_at calls call.nr ≡ Some rule → (o : Option Doing) → doing_by rule call.args call.payload ≡ o
-        → asked_if o ≡ Does doing → Asks calls call doing
-    by_doing rule at None f e = cc
-    by_doing rule at (Some own) f e = let same : own ≡ doing = cc in record { rule = rule; at = at; is = f ∙ ap (λ (d : Doing). Some d) same }
+    by_operation : (rule : Rule) → rule_at calls call.nr ≡ Some rule → (o : Option Operation) → operation_by rule call.args call.payload ≡ o
+        → asked_if o ≡ Does operation → Asks calls call operation
+    by_operation rule at None f e = cc
+    by_operation rule at (Some own) f e = let same : own ≡ operation = cc in record { rule = rule; at = at; is = f ∙ ap (λ (d : Operation). Some d) same }
 
-    by : (o : Option Rule) → rule_at calls call.nr ≡ o → asked_by o call ≡ Does doing → Asks calls call doing
+    by : (o : Option Rule) → rule_at calls call.nr ≡ o → asked_by o call ≡ Does operation → Asks calls call operation
     by None at e = cc
-    by (Some rule) at e = by_doing rule at (doing_by rule call.args call.payload) refl e
+    by (Some rule) at e = by_operation rule at (operation_by rule call.args call.payload) refl e
 
 -- found lines are among the lines, with their number
 pub any_found : (p : CallLine → Bool) (calls : List CallLine) (nr : ℕ) (line : CallLine) → numbered nr calls ≡ Some line → p line ≡ true
@@ -181,13 +181,13 @@ lets_chosen : (launch : Launch) (kind : CallKind) (rule : Rule) (abi nr : ℕ) �
 lets_chosen launch kind rule abi nr c = ap (lets_words launch abi nr) c.are ∙ ap is_pass c.passes
 
 -- the line of a call that was let through lets its kinds through
-pub line_lets : (launch : Launch) → IsLaunched launch → (newer : List (List Insn)) (call : Call) (doing : Doing) → IsCall call
+pub line_lets : (launch : Launch) → IsLaunched launch → (newer : List (List Insn)) (call : Call) (operation : Operation) → IsCall call
     → decision_on (launch.stack ++ newer) (data_at launch call.abi call.nr call.args) ≡ decision.Pass
-    → (kind : CallKind) → asks kind doing ≡ true → (a : Asks (calls_in launch.calls call.abi) call doing)
+    → (kind : CallKind) → asks kind operation ≡ true → (a : Asks (calls_in launch.calls call.abi) call operation)
     (h : HasRule (calls_in launch.calls call.abi) call.nr a.rule) → lets_line launch kind h.line ≡ true
-line_lets launch l newer call doing fit p kind asked a h =
+line_lets launch l newer call operation fit p kind asked a h =
     let own = older launch l newer (data_at launch call.abi call.nr call.args) (data_fits launch call l.arch fit) p in
-    let chosen = l.chosen kind call.abi call.nr call.args a.rule call.payload doing fit.nr (record { count = fit.count; each = fit.args }) a.at a.is asked own in
+    let chosen = l.chosen kind call.abi call.nr call.args a.rule call.payload operation fit.nr (record { count = fit.count; each = fit.args }) a.at a.is asked own in
     let calls = calls_in launch.calls call.abi in
     let number : h.line.number ≡ call.nr = found_number calls call.nr h.line h.found in
     let abi : h.line.abi ≡ call.abi = found_all (λ line. line.abi ≡ call.abi) calls call.nr h.line (l.calls_of_abi call.abi) h.found in
@@ -197,10 +197,10 @@ line_lets launch l newer call doing fit p kind asked a h =
 pub lets_through : (launch : Launch) → IsLaunched launch → LetsThrough launch
 unfolding lets
 lets_through launch l = record {
-  kinds = λ newer call doing fit p is kind asked.
-      let a = asks_for launch.calls call doing is in
+  kinds = λ newer call operation fit p is kind asked.
+      let a = asks_for launch.calls call operation is in
       let h = has_rule (calls_in launch.calls call.abi) call.nr a.rule a.at in
       among_all (lets_line launch kind) launch.calls call.abi
       (any_found (lets_line launch kind) (calls_in launch.calls call.abi) call.nr h.line h.found
-      (line_lets launch l newer call doing fit p kind asked a h));
+      (line_lets launch l newer call operation fit p kind asked a h));
 }

@@ -12,8 +12,8 @@ use Rattle.filter_settings.specs.call_table.declared.call_names.rule.Argument.{A
 use Rattle.kernel_model.specs.declared.kernel_calls.rule.Rule.TheVariants as rule
 use Rattle.filter_settings.specs.call_table.declared.call_names.rule.CallRule.TheVariants as known
 use Rattle.kernel_model.specs.declared.kernel_calls.rule.Rule.{Rule}
-use Rattle.kernel_model.specs.kernel_calls.Doing as d
-use Rattle.kernel_model.specs.kernel_calls.Doing.{Doing, doing_by}
+use Rattle.kernel_model.specs.kernel_calls.Operation as d
+use Rattle.kernel_model.specs.kernel_calls.Operation.{Operation, operation_by}
 use Rattle.kernel_laws.specs.Denied.{path_for}
 use Rattle.kernel_laws.specs.declared.question_types.wish.Wish.{Wish}
 use Rattle.kernel_laws.specs.declared.question_types.kind.CallKind.{CallKind}
@@ -25,17 +25,17 @@ pub record Has (kind : CallKind) (rule' : Rule) : Type 0 where
   pub args : List ℕ
   pub are : words kind rule' ≡ Some args
 
-abbrev Given : Doing → Rule → Type 0
-Given doing rule' = (kind : CallKind) → asks kind doing ≡ true → Has kind rule'
+abbrev Given : Operation → Rule → Type 0
+Given operation rule' = (kind : CallKind) → asks kind operation ≡ true → Has kind rule'
 
 -- what names no path asks for nothing by path
-abbrev names : Wish → Doing → Bool
+abbrev names : Wish → Operation → Bool
 names wish own = is_some (path_for wish own)
 
-abbrev names_path : Doing → Bool
+abbrev names_path : Operation → Bool
 names_path own = names wish_to.See own || (names wish_to.Read own || (names wish_to.Write own || names wish_to.Exec own))
 
-pub no_wish : {X : Type 0} (own : Doing) → names_path own ≡ false → (wish : Wish) → asks (k.ForPath wish) own ≡ true → X
+pub no_wish : {X : Type 0} (own : Operation) → names_path own ≡ false → (wish : Wish) → asks (k.ForPath wish) own ≡ true → X
 no_wish own off wish_to.See h = let on : names_path own ≡ true = or_left _ _ h in cc
 no_wish own off wish_to.Read h = let on : names_path own ≡ true = or_right (names wish_to.See own) _ (or_left _ _ h) in cc
 no_wish own off wish_to.Write h = let on : names_path own ≡ true = or_right (names wish_to.See own) _ (or_right (names wish_to.Read own) _ (or_left _ _ h)) in cc
@@ -191,92 +191,92 @@ given-Plain number k.PlainCall h = record { args = _; are = refl }
 given-Plain number (k.ForPath wish) h = no_wish (d.Plain number) refl wish h
 given-Plain number kind h = cc
 
-by_same : (own doing : Doing) (rule' : Rule) → Given own rule' → own ≡ doing → Given doing rule'
-by_same own doing rule' g e = let P : Doing → Type 0 = λ x. Given x rule' in subst P e g
+by_same : (own operation : Operation) (rule' : Rule) → Given own rule' → own ≡ operation → Given operation rule'
+by_same own operation rule' g e = let P : Operation → Type 0 = λ x. Given x rule' in subst P e g
 
-pub has_words : (rule' : Rule) (args : List ℕ) (payload : Payload) (doing : Doing) → doing_by rule' args payload ≡ Some doing
-    → Given doing rule'
-has_words (rule.Known known.See) args (pay.OnePath path) doing f = by_same (d.See path) doing (rule.Known known.See) (given-See path) (cc)
-has_words (rule.Known known.See) args payload doing f = cc
-has_words (rule.Known (known.Open at)) args (pay.OnePath path) doing f =
-    by_same (d.Open (low_word args (place_of at)) path) doing (rule.Known (known.Open at)) (given-Open args at path) (cc)
-has_words (rule.Known (known.Open at)) args payload doing f = cc
-has_words (rule.Known known.Create) args (pay.OnePath path) doing f =
-    by_same (d.Create path) doing (rule.Known known.Create) (given-Create path) (cc)
-has_words (rule.Known known.Create) args payload doing f = cc
-has_words (rule.Known known.Truncate) args (pay.OnePath path) doing f =
-    by_same (d.Truncate path) doing (rule.Known known.Truncate) (given-Truncate path) (cc)
-has_words (rule.Known known.Truncate) args payload doing f = cc
-has_words (rule.Known known.Execve) args (pay.OnePath path) doing f =
-    by_same (d.Execve path) doing (rule.Known known.Execve) (given-Execve path) (cc)
-has_words (rule.Known known.Execve) args payload doing f = cc
-has_words (rule.Known (known.SetMode at)) args pay.Nothing doing f =
-    by_same (d.SetMode (low_word args (place_of at))) doing (rule.Known (known.SetMode at)) (given-SetMode args at) (cc)
-has_words (rule.Known (known.SetMode at)) args payload doing f = cc
-has_words (rule.Known known.Map) args pay.Nothing doing f = by_same (d.Map (low_word args 2)) doing (rule.Known known.Map)
+pub has_words : (rule' : Rule) (args : List ℕ) (payload : Payload) (operation : Operation) → operation_by rule' args payload ≡ Some operation
+    → Given operation rule'
+has_words (rule.Known known.See) args (pay.OnePath path) operation f = by_same (d.See path) operation (rule.Known known.See) (given-See path) (cc)
+has_words (rule.Known known.See) args payload operation f = cc
+has_words (rule.Known (known.Open at)) args (pay.OnePath path) operation f =
+    by_same (d.Open (low_word args (place_of at)) path) operation (rule.Known (known.Open at)) (given-Open args at path) (cc)
+has_words (rule.Known (known.Open at)) args payload operation f = cc
+has_words (rule.Known known.Create) args (pay.OnePath path) operation f =
+    by_same (d.Create path) operation (rule.Known known.Create) (given-Create path) (cc)
+has_words (rule.Known known.Create) args payload operation f = cc
+has_words (rule.Known known.Truncate) args (pay.OnePath path) operation f =
+    by_same (d.Truncate path) operation (rule.Known known.Truncate) (given-Truncate path) (cc)
+has_words (rule.Known known.Truncate) args payload operation f = cc
+has_words (rule.Known known.Execve) args (pay.OnePath path) operation f =
+    by_same (d.Execve path) operation (rule.Known known.Execve) (given-Execve path) (cc)
+has_words (rule.Known known.Execve) args payload operation f = cc
+has_words (rule.Known (known.SetMode at)) args pay.Nothing operation f =
+    by_same (d.SetMode (low_word args (place_of at))) operation (rule.Known (known.SetMode at)) (given-SetMode args at) (cc)
+has_words (rule.Known (known.SetMode at)) args payload operation f = cc
+has_words (rule.Known known.Map) args pay.Nothing operation f = by_same (d.Map (low_word args 2)) operation (rule.Known known.Map)
     (given-Map args) (cc)
-has_words (rule.Known known.Map) args payload doing f = cc
-has_words (rule.Known known.Protect) args pay.Nothing doing f =
-    by_same (d.Protect (low_word args 2)) doing (rule.Known known.Protect) (given-Protect args) (cc)
-has_words (rule.Known known.Protect) args payload doing f = cc
-has_words (rule.Known known.Attach) args pay.Nothing doing f =
-    by_same (d.Attach (low_word args 2)) doing (rule.Known known.Attach) (given-Attach args) (cc)
-has_words (rule.Known known.Attach) args payload doing f = cc
-has_words (rule.Known known.Schedule) args pay.Nothing doing f =
-    by_same (d.Schedule (low_word args 1)) doing (rule.Known known.Schedule) (given-Schedule args) (cc)
-has_words (rule.Known known.Schedule) args payload doing f = cc
-has_words (rule.Known known.Personality) args pay.Nothing doing f =
-    by_same (d.Personality (low_word args 0)) doing (rule.Known known.Personality) (given-Personality args) (cc)
-has_words (rule.Known known.Personality) args payload doing f = cc
-has_words (rule.Known known.Socket) args pay.Nothing doing f =
-    by_same (d.Socket (low_word args 0)) doing (rule.Known known.Socket) (given-Socket args) (cc)
-has_words (rule.Known known.Socket) args payload doing f = cc
-has_words (rule.Known known.Socketcall) args (pay.Family family) doing f =
-    by_same (d.Socketcall (low_word args 0) family) doing (rule.Known known.Socketcall) (given-Socketcall args family) (cc)
-has_words (rule.Known known.Socketcall) args payload doing f = cc
-has_words (rule.Known known.Enter) args pay.Nothing doing f = by_same (d.Enter) doing (rule.Known known.Enter) given-Enter (cc)
-has_words (rule.Known known.Enter) args payload doing f = cc
-has_words (rule.Known known.Fork) args pay.Nothing doing f = by_same (d.Fork) doing (rule.Known known.Fork) given-Fork (cc)
-has_words (rule.Known known.Fork) args payload doing f = cc
-has_words (rule.Known known.Clone) args pay.Nothing doing f =
-    by_same (d.Clone (low_word args 0)) doing (rule.Known known.Clone) (given-Clone args) (cc)
-has_words (rule.Known known.Clone) args payload doing f = cc
-has_words (rule.Known known.Unshare) args pay.Nothing doing f =
-    by_same (d.Unshare (low_word args 0)) doing (rule.Known known.Unshare) (given-Unshare args) (cc)
-has_words (rule.Known known.Unshare) args payload doing f = cc
-has_words (rule.Known known.Exit) args pay.Nothing doing f = by_same (d.Exit) doing (rule.Known known.Exit) given-Exit (cc)
-has_words (rule.Known known.Exit) args payload doing f = cc
-has_words (rule.Known known.Mount) args (pay.TwoPaths source target) doing f =
-    by_same (d.Mount source target (low_word args 3)) doing (rule.Known known.Mount) (given-Mount args source target) (cc)
-has_words (rule.Known known.Mount) args payload doing f = cc
-has_words (rule.Known known.Umount) args (pay.OnePath path) doing f =
-    by_same (d.Umount path (low_word args 1)) doing (rule.Known known.Umount) (given-Umount args path) (cc)
-has_words (rule.Known known.Umount) args payload doing f = cc
-has_words (rule.Known known.Setuid) args pay.Nothing doing f =
-    by_same (d.Setuid (low_word args 0)) doing (rule.Known known.Setuid) (given-Setuid args) (cc)
-has_words (rule.Known known.Setuid) args payload doing f = cc
-has_words (rule.Known known.Setgid) args pay.Nothing doing f =
-    by_same (d.Setgid (low_word args 0)) doing (rule.Known known.Setgid) (given-Setgid args) (cc)
-has_words (rule.Known known.Setgid) args payload doing f = cc
-has_words (rule.Known known.Setresuid) args pay.Nothing doing f =
-    by_same (d.Setresuid (low_word args 0) (low_word args 1) (low_word args 2)) doing (rule.Known known.Setresuid) (given-Setresuid args)
+has_words (rule.Known known.Map) args payload operation f = cc
+has_words (rule.Known known.Protect) args pay.Nothing operation f =
+    by_same (d.Protect (low_word args 2)) operation (rule.Known known.Protect) (given-Protect args) (cc)
+has_words (rule.Known known.Protect) args payload operation f = cc
+has_words (rule.Known known.Attach) args pay.Nothing operation f =
+    by_same (d.Attach (low_word args 2)) operation (rule.Known known.Attach) (given-Attach args) (cc)
+has_words (rule.Known known.Attach) args payload operation f = cc
+has_words (rule.Known known.Schedule) args pay.Nothing operation f =
+    by_same (d.Schedule (low_word args 1)) operation (rule.Known known.Schedule) (given-Schedule args) (cc)
+has_words (rule.Known known.Schedule) args payload operation f = cc
+has_words (rule.Known known.Personality) args pay.Nothing operation f =
+    by_same (d.Personality (low_word args 0)) operation (rule.Known known.Personality) (given-Personality args) (cc)
+has_words (rule.Known known.Personality) args payload operation f = cc
+has_words (rule.Known known.Socket) args pay.Nothing operation f =
+    by_same (d.Socket (low_word args 0)) operation (rule.Known known.Socket) (given-Socket args) (cc)
+has_words (rule.Known known.Socket) args payload operation f = cc
+has_words (rule.Known known.Socketcall) args (pay.Family family) operation f =
+    by_same (d.Socketcall (low_word args 0) family) operation (rule.Known known.Socketcall) (given-Socketcall args family) (cc)
+has_words (rule.Known known.Socketcall) args payload operation f = cc
+has_words (rule.Known known.Enter) args pay.Nothing operation f = by_same (d.Enter) operation (rule.Known known.Enter) given-Enter (cc)
+has_words (rule.Known known.Enter) args payload operation f = cc
+has_words (rule.Known known.Fork) args pay.Nothing operation f = by_same (d.Fork) operation (rule.Known known.Fork) given-Fork (cc)
+has_words (rule.Known known.Fork) args payload operation f = cc
+has_words (rule.Known known.Clone) args pay.Nothing operation f =
+    by_same (d.Clone (low_word args 0)) operation (rule.Known known.Clone) (given-Clone args) (cc)
+has_words (rule.Known known.Clone) args payload operation f = cc
+has_words (rule.Known known.Unshare) args pay.Nothing operation f =
+    by_same (d.Unshare (low_word args 0)) operation (rule.Known known.Unshare) (given-Unshare args) (cc)
+has_words (rule.Known known.Unshare) args payload operation f = cc
+has_words (rule.Known known.Exit) args pay.Nothing operation f = by_same (d.Exit) operation (rule.Known known.Exit) given-Exit (cc)
+has_words (rule.Known known.Exit) args payload operation f = cc
+has_words (rule.Known known.Mount) args (pay.TwoPaths source target) operation f =
+    by_same (d.Mount source target (low_word args 3)) operation (rule.Known known.Mount) (given-Mount args source target) (cc)
+has_words (rule.Known known.Mount) args payload operation f = cc
+has_words (rule.Known known.Umount) args (pay.OnePath path) operation f =
+    by_same (d.Umount path (low_word args 1)) operation (rule.Known known.Umount) (given-Umount args path) (cc)
+has_words (rule.Known known.Umount) args payload operation f = cc
+has_words (rule.Known known.Setuid) args pay.Nothing operation f =
+    by_same (d.Setuid (low_word args 0)) operation (rule.Known known.Setuid) (given-Setuid args) (cc)
+has_words (rule.Known known.Setuid) args payload operation f = cc
+has_words (rule.Known known.Setgid) args pay.Nothing operation f =
+    by_same (d.Setgid (low_word args 0)) operation (rule.Known known.Setgid) (given-Setgid args) (cc)
+has_words (rule.Known known.Setgid) args payload operation f = cc
+has_words (rule.Known known.Setresuid) args pay.Nothing operation f =
+    by_same (d.Setresuid (low_word args 0) (low_word args 1) (low_word args 2)) operation (rule.Known known.Setresuid) (given-Setresuid args)
     (cc)
-has_words (rule.Known known.Setresuid) args payload doing f = cc
-has_words (rule.Known known.Setresgid) args pay.Nothing doing f =
-    by_same (d.Setresgid (low_word args 0) (low_word args 1) (low_word args 2)) doing (rule.Known known.Setresgid) (given-Setresgid args)
+has_words (rule.Known known.Setresuid) args payload operation f = cc
+has_words (rule.Known known.Setresgid) args pay.Nothing operation f =
+    by_same (d.Setresgid (low_word args 0) (low_word args 1) (low_word args 2)) operation (rule.Known known.Setresgid) (given-Setresgid args)
     (cc)
-has_words (rule.Known known.Setresgid) args payload doing f = cc
-has_words (rule.Known known.Setgroups) args (pay.Ids ids) doing f =
-    by_same (d.Setgroups ids) doing (rule.Known known.Setgroups) (given-Setgroups ids) (cc)
-has_words (rule.Known known.Setgroups) args payload doing f = cc
-has_words (rule.Known known.Capset) args (pay.Sets p e i) doing f =
-    by_same (d.Capset p e i) doing (rule.Known known.Capset) (given-Capset p e i) (cc)
-has_words (rule.Known known.Capset) args payload doing f = cc
-has_words (rule.Known known.Prctl) args pay.Nothing doing f =
-    by_same (d.Prctl (low_word args 0) (low_word args 1) (low_word args 2)) doing (rule.Known known.Prctl) (given-Prctl args) (cc)
-has_words (rule.Known known.Prctl) args payload doing f = cc
-has_words (rule.Known known.Seccomp) args (pay.Code bytes) doing f =
-    by_same (d.Seccomp (low_word args 0) (low_word args 1) bytes) doing (rule.Known known.Seccomp) (given-Seccomp args bytes) (cc)
-has_words (rule.Known known.Seccomp) args payload doing f = cc
-has_words (rule.Plain number) args pay.Nothing doing f = by_same (d.Plain number) doing (rule.Plain number) (given-Plain number) (cc)
-has_words (rule.Plain number) args payload doing f = cc
+has_words (rule.Known known.Setresgid) args payload operation f = cc
+has_words (rule.Known known.Setgroups) args (pay.Ids ids) operation f =
+    by_same (d.Setgroups ids) operation (rule.Known known.Setgroups) (given-Setgroups ids) (cc)
+has_words (rule.Known known.Setgroups) args payload operation f = cc
+has_words (rule.Known known.Capset) args (pay.Sets p e i) operation f =
+    by_same (d.Capset p e i) operation (rule.Known known.Capset) (given-Capset p e i) (cc)
+has_words (rule.Known known.Capset) args payload operation f = cc
+has_words (rule.Known known.Prctl) args pay.Nothing operation f =
+    by_same (d.Prctl (low_word args 0) (low_word args 1) (low_word args 2)) operation (rule.Known known.Prctl) (given-Prctl args) (cc)
+has_words (rule.Known known.Prctl) args payload operation f = cc
+has_words (rule.Known known.Seccomp) args (pay.Code bytes) operation f =
+    by_same (d.Seccomp (low_word args 0) (low_word args 1) bytes) operation (rule.Known known.Seccomp) (given-Seccomp args bytes) (cc)
+has_words (rule.Known known.Seccomp) args payload operation f = cc
+has_words (rule.Plain number) args pay.Nothing operation f = by_same (d.Plain number) operation (rule.Plain number) (given-Plain number) (cc)
+has_words (rule.Plain number) args payload operation f = cc

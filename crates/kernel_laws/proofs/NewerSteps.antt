@@ -22,8 +22,8 @@ use Rattle.kernel_model.specs.kern_files.Executing.{program_answer, executed_in,
 use Rattle.kernel_model.specs.kern_files.MountCall.{after_mount}
 use Rattle.kernel_model.specs.kern_files.UmountCall.{umount_answer}
 use Rattle.kernel_model.specs.declared.kern_files.program.Program.{Program}
-use Rattle.kernel_model.specs.kernel_calls.Doing as d
-use Rattle.kernel_model.specs.kernel_calls.Doing.{Doing}
+use Rattle.kernel_model.specs.kernel_calls.Operation as d
+use Rattle.kernel_model.specs.kernel_calls.Operation.{Operation}
 use Rattle.kernel_model.specs.Effects.{Effect, Refuse, Answer, SetCreds, Push, Child, OwnTable, UserChild, OwnUser, Caller, effect_of}
 use Rattle.kernel_model.specs.Effects.{looks, creds_effect, table_effect, first_alone, with_cap_of, with_admin, with_own, socket_effect}
 use Rattle.kernel_model.specs.Effects.{socketcall_effect, clone_effect, unshare_effect, ambient_effect, prctl_effect, push_effect}
@@ -67,10 +67,10 @@ module _ (launch : Launch) (power : Power) (top : Bounds) (below : Table → Typ
   safe_socket creds None = tt
   safe_socket creds (Some line) = safe_alone line.cap creds 3
 
-  safe_socketcall : (creds : Creds) (operation : ℕ) (line : Option CallLine) → Safe (socketcall_effect true creds operation line)
-  safe_socketcall creds operation line =
-      safe_if (eqb operation 1) (socket_effect true creds line) _ (λ e. safe_socket creds line) λ e. safe_if
-      (nat_le 2 operation && nat_le operation 20) (Answer 0) (Refuse 22) (λ e. tt) (λ e. tt)
+  safe_socketcall : (creds : Creds) (op : ℕ) (line : Option CallLine) → Safe (socketcall_effect true creds op line)
+  safe_socketcall creds op line =
+      safe_if (eqb op 1) (socket_effect true creds line) _ (λ e. safe_socket creds line) λ e. safe_if
+      (nat_le 2 op && nat_le op 20) (Answer 0) (Refuse 22) (λ e. tt) (λ e. tt)
 
   safe_exec : (creds : Creds) (answer : Result Program ℕ) → KeepsIds top creds → Safe (creds_effect (executed_in true creds answer))
   safe_exec creds (Err errno) held = tt
@@ -92,13 +92,13 @@ module _ (launch : Launch) (power : Power) (top : Bounds) (below : Table → Typ
         (λ e. safe_admin creds (cond (has_some newns flags) OwnTable (Answer 0))
         (safe_if (has_some newns flags) OwnTable (Answer 0) (λ e. tt) (λ e. tt))) (λ e. tt)
 
-  safe_ambient : (creds : Creds) (operation cap' : ℕ) → KeepsIds top creds → Safe (ambient_effect creds operation cap')
-  safe_ambient creds operation cap' held =
-      safe_if (eqb operation 1) (cond (nat_lt 40 cap') (Refuse 22) (Answer (cond (has creds.ambient cap') 1 0))) _
+  safe_ambient : (creds : Creds) (op cap' : ℕ) → KeepsIds top creds → Safe (ambient_effect creds op cap')
+  safe_ambient creds op cap' held =
+      safe_if (eqb op 1) (cond (nat_lt 40 cap') (Refuse 22) (Answer (cond (has creds.ambient cap') 1 0))) _
       (λ e. safe_if (nat_lt 40 cap') (Refuse 22) (Answer (cond (has creds.ambient cap') 1 0)) (λ e. tt) (λ e. tt)) λ e.
-      safe_if (eqb operation 2) (creds_effect (after_raise creds cap')) _ (λ e. safe_creds _ (ids-raise top creds held cap')) λ e.
-      safe_if (eqb operation 3) (creds_effect (after_lower creds cap')) _ (λ e. safe_creds _ (ids-lower top creds held cap')) λ e.
-      safe_if (eqb operation 4) (SetCreds (after_clear_ambient creds)) (Refuse 22) (λ e. ids-clear_ambient top creds held) (λ e. tt)
+      safe_if (eqb op 2) (creds_effect (after_raise creds cap')) _ (λ e. safe_creds _ (ids-raise top creds held cap')) λ e.
+      safe_if (eqb op 3) (creds_effect (after_lower creds cap')) _ (λ e. safe_creds _ (ids-lower top creds held cap')) λ e.
+      safe_if (eqb op 4) (SetCreds (after_clear_ambient creds)) (Refuse 22) (λ e. ids-clear_ambient top creds held) (λ e. tt)
 
   safe_prctl : (creds : Creds) (option value third : ℕ) → KeepsIds top creds → Safe (prctl_effect creds option value third)
   safe_prctl creds option value third held =
@@ -117,10 +117,10 @@ module _ (launch : Launch) (power : Power) (top : Bounds) (below : Table → Typ
   safe_push stack None = tt
   safe_push stack (Some program) = safe_if (nat_le (room_of stack + length program) 32768) (Push program) (Refuse 12) (λ e. tt) (λ e. tt)
 
-  safe_seccomp : (creds : Creds) (stack : List (List Insn)) (operation flags : ℕ) (bytes : List ℕ)
-      → Safe (seccomp_effect creds stack operation flags bytes)
-  safe_seccomp creds stack operation flags bytes =
-      safe_if (not (eqb operation 1 && eqb flags 0)) (Refuse 22) _ (λ e. tt) λ e. safe_if
+  safe_seccomp : (creds : Creds) (stack : List (List Insn)) (op flags : ℕ) (bytes : List ℕ)
+      → Safe (seccomp_effect creds stack op flags bytes)
+  safe_seccomp creds stack op flags bytes =
+      safe_if (not (eqb op 1 && eqb flags 0)) (Refuse 22) _ (λ e. tt) λ e. safe_if
       (not (creds.no_new_privs || has creds.effective 21)) (Refuse 13) (push_effect stack (program_of bytes)) (λ e. tt)
       (λ e. safe_push stack _)
 
@@ -156,15 +156,15 @@ module _ (launch : Launch) (power : Power) (top : Bounds) (below : Table → Typ
         (safe_table _ (λ now g. is_in e now (stable.unmounts table now path flags (is_below e) g)))) (λ e. tt)
 
     -- the kinds that a call asks for are let through
-    abbrev Through : Doing → Type 0
-    Through doing = (kind : CallKind) → asks kind doing ≡ true → lets launch kind ≡ true
+    abbrev Through : Operation → Type 0
+    Through operation = (kind : CallKind) → asks kind operation ≡ true → lets launch kind ≡ true
 
     abbrev pub newer_caller : Creds → List (List Insn) → Caller
     newer_caller creds stack = record { creds = creds; stack = stack; table = table; newer = true; owns = owns }
 
-    pub safe_newer : (families : List CallLine) (creds : Creds) (stack : List (List Insn)) (doing : Doing) → KeepsIds top creds
-        → Through doing
-        → Safe (effect_of (record { rows = row_at launch.site.rows; families = families }) (newer_caller creds stack) doing)
+    pub safe_newer : (families : List CallLine) (creds : Creds) (stack : List (List Insn)) (operation : Operation) → KeepsIds top creds
+        → Through operation
+        → Safe (effect_of (record { rows = row_at launch.site.rows; families = families }) (newer_caller creds stack) operation)
     safe_newer families creds stack (d.See path) held p = safe_looks _
     safe_newer families creds stack (d.Open flags path) held p = safe_looks _
     safe_newer families creds stack (d.Create path) held p = safe_looks _
@@ -178,7 +178,7 @@ module _ (launch : Launch) (power : Power) (top : Bounds) (below : Table → Typ
     safe_newer families creds stack (d.Schedule policy) held p = safe_looks _
     safe_newer families creds stack (d.Personality domain) held p = tt
     safe_newer families creds stack (d.Socket family) held p = safe_socket creds _
-    safe_newer families creds stack (d.Socketcall operation family) held p = safe_socketcall creds operation _
+    safe_newer families creds stack (d.Socketcall op family) held p = safe_socketcall creds op _
     safe_newer families creds stack d.Enter held p = tt
     safe_newer families creds stack d.Fork held p = tt
     safe_newer families creds stack (d.Clone flags) held p = safe_clone creds flags (p (k.ForNamespace User))
@@ -194,5 +194,5 @@ module _ (launch : Launch) (power : Power) (top : Bounds) (below : Table → Typ
     safe_newer families creds stack (d.Capset permitted effective inheritable) held p =
         safe_creds _ (ids-capset top creds held permitted effective inheritable)
     safe_newer families creds stack (d.Prctl option value third) held p = safe_prctl creds option value third held
-    safe_newer families creds stack (d.Seccomp operation flags bytes) held p = safe_seccomp creds stack operation flags bytes
+    safe_newer families creds stack (d.Seccomp op flags bytes) held p = safe_seccomp creds stack op flags bytes
     safe_newer families creds stack (d.Plain cap') held p = safe_alone cap' creds 0

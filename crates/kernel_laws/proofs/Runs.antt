@@ -17,7 +17,7 @@ use Rattle.kernel_model.specs.kern_mounts.Copying.{copied, locked_copy}
 use Rattle.kernel_model.specs.declared.kernel_calls.call.Call.{Call}
 use Rattle.kernel_model.specs.kernel_calls.Calls.{IsCall, AreCalls}
 use Rattle.kernel_model.specs.kern_mounts.Mounts.{Mounts as Table}
-use Rattle.kernel_model.specs.kernel_calls.Doing.{Doing, Asked, Lacking, Misformed, Does, asked_of}
+use Rattle.kernel_model.specs.kernel_calls.Operation.{Operation, Asked, Lacking, Misformed, Does, asked_of}
 use Rattle.kernel_model.specs.Effects as f
 use Rattle.kernel_model.specs.Effects.{Effect, effect_of}
 use Rattle.kernel_model.specs.declared.reply.Reply.TheVariants as reply
@@ -342,28 +342,28 @@ module _ (launch : Launch) (power : Power) (top : Bounds) (below : Table → Typ
     -- what a living process asks for, once its stack lets it through
     pub through_of : (world : World) (call : Call) (process : Process) → IsCall call → All world → Held world.tables world.owners process
         → decision_of world call process ≡ decision.Pass
-        → (doing : Doing) → asked_of world.calls call ≡ Does doing → (kind : CallKind) → asks kind doing ≡ true → lets launch kind ≡ true
-    through_of world call process fit held h passed doing is kind asked =
+        → (operation : Operation) → asked_of world.calls call ≡ Does operation → (kind : CallKind) → asks kind operation ≡ true → lets launch kind ≡ true
+    through_of world call process fit held h passed operation is kind asked =
         let own : decision_on (launch.stack ++ h.newer) (data_at launch call.abi call.nr call.args) ≡ decision.Pass =
         ap (λ (c : calls.Table). decision_on (launch.stack ++ h.newer)
         (record { nr = call.nr; arch = calls.arch_of c call.abi; ip = 0; args = call.args })) (sym held.calls)
         ∙ ap (λ (s : List (List Insn)). decision_on s (data_of world call)) (sym h.stack) ∙ passed_on world call process passed in
-        let same : asked_of launch.calls call ≡ Does doing = ap (λ (c : calls.Table). asked_of c call) (sym held.calls) ∙ is in
-        filters.kinds h.newer call doing fit own same kind asked
+        let same : asked_of launch.calls call ≡ Does operation = ap (λ (c : calls.Table). asked_of c call) (sym held.calls) ∙ is in
+        filters.kinds h.newer call operation fit own same kind asked
 
     module _ (stable : IsStable launch power below) (uids gids : Bool) (closed : IsClosed launch uids gids power top) where
       -- what the process asks for, once its stack lets it through, uses only what may be used
       abbrev UsesIfLet : World → Call → Process → Type 0
-      UsesIfLet world call process = is_newer process ≡ false → decision_of world call process ≡ decision.Pass → (doing : Doing)
-          → asked_of world.calls call ≡ Does doing → Uses uids gids process.creds doing
+      UsesIfLet world call process = is_newer process ≡ false → decision_of world call process ≡ decision.Pass → (operation : Operation)
+          → asked_of world.calls call ≡ Does operation → Uses uids gids process.creds operation
 
       -- what a process asks for is safe, by its user namespace and by that which its mount namespace belongs to
       safe_of : (world : World) (call : Call) (process : Process) (held : All world) (h : Held world.tables world.owners process)
-          → {doing : Doing} → ((kind : CallKind) → asks kind doing ≡ true → lets launch kind ≡ true)
-          → (is_newer process ≡ false → Uses uids gids process.creds doing)
-          → IsSafe launch power top below (is_newer process) (eqb h.owner 1) (effect_of (host_of world) (caller_of world process) doing)
-      safe_of world call process held h {doing = doing} through uses =
-          let P : Site → Type 0 = λ s. IsSafe launch power top below (is_newer process) (eqb h.owner 1) (effect_of (record { rows = row_at s.rows; families = world.calls.families }) (caller_of world process) doing) in
+          → {operation : Operation} → ((kind : CallKind) → asks kind operation ≡ true → lets launch kind ≡ true)
+          → (is_newer process ≡ false → Uses uids gids process.creds operation)
+          → IsSafe launch power top below (is_newer process) (eqb h.owner 1) (effect_of (host_of world) (caller_of world process) operation)
+      safe_of world call process held h {operation = operation} through uses =
+          let P : Site → Type 0 = λ s. IsSafe launch power top below (is_newer process) (eqb h.owner 1) (effect_of (record { rows = row_at s.rows; families = world.calls.families }) (caller_of world process) operation) in
           subst P (sym held.site) (by (is_newer process) refl h.creds (own_allowed world process h))
         where
           apart : is_newer process ≡ true → eqb (owner_of world process.namespace) process.user ≡ true → eqb h.owner 1 ≡ false
@@ -374,29 +374,29 @@ module _ (launch : Launch) (power : Power) (top : Bounds) (below : Table → Typ
 
           by : (b : Bool) → is_newer process ≡ b → KeepsIn b top process.creds
               → TableIn (eqb h.owner 1) launch power below (mounts_of world process.namespace)
-              → IsSafe launch power top below b (eqb h.owner 1) (effect_of (record { rows = row_at launch.site.rows; families = world.calls.families }) (record { creds = process.creds; stack = process.stack; table = mounts_of world process.namespace; newer = b; owns = eqb (owner_of world process.namespace) process.user }) doing)
+              → IsSafe launch power top below b (eqb h.owner 1) (effect_of (record { rows = row_at launch.site.rows; families = world.calls.families }) (record { creds = process.creds; stack = process.stack; table = mounts_of world process.namespace; newer = b; owns = eqb (owner_of world process.namespace) process.user }) operation)
           by true new kept allowed =
               safe_newer launch power top below stable (eqb h.owner 1) (eqb (owner_of world process.namespace) process.user) (apart new)
-              (mounts_of world process.namespace) allowed world.calls.families process.creds process.stack doing kept through
+              (mounts_of world process.namespace) allowed world.calls.families process.creds process.stack operation kept through
           by false first kept allowed =
               let home : h.owner ≡ 1 = h.home first in
               let user : process.user ≡ 1 = eqb-true process.user 1 (not-false (eqb process.user 1) first) in
               let owns : eqb (owner_of world process.namespace) process.user ≡ true = eq-eqb (owner_of world process.namespace) process.user (own_owner world process h ∙ home ∙ sym user) in
-              let P : Bool → Type 0 = λ o. IsSafe launch power top below false (eqb h.owner 1) (effect_of (record { rows = row_at launch.site.rows; families = world.calls.families }) (record { creds = process.creds; stack = process.stack; table = mounts_of world process.namespace; newer = false; owns = o }) doing) in
-              let Q : ℕ → Type 0 = λ o. IsSafe launch power top below false (eqb o 1) (effect_of (record { rows = row_at launch.site.rows; families = world.calls.families }) (record { creds = process.creds; stack = process.stack; table = mounts_of world process.namespace; newer = false; owns = true }) doing) in
+              let P : Bool → Type 0 = λ o. IsSafe launch power top below false (eqb h.owner 1) (effect_of (record { rows = row_at launch.site.rows; families = world.calls.families }) (record { creds = process.creds; stack = process.stack; table = mounts_of world process.namespace; newer = false; owns = o }) operation) in
+              let Q : ℕ → Type 0 = λ o. IsSafe launch power top below false (eqb o 1) (effect_of (record { rows = row_at launch.site.rows; families = world.calls.families }) (record { creds = process.creds; stack = process.stack; table = mounts_of world process.namespace; newer = false; owns = true }) operation) in
               subst P (sym owns) (subst Q (sym home)
               (safe_effect launch uids gids power top below closed world.calls.families process.creds process.stack
-              (mounts_of world process.namespace) doing kept (first_allowed world process h first) through (uses first)))
+              (mounts_of world process.namespace) operation kept (first_allowed world process h first) through (uses first)))
 
       held_answered : (world : World) (call : Call) (process : Process) → IsCall call → All world → Held world.tables world.owners process
           → UsesIfLet world call process → decision_of world call process ≡ decision.Pass
           → (asked : Asked) → asked_of world.calls call ≡ asked → All (answered world call.pid process asked).1
       held_answered world call process fit held h uses passed Lacking is = held
       held_answered world call process fit held h uses passed Misformed is = held
-      held_answered world call process fit held h uses passed (Does doing) is =
-          held_applied stable world call.pid process (effect_of (host_of world) (caller_of world process) doing) held h
-          (safe_of world call process held h (through_of world call process fit held h passed doing is)
-          (λ first. uses first passed doing is))
+      held_answered world call process fit held h uses passed (Does operation) is =
+          held_applied stable world call.pid process (effect_of (host_of world) (caller_of world process) operation) held h
+          (safe_of world call process held h (through_of world call process fit held h passed operation is)
+          (λ first. uses first passed operation is))
 
       held_decided : (world : World) (call : Call) (process : Process) → IsCall call → All world → Held world.tables world.owners process
           → UsesIfLet world call process
@@ -417,7 +417,7 @@ module _ (launch : Launch) (power : Power) (top : Bounds) (below : Table → Typ
 
       spared_step : (world : World) (call : Call) → IsCall call → Spares uids gids world call → All world → All (step world call).1
       spared_step world call fit spares held = held_by world call fit held
-          (λ process e h first passed doing is. spares process doing e first is) (living_of world call.pid) refl
+          (λ process e h first passed operation is. spares process operation e first is) (living_of world call.pid) refl
 
       pub spared_run : (list : List Call) (world : World) → AreCalls list → AllSpare uids gids world list → All world → All (run world list)
       spared_run [] world fit spares held = held
@@ -429,7 +429,7 @@ module _ (launch : Launch) (power : Power) (top : Bounds) (below : Table → Typ
       pub held_step : (world : World) (call : Call) → IsCall call → All world → All (step world call).1
       held_step world call fit held =
           held_by stable (lets launch TakesUid) (lets launch TakesGid) closed world call fit held
-          (λ process e h first passed doing is. let let_through = through_of world call process fit held h passed doing is in ((λ asked has. let_through TakesUid asked), (λ asked has. let_through TakesGid asked))) (living_of world call.pid) refl
+          (λ process e h first passed operation is. let let_through = through_of world call process fit held h passed operation is in ((λ asked has. let_through TakesUid asked), (λ asked has. let_through TakesGid asked))) (living_of world call.pid) refl
 
       pub held_run : (list : List Call) (world : World) → AreCalls list → All world → All (run world list)
       held_run [] world fit held = held

@@ -19,8 +19,8 @@ use Rattle.filter_settings.specs.call_rules.Action.{word_of}
 use Rattle.filter_settings.specs.filter_rules.Wanted.{named_action, unnamed_action, wanted_action}
 use Rattle.kernel_model.specs.kernel_calls.Words.{low_word}
 use Rattle.kernel_model.specs.declared.kernel_calls.payload.Payload.{Payload}
-use Rattle.kernel_model.specs.kernel_calls.Doing as d
-use Rattle.kernel_model.specs.kernel_calls.Doing.{Doing, doing_by}
+use Rattle.kernel_model.specs.kernel_calls.Operation as d
+use Rattle.kernel_model.specs.kernel_calls.Operation.{Operation, operation_by}
 use Rattle.kernel_laws.specs.FirstChoice.{Means, SettingsChoose}
 use Rattle.kernel_laws.specs.declared.question_types.kind.CallKind.{CallKind}
 use Rattle.kernel_laws.specs.declared.question_types.kind.CallKind.TheVariants as k
@@ -138,16 +138,16 @@ low_small args at = below (slice_index args at)
     below word = omega arith
 
 -- a family that a call asks for is a low word
-family_small : (kind : CallKind) (args first : List ℕ) (rule' : Rule) (payload : Payload) (doing : Doing) → words kind rule' ≡ Some first
-    → doing_by rule' args payload ≡ Some doing → asks kind doing ≡ true → family_or kind rule' < 2 ^ 64
-family_small (k.ForFamily family) args first (rule.Known known.Socket) payload doing e is asked =
-    let own = bare_is doing (d.Socket (low_word args 0)) payload is in
+family_small : (kind : CallKind) (args first : List ℕ) (rule' : Rule) (payload : Payload) (operation : Operation) → words kind rule' ≡ Some first
+    → operation_by rule' args payload ≡ Some operation → asks kind operation ≡ true → family_or kind rule' < 2 ^ 64
+family_small (k.ForFamily family) args first (rule.Known known.Socket) payload operation e is asked =
+    let own = bare_is operation (d.Socket (low_word args 0)) payload is in
     let same : low_word args 0 ≡ family = eqb-true (low_word args 0) family (ap (asks (k.ForFamily family)) own ∙ asked) in
     let P : ℕ → Type 0 = λ n. n < 2 ^ 64 in
     subst P same (low_small args 0)
-family_small (k.ForFamily family) args first (rule.Known known.Socketcall) payload doing e is asked = omega arith
-family_small (k.ForFamily family) args first rule' payload doing e is asked = cc
-family_small kind args first rule' payload doing e is asked = omega arith
+family_small (k.ForFamily family) args first (rule.Known known.Socketcall) payload operation e is asked = omega arith
+family_small (k.ForFamily family) args first rule' payload operation e is asked = cc
+family_small kind args first rule' payload operation e is asked = omega arith
 
 -- ABIs of one architecture are one
 pub same_abi : (native : Abi) (second : Option Abi) → IfSome second (λ other. other.arch == native.arch ≡ false) → (a b : ℕ) (x y : Abi)
@@ -190,9 +190,9 @@ is_there table abi nr line e None at = let none = sym (ap (λ (o : Option Abi). 
 is_there table abi nr line e (Some found) at = (found, at)
 
 pub settings_choose : SettingsChoose
-settings_choose launch settings arch differ each plain kind abi nr args rule' payload doing few fit at is asked p =
-    let w = has_words rule' args payload doing is kind asked in
-    let fit' : AreWords w.args = words_fit kind rule' w.args (family_small kind args w.args rule' payload doing w.are is asked) w.are in
+settings_choose launch settings arch differ each plain kind abi nr args rule' payload operation few fit at is asked p =
+    let w = has_words rule' args payload operation is kind asked in
+    let fit' : AreWords w.args = words_fit kind rule' w.args (family_small kind args w.args rule' payload operation w.are is asked) w.are in
     let one : IsCallData (data_at launch abi nr args) = record { nr = few; arch = arch abi; ip = omega arith; count = fit.count; args = fit.each } in
     let other : IsCallData (data_at launch abi nr w.args) = record { nr = few; arch = arch abi; ip = omega arith; count = fit'.count; args = fit'.each } in
     let h = has_rule (calls_in launch.calls abi) nr rule' at in
@@ -206,7 +206,7 @@ settings_choose launch settings arch differ each plain kind abi nr args rule' pa
     own_line first are one other h code m same e =
         let before = m.answers (data_at launch abi nr args) one ∙ ap word_of (ap (λ own. wanted_action m.filter settings launch.calls own (data_at launch abi nr args)) (sym same) ∙ at_line settings launch m.filter abi nr args h.line h.found) in
         let after = m.answers (data_at launch abi nr first) other ∙ ap word_of (ap (λ own. wanted_action m.filter settings launch.calls own (data_at launch abi nr first)) (sym same) ∙ at_line settings launch m.filter abi nr first h.line h.found) in
-        ap decision_of after ∙ first_passes m.filter settings launch.calls h.line rule' kind payload doing (data_at launch abi nr args)
+        ap decision_of after ∙ first_passes m.filter settings launch.calls h.line rule' kind payload operation (data_at launch abi nr args)
         (data_at launch abi nr first) h.is is asked are (ap decision_of (sym before) ∙ e)
 
     either : (first : List ℕ) → words kind rule' ≡ Some first → IsCallData (data_at launch abi nr args)

@@ -21,8 +21,8 @@ use Rattle.kernel_model.specs.kern_files.Bits.{has_some, has_all}
 use Rattle.kernel_model.specs.kern_mounts.Split.{Table}
 use Rattle.kernel_model.specs.site_table.Kinds.{is_dir, is_exe}
 use Rattle.kernel_model.specs.kern_mounts.Unmounts.{IsPart, nothing, keeps, leaves}
-use Rattle.kernel_model.specs.kernel_calls.Doing as d
-use Rattle.kernel_model.specs.kernel_calls.Doing.{Doing}
+use Rattle.kernel_model.specs.kernel_calls.Operation as d
+use Rattle.kernel_model.specs.kernel_calls.Operation.{Operation}
 use Rattle.kernel_model.specs.Effects as f
 use Rattle.kernel_model.specs.Effects.{Effect, effect_of, looks, creds_effect, with_admin, newuser, other_spaces, newns}
 use Rattle.kernel_model.specs.kern_files.Looking.{flags_by, flags_at, access_mode, is_writing, see_answer, write_answer, open_answer}
@@ -110,13 +110,13 @@ module _ (world : World) (pid : ℕ) (process : Process) where
           record { exe = ran.exe; runs = ran.runs; taken = by_refused (is_refused creds (marks_of target) flags.no_suid) (subst P ran.is h) }
 
 -- a call that is done and whose path finds the row has the flags that it needs
-pub wish_fits : (world : World) (pid : ℕ) (process : Process) (wish : Wish) (doing : Doing) (path : Path) (target : Row)
-    → path_for wish doing ≡ Some path
+pub wish_fits : (world : World) (pid : ℕ) (process : Process) (wish : Wish) (operation : Operation) (path : Path) (target : Row)
+    → path_for wish operation ≡ Some path
     → finds (row_at world.site.rows) (table_of world process.namespace) path ≡ row target
-    → DoneBy world pid process (effect_of (host_of world) (caller_of world process) doing)
+    → DoneBy world pid process (effect_of (host_of world) (caller_of world process) operation)
     → fits wish (flags_at (table_of world process.namespace) path) ≡ true
-wish_fits world pid process ToSee doing path target e g h = refl
-wish_fits world pid process ToRead doing path target e g h = refl
+wish_fits world pid process ToSee operation path target e g h = refl
+wish_fits world pid process ToRead operation path target e g h = refl
 wish_fits world pid process ToWrite (d.Open flags own) path target e g h = by (is_writing flags) refl e
   where
     by : (b : Bool) → is_writing flags ≡ b → cond b (Some own) None ≡ Some path
@@ -146,13 +146,13 @@ wish_fits world pid process ToExec (d.Execve own) path target e g h =
     let found : finds (row_at world.site.rows) (table_of world process.namespace) own ≡ row target = ap (finds (row_at world.site.rows) (table_of world process.namespace)) here ∙ g in
     let r = exec_done' world pid process (is_newer process) process.creds (flags_at (table_of world process.namespace) own) target (subst P found h) in
     ap (λ (p : Path). not (flags_at (table_of world process.namespace) p).no_exec) (sym here) ∙ ap not r.runs
-wish_fits world pid process wish doing path target e g h = cc
+wish_fits world pid process wish operation path target e g h = cc
 
 -- and an execve is not refused
-pub run_taken : (world : World) (pid : ℕ) (process : Process) (doing : Doing) (path : Path) (target : Row)
-    → path_for ToExec doing ≡ Some path
+pub run_taken : (world : World) (pid : ℕ) (process : Process) (operation : Operation) (path : Path) (target : Row)
+    → path_for ToExec operation ≡ Some path
     → finds (row_at world.site.rows) (table_of world process.namespace) path ≡ row target
-    → DoneBy world pid process (effect_of (host_of world) (caller_of world process) doing)
+    → DoneBy world pid process (effect_of (host_of world) (caller_of world process) operation)
     → is_refused process.creds (marks_of target) (flags_at (table_of world process.namespace) path).no_suid ≡ false
 run_taken world pid process (d.Execve own) path target e g h =
     let here : own ≡ path = cc in
@@ -161,7 +161,7 @@ run_taken world pid process (d.Execve own) path target e g h =
     let r = exec_done' world pid process (is_newer process) process.creds (flags_at (table_of world process.namespace) own) target (subst P found h) in
     ap (λ (p : Path). is_refused process.creds (marks_of target) (flags_at (table_of world process.namespace) p).no_suid) (sym here)
     ∙ r.taken
-run_taken world pid process doing path target e g h = cc
+run_taken world pid process operation path target e g h = cc
 
 -- ---- tables without no-suid entries
 part_all : (P : MountStep → Type 0) {part table : Table} → IsPart part table → AllByRecursion P table → AllByRecursion P part
@@ -237,22 +237,22 @@ user_or_other namespace.User = inl refl
 user_or_other namespace.Uts = inr (refl, refl)
 
 -- a user namespace is asked for, and one was left; or another, by CAP_SYS_ADMIN
-abbrev pub MadeSpace : World → NamespaceType → Process → Doing → Type 0
-MadeSpace world space process doing = ((asks_space namespace.User doing ≡ true) × (has_user_left world ≡ true)) ⊎
+abbrev pub MadeSpace : World → NamespaceType → Process → Operation → Type 0
+MadeSpace world space process operation = ((asks_space namespace.User operation ≡ true) × (has_user_left world ≡ true)) ⊎
     ((is_user space ≡ false) × (has process.creds.effective 21 ≡ true))
 
-module _ (world : World) (pid : ℕ) (process : Process) (space : NamespaceType) (flags : ℕ) (doing : Doing) (own none' user : Effect)
-    (asked : has_all (flag_of space) flags ≡ true) (is : has_all newuser flags ≡ true → asks_space namespace.User doing ≡ true)
+module _ (world : World) (pid : ℕ) (process : Process) (space : NamespaceType) (flags : ℕ) (operation : Operation) (own none' user : Effect)
+    (asked : has_all (flag_of space) flags ≡ true) (is : has_all newuser flags ≡ true → asks_space namespace.User operation ≡ true)
     (left : DoneBy world pid process user → has_user_left world ≡ true) where
   bit : has flags (bit_of space) ≡ true
   bit = on_flag (bit_of space) (flag_of space) flags (own_bit space) asked
 
   rest_by : has_some newuser flags ≡ false → DoneBy world pid process
-      (cond (has_some other_spaces flags) (with_admin process.creds own) none') → MadeSpace world space process doing
+      (cond (has_some other_spaces flags) (with_admin process.creds own) none') → MadeSpace world space process operation
   rest_by off h = by (user_or_other space)
     where
       by : (has newuser (bit_of space) ≡ true) ⊎ ((has other_spaces (bit_of space) ≡ true) × (is_user space ≡ false))
-          → MadeSpace world space process doing
+          → MadeSpace world space process operation
       by (inl user) = let on = in_mask (bit_of space) newuser flags user bit in cc
       by (inr other) =
           let on = in_mask (bit_of space) other_spaces flags other.0 bit in
@@ -262,11 +262,11 @@ module _ (world : World) (pid : ℕ) (process : Process) (space : NamespaceType)
   -- what is behind the other tests
   space_by : DoneBy world pid process
       (cond (has_some newuser flags) user (cond (has_some other_spaces flags) (with_admin process.creds own) none'))
-      → MadeSpace world space process doing
+      → MadeSpace world space process operation
   space_by h = by (has_some newuser flags) refl h
     where
       by : (b : Bool) → has_some newuser flags ≡ b → DoneBy world pid process
-          (cond b user (cond (has_some other_spaces flags) (with_admin process.creds own) none')) → MadeSpace world space process doing
+          (cond b user (cond (has_some other_spaces flags) (with_admin process.creds own) none')) → MadeSpace world space process operation
       by true e h = inl (is (user_flag flags e), left h)
       by false e h = rest_by e h
 
@@ -291,8 +291,8 @@ own_left world pid process own h = by (has_user_left world) h
     by true h = refl
     by false h = absurd h
 
-pub space_done : (world : World) (pid : ℕ) (process : Process) (space : NamespaceType) (doing : Doing) → asks_space space doing ≡ true
-    → DoneBy world pid process (effect_of (host_of world) (caller_of world process) doing) → MadeSpace world space process doing
+pub space_done : (world : World) (pid : ℕ) (process : Process) (space : NamespaceType) (operation : Operation) → asks_space space operation ≡ true
+    → DoneBy world pid process (effect_of (host_of world) (caller_of world process) operation) → MadeSpace world space process operation
 space_done world pid process space (d.Unshare flags) asked h =
     let one = unless world pid process (has_some 0x81fd_ffff flags) 22 (cond (has_some newuser flags) (f.OwnUser (has_some newns flags)) (cond (has_some other_spaces flags) (with_admin process.creds (cond (has_some newns flags) f.OwnTable (f.Answer 0))) (f.Answer 0))) h in
     space_by world pid process space flags (d.Unshare flags) (cond (has_some newns flags) f.OwnTable (f.Answer 0)) (f.Answer 0)
@@ -301,7 +301,7 @@ space_done world pid process space (d.Clone flags) asked h =
     let one = unless world pid process (has_some 0x1_0000 flags) 22 (cond (has_some newuser flags) (f.UserChild (has_some newns flags)) (cond (has_some other_spaces flags) (with_admin process.creds (f.Child (has_some newns flags))) (f.Child false))) h in
     space_by world pid process space flags (d.Clone flags) (f.Child (has_some newns flags)) (f.Child false)
     (f.UserChild (has_some newns flags)) asked (λ e. e) (child_left world pid process (has_some newns flags)) one.1
-space_done world pid process space doing asked h = cc
+space_done world pid process space operation asked h = cc
 
 -- a capability that a call asks for, in the first user namespace
 pub cap_done : (world : World) (pid : ℕ) (process : Process) (newer : Bool) (cap' : Option ℕ) (value number : ℕ) → cap' ≡ Some number

@@ -24,8 +24,8 @@ use Rattle.kernel_model.specs.kern_mounts.Umount.{after_umount}
 use Rattle.kernel_model.specs.kern_files.MountCall.{after_mount}
 use Rattle.kernel_model.proofs.MountsCall.{umount_does, mount_stays_plain, umount_stays_plain}
 use Rattle.kernel_model.specs.kern_mounts.Mounts.{Mounts, steps_of}
-use Rattle.kernel_model.specs.kernel_calls.Doing as d
-use Rattle.kernel_model.specs.kernel_calls.Doing.{Doing}
+use Rattle.kernel_model.specs.kernel_calls.Operation as d
+use Rattle.kernel_model.specs.kernel_calls.Operation.{Operation}
 use Rattle.kernel_model.specs.Effects.{Effect, Refuse, Answer, SetCreds, Push, Child, OwnTable, UserChild, OwnUser, Caller, effect_of}
 use Rattle.kernel_model.specs.Effects.{looks, creds_effect, table_effect, with_cap_of, with_admin, socket_effect, clone_effect}
 use Rattle.kernel_model.specs.Effects.{unshare_effect, ambient_effect, prctl_effect, push_effect, seccomp_effect, newuser, other_spaces}
@@ -79,10 +79,10 @@ module _ (launch : Launch) (may_uids may_gids : Bool) (power : Power) (top : Bou
   safe_socket creds None = tt
   safe_socket creds (Some line) = safe_cap_of line.cap creds 3
 
-  safe_socketcall : (creds : Creds) (operation : ℕ) (line : Option CallLine) → Safe (socketcall_effect false creds operation line)
-  safe_socketcall creds operation line =
-      safe_if (eqb operation 1) (socket_effect false creds line) _ (λ e. safe_socket creds line) λ e. safe_if
-      (nat_le 2 operation && nat_le operation 20) (Answer 0) (Refuse 22) (λ e. tt) (λ e. tt)
+  safe_socketcall : (creds : Creds) (op : ℕ) (line : Option CallLine) → Safe (socketcall_effect false creds op line)
+  safe_socketcall creds op line =
+      safe_if (eqb op 1) (socket_effect false creds line) _ (λ e. safe_socket creds line) λ e. safe_if
+      (nat_le 2 op && nat_le op 20) (Answer 0) (Refuse 22) (λ e. tt) (λ e. tt)
 
   not_refused : (creds : Creds) (file : FileCreds) (nosuid : Bool) → Keeps top creds → honours creds nosuid ≡ true
       → is_refused creds file nosuid ≡ false → file.effective ≡ true → IsWithin file.caps top.bounding
@@ -125,13 +125,13 @@ module _ (launch : Launch) (may_uids may_gids : Bool) (power : Power) (top : Bou
       (λ e. safe_admin creds (cond (has_some newns flags) OwnTable (Answer 0)) held
       (λ h. safe_if (has_some newns flags) OwnTable (Answer 0) (λ e. tt) (λ e. tt))) (λ e. tt)
 
-  safe_ambient : (creds : Creds) (operation cap' : ℕ) → Keeps top creds → Safe (ambient_effect creds operation cap')
-  safe_ambient creds operation cap' held =
-      safe_if (eqb operation 1) (cond (nat_lt 40 cap') (Refuse 22) (Answer (cond (has creds.ambient cap') 1 0))) _
+  safe_ambient : (creds : Creds) (op cap' : ℕ) → Keeps top creds → Safe (ambient_effect creds op cap')
+  safe_ambient creds op cap' held =
+      safe_if (eqb op 1) (cond (nat_lt 40 cap') (Refuse 22) (Answer (cond (has creds.ambient cap') 1 0))) _
       (λ e. safe_if (nat_lt 40 cap') (Refuse 22) (Answer (cond (has creds.ambient cap') 1 0)) (λ e. tt) (λ e. tt)) λ e.
-      safe_if (eqb operation 2) (creds_effect (after_raise creds cap')) _ (λ e. safe_creds _ (kept-raise top creds held cap')) λ e.
-      safe_if (eqb operation 3) (creds_effect (after_lower creds cap')) _ (λ e. safe_creds _ (kept-lower top creds held cap')) λ e.
-      safe_if (eqb operation 4) (SetCreds (after_clear_ambient creds)) (Refuse 22) (λ e. kept-clear_ambient top creds held) (λ e. tt)
+      safe_if (eqb op 2) (creds_effect (after_raise creds cap')) _ (λ e. safe_creds _ (kept-raise top creds held cap')) λ e.
+      safe_if (eqb op 3) (creds_effect (after_lower creds cap')) _ (λ e. safe_creds _ (kept-lower top creds held cap')) λ e.
+      safe_if (eqb op 4) (SetCreds (after_clear_ambient creds)) (Refuse 22) (λ e. kept-clear_ambient top creds held) (λ e. tt)
 
   safe_prctl : (creds : Creds) (option value third : ℕ) → Keeps top creds → Safe (prctl_effect creds option value third)
   safe_prctl creds option value third held =
@@ -150,10 +150,10 @@ module _ (launch : Launch) (may_uids may_gids : Bool) (power : Power) (top : Bou
   safe_push stack None = tt
   safe_push stack (Some program) = safe_if (nat_le (room_of stack + length program) 32768) (Push program) (Refuse 12) (λ e. tt) (λ e. tt)
 
-  safe_seccomp : (creds : Creds) (stack : List (List Insn)) (operation flags : ℕ) (bytes : List ℕ)
-      → Safe (seccomp_effect creds stack operation flags bytes)
-  safe_seccomp creds stack operation flags bytes =
-      safe_if (not (eqb operation 1 && eqb flags 0)) (Refuse 22) _ (λ e. tt) λ e. safe_if
+  safe_seccomp : (creds : Creds) (stack : List (List Insn)) (op flags : ℕ) (bytes : List ℕ)
+      → Safe (seccomp_effect creds stack op flags bytes)
+  safe_seccomp creds stack op flags bytes =
+      safe_if (not (eqb op 1 && eqb flags 0)) (Refuse 22) _ (λ e. tt) λ e. safe_if
       (not (creds.no_new_privs || has creds.effective 21)) (Refuse 13) (push_effect stack (program_of bytes)) (λ e. tt)
       (λ e. safe_push stack _)
 
@@ -188,16 +188,16 @@ module _ (launch : Launch) (may_uids may_gids : Bool) (power : Power) (top : Bou
       })
 
   -- the kinds that a call asks for are let through
-  abbrev pub Through : Doing → Type 0
-  Through doing = (kind : CallKind) → asks kind doing ≡ true → lets launch kind ≡ true
+  abbrev pub Through : Operation → Type 0
+  Through operation = (kind : CallKind) → asks kind operation ≡ true → lets launch kind ≡ true
 
   -- a process of the first user namespace, whose mount namespace belongs to that
   abbrev pub first_caller : Creds → List (List Insn) → Mounts → Caller
   first_caller creds stack table = record { creds = creds; stack = stack; table = table; newer = false; owns = true }
 
-  pub safe_effect : (families : List CallLine) (creds : Creds) (stack : List (List Insn)) (table : Mounts) (doing : Doing)
-      → Keeps top creds → CanHold power launch.table table → Through doing → Uses may_uids may_gids creds doing
-      → Safe (effect_of (record { rows = row_at launch.site.rows; families = families }) (first_caller creds stack table) doing)
+  pub safe_effect : (families : List CallLine) (creds : Creds) (stack : List (List Insn)) (table : Mounts) (operation : Operation)
+      → Keeps top creds → CanHold power launch.table table → Through operation → Uses may_uids may_gids creds operation
+      → Safe (effect_of (record { rows = row_at launch.site.rows; families = families }) (first_caller creds stack table) operation)
   safe_effect families creds stack table (d.See path) held allowed p u = safe_looks _
   safe_effect families creds stack table (d.Open flags path) held allowed p u = safe_looks _
   safe_effect families creds stack table (d.Create path) held allowed p u = safe_looks _
@@ -211,7 +211,7 @@ module _ (launch : Launch) (may_uids may_gids : Bool) (power : Power) (top : Bou
   safe_effect families creds stack table (d.Schedule policy) held allowed p u = safe_looks _
   safe_effect families creds stack table (d.Personality domain) held allowed p u = tt
   safe_effect families creds stack table (d.Socket family) held allowed p u = safe_socket creds _
-  safe_effect families creds stack table (d.Socketcall operation family) held allowed p u = safe_socketcall creds operation _
+  safe_effect families creds stack table (d.Socketcall op family) held allowed p u = safe_socketcall creds op _
   safe_effect families creds stack table d.Enter held allowed p u = tt
   safe_effect families creds stack table d.Fork held allowed p u = tt
   safe_effect families creds stack table (d.Clone flags) held allowed p u = safe_clone creds flags held (p (k.ForNamespace User))
@@ -237,5 +237,5 @@ module _ (launch : Launch) (may_uids may_gids : Bool) (power : Power) (top : Bou
       safe_creds _ (kept-capset top creds held permitted effective inheritable (closed.capset_effective (p k.SetsCaps refl))
       (closed.capset_inheritable (p k.SetsCaps refl)))
   safe_effect families creds stack table (d.Prctl option value third) held allowed p u = safe_prctl creds option value third held
-  safe_effect families creds stack table (d.Seccomp operation flags bytes) held allowed p u = safe_seccomp creds stack operation flags bytes
+  safe_effect families creds stack table (d.Seccomp op flags bytes) held allowed p u = safe_seccomp creds stack op flags bytes
   safe_effect families creds stack table (d.Plain cap') held allowed p u = safe_cap_of cap' creds 0

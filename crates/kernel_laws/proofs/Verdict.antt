@@ -28,8 +28,8 @@ use Rattle.kernel_model.specs.kernel_calls.Calls.{IsCall}
 use Rattle.kernel_model.specs.declared.kernel_calls.rule.Rule.TheVariants as rule
 use Rattle.kernel_model.specs.declared.kernel_calls.rule.Rule.{Rule}
 use Rattle.kernel_model.specs.kernel_calls.Rules.{rule_of, rule_by}
-use Rattle.kernel_model.specs.kernel_calls.Doing as d
-use Rattle.kernel_model.specs.kernel_calls.Doing.{Doing, Does, asked_of, bare, doing_by}
+use Rattle.kernel_model.specs.kernel_calls.Operation as d
+use Rattle.kernel_model.specs.kernel_calls.Operation.{Operation, Does, asked_of, bare, operation_by}
 use Rattle.kernel_model.specs.Effects as f
 use Rattle.kernel_model.specs.Effects.{Effect, Host, Caller, effect_of, socket_effect}
 use Rattle.kernel_model.specs.kern_files.Looking.{flags_at}
@@ -83,23 +83,23 @@ module _ (launch : Launch) (l : IsLaunched launch) (below : Mounts → Type 0) (
   held_of : (now : World) (call : Call) → All now → (w : WasDone now call) → IsHeld launch power top below now.tables now.owners w.process
   held_of now call held w = held.each (call.pid - 1) w.process w.living.place
 
-  kind_lets : (now : World) (call : Call) → IsCall call → All now → (w : WasDone now call) → (kind : CallKind) → asks kind w.doing ≡ true
+  kind_lets : (now : World) (call : Call) → IsCall call → All now → (w : WasDone now call) → (kind : CallKind) → asks kind w.operation ≡ true
       → lets launch kind ≡ true
   kind_lets now call fit held w kind asked =
       through_of launch power top below (lets_through launch l) now call w.process fit held
-      (held_of now call held w) w.let_through w.doing w.asks kind asked
+      (held_of now call held w) w.let_through w.operation w.asks kind asked
 
   -- one call asks for one thing
-  same_doing : (now : World) (call : Call) (one other : Doing) → asked_of now.calls call ≡ Does one → asked_of now.calls call ≡ Does other
+  same_operation : (now : World) (call : Call) (one other : Operation) → asked_of now.calls call ≡ Does one → asked_of now.calls call ≡ Does other
       → one ≡ other
-  same_doing now call one other e g = cc
+  same_operation now call one other e g = cc
 
-  kind_of : (now : World) (call : Call) → IsCall call → All now → (such : Doing → Bool) → (p : Performs such (moment_at now call))
-      → (kind : CallKind) → ((doing : Doing) → such doing ≡ true → asks kind doing ≡ true) → lets launch kind ≡ true
+  kind_of : (now : World) (call : Call) → IsCall call → All now → (such : Operation → Bool) → (p : Performs such (moment_at now call))
+      → (kind : CallKind) → ((operation : Operation) → such operation ≡ true → asks kind operation ≡ true) → lets launch kind ≡ true
   kind_of now call fit held such p kind h =
       let w = was_done now call p.done in
-      let same = same_doing now call p.doing w.doing p.is w.asks in
-      kind_lets now call fit held w kind (h w.doing (ap such (sym same) ∙ p.such))
+      let same = same_operation now call p.operation w.operation p.is w.asks in
+      kind_lets now call fit held w kind (h w.operation (ap such (sym same) ∙ p.such))
 
   -- the bounds of a process of the first user namespace
   kept_first : (now : World) (call : Call) → All now → (w : WasDone now call) → is_newer w.process ≡ false → Keeps top w.process.creds
@@ -165,22 +165,22 @@ module _ (launch : Launch) (l : IsLaunched launch) (below : Mounts → Type 0) (
       → ReachesRow wish place (moment_at now call) → is_open launch (asking.Path wish place) ≡ true
   row_open less wish place now call fit held r =
       let w = was_done now call r.done in
-      let same = same_doing now call r.doing w.doing r.asks w.asks in
+      let same = same_operation now call r.operation w.operation r.asks w.asks in
       let one : r.process ≡ w.process = (let made = w.living.made in let own = r.caller in cc) in
-      let wanted : path_for wish w.doing ≡ Some r.path = ap (path_for wish) (sym same) ∙ r.wanted in
+      let wanted : path_for wish w.operation ≡ Some r.path = ap (path_for wish) (sym same) ∙ r.wanted in
       let table = table_of now w.process.namespace in
       let found : finds (row_at now.site.rows) table r.path ≡ row r.target = ap (λ (p : Process). finds (row_at now.site.rows) (table_of now p.namespace) r.path) (sym one) ∙ r.found in
       let seen : finds (row_at launch.site.rows) table r.path ≡ row r.target = ap (λ (s : Site). finds (row_at s.rows) table r.path) (sym held.site) ∙ found in
       let listed : slice_get launch.site.rows place ≡ Some r.target = ap (λ (s : Site). slice_get s.rows place) (sym held.site) ∙ r.listed in
       let passes = kind_lets now call fit held w (k.ForPath wish) (ap is_some wanted) in
-      let fit' = wish_fits now call.pid w.process wish w.doing r.path r.target wanted found w.done in
+      let fit' = wish_fits now call.pid w.process wish w.operation r.path r.target wanted found w.done in
       let lead = leads launch.site.rows table r.path r.target wish seen fit' in
       let h = held_of now call held w in
       let there = reaches_in less (eqb h.owner 1) (mounts_of now w.process.namespace) r.target.path wish (own_allowed launch power top below now w.process h) lead in
       let open' = free (is_to_exec wish) (is_mounting power) (is_barred launch r.target) (can_make_user launch) (λ exec low off.
       let is_exec = only_exec wish exec in
-      let wanted' : path_for ToExec w.doing ≡ Some r.path = ap (λ (v : Wish). path_for v w.doing) (sym is_exec) ∙ wanted in
-      not_barred now call held w (first_if now call held w off) r.path r.target low (run_taken now call.pid w.process w.doing r.path r.target wanted' found w.done)) in
+      let wanted' : path_for ToExec w.operation ≡ Some r.path = ap (λ (v : Wish). path_for v w.operation) (sym is_exec) ∙ wanted in
+      not_barred now call held w (first_if now call held w off) r.path r.target low (run_taken now call.pid w.process w.operation r.path r.target wanted' found w.done)) in
       ap (if_listed (can_reach launch power wish)) listed ∙ and_from _ _ (and_from _ _ passes there) open'
 
   -- ---- plain calls
@@ -210,8 +210,8 @@ module _ (launch : Launch) (l : IsLaunched launch) (below : Mounts → Type 0) (
       let w = was_done now call r.done in
       let lines : List CallLine = calls.calls_in launch.calls call.abi in
       let listed : slice_get (calls.every_call launch.calls) place ≡ Some r.line = ap (λ (c : calls.Table). slice_get (calls.every_call c) place) (sym held.calls) ∙ r.listed in
-      let own : asked_of launch.calls call ≡ Does w.doing = ap (λ (c : calls.Table). asked_of c call) (sym held.calls) ∙ w.asks in
-      let a = asks_for launch.calls call w.doing own in
+      let own : asked_of launch.calls call ≡ Does w.operation = ap (λ (c : calls.Table). asked_of c call) (sym held.calls) ∙ w.asks in
+      let a = asks_for launch.calls call w.operation own in
       let h = has_rule lines call.nr a.rule a.at in
       let here : numbered call.nr lines ≡ Some r.called = ap (λ (c : calls.Table). numbered call.nr (calls.calls_in c call.abi)) (sym held.calls) ∙ r.found in
       let same : h.line ≡ r.called = (let e = h.found in cc) in
@@ -224,7 +224,7 @@ module _ (launch : Launch) (l : IsLaunched launch) (below : Mounts → Type 0) (
       ap (if_listed (is_call_open launch top)) listed
       ∙ and_from _ _ some (ap (can_have_for top) is_rule ∙ by_cap w a.rule plain a.is)
     where
-      by_lets : (w : WasDone now call) (a : Asks (calls.calls_in launch.calls call.abi) call w.doing)
+      by_lets : (w : WasDone now call) (a : Asks (calls.calls_in launch.calls call.abi) call w.operation)
           (h : HasRule (calls.calls_in launch.calls call.abi) call.nr a.rule) → is_plain (Some a.rule) ≡ true
           → lets_line launch k.PlainCall h.line ≡ true
       by_lets w a h plain =
@@ -233,64 +233,64 @@ module _ (launch : Launch) (l : IsLaunched launch) (below : Mounts → Type 0) (
           ap (λ (c : calls.Table). decision_on (launch.stack ++ g.newer)
           (record { nr = call.nr; arch = calls.arch_of c call.abi; ip = 0; args = call.args })) (sym held.calls)
           ∙ ap (λ (s : List (List Insn)). decision_on s (record { nr = call.nr; arch = calls.arch_of now.calls call.abi; ip = 0; args = call.args })) (sym g.stack) ∙ w.passed in
-          line_lets launch l g.newer call w.doing fit passed k.PlainCall (by_rule a.rule plain a.is) a h
+          line_lets launch l g.newer call w.operation fit passed k.PlainCall (by_rule a.rule plain a.is) a h
         where
-          by_rule : (r : Rule) → is_plain (Some r) ≡ true → doing_by r call.args call.payload ≡ Some w.doing
-              → asks k.PlainCall w.doing ≡ true
-          by_rule (rule.Plain cap') plain e = let P : Doing → Type 0 = λ x. asks k.PlainCall x ≡ true in subst P (bare_is w.doing (d.Plain cap') call.payload e) refl
+          by_rule : (r : Rule) → is_plain (Some r) ≡ true → operation_by r call.args call.payload ≡ Some w.operation
+              → asks k.PlainCall w.operation ≡ true
+          by_rule (rule.Plain cap') plain e = let P : Operation → Type 0 = λ x. asks k.PlainCall x ≡ true in subst P (bare_is w.operation (d.Plain cap') call.payload e) refl
           by_rule r plain e = cc
 
-      by_cap : (w : WasDone now call) (r : Rule) → is_plain (Some r) ≡ true → doing_by r call.args call.payload ≡ Some w.doing
+      by_cap : (w : WasDone now call) (r : Rule) → is_plain (Some r) ≡ true → operation_by r call.args call.payload ≡ Some w.operation
           → can_have_for top (Some r) ≡ true
       by_cap w (rule.Plain cap') plain e =
-          let P : Doing → Type 0 = λ x. DoneBy now call.pid w.process (effect_of (host_of now) (caller_of now w.process) x) in
-          can_cap now call held w cap' 0 (subst P (sym (bare_is w.doing (d.Plain cap') call.payload e)) w.done)
+          let P : Operation → Type 0 = λ x. DoneBy now call.pid w.process (effect_of (host_of now) (caller_of now w.process) x) in
+          can_cap now call held w cap' 0 (subst P (sym (bare_is w.operation (d.Plain cap') call.payload e)) w.done)
       by_cap w r plain e = cc
 
   -- ---- sockets
   -- a call for the family of a place comes to what socket(2) of that family comes to
-  record ForFamilyAt (families : List CallLine) (place : ℕ) (doing : Doing) : Type 0 where
+  record ForFamilyAt (families : List CallLine) (place : ℕ) (operation : Operation) : Type 0 where
     pub family : ℕ
     pub line : CallLine
     pub listed : slice_get families place ≡ Some line
     pub same : family ≡ line.number
-    pub asks_it : asks_number family doing ≡ true
-    pub comes_to : (host : Host) (caller : Caller) → effect_of host caller doing
+    pub asks_it : asks_number family operation ≡ true
+    pub comes_to : (host : Host) (caller : Caller) → effect_of host caller operation
         ≡ socket_effect caller.newer caller.creds (numbered family host.families)
 
-  family_listed : (families : List CallLine) (place family : ℕ) (doing : Doing) → is_family (slice_get families place) family ≡ true
-      → asks_number family doing ≡ true
-      → ((host : Host) (caller : Caller) → effect_of host caller doing
-      ≡ socket_effect caller.newer caller.creds (numbered family host.families)) → ForFamilyAt families place doing
-  family_listed families place family doing e asks_it comes_to = by (slice_get families place) refl e
+  family_listed : (families : List CallLine) (place family : ℕ) (operation : Operation) → is_family (slice_get families place) family ≡ true
+      → asks_number family operation ≡ true
+      → ((host : Host) (caller : Caller) → effect_of host caller operation
+      ≡ socket_effect caller.newer caller.creds (numbered family host.families)) → ForFamilyAt families place operation
+  family_listed families place family operation e asks_it comes_to = by (slice_get families place) refl e
     where
-      by : (o : Option CallLine) → slice_get families place ≡ o → is_family o family ≡ true → ForFamilyAt families place doing
+      by : (o : Option CallLine) → slice_get families place ≡ o → is_family o family ≡ true → ForFamilyAt families place operation
       by None is e = cc
       by (Some line) is e = record
           { family = family; line = line; listed = is; same = eqb-true family line.number e; asks_it = asks_it; comes_to = comes_to }
 
-  family_is : (families : List CallLine) (place : ℕ) (doing : Doing) → asks_family families place doing ≡ true
-      → ForFamilyAt families place doing
+  family_is : (families : List CallLine) (place : ℕ) (operation : Operation) → asks_family families place operation ≡ true
+      → ForFamilyAt families place operation
   family_is families place (d.Socket family) e = family_listed families place family (d.Socket family) e (eq-eqb family family refl)
       (λ host caller. refl)
-  family_is families place (d.Socketcall operation family) e =
-      let both = and_parts (eqb operation 1) (is_family (slice_get families place) family) e in
-      family_listed families place family (d.Socketcall operation family) both.1 (and_from _ _ both.0 (eq-eqb family family refl))
+  family_is families place (d.Socketcall op family) e =
+      let both = and_parts (eqb op 1) (is_family (slice_get families place) family) e in
+      family_listed families place family (d.Socketcall op family) both.1 (and_from _ _ both.0 (eq-eqb family family refl))
       (λ host caller. ap (λ b. cond b (socket_effect caller.newer caller.creds (numbered family host.families))
-      (cond (nat_le 2 operation && nat_le operation 20) (f.Answer 0) (f.Refuse einval))) both.0)
-  family_is families place doing e = cc
+      (cond (nat_le 2 op && nat_le op 20) (f.Answer 0) (f.Refuse einval))) both.0)
+  family_is families place operation e = cc
 
   socket_open : (place : ℕ) (now : World) (call : Call) → IsCall call → All now
       → Performs (asks_family now.calls.families place) (moment_at now call) → is_open launch (asking.Socket place) ≡ true
   socket_open place now call fit held p =
       let w = was_done now call p.done in
-      let same = same_doing now call p.doing w.doing p.is w.asks in
-      let h = family_is now.calls.families place w.doing (ap (asks_family now.calls.families place) (sym same) ∙ p.such) in
+      let same = same_operation now call p.operation w.operation p.is w.asks in
+      let h = family_is now.calls.families place w.operation (ap (asks_family now.calls.families place) (sym same) ∙ p.such) in
       let line = h.line in
       let listed : slice_get launch.calls.families place ≡ Some line = ap (λ (c : calls.Table). slice_get c.families place) (sym held.calls) ∙ h.listed in
       let found = at_position launch.calls.families line.number place line (l.families_once place line listed) listed in
       let here : numbered h.family now.calls.families ≡ Some line = ap (λ (c : calls.Table). numbered h.family c.families) held.calls ∙ ap (λ n. numbered n launch.calls.families) h.same ∙ found in
-      let asked : asks (k.ForFamily line.number) w.doing ≡ true = ap (λ n. asks_number n w.doing) (sym h.same) ∙ h.asks_it in
+      let asked : asks (k.ForFamily line.number) w.operation ≡ true = ap (λ n. asks_number n w.operation) (sym h.same) ∙ h.asks_it in
       let passes = kind_lets now call fit held w (k.ForFamily line.number) asked in
       let P : Effect → Type 0 = λ x. DoneBy now call.pid w.process x in
       let done : DoneBy now call.pid w.process (socket_effect (is_newer w.process) w.process.creds (Some line)) = subst P (h.comes_to (host_of now) (caller_of now w.process) ∙ ap (socket_effect (is_newer w.process) w.process.creds) here) w.done in
@@ -301,17 +301,17 @@ module _ (launch : Launch) (l : IsLaunched launch) (below : Mounts → Type 0) (
       → Performs (asks_space space) (moment_at now call) → is_open launch (asking.Namespace space) ≡ true
   space_open space now call fit held p =
       let w = was_done now call p.done in
-      let same = same_doing now call p.doing w.doing p.is w.asks in
-      let asked : asks_space space w.doing ≡ true = ap (asks_space space) (sym same) ∙ p.such in
-      let made = space_done now call.pid w.process space w.doing asked w.done in
+      let same = same_operation now call p.operation w.operation p.is w.asks in
+      let asked : asks_space space w.operation ≡ true = ap (asks_space space) (sym same) ∙ p.such in
+      let made = space_done now call.pid w.process space w.operation asked w.done in
       by (is_user space) refl (kind_lets now call fit held w (k.ForNamespace space) asked) made
     where
-      can_make : (w : WasDone now call) → asks_space namespace.User w.doing ≡ true → has_user_left now ≡ true → can_make_user launch ≡ true
+      can_make : (w : WasDone now call) → asks_space namespace.User w.operation ≡ true → has_user_left now ≡ true → can_make_user launch ≡ true
       can_make w asked left = can_make_one launch power top below stable now held
           (kind_lets now call fit held w (k.ForNamespace namespace.User) asked) left
 
       by : (user : Bool) → is_user space ≡ user → lets launch (k.ForNamespace space) ≡ true
-          → MadeSpace now space (was_done now call p.done).process (was_done now call p.done).doing
+          → MadeSpace now space (was_done now call p.done).process (was_done now call p.done).operation
           → cond user (can_make_user launch) (lets launch (k.ForNamespace space) && (has top.effective 21 || can_make_user launch)) ≡ true
       by user e let' (inl made) = by_made user (can_make (was_done now call p.done) made.0 made.1) let'
         where
@@ -337,13 +337,13 @@ module _ (launch : Launch) (l : IsLaunched launch) (below : Mounts → Type 0) (
   reached_open less (asking.Call place) asked now call fit held r = plain_open place now call asked fit held r
   reached_open less (asking.Socket place) asked now call fit held r = socket_open place now call fit held r
   reached_open less (asking.Namespace space) asked now call fit held r = space_open space now call fit held r
-  reached_open less asking.MapWx asked now call fit held r = kind_of now call fit held asks_map r k.MapsWx (λ doing e. e)
-  reached_open less asking.ProtectX asked now call fit held r = kind_of now call fit held asks_protect r k.ProtectsX (λ doing e. e)
-  reached_open less asking.ShmX asked now call fit held r = kind_of now call fit held asks_attach r k.AttachesX (λ doing e. e)
-  reached_open less asking.Realtime asked now call fit held r = kind_of now call fit held asks_realtime r k.SchedulesRealtime (λ doing e. e)
+  reached_open less asking.MapWx asked now call fit held r = kind_of now call fit held asks_map r k.MapsWx (λ operation e. e)
+  reached_open less asking.ProtectX asked now call fit held r = kind_of now call fit held asks_protect r k.ProtectsX (λ operation e. e)
+  reached_open less asking.ShmX asked now call fit held r = kind_of now call fit held asks_attach r k.AttachesX (λ operation e. e)
+  reached_open less asking.Realtime asked now call fit held r = kind_of now call fit held asks_realtime r k.SchedulesRealtime (λ operation e. e)
   reached_open less asking.Personality asked now call fit held r =
-      kind_of now call fit held asks_personality r k.TakesPersonality (λ doing e. e)
-  reached_open less asking.SuidBit asked now call fit held r = kind_of now call fit held asks_mode r k.SetsMode (λ doing e. e)
+      kind_of now call fit held asks_personality r k.TakesPersonality (λ operation e. e)
+  reached_open less asking.SuidBit asked now call fit held r = kind_of now call fit held asks_mode r k.SetsMode (λ operation e. e)
   reached_open less (asking.Cap number) asked now call fit held r = absurd r
   reached_open less (asking.Uid id) asked now call fit held r = absurd r
   reached_open less (asking.Gid id) asked now call fit held r = absurd r

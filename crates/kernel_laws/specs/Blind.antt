@@ -66,9 +66,9 @@ abbrev pub ExposesByUnmounts : Type 0
 ExposesByUnmounts = (folder : Path) (table : Table) → IsOrdered table → exposes true folder table ≡ true
     → (now : Table) × Unmounts table now × SeesBelow folder now
 
--- the table is one that launches leave: at most 161 entries, at normal paths of at most 250 bytes
+-- the table is one that launches leave: at most 193 entries, at normal paths of at most 250 bytes
 pub record IsSmall (table : Table) : Type 0 where
-  pub few : length table ≤ 161
+  pub few : length table ≤ 193
   pub places : AllByRecursion HasShortPlace table
 
 -- a folder of a site: a normal path of at most 250 bytes

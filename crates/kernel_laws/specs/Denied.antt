@@ -17,8 +17,8 @@ use Rattle.kernel_model.specs.kern_files.Bits.{has_some, has_all}
 use Rattle.kernel_model.specs.kern_files.Looking.{is_reading, is_writing}
 use Rattle.kernel_model.specs.declared.kernel_calls.call.Call as call
 use Rattle.kernel_model.specs.kernel_calls.Calls.{IsPath, AreCalls}
-use Rattle.kernel_model.specs.kernel_calls.Doing as doing
-use Rattle.kernel_model.specs.kernel_calls.Doing.{Doing, Does, asked_of}
+use Rattle.kernel_model.specs.kernel_calls.Operation as operation
+use Rattle.kernel_model.specs.kernel_calls.Operation.{Operation, Does, asked_of}
 use Rattle.kernel_model.specs.declared.process.Process.{Process}
 use Rattle.kernel_model.specs.World.{World, process_of, living_of, table_of}
 use Rattle.kernel_model.specs.Runs.{Moment, moments, run, IsDone, AllDone}
@@ -33,22 +33,22 @@ use Rattle.kernel_laws.specs.Questions.{flag_of}
 
 -- the path that a call sees, reads, writes or executes, as wished: stat(2) and similar calls see, open(2) reads and writes by
 -- its access mode, creat(2) and truncate(2) write, execve(2) executes
-abbrev pub path_for : Wish → Doing → Option Path
-path_for ToSee (doing.See path) = Some path
-path_for ToRead (doing.Open flags path) = if is_reading flags then Some path else None
-path_for ToWrite (doing.Open flags path) = if is_writing flags then Some path else None
-path_for ToWrite (doing.Create path) = Some path
-path_for ToWrite (doing.Truncate path) = Some path
-path_for ToExec (doing.Execve path) = Some path
+abbrev pub path_for : Wish → Operation → Option Path
+path_for ToSee (operation.See path) = Some path
+path_for ToRead (operation.Open flags path) = if is_reading flags then Some path else None
+path_for ToWrite (operation.Open flags path) = if is_writing flags then Some path else None
+path_for ToWrite (operation.Create path) = Some path
+path_for ToWrite (operation.Truncate path) = Some path
+path_for ToExec (operation.Execve path) = Some path
 path_for _ _ = None
 
 -- a call that is done, whose path finds the row of this place in the caller's mount table
 pub record ReachesRow (wish : Wish) (place : ℕ) (moment : Moment) : Type 0 where
   pub done : IsDone moment.reply
-  pub doing : Doing
-  pub asks : asked_of moment.before.calls moment.call ≡ Does doing
+  pub operation : Operation
+  pub asks : asked_of moment.before.calls moment.call ≡ Does operation
   pub path : Path
-  pub wanted : path_for wish doing ≡ Some path
+  pub wanted : path_for wish operation ≡ Some path
   pub target : Row
   pub listed : slice_get moment.before.site.rows place ≡ Some target
   pub process : Process
@@ -65,39 +65,39 @@ pub record ReachesCall (place : ℕ) (moment : Moment) : Type 0 where
   pub same : line.name ≡ called.name
 
 -- clone(2), unshare(2): the flag of the type is set
-abbrev pub asks_space : NamespaceType → Doing → Bool
-asks_space space (doing.Unshare flags) = has_all (flag_of space) flags
-asks_space space (doing.Clone flags) = has_all (flag_of space) flags
+abbrev pub asks_space : NamespaceType → Operation → Bool
+asks_space space (operation.Unshare flags) = has_all (flag_of space) flags
+asks_space space (operation.Clone flags) = has_all (flag_of space) flags
 asks_space space _ = false
 
 -- mmap(2): PROT_WRITE and PROT_EXEC
-abbrev pub asks_map : Doing → Bool
-asks_map (doing.Map protection) = has_all 6 protection
+abbrev pub asks_map : Operation → Bool
+asks_map (operation.Map protection) = has_all 6 protection
 asks_map _ = false
 
 -- mprotect(2), pkey_mprotect(2): PROT_EXEC
-abbrev pub asks_protect : Doing → Bool
-asks_protect (doing.Protect protection) = has_all 4 protection
+abbrev pub asks_protect : Operation → Bool
+asks_protect (operation.Protect protection) = has_all 4 protection
 asks_protect _ = false
 
 -- shmat(2): SHM_EXEC
-abbrev pub asks_attach : Doing → Bool
-asks_attach (doing.Attach flags) = has_all 0x8000 flags
+abbrev pub asks_attach : Operation → Bool
+asks_attach (operation.Attach flags) = has_all 0x8000 flags
 asks_attach _ = false
 
 -- sched_setscheduler(2): SCHED_FIFO and SCHED_RR
-abbrev pub asks_realtime : Doing → Bool
-asks_realtime (doing.Schedule policy) = policy == 1 || policy == 2
+abbrev pub asks_realtime : Operation → Bool
+asks_realtime (operation.Schedule policy) = policy == 1 || policy == 2
 asks_realtime _ = false
 
 -- personality(2): neither PER_LINUX nor 0xffffffff, which asks what the domain is
-abbrev pub asks_personality : Doing → Bool
-asks_personality (doing.Personality domain) = not (domain == 0 || domain == 0xffff_ffff)
+abbrev pub asks_personality : Operation → Bool
+asks_personality (operation.Personality domain) = not (domain == 0 || domain == 0xffff_ffff)
 asks_personality _ = false
 
 -- inode(7): S_ISUID or S_ISGID
-abbrev pub asks_mode : Doing → Bool
-asks_mode (doing.SetMode mode) = has_some 0xc00 mode
+abbrev pub asks_mode : Operation → Bool
+asks_mode (operation.SetMode mode) = has_some 0xc00 mode
 asks_mode _ = false
 
 -- the family has the number of the line, if there is one
@@ -106,17 +106,17 @@ is_family None family = false
 is_family (Some line) family = family == line.number
 
 -- socket(2) of the family of this place, or SYS_SOCKET, which is 1, of socketcall(2)
-abbrev pub asks_family : List CallLine → ℕ → Doing → Bool
-asks_family families place (doing.Socket family) = is_family (slice_get families place) family
-asks_family families place (doing.Socketcall operation family) = operation == 1 && is_family (slice_get families place) family
+abbrev pub asks_family : List CallLine → ℕ → Operation → Bool
+asks_family families place (operation.Socket family) = is_family (slice_get families place) family
+asks_family families place (operation.Socketcall op family) = op == 1 && is_family (slice_get families place) family
 asks_family families place _ = false
 
 -- a call that is done and asks for such a thing
-pub record Performs (asks : Doing → Bool) (moment : Moment) : Type 0 where
+pub record Performs (asks : Operation → Bool) (moment : Moment) : Type 0 where
   pub done : IsDone moment.reply
-  pub doing : Doing
-  pub is : asked_of moment.before.calls moment.call ≡ Does doing
-  pub such : asks doing ≡ true
+  pub operation : Operation
+  pub is : asked_of moment.before.calls moment.call ≡ Does operation
+  pub such : asks operation ≡ true
 
 -- the question is answered by a call of a run; of capabilities and ids nothing is asked that a call does
 abbrev pub Reaches : Question → Moment → Type 0

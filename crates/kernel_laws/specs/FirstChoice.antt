@@ -14,7 +14,7 @@ use Rattle.filter_settings.specs.declared.filter_rules.settings.FilterSettings.{
 use Rattle.filter_settings.specs.declared.filter_rules.names.FilterName.{FilterName}
 use Rattle.filter_settings.specs.filter_rules.Wanted.{named_action, wanted_action}
 use Rattle.kernel_model.specs.declared.kernel_calls.payload.Payload.{Payload}
-use Rattle.kernel_model.specs.kernel_calls.Doing.{Doing, doing_by}
+use Rattle.kernel_model.specs.kernel_calls.Operation.{Operation, operation_by}
 use Rattle.kernel_laws.specs.declared.question_types.kind.CallKind.{CallKind}
 use Rattle.kernel_laws.specs.Kinds.{asks, words, AreWords}
 use Rattle.kernel_laws.specs.Launched.{Launch, passes, Chosen}
@@ -24,8 +24,8 @@ use Rattle.kernel_model.specs.kernel_calls.Rules.{rule_of, rule_at}
 -- if a filter lets a call through that asks for a kind of thing, it also lets the first words through that ask for it
 abbrev pub FirstPasses : Type 0
 FirstPasses = (filter : FilterName) (settings : FilterSettings) (table : calls.Table) (line : CallLine) (rule : Rule) (kind : CallKind)
-    (payload : Payload) (doing : Doing) (input first : CallData)
-    → rule_of line ≡ Some rule → doing_by rule input.args payload ≡ Some doing → asks kind doing ≡ true → words kind rule ≡ Some first.args
+    (payload : Payload) (operation : Operation) (input first : CallData)
+    → rule_of line ≡ Some rule → operation_by rule input.args payload ≡ Some operation → asks kind operation ≡ true → words kind rule ≡ Some first.args
     → decision_of (word_of (named_action filter settings table line.name input)) ≡ decision.Pass
     → decision_of (word_of (named_action filter settings table line.name first)) ≡ decision.Pass
 
@@ -43,6 +43,6 @@ SettingsChoose = (launch : Launch) (settings : FilterSettings) → ((abi : ℕ) 
     → IfSome launch.calls.second (λ second. second.arch == launch.calls.arch ≡ false)
     → AllByRecursion (Means settings launch.calls) launch.stack
     → ((input : CallData) → IsCallData input → ArePlain (answers_of launch.stack input))
-    → (kind : CallKind) (abi nr : ℕ) (args : List ℕ) (rule : Rule) (payload : Payload) (doing : Doing) → nr < 2 ^ 32 → AreWords args
-    → rule_at (calls.calls_in launch.calls abi) nr ≡ Some rule → doing_by rule args payload ≡ Some doing → asks kind doing ≡ true
+    → (kind : CallKind) (abi nr : ℕ) (args : List ℕ) (rule : Rule) (payload : Payload) (operation : Operation) → nr < 2 ^ 32 → AreWords args
+    → rule_at (calls.calls_in launch.calls abi) nr ≡ Some rule → operation_by rule args payload ≡ Some operation → asks kind operation ≡ true
     → passes launch abi nr args → Chosen launch kind rule abi nr

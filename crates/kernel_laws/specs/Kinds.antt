@@ -7,8 +7,8 @@ use Rattle.kernel_model.specs.declared.kernel_calls.payload.Payload.{Payload}
 use Rattle.kernel_model.specs.declared.kernel_calls.payload.Payload.TheVariants.{Family, Nothing}
 use Rattle.kernel_model.specs.declared.kernel_calls.rule.Rule.{Rule}
 use Rattle.kernel_model.specs.declared.kernel_calls.rule.Rule.TheVariants as rule
-use Rattle.kernel_model.specs.kernel_calls.Doing as doing
-use Rattle.kernel_model.specs.kernel_calls.Doing.{Doing}
+use Rattle.kernel_model.specs.kernel_calls.Operation as operation
+use Rattle.kernel_model.specs.kernel_calls.Operation.{Operation}
 use Rattle.kernel_laws.specs.declared.question_types.wish.Wish.TheVariants.{See as ToSee, Read as ToRead, Write as ToWrite, Exec as ToExec}
 use Rattle.kernel_laws.specs.declared.question_types.kind.CallKind.{CallKind}
 use Rattle.kernel_laws.specs.declared.question_types.kind.CallKind.TheVariants.{ForPath, PlainCall, ForFamily, ForNamespace, MapsWx}
@@ -18,55 +18,55 @@ use Rattle.kernel_laws.specs.declared.question_types.kind.CallKind.TheVariants.{
 use Rattle.kernel_laws.specs.Questions.{flag_of}
 use Rattle.kernel_laws.specs.Denied.{path_for, asks_space, asks_map, asks_protect, asks_attach, asks_realtime, asks_personality, asks_mode}
 
-abbrev pub asks_plain : Doing → Bool
-asks_plain (doing.Plain cap) = true
+abbrev pub asks_plain : Operation → Bool
+asks_plain (operation.Plain cap) = true
 asks_plain _ = false
 
-abbrev pub asks_number : ℕ → Doing → Bool
-asks_number family (doing.Socket own) = own == family
-asks_number family (doing.Socketcall operation own) = operation == 1 && own == family
+abbrev pub asks_number : ℕ → Operation → Bool
+asks_number family (operation.Socket own) = own == family
+asks_number family (operation.Socketcall op own) = op == 1 && own == family
 asks_number family _ = false
 
-abbrev pub asks_mount : Doing → Bool
-asks_mount (doing.Mount source target flags) = true
+abbrev pub asks_mount : Operation → Bool
+asks_mount (operation.Mount source target flags) = true
 asks_mount _ = false
 
-abbrev pub asks_umount : Doing → Bool
-asks_umount (doing.Umount path flags) = true
+abbrev pub asks_umount : Operation → Bool
+asks_umount (operation.Umount path flags) = true
 asks_umount _ = false
 
-abbrev pub asks_caps : Doing → Bool
-asks_caps (doing.Capset permitted effective inheritable) = true
+abbrev pub asks_caps : Operation → Bool
+asks_caps (operation.Capset permitted effective inheritable) = true
 asks_caps _ = false
 
-abbrev pub asks_uid : Doing → Bool
-asks_uid (doing.Setuid id) = true
-asks_uid (doing.Setresuid real effective saved) = true
+abbrev pub asks_uid : Operation → Bool
+asks_uid (operation.Setuid id) = true
+asks_uid (operation.Setresuid real effective saved) = true
 asks_uid _ = false
 
-abbrev pub asks_gid : Doing → Bool
-asks_gid (doing.Setgid id) = true
-asks_gid (doing.Setresgid real effective saved) = true
-asks_gid (doing.Setgroups ids) = true
+abbrev pub asks_gid : Operation → Bool
+asks_gid (operation.Setgid id) = true
+asks_gid (operation.Setresgid real effective saved) = true
+asks_gid (operation.Setgroups ids) = true
 asks_gid _ = false
 
 -- the call asks for this kind of thing
-abbrev pub asks : CallKind → Doing → Bool
-asks (ForPath wish) doing = is_some (path_for wish doing)
-asks PlainCall doing = asks_plain doing
-asks (ForFamily family) doing = asks_number family doing
-asks (ForNamespace space) doing = asks_space space doing
-asks MapsWx doing = asks_map doing
-asks ProtectsX doing = asks_protect doing
-asks AttachesX doing = asks_attach doing
-asks SchedulesRealtime doing = asks_realtime doing
-asks TakesPersonality doing = asks_personality doing
-asks SetsMode doing = asks_mode doing
-asks ChangesMounts doing = asks_mount doing
-asks RemovesMounts doing = asks_umount doing
-asks SetsCaps doing = asks_caps doing
-asks TakesUid doing = asks_uid doing
-asks TakesGid doing = asks_gid doing
+abbrev pub asks : CallKind → Operation → Bool
+asks (ForPath wish) operation = is_some (path_for wish operation)
+asks PlainCall operation = asks_plain operation
+asks (ForFamily family) operation = asks_number family operation
+asks (ForNamespace space) operation = asks_space space operation
+asks MapsWx operation = asks_map operation
+asks ProtectsX operation = asks_protect operation
+asks AttachesX operation = asks_attach operation
+asks SchedulesRealtime operation = asks_realtime operation
+asks TakesPersonality operation = asks_personality operation
+asks SetsMode operation = asks_mode operation
+asks ChangesMounts operation = asks_mount operation
+asks RemovesMounts operation = asks_umount operation
+asks SetsCaps operation = asks_caps operation
+asks TakesUid operation = asks_uid operation
+asks TakesGid operation = asks_gid operation
 
 -- six words 0, syscall(2)
 abbrev pub no_words : List ℕ

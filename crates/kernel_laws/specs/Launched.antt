@@ -24,7 +24,7 @@ use Rattle.kernel_model.specs.kern_mounts.declared.step.MountStep.{MountStep}
 use Rattle.kernel_model.specs.declared.kernel_calls.payload.Payload.{Payload}
 use Rattle.kernel_model.specs.declared.kernel_calls.rule.Rule.{Rule}
 use Rattle.kernel_model.specs.kernel_calls.Rules.{rule_of, rule_at}
-use Rattle.kernel_model.specs.kernel_calls.Doing.{Doing, doing_by}
+use Rattle.kernel_model.specs.kernel_calls.Operation.{Operation, operation_by}
 use Rattle.kernel_model.specs.declared.process.Process.{Process}
 use Rattle.kernel_model.specs.World.{World, of_number, process_of, mounts_of, table_of}
 use Rattle.kernel_laws.specs.Kinds.{asks, words, AreWords}
@@ -114,9 +114,9 @@ pub record IsLaunched (launch : Launch) : Type 0 where
   pub honours : AllByRecursion (λ (step : MountStep). step.flags.no_suid ≡ false) launch.table
   -- the programs refuse for good or let through, and look at no more words than the first choices need
   pub plain : (input : CallData) → IsCallData input → ArePlain (answers_of launch.stack input)
-  pub chosen : (kind : CallKind) (abi nr : ℕ) (args : List ℕ) (rule : Rule) (payload : Payload) (doing : Doing) → nr < 2 ^ 32
+  pub chosen : (kind : CallKind) (abi nr : ℕ) (args : List ℕ) (rule : Rule) (payload : Payload) (operation : Operation) → nr < 2 ^ 32
       → AreWords args
-      → rule_at (calls.calls_in launch.calls abi) nr ≡ Some rule → doing_by rule args payload ≡ Some doing → asks kind doing ≡ true
+      → rule_at (calls.calls_in launch.calls abi) nr ≡ Some rule → operation_by rule args payload ≡ Some operation → asks kind operation ≡ true
       → passes launch abi nr args → Chosen launch kind rule abi nr
 
 -- process 1 of a world

@@ -6,7 +6,7 @@ use Rattle.bpf_code.specs.declared.decision.Decision.TheVariants as decision
 use Rattle.bpf_code.specs.Stack.{decision_on}
 use Rattle.kern_mounts.specs.linux_numbers.Errnos.{eagain, enospc}
 use Rattle.kernel_model.specs.declared.kernel_calls.call.Call.{Call}
-use Rattle.kernel_model.specs.kernel_calls.Doing.{Asked, Lacking, Misformed, Does, asked_of}
+use Rattle.kernel_model.specs.kernel_calls.Operation.{Asked, Lacking, Misformed, Does, asked_of}
 use Rattle.kernel_model.specs.declared.process.Process.{Process}
 use Rattle.kernel_model.specs.declared.reply.Reply.{Reply}
 use Rattle.kernel_model.specs.declared.reply.Reply.TheVariants as reply
@@ -108,8 +108,8 @@ case_asked : (world : World) (call : Call) (process : Process) (asked : Asked) �
     → asked_of world.calls call ≡ asked → StepCase world call (answered world call.pid process asked)
 case_asked world call process Lacking passes e = case.lacking process passes e
 case_asked world call process Misformed passes e = case.misformed process passes e
-case_asked world call process (Does doing) passes e = case.does process doing _ passes e
-    (effect_case world call.pid process (effect_of (host_of world) (caller_of world process) doing))
+case_asked world call process (Does operation) passes e = case.does process operation _ passes e
+    (effect_case world call.pid process (effect_of (host_of world) (caller_of world process) operation))
 
 case_decided : (world : World) (call : Call) (process : Process) (d : Decision) → living_of world call.pid ≡ Some process
     → decision_of world call process ≡ d → StepCase world call (decided world call process d)
@@ -169,8 +169,8 @@ cases_are_steps world call out (case.lacking process passes e) =
     sym (passed_is world call process passes ∙ ap (answered world call.pid process) e)
 cases_are_steps world call out (case.misformed process passes e) =
     sym (passed_is world call process passes ∙ ap (answered world call.pid process) e)
-cases_are_steps world call out (case.does process doing made passes e h) =
-    effect_is world call.pid process (effect_of (host_of world) (caller_of world process) doing) made h
+cases_are_steps world call out (case.does process operation made passes e h) =
+    effect_is world call.pid process (effect_of (host_of world) (caller_of world process) operation) made h
     ∙ sym (passed_is world call process passes ∙ ap (answered world call.pid process) e)
 
 -- a refusal with the world as it was, a killed caller, or a value
@@ -209,8 +209,8 @@ shape world call out (case.filtered process errno living e) = refused errno
 shape world call out (case.killed process living e) = killed process living
 shape world call out (case.lacking process passes e) = refused _
 shape world call out (case.misformed process passes e) = refused _
-shape world call out (case.does process doing made passes e h) =
-    shape_effect world call.pid process (effect_of (host_of world) (caller_of world process) doing) made h
+shape world call out (case.does process operation made passes e h) =
+    shape_effect world call.pid process (effect_of (host_of world) (caller_of world process) operation) made h
 
 same_by : (world : World) (pid : ℕ) (out : Reply × World) → Shape world pid out → (errno : ℕ) → out.0 ≡ reply.Refused errno → out.1 ≡ world
 same_by world pid out (refused own) errno e = refl

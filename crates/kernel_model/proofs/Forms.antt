@@ -12,44 +12,44 @@ use Rattle.kernel_model.specs.declared.kernel_calls.payload.Payload.TheVariants.
 use Rattle.kernel_model.specs.declared.kernel_calls.rule.Rule.{Rule}
 use Rattle.kernel_model.specs.declared.kernel_calls.rule.Rule.TheVariants as rule
 use Rattle.kernel_model.specs.kernel_calls.Calls.{form_of_payload}
-use Rattle.kernel_model.specs.kernel_calls.Doing.{Doing, See, Open, Create, Truncate, Execve, SetMode, Map, Protect, Attach, Schedule}
-use Rattle.kernel_model.specs.kernel_calls.Doing.{Personality, Socket, Socketcall, Enter, Fork, Clone, Unshare, Exit, Mount, Umount, Setuid}
-use Rattle.kernel_model.specs.kernel_calls.Doing.{Setgid, Setresuid, Setresgid, Setgroups, Capset, Prctl, Seccomp, Plain, bare, by_path}
-use Rattle.kernel_model.specs.kernel_calls.Doing.{by_paths, by_sets, by_ids, by_family, by_code, known_doing, doing_by}
+use Rattle.kernel_model.specs.kernel_calls.Operation.{Operation, See, Open, Create, Truncate, Execve, SetMode, Map, Protect, Attach, Schedule}
+use Rattle.kernel_model.specs.kernel_calls.Operation.{Personality, Socket, Socketcall, Enter, Fork, Clone, Unshare, Exit, Mount, Umount, Setuid}
+use Rattle.kernel_model.specs.kernel_calls.Operation.{Setgid, Setresuid, Setresgid, Setgroups, Capset, Prctl, Seccomp, Plain, bare, by_path}
+use Rattle.kernel_model.specs.kernel_calls.Operation.{by_paths, by_sets, by_ids, by_family, by_code, known_operation, operation_by}
 use Rattle.kernel_model.specs.kernel_calls.Rules.{form_of_rule}
 use Rattle.kernel_model.specs.kernel_calls.Words.{low_word}
 
-bare_form : (doing : Doing) (payload : Payload) → (form_of_payload payload ≡ form.Nothing) ↔ IsSome (bare doing payload)
-bare_form doing Nothing = (λ h. refl, λ h. refl)
-bare_form doing payload = (λ h. cc, λ h. cc)
+bare_form : (operation : Operation) (payload : Payload) → (form_of_payload payload ≡ form.Nothing) ↔ IsSome (bare operation payload)
+bare_form operation Nothing = (λ h. refl, λ h. refl)
+bare_form operation payload = (λ h. cc, λ h. cc)
 
-by_path_form : (doing : Path → Doing) (payload : Payload) → (form_of_payload payload ≡ form.OnePath) ↔ IsSome (by_path doing payload)
-by_path_form doing (OnePath path) = (λ h. refl, λ h. refl)
-by_path_form doing payload = (λ h. cc, λ h. cc)
+by_path_form : (operation : Path → Operation) (payload : Payload) → (form_of_payload payload ≡ form.OnePath) ↔ IsSome (by_path operation payload)
+by_path_form operation (OnePath path) = (λ h. refl, λ h. refl)
+by_path_form operation payload = (λ h. cc, λ h. cc)
 
-by_paths_form : (doing : Path → Path → Doing) (payload : Payload)
-    → (form_of_payload payload ≡ form.TwoPaths) ↔ IsSome (by_paths doing payload)
-by_paths_form doing (TwoPaths source target) = (λ h. refl, λ h. refl)
-by_paths_form doing payload = (λ h. cc, λ h. cc)
+by_paths_form : (operation : Path → Path → Operation) (payload : Payload)
+    → (form_of_payload payload ≡ form.TwoPaths) ↔ IsSome (by_paths operation payload)
+by_paths_form operation (TwoPaths source target) = (λ h. refl, λ h. refl)
+by_paths_form operation payload = (λ h. cc, λ h. cc)
 
-by_sets_form : (doing : ℕ → ℕ → ℕ → Doing) (payload : Payload) → (form_of_payload payload ≡ form.Sets) ↔ IsSome (by_sets doing payload)
-by_sets_form doing (Sets permitted effective inheritable) = (λ h. refl, λ h. refl)
-by_sets_form doing payload = (λ h. cc, λ h. cc)
+by_sets_form : (operation : ℕ → ℕ → ℕ → Operation) (payload : Payload) → (form_of_payload payload ≡ form.Sets) ↔ IsSome (by_sets operation payload)
+by_sets_form operation (Sets permitted effective inheritable) = (λ h. refl, λ h. refl)
+by_sets_form operation payload = (λ h. cc, λ h. cc)
 
-by_ids_form : (doing : List ℕ → Doing) (payload : Payload) → (form_of_payload payload ≡ form.Ids) ↔ IsSome (by_ids doing payload)
-by_ids_form doing (Ids ids) = (λ h. refl, λ h. refl)
-by_ids_form doing payload = (λ h. cc, λ h. cc)
+by_ids_form : (operation : List ℕ → Operation) (payload : Payload) → (form_of_payload payload ≡ form.Ids) ↔ IsSome (by_ids operation payload)
+by_ids_form operation (Ids ids) = (λ h. refl, λ h. refl)
+by_ids_form operation payload = (λ h. cc, λ h. cc)
 
-by_family_form : (doing : ℕ → Doing) (payload : Payload) → (form_of_payload payload ≡ form.Family) ↔ IsSome (by_family doing payload)
-by_family_form doing (Family family) = (λ h. refl, λ h. refl)
-by_family_form doing payload = (λ h. cc, λ h. cc)
+by_family_form : (operation : ℕ → Operation) (payload : Payload) → (form_of_payload payload ≡ form.Family) ↔ IsSome (by_family operation payload)
+by_family_form operation (Family family) = (λ h. refl, λ h. refl)
+by_family_form operation payload = (λ h. cc, λ h. cc)
 
-by_code_form : (doing : List ℕ → Doing) (payload : Payload) → (form_of_payload payload ≡ form.Program) ↔ IsSome (by_code doing payload)
-by_code_form doing (Code bytes) = (λ h. refl, λ h. refl)
-by_code_form doing payload = (λ h. cc, λ h. cc)
+by_code_form : (operation : List ℕ → Operation) (payload : Payload) → (form_of_payload payload ≡ form.Program) ↔ IsSome (by_code operation payload)
+by_code_form operation (Code bytes) = (λ h. refl, λ h. refl)
+by_code_form operation payload = (λ h. cc, λ h. cc)
 
 known_form : (rule : CallRule) (args : List ℕ) (payload : Payload)
-    → (form_of_payload payload ≡ form_of rule) ↔ IsSome (known_doing rule args payload)
+    → (form_of_payload payload ≡ form_of rule) ↔ IsSome (known_operation rule args payload)
 known_form known.See args = by_path_form See
 known_form (known.Open flags) args = by_path_form (Open (low_word args (place_of flags)))
 known_form known.Create args = by_path_form Create
@@ -80,7 +80,7 @@ known_form known.Prctl args = bare_form (Prctl (low_word args 0) (low_word args 
 known_form known.Seccomp args = by_code_form (Seccomp (low_word args 0) (low_word args 1))
 
 pub form_decides : (rule : Rule) (args : List ℕ) (payload : Payload)
-    → (form_of_payload payload ≡ form_of_rule rule) ↔ IsSome (doing_by rule args payload)
+    → (form_of_payload payload ≡ form_of_rule rule) ↔ IsSome (operation_by rule args payload)
 form_decides (rule.Known call) args payload = known_form call args payload
 form_decides (rule.Plain cap) args payload = bare_form (Plain cap) payload
 
@@ -88,14 +88,14 @@ within : (argument : Argument) → place_of argument < 6
 within Second = omega arith
 within Third = omega arith
 
-three_low : (doing : ℕ → ℕ → ℕ → Doing) (args other : List ℕ) (payload : Payload)
+three_low : (operation : ℕ → ℕ → ℕ → Operation) (args other : List ℕ) (payload : Payload)
     → ((at : ℕ) → at < 6 → low_word args at ≡ low_word other at)
-    → bare (doing (low_word args 0) (low_word args 1) (low_word args 2)) payload
-    ≡ bare (doing (low_word other 0) (low_word other 1) (low_word other 2)) payload
-three_low doing args other payload same = rw (same 0 (omega arith), same 1 (omega arith), same 2 (omega arith)) refl
+    → bare (operation (low_word args 0) (low_word args 1) (low_word args 2)) payload
+    ≡ bare (operation (low_word other 0) (low_word other 1) (low_word other 2)) payload
+three_low operation args other payload same = rw (same 0 (omega arith), same 1 (omega arith), same 2 (omega arith)) refl
 
 known_low : (rule : CallRule) (args other : List ℕ) (payload : Payload) → ((at : ℕ) → at < 6 → low_word args at ≡ low_word other at)
-    → known_doing rule args payload ≡ known_doing rule other payload
+    → known_operation rule args payload ≡ known_operation rule other payload
 known_low (known.Open flags) args other payload same = ap (λ w. by_path (Open w) payload) (same (place_of flags) (within flags))
 known_low (known.SetMode mode) args other payload same = ap (λ w. bare (SetMode w) payload) (same (place_of mode) (within mode))
 known_low known.Map args other payload same = ap (λ w. bare (Map w) payload) (same 2 (omega arith))
@@ -119,6 +119,6 @@ known_low known.Seccomp args other payload same = ap (λ w. by_code (Seccomp w (
 known_low call args other payload same = refl
 
 pub low_halves_decide : (rule : Rule) (args other : List ℕ) (payload : Payload)
-    → ((at : ℕ) → at < 6 → low_word args at ≡ low_word other at) → doing_by rule args payload ≡ doing_by rule other payload
+    → ((at : ℕ) → at < 6 → low_word args at ≡ low_word other at) → operation_by rule args payload ≡ operation_by rule other payload
 low_halves_decide (rule.Known call) args other payload same = known_low call args other payload same
 low_halves_decide (rule.Plain cap) args other payload same = refl

@@ -23,8 +23,8 @@ use Rattle.kern_mounts.specs.Mounts.{Mounts as Table}
 use Rattle.kernel_model.specs.kern_files.MountCall.{after_mount}
 use Rattle.kernel_model.specs.kern_files.UmountCall.{umount_answer}
 use Rattle.kernel_model.specs.declared.kernel_calls.call.Call.{Call}
-use Rattle.kernel_model.specs.kernel_calls.Doing as d
-use Rattle.kernel_model.specs.kernel_calls.Doing.{Doing}
+use Rattle.kernel_model.specs.kernel_calls.Operation as d
+use Rattle.kernel_model.specs.kernel_calls.Operation.{Operation}
 use Rattle.kernel_model.specs.declared.process.Process.{Process}
 use Rattle.kernel_model.specs.declared.reply.Reply.{Reply}
 use Rattle.kernel_model.specs.Effects as f
@@ -109,12 +109,12 @@ roots_ids : (real effective saved : ℕ)
 roots_ids real effective saved = roots_if ((real == no_id && effective == no_id) && saved == no_id) (f.Answer 0) (f.Refuse einval)
     (gives 0) (refuses einval)
 
-roots_socketcall : (newer : Bool) (creds : Creds) (operation : ℕ) (line : Option CallLine)
-    → MakesRooted (socketcall_effect newer creds operation line)
-roots_socketcall newer creds operation line =
-    let other : Effect = cond (nat_le 2 operation && nat_le operation 20) (f.Answer 0) (f.Refuse einval) in
-    roots_if (operation == 1) (socket_effect newer creds line) other (roots_socket newer creds line)
-    (roots_if (nat_le 2 operation && nat_le operation 20) (f.Answer 0) (f.Refuse einval) (gives 0) (refuses einval))
+roots_socketcall : (newer : Bool) (creds : Creds) (op : ℕ) (line : Option CallLine)
+    → MakesRooted (socketcall_effect newer creds op line)
+roots_socketcall newer creds op line =
+    let other : Effect = cond (nat_le 2 op && nat_le op 20) (f.Answer 0) (f.Refuse einval) in
+    roots_if (op == 1) (socket_effect newer creds line) other (roots_socket newer creds line)
+    (roots_if (nat_le 2 op && nat_le op 20) (f.Answer 0) (f.Refuse einval) (gives 0) (refuses einval))
 
 child : (own : Bool) → MakesRooted (f.Child own)
 child own = record { rooted = tt }
@@ -179,32 +179,32 @@ roots_is_set creds cap = roots_if (nat_lt cap_last_cap cap) (f.Refuse einval) (f
 roots_clear : (creds : Creds) → MakesRooted (f.SetCreds creds)
 roots_clear creds = record { rooted = tt }
 
-roots_ambient : (creds : Creds) (operation cap : ℕ) → MakesRooted (ambient_effect creds operation cap)
-roots_ambient creds operation cap = is_set (operation == 1)
+roots_ambient : (creds : Creds) (op cap : ℕ) → MakesRooted (ambient_effect creds op cap)
+roots_ambient creds op cap = is_set (op == 1)
   where
     clear : (b : Bool) → MakesRooted (cond b (f.SetCreds (after_clear_ambient creds)) (f.Refuse einval))
     clear true = roots_clear (after_clear_ambient creds)
     clear false = refuses einval
 
     lower : (b : Bool) → MakesRooted
-        (cond b (creds_effect (after_lower creds cap)) (cond (operation == 4) (f.SetCreds (after_clear_ambient creds)) (f.Refuse einval)))
+        (cond b (creds_effect (after_lower creds cap)) (cond (op == 4) (f.SetCreds (after_clear_ambient creds)) (f.Refuse einval)))
     lower true = roots_creds (after_lower creds cap)
-    lower false = clear (operation == 4)
+    lower false = clear (op == 4)
 
     raise : (b : Bool) → MakesRooted
         (cond b (creds_effect (after_raise creds cap))
-        (cond (operation == 3) (creds_effect (after_lower creds cap))
-        (cond (operation == 4) (f.SetCreds (after_clear_ambient creds)) (f.Refuse einval))))
+        (cond (op == 3) (creds_effect (after_lower creds cap))
+        (cond (op == 4) (f.SetCreds (after_clear_ambient creds)) (f.Refuse einval))))
     raise true = roots_creds (after_raise creds cap)
-    raise false = lower (operation == 3)
+    raise false = lower (op == 3)
 
     is_set : (b : Bool)
         → MakesRooted (cond b (is_set_effect creds cap)
-        (cond (operation == 2) (creds_effect (after_raise creds cap))
-        (cond (operation == 3) (creds_effect (after_lower creds cap))
-        (cond (operation == 4) (f.SetCreds (after_clear_ambient creds)) (f.Refuse einval)))))
+        (cond (op == 2) (creds_effect (after_raise creds cap))
+        (cond (op == 3) (creds_effect (after_lower creds cap))
+        (cond (op == 4) (f.SetCreds (after_clear_ambient creds)) (f.Refuse einval)))))
     is_set true = roots_is_set creds cap
-    is_set false = raise (operation == 2)
+    is_set false = raise (op == 2)
 
 roots_no_new_privs : (creds : Creds) (value : ℕ) → MakesRooted (no_new_privs_effect creds value)
 roots_no_new_privs creds value = roots_if (value == 1) (f.SetCreds (after_set_no_new_privs creds)) (f.Refuse einval)
@@ -258,9 +258,9 @@ roots_push stack None = refuses einval
 roots_push stack (Some program) = roots_if (nat_le (room_of stack + length program) max_insns_per_path) (f.Push program) (f.Refuse enomem)
     (pushes program) (refuses enomem)
 
-roots_seccomp : (creds : Creds) (stack : List (List Insn)) (operation flags : ℕ) (bytes : List ℕ)
-    → MakesRooted (seccomp_effect creds stack operation flags bytes)
-roots_seccomp creds stack operation flags bytes = mode (not (operation == 1 && flags == 0))
+roots_seccomp : (creds : Creds) (stack : List (List Insn)) (op flags : ℕ) (bytes : List ℕ)
+    → MakesRooted (seccomp_effect creds stack op flags bytes)
+roots_seccomp creds stack op flags bytes = mode (not (op == 1 && flags == 0))
   where
     may : (b : Bool) → MakesRooted (cond b (f.Refuse eacces) (push_effect stack (program_of bytes)))
     may true = refuses eacces
@@ -272,7 +272,7 @@ roots_seccomp creds stack operation flags bytes = mode (not (operation == 1 && f
     mode true = refuses einval
     mode false = may (not (creds.no_new_privs || has creds.effective cap_sys_admin))
 
-pub roots_effect : (host : Host) (caller : Caller) (doing : Doing) → IsRooted caller.table → MakesRooted (effect_of host caller doing)
+pub roots_effect : (host : Host) (caller : Caller) (operation : Operation) → IsRooted caller.table → MakesRooted (effect_of host caller operation)
 roots_effect host caller (d.See path) h = roots_looks _
 roots_effect host caller (d.Open flags path) h = roots_looks _
 roots_effect host caller (d.Create path) h = roots_looks _
@@ -285,7 +285,7 @@ roots_effect host caller (d.Attach flags) h = gives 0
 roots_effect host caller (d.Schedule policy) h = roots_looks _
 roots_effect host caller (d.Personality persona) h = gives 0
 roots_effect host caller (d.Socket family) h = roots_socket caller.newer caller.creds _
-roots_effect host caller (d.Socketcall operation family) h = roots_socketcall caller.newer caller.creds operation _
+roots_effect host caller (d.Socketcall op family) h = roots_socketcall caller.newer caller.creds op _
 roots_effect host caller d.Enter h = refuses _
 roots_effect host caller d.Fork h = child false
 roots_effect host caller (d.Clone flags) h = roots_clone caller.creds flags
@@ -316,7 +316,7 @@ roots_effect host caller (d.Setgroups ids) h = roots_if caller.newer (f.Refuse e
     (refuses eperm) (roots_creds _)
 roots_effect host caller (d.Capset permitted effective inheritable) h = roots_creds _
 roots_effect host caller (d.Prctl option value third) h = roots_prctl caller.creds option value third
-roots_effect host caller (d.Seccomp operation flags bytes) h = roots_seccomp caller.creds caller.stack operation flags bytes
+roots_effect host caller (d.Seccomp op flags bytes) h = roots_seccomp caller.creds caller.stack op flags bytes
 roots_effect host caller (d.Plain cap) h = roots_alone caller.newer cap caller.creds 0
 
 -- a process in its namespace, whatever else of it changes
@@ -470,11 +470,11 @@ kernel_case world call out k (case.killed process living e) =
     (spaced (length world.tables) process (ended process) (living_space world call.pid process k living) refl)
 kernel_case world call out k (case.lacking process passes e) = k
 kernel_case world call out k (case.misformed process passes e) = k
-kernel_case world call out k (case.does process doing made passes e h) =
+kernel_case world call out k (case.does process operation made passes e h) =
     let space = living_space world call.pid process k passes.living in
     let table = rooted_table world process k space in
-    kernel_effect world call.pid process (effect_of (host_of world) (caller_of world process) doing) made k space table
-    (roots_effect (host_of world) (caller_of world process) doing table) h
+    kernel_effect world call.pid process (effect_of (host_of world) (caller_of world process) operation) made k space table
+    (roots_effect (host_of world) (caller_of world process) operation table) h
 
 pub kernel_step : (world : World) (call : Call) → Kernel world → Kernel (step world call).1
 kernel_step world call k = kernel_case world call (step world call) k (steps_by_cases world call)
@@ -516,8 +516,8 @@ told_case world call out (case.filtered process errno living e) = (refl, refl)
 told_case world call out (case.killed process living e) = (refl, refl)
 told_case world call out (case.lacking process passes e) = (refl, refl)
 told_case world call out (case.misformed process passes e) = (refl, refl)
-told_case world call out (case.does process doing made passes e h) =
-    told_effect world call.pid process (effect_of (host_of world) (caller_of world process) doing) made h
+told_case world call out (case.does process operation made passes e h) =
+    told_effect world call.pid process (effect_of (host_of world) (caller_of world process) operation) made h
 
 pub told_stays : ToldStays
 told_stays world [] = (refl, refl)

@@ -14,7 +14,7 @@ use Rattle.call_table.specs.Table.{Abi, abis, native, abi_at, arch_of}
 use Rattle.site_table.specs.Table.{Site}
 use Rattle.kern_mounts.specs.Mounts.{Mounts as Table}
 use Rattle.kernel_model.specs.declared.kernel_calls.call.Call.{Call}
-use Rattle.kernel_model.specs.kernel_calls.Doing.{Doing, Does, asked_of}
+use Rattle.kernel_model.specs.kernel_calls.Operation.{Operation, Does, asked_of}
 use Rattle.kernel_model.specs.declared.process.Process.{Process}
 use Rattle.kernel_model.specs.declared.reply.Reply.{Reply}
 use Rattle.kernel_model.specs.declared.reply.Reply.TheVariants as reply
@@ -22,7 +22,7 @@ use Rattle.kernel_model.specs.declared.outcome.Outcome.{Outcome}
 use Rattle.kernel_model.specs.declared.outcome.Outcome.TheVariants.{Replied, MakesChild, MakesTable, MakesUserChild, MakesOwnUser}
 use Rattle.kernel_model.specs.Effects as f
 use Rattle.kernel_model.specs.Effects.{Effect, effect_of}
-use Rattle.kernel_model.specs.Memory.{asks_for_room, makes_one, takes_doing, takes_asked, takes_decided, takes_by, takes_memory}
+use Rattle.kernel_model.specs.Memory.{asks_for_room, makes_one, takes_operation, takes_asked, takes_decided, takes_by, takes_memory}
 use Rattle.kernel_model.specs.Parts.{Parts, parts, caller_by, done_here, Left, UnlessReplied}
 use Rattle.kernel_model.specs.State.{State, world_of, host_by, place_of, AtPlace, Applies, AppliesAt}
 use Rattle.kernel_model.specs.World.{World, mounts_of, table_or, host_of, caller_of, put_number, ended, owner_or, of_number}
@@ -120,52 +120,52 @@ unless_there state place at old now table new outcome effect is has e =
 
 -- what the rules make of a caller and its table, in the place of both
 there_here : {E : Type 0} (calls : calls.Table) (site : Site) (state : State) (place at : ℕ) (old now : Process) (table new : Table)
-    (doing : Doing) (owns : Bool) (result : Result Outcome E)
+    (operation : Operation) (owns : Bool) (result : Result Outcome E)
     → old ≡ get_or state.processes place old → table ≡ get_or state.tables at table → at < length state.tables
     → AtPlace state place (λ pid process. at + 1 ≡ process.namespace)
     → AtPlace state place (λ pid process. owns ≡ (owner_or (of_number state.owners process.namespace) == process.user))
     → IfOk result (λ outcome. (outcome, parts now new) ≡ done_here (parts old table)
-    (effect_of (host_by calls site) (caller_by old table owns) doing))
+    (effect_of (host_by calls site) (caller_by old table owns) operation))
     → IfOk result (λ outcome. AtPlace state place
     (λ pid process. Left (world_of calls site state) pid process outcome
     (world_of calls site (put_back state place at (parts now new)))
-    (effect_of (host_of (world_of calls site state)) (caller_of (world_of calls site state) process) doing)))
-there_here calls site state place at old now table new doing owns result is tis lt spaces home h =
+    (effect_of (host_of (world_of calls site state)) (caller_of (world_of calls site state) process) operation)))
+there_here calls site state place at old now table new operation owns result is tis lt spaces home h =
     if_ok _ _ result h (λ outcome e pid process place_is stands.
     let same : old ≡ process = get_same state.processes place old process is stands in
     let has : slice_get state.tables at ≡ Some table = get_some state.tables at table lt tis in
     let space : at + 1 ≡ process.namespace = spaces pid process place_is stands in
     let own : mounts_of (world_of calls site state) process.namespace ≡ table = ap table_or (has_table state.tables process at table space has) in
     let seat : Seat state place at pid process table = record { place_is = place_is; stands = stands; space = space; has = has } in
-    let effect : effect_of (host_by calls site) (caller_by old table owns) doing ≡ effect_of (host_of (world_of calls site state)) (caller_of (world_of calls site state) process) doing =
-    ap (λ (p : Process). effect_of (host_by calls site) (caller_by p table owns) doing) same
-    ∙ ap (λ (t : Table). effect_of (host_by calls site) (caller_by process t owns) doing) (sym own)
-    ∙ ap (λ (b : Bool). effect_of (host_by calls site) (caller_by process (mounts_of (world_of calls site state) process.namespace) b) doing) (home pid process place_is stands) in
+    let effect : effect_of (host_by calls site) (caller_by old table owns) operation ≡ effect_of (host_of (world_of calls site state)) (caller_of (world_of calls site state) process) operation =
+    ap (λ (p : Process). effect_of (host_by calls site) (caller_by p table owns) operation) same
+    ∙ ap (λ (t : Table). effect_of (host_by calls site) (caller_by process t owns) operation) (sym own)
+    ∙ ap (λ (b : Bool). effect_of (host_by calls site) (caller_by process (mounts_of (world_of calls site state) process.namespace) b) operation) (home pid process place_is stands) in
     left calls site state place at pid process table seat
-    (effect_of (host_of (world_of calls site state)) (caller_of (world_of calls site state) process) doing) outcome (parts now new)
-    (e ∙ ap (λ (p : Process). done_here (parts p table) (effect_of (host_by calls site) (caller_by old table owns) doing)) same
+    (effect_of (host_of (world_of calls site state)) (caller_of (world_of calls site state) process) operation) outcome (parts now new)
+    (e ∙ ap (λ (p : Process). done_here (parts p table) (effect_of (host_by calls site) (caller_by old table owns) operation)) same
     ∙ ap (done_here (parts process table)) effect))
 
 -- the same where the state is seen through its lists
 pub performed_there : {E : Type 0} (viewed state : State) → viewed ≡ state
-    → (calls : calls.Table) (site : Site) (place at : ℕ) (old now : Process) (table new : Table) (doing : Doing) (owns : Bool)
+    → (calls : calls.Table) (site : Site) (place at : ℕ) (old now : Process) (table new : Table) (operation : Operation) (owns : Bool)
     (result : Result Outcome E)
     → old ≡ get_or viewed.processes place old → table ≡ get_or viewed.tables at table → at < length state.tables
     → AtPlace state place (λ pid process. at + 1 ≡ process.namespace)
     → AtPlace state place (λ pid process. owns ≡ (owner_or (of_number state.owners process.namespace) == process.user))
     → IfOk result (λ outcome. (outcome, parts now new) ≡ done_here (parts old table)
-    (effect_of (host_by calls site) (caller_by old table owns) doing))
+    (effect_of (host_by calls site) (caller_by old table owns) operation))
     → IfOk result (λ outcome. AtPlace state place
     (λ pid process. Left (world_of calls site state) pid process outcome
     (world_of calls site (put_back viewed place at (parts now new)))
-    (effect_of (host_of (world_of calls site state)) (caller_of (world_of calls site state) process) doing)))
-performed_there viewed state v calls site place at old now table new doing owns result is tis lt spaces home h =
+    (effect_of (host_of (world_of calls site state)) (caller_of (world_of calls site state) process) operation)))
+performed_there viewed state v calls site place at old now table new operation owns result is tis lt spaces home h =
     subst (λ (s : State). IfOk result
     (λ outcome. AtPlace state place
     (λ pid process. Left (world_of calls site state) pid process outcome (world_of calls site (put_back s place at (parts now new)))
-    (effect_of (host_of (world_of calls site state)) (caller_of (world_of calls site state) process) doing))))
+    (effect_of (host_of (world_of calls site state)) (caller_of (world_of calls site state) process) operation))))
     (sym v)
-    (there_here calls site state place at old now table new doing owns result
+    (there_here calls site state place at old now table new operation owns result
     (subst (λ (s : State). old ≡ get_or s.processes place old) v is)
     (subst (λ (s : State). table ≡ get_or s.tables at table) v tis) lt spaces home h)
 
@@ -272,47 +272,47 @@ or_right : (a b : Bool) → (a || b) ≡ false → b ≡ false
 or_right true b e = cc
 or_right false b e = e
 
-pub child_ready : {E : Type 0} (state mid : State) (unless : Outcome) (calls : calls.Table) (site : Site) (place : ℕ) (doing : Doing)
+pub child_ready : {E : Type 0} (state mid : State) (unless : Outcome) (calls : calls.Table) (site : Site) (place : ℕ) (operation : Operation)
     (own : Bool) (result : Result Reply E) → unless ≡ MakesChild own
     → UnlessReplied unless (mid ≡ state)
     → AtPlace state place (λ pid process. Left (world_of calls site state) pid process unless (world_of calls site mid)
-    (effect_of (host_of (world_of calls site state)) (caller_of (world_of calls site state) process) doing))
+    (effect_of (host_of (world_of calls site state)) (caller_of (world_of calls site state) process) operation))
     → (makes_one false (length mid.processes) (length mid.tables) (f.Child own) ≡ false → IsOk result)
-    → AtPlace state place (λ pid process. takes_doing (world_of calls site state) process doing ≡ false → IsOk result)
-child_ready state mid unless calls site place doing own result is same h ready pid process place_is stands none =
-    let effect : Process → Effect = λ p. effect_of (host_of (world_of calls site state)) (caller_of (world_of calls site state) p) doing in
+    → AtPlace state place (λ pid process. takes_operation (world_of calls site state) process operation ≡ false → IsOk result)
+child_ready state mid unless calls site place operation own result is same h ready pid process place_is stands none =
+    let effect : Process → Effect = λ p. effect_of (host_of (world_of calls site state)) (caller_of (world_of calls site state) p) operation in
     let m : mid ≡ state = subst (λ (o : Outcome). UnlessReplied o (mid ≡ state)) is same in
     let one : effect process ≡ f.Child own = child_is state mid calls site place effect unless own is h pid process place_is stands in
-    let not_made : makes_one (nat_lt state.users site.user_namespaces) (length state.processes) (length state.tables) (effect process) ≡ false = or_right (asks_for_room doing) (makes_one (nat_lt state.users site.user_namespaces) (length state.processes) (length state.tables) (effect process)) none in
+    let not_made : makes_one (nat_lt state.users site.user_namespaces) (length state.processes) (length state.tables) (effect process) ≡ false = or_right (asks_for_room operation) (makes_one (nat_lt state.users site.user_namespaces) (length state.processes) (length state.tables) (effect process)) none in
     ready (subst (λ (s : State). makes_one false (length s.processes) (length s.tables) (f.Child own) ≡ false) (sym m)
     (subst (λ (e : Effect). makes_one (nat_lt state.users site.user_namespaces) (length state.processes) (length state.tables) e
     ≡ false) one not_made))
 
-pub table_ready : {E : Type 0} (state mid : State) (unless : Outcome) (calls : calls.Table) (site : Site) (place : ℕ) (doing : Doing)
+pub table_ready : {E : Type 0} (state mid : State) (unless : Outcome) (calls : calls.Table) (site : Site) (place : ℕ) (operation : Operation)
     (result : Result Reply E) → unless ≡ MakesTable
     → UnlessReplied unless (mid ≡ state)
     → AtPlace state place (λ pid process. Left (world_of calls site state) pid process unless (world_of calls site mid)
-    (effect_of (host_of (world_of calls site state)) (caller_of (world_of calls site state) process) doing))
+    (effect_of (host_of (world_of calls site state)) (caller_of (world_of calls site state) process) operation))
     → (makes_one false (length mid.processes) (length mid.tables) f.OwnTable ≡ false → IsOk result)
-    → AtPlace state place (λ pid process. takes_doing (world_of calls site state) process doing ≡ false → IsOk result)
-table_ready state mid unless calls site place doing result is same h ready pid process place_is stands none =
-    let effect : Process → Effect = λ p. effect_of (host_of (world_of calls site state)) (caller_of (world_of calls site state) p) doing in
+    → AtPlace state place (λ pid process. takes_operation (world_of calls site state) process operation ≡ false → IsOk result)
+table_ready state mid unless calls site place operation result is same h ready pid process place_is stands none =
+    let effect : Process → Effect = λ p. effect_of (host_of (world_of calls site state)) (caller_of (world_of calls site state) p) operation in
     let m : mid ≡ state = subst (λ (o : Outcome). UnlessReplied o (mid ≡ state)) is same in
     let one : effect process ≡ f.OwnTable = table_is state mid calls site place effect unless is h pid process place_is stands in
-    let not_made : makes_one (nat_lt state.users site.user_namespaces) (length state.processes) (length state.tables) (effect process) ≡ false = or_right (asks_for_room doing) (makes_one (nat_lt state.users site.user_namespaces) (length state.processes) (length state.tables) (effect process)) none in
+    let not_made : makes_one (nat_lt state.users site.user_namespaces) (length state.processes) (length state.tables) (effect process) ≡ false = or_right (asks_for_room operation) (makes_one (nat_lt state.users site.user_namespaces) (length state.processes) (length state.tables) (effect process)) none in
     ready (subst (λ (s : State). makes_one false (length s.processes) (length s.tables) f.OwnTable ≡ false) (sym m)
     (subst (λ (e : Effect). makes_one (nat_lt state.users site.user_namespaces) (length state.processes) (length state.tables) e
     ≡ false) one not_made))
 
 -- the step of a call that is asked for
-pub step_is : {E : Type 0} (world after : World) (call : Call) (place : ℕ) (d : Decision) (doing : Doing) (result : Result Reply E)
+pub step_is : {E : Type 0} (world after : World) (call : Call) (place : ℕ) (d : Decision) (operation : Operation) (result : Result Reply E)
     → place_of world.processes call.pid ≡ Some place
     → ((pid : ℕ) (process : Process) → place ≡ pid - 1 → slice_get world.processes place ≡ Some process
-    → d ≡ decision_of world call process) → d ≡ decision.Pass → asked_of world.calls call ≡ Does doing
+    → d ≡ decision_of world call process) → d ≡ decision.Pass → asked_of world.calls call ≡ Does operation
     → IfOk result (λ r. (pid : ℕ) (process : Process) → place ≡ pid - 1 → slice_get world.processes place ≡ Some process
-    → (r, after) ≡ applied world pid process (effect_of (host_of world) (caller_of world process) doing))
+    → (r, after) ≡ applied world pid process (effect_of (host_of world) (caller_of world process) operation))
     → IfOk result (λ r. (r, after) ≡ step world call)
-step_is world after call place d doing result at is passes asked h =
+step_is world after call place d operation result at is passes asked h =
     if_ok _ _ result h (λ r made.
     let who = stands world call.pid place at in
     let decided_is : decision_of world call who.caller ≡ decision.Pass = sym (is call.pid who.caller who.place_is who.stands) ∙ passes in
@@ -320,41 +320,41 @@ step_is world after call place d doing result at is passes asked h =
     ∙ sym (ap (step_by world call) who.lives ∙ ap (decided world call who.caller) decided_is
     ∙ ap (answered world call.pid who.caller) asked))
 
-pub step_ready : {E : Type 0} (world : World) (call : Call) (place : ℕ) (d : Decision) (doing : Doing) (result : Result Reply E)
+pub step_ready : {E : Type 0} (world : World) (call : Call) (place : ℕ) (d : Decision) (operation : Operation) (result : Result Reply E)
     → place_of world.processes call.pid ≡ Some place
     → ((pid : ℕ) (process : Process) → place ≡ pid - 1 → slice_get world.processes place ≡ Some process
-    → d ≡ decision_of world call process) → d ≡ decision.Pass → asked_of world.calls call ≡ Does doing
+    → d ≡ decision_of world call process) → d ≡ decision.Pass → asked_of world.calls call ≡ Does operation
     → ((pid : ℕ) (process : Process) → place ≡ pid - 1 → slice_get world.processes place ≡ Some process
-    → takes_doing world process doing ≡ false → IsOk result)
+    → takes_operation world process operation ≡ false → IsOk result)
     → takes_memory world call ≡ false → IsOk result
-step_ready world call place d doing result at is passes asked h none =
+step_ready world call place d operation result at is passes asked h none =
     let who = stands world call.pid place at in
     let decided_is : decision_of world call who.caller ≡ decision.Pass = sym (is call.pid who.caller who.place_is who.stands) ∙ passes in
-    let takes : takes_memory world call ≡ takes_doing world who.caller doing = ap (takes_by world call) who.lives ∙ ap (takes_decided world call who.caller) decided_is ∙ ap (takes_asked world who.caller) asked in
+    let takes : takes_memory world call ≡ takes_operation world who.caller operation = ap (takes_by world call) who.lives ∙ ap (takes_decided world call who.caller) decided_is ∙ ap (takes_asked world who.caller) asked in
     h call.pid who.caller who.place_is who.stands (sym takes ∙ none)
 
 -- the same of a world that is seen through its parts
 pub step_seen : {E : Type 0} (viewed world : World) → viewed ≡ world
-    → (after : World) (call : Call) (place : ℕ) (d : Decision) (doing : Doing) (result : Result Reply E)
+    → (after : World) (call : Call) (place : ℕ) (d : Decision) (operation : Operation) (result : Result Reply E)
     → place_of viewed.processes call.pid ≡ Some place
     → ((pid : ℕ) (process : Process) → place ≡ pid - 1 → slice_get viewed.processes place ≡ Some process
-    → d ≡ decision_of viewed call process) → d ≡ decision.Pass → asked_of viewed.calls call ≡ Does doing
+    → d ≡ decision_of viewed call process) → d ≡ decision.Pass → asked_of viewed.calls call ≡ Does operation
     → IfOk result (λ r. (pid : ℕ) (process : Process) → place ≡ pid - 1 → slice_get viewed.processes place ≡ Some process
-    → (r, after) ≡ applied viewed pid process (effect_of (host_of viewed) (caller_of viewed process) doing))
+    → (r, after) ≡ applied viewed pid process (effect_of (host_of viewed) (caller_of viewed process) operation))
     → IfOk result (λ r. (r, after) ≡ step world call)
-step_seen viewed world v after call place d doing result at is passes asked h =
+step_seen viewed world v after call place d operation result at is passes asked h =
     subst (λ (w : World). IfOk result (λ r. (r, after) ≡ step w call)) v
-    (step_is viewed after call place d doing result at is passes asked h)
+    (step_is viewed after call place d operation result at is passes asked h)
 
 pub ready_seen : {E : Type 0} (viewed world : World) → viewed ≡ world
-    → (call : Call) (place : ℕ) (d : Decision) (doing : Doing) (result : Result Reply E) → place_of viewed.processes call.pid ≡ Some place
+    → (call : Call) (place : ℕ) (d : Decision) (operation : Operation) (result : Result Reply E) → place_of viewed.processes call.pid ≡ Some place
     → ((pid : ℕ) (process : Process) → place ≡ pid - 1 → slice_get viewed.processes place ≡ Some process
-    → d ≡ decision_of viewed call process) → d ≡ decision.Pass → asked_of viewed.calls call ≡ Does doing
+    → d ≡ decision_of viewed call process) → d ≡ decision.Pass → asked_of viewed.calls call ≡ Does operation
     → ((pid : ℕ) (process : Process) → place ≡ pid - 1 → slice_get viewed.processes place ≡ Some process
-    → takes_doing viewed process doing ≡ false → IsOk result)
+    → takes_operation viewed process operation ≡ false → IsOk result)
     → takes_memory world call ≡ false → IsOk result
-ready_seen viewed world v call place d doing result at is passes asked h none =
-    step_ready viewed call place d doing result at is passes asked h (subst (λ (w : World). takes_memory w call ≡ false) (sym v) none)
+ready_seen viewed world v call place d operation result at is passes asked h none =
+    step_ready viewed call place d operation result at is passes asked h (subst (λ (w : World). takes_memory w call ≡ false) (sym v) none)
 
 -- what holds of every world, after a step
 pub kernel_after : {E : Type 0} (calls : calls.Table) (site : Site) (old new : State) (call : Call) (result : Result Reply E)
@@ -397,9 +397,9 @@ decides_here calls site state place call arch d lt e h pid process at stands =
     ∙ in_abi calls call process lt
 
 -- the effect of what the process at a place asks for
-abbrev pub effect_at : calls.Table → Site → State → Doing → Process → Effect
-effect_at calls site state doing process = effect_of (host_of (world_of calls site state))
-    (caller_of (world_of calls site state) process) doing
+abbrev pub effect_at : calls.Table → Site → State → Operation → Process → Effect
+effect_at calls site state operation process = effect_of (host_of (world_of calls site state))
+    (caller_of (world_of calls site state) process) operation
 
 pub child_same : {A : Type 0} (outcome : Outcome) (own : Bool) → outcome ≡ MakesChild own → UnlessReplied outcome A → A
 child_same {A} outcome own is h = let P : Outcome → Type 0 = λ o. UnlessReplied o A in subst P is h
@@ -428,35 +428,35 @@ own_user_same {A} outcome own is h = let P : Outcome → Type 0 = λ o. UnlessRe
 pub owned_too : (mid state : State) → mid ≡ state → length state.owners ≡ length state.tables → length mid.owners ≡ length mid.tables
 owned_too mid state m h = subst (λ (s : State). length s.owners ≡ length s.tables) (sym m) h
 
-pub user_child_ready : {E : Type 0} (state mid : State) (unless : Outcome) (calls : calls.Table) (site : Site) (place : ℕ) (doing : Doing)
+pub user_child_ready : {E : Type 0} (state mid : State) (unless : Outcome) (calls : calls.Table) (site : Site) (place : ℕ) (operation : Operation)
     (own : Bool) (result : Result Reply E) → unless ≡ MakesUserChild own
     → UnlessReplied unless (mid ≡ state)
     → AtPlace state place (λ pid process. Left (world_of calls site state) pid process unless (world_of calls site mid)
-    (effect_of (host_of (world_of calls site state)) (caller_of (world_of calls site state) process) doing))
+    (effect_of (host_of (world_of calls site state)) (caller_of (world_of calls site state) process) operation))
     → (makes_one (nat_lt mid.users site.user_namespaces) (length mid.processes) (length mid.tables) (f.UserChild own) ≡ false → IsOk result)
-    → AtPlace state place (λ pid process. takes_doing (world_of calls site state) process doing ≡ false → IsOk result)
-user_child_ready state mid unless calls site place doing own result is same h ready pid process place_is stands none =
-    let effect : Effect = effect_of (host_of (world_of calls site state)) (caller_of (world_of calls site state) process) doing in
+    → AtPlace state place (λ pid process. takes_operation (world_of calls site state) process operation ≡ false → IsOk result)
+user_child_ready state mid unless calls site place operation own result is same h ready pid process place_is stands none =
+    let effect : Effect = effect_of (host_of (world_of calls site state)) (caller_of (world_of calls site state) process) operation in
     let m : mid ≡ state = subst (λ (o : Outcome). UnlessReplied o (mid ≡ state)) is same in
     let one : effect ≡ f.UserChild own = (subst (λ (o : Outcome). Left (world_of calls site state) pid process o (world_of calls site mid) effect) is (h pid process place_is stands)).0 in
-    let not_made : makes_one (nat_lt state.users site.user_namespaces) (length state.processes) (length state.tables) effect ≡ false = or_right (asks_for_room doing) (makes_one (nat_lt state.users site.user_namespaces) (length state.processes) (length state.tables) effect) none in
+    let not_made : makes_one (nat_lt state.users site.user_namespaces) (length state.processes) (length state.tables) effect ≡ false = or_right (asks_for_room operation) (makes_one (nat_lt state.users site.user_namespaces) (length state.processes) (length state.tables) effect) none in
     ready (subst (λ (s : State). makes_one (nat_lt s.users site.user_namespaces) (length s.processes) (length s.tables) (f.UserChild own)
     ≡ false) (sym m) (subst
     (λ (e : Effect). makes_one (nat_lt state.users site.user_namespaces) (length state.processes) (length state.tables) e ≡ false) one
     not_made))
 
-pub own_user_ready : {E : Type 0} (state mid : State) (unless : Outcome) (calls : calls.Table) (site : Site) (place : ℕ) (doing : Doing)
+pub own_user_ready : {E : Type 0} (state mid : State) (unless : Outcome) (calls : calls.Table) (site : Site) (place : ℕ) (operation : Operation)
     (own : Bool) (result : Result Reply E) → unless ≡ MakesOwnUser own
     → UnlessReplied unless (mid ≡ state)
     → AtPlace state place (λ pid process. Left (world_of calls site state) pid process unless (world_of calls site mid)
-    (effect_of (host_of (world_of calls site state)) (caller_of (world_of calls site state) process) doing))
+    (effect_of (host_of (world_of calls site state)) (caller_of (world_of calls site state) process) operation))
     → (makes_one (nat_lt mid.users site.user_namespaces) (length mid.processes) (length mid.tables) (f.OwnUser own) ≡ false → IsOk result)
-    → AtPlace state place (λ pid process. takes_doing (world_of calls site state) process doing ≡ false → IsOk result)
-own_user_ready state mid unless calls site place doing own result is same h ready pid process place_is stands none =
-    let effect : Effect = effect_of (host_of (world_of calls site state)) (caller_of (world_of calls site state) process) doing in
+    → AtPlace state place (λ pid process. takes_operation (world_of calls site state) process operation ≡ false → IsOk result)
+own_user_ready state mid unless calls site place operation own result is same h ready pid process place_is stands none =
+    let effect : Effect = effect_of (host_of (world_of calls site state)) (caller_of (world_of calls site state) process) operation in
     let m : mid ≡ state = subst (λ (o : Outcome). UnlessReplied o (mid ≡ state)) is same in
     let one : effect ≡ f.OwnUser own = (subst (λ (o : Outcome). Left (world_of calls site state) pid process o (world_of calls site mid) effect) is (h pid process place_is stands)).0 in
-    let not_made : makes_one (nat_lt state.users site.user_namespaces) (length state.processes) (length state.tables) effect ≡ false = or_right (asks_for_room doing) (makes_one (nat_lt state.users site.user_namespaces) (length state.processes) (length state.tables) effect) none in
+    let not_made : makes_one (nat_lt state.users site.user_namespaces) (length state.processes) (length state.tables) effect ≡ false = or_right (asks_for_room operation) (makes_one (nat_lt state.users site.user_namespaces) (length state.processes) (length state.tables) effect) none in
     ready (subst (λ (s : State). makes_one (nat_lt s.users site.user_namespaces) (length s.processes) (length s.tables) (f.OwnUser own)
     ≡ false) (sym m) (subst
     (λ (e : Effect). makes_one (nat_lt state.users site.user_namespaces) (length state.processes) (length state.tables) e ≡ false) one

@@ -71,8 +71,8 @@ oldest_case programs world call out all (case.killed process living e) =
     (living_stands programs world call.pid process all living)
 oldest_case programs world call out all (case.lacking process passes e) = all
 oldest_case programs world call out all (case.misformed process passes e) = all
-oldest_case programs world call out all (case.does process doing made passes e h) =
-    oldest_effect programs world call.pid process (effect_of (host_of world) (caller_of world process) doing) made all
+oldest_case programs world call out all (case.does process operation made passes e h) =
+    oldest_effect programs world call.pid process (effect_of (host_of world) (caller_of world process) operation) made all
     (living_stands programs world call.pid process all passes.living) h
 
 pub programs_stay : ProgramsStay

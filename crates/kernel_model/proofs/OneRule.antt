@@ -11,7 +11,7 @@ use Rattle.kernel_model.specs.declared.kernel_calls.rule.Rule.{Rule}
 use Rattle.kernel_model.specs.declared.kernel_calls.rule.Rule.TheVariants.{Plain}
 use Rattle.kernel_model.specs.kernel_calls.Calls.{form_of_payload}
 use Rattle.call_table.specs.Table.{Table, calls_in}
-use Rattle.kernel_model.specs.kernel_calls.Doing.{Doing, doing_by, Lacking, Misformed, asked_if, asked_by, asked_of}
+use Rattle.kernel_model.specs.kernel_calls.Operation.{Operation, operation_by, Lacking, Misformed, asked_if, asked_by, asked_of}
 use Rattle.kernel_model.specs.kernel_calls.Rules.{rule_by, rule_of, rule_at, form_of_rule}
 use Rattle.kernel_model.proofs.Search.{at_its_place}
 use Rattle.kernel_model.proofs.Forms.{form_decides}
@@ -43,13 +43,13 @@ plain line cap = by (known_call line.name)
 pub lacking : (table : Table) (call : Call) → (asked_of table call ≡ Lacking) ↔ (rule_at (calls_in table call.abi) call.nr ≡ None)
 lacking table call = by (rule_at (calls_in table call.abi) call.nr)
   where
-    asks : (doing : Option Doing) → asked_if doing ≡ Lacking → ⊥
+    asks : (operation : Option Operation) → asked_if operation ≡ Lacking → ⊥
     asks None h = cc
-    asks (Some doing) h = cc
+    asks (Some operation) h = cc
 
     by : (rule : Option Rule) → (asked_by rule call ≡ Lacking) ↔ (rule ≡ None)
     by None = (λ h. refl, λ h. refl)
-    by (Some rule) = (λ h. absurd (asks (doing_by rule call.args call.payload) h), λ h. cc)
+    by (Some rule) = (λ h. absurd (asks (operation_by rule call.args call.payload) h), λ h. cc)
 
 pub absent_calls_are_lacking : (table : Table) (call : Call) (at : ℕ) (line : CallLine) → AreOnce (calls_in table call.abi)
     → slice_get (calls_in table call.abi) at ≡ Some line → call.nr ≡ line.number
@@ -63,13 +63,13 @@ pub misformed : (table : Table) (call : Call) (rule : Rule) → rule_at (calls_i
     → (asked_of table call ≡ Misformed) ↔ (¬ (form_of_payload call.payload ≡ form_of_rule rule))
 misformed table call rule e =
     let decides = form_decides rule call.args call.payload in
-    let same : asked_of table call ≡ asked_if (doing_by rule call.args call.payload) = ap (λ o. asked_by o call) e in
-    (λ h f. some (doing_by rule call.args call.payload) (sym same ∙ h) (decides.0 f), λ never. same ∙ none (doing_by rule call.args call.payload) (λ is. never (decides.1 is)))
+    let same : asked_of table call ≡ asked_if (operation_by rule call.args call.payload) = ap (λ o. asked_by o call) e in
+    (λ h f. some (operation_by rule call.args call.payload) (sym same ∙ h) (decides.0 f), λ never. same ∙ none (operation_by rule call.args call.payload) (λ is. never (decides.1 is)))
   where
-    some : (doing : Option Doing) → asked_if doing ≡ Misformed → IsSome doing → ⊥
+    some : (operation : Option Operation) → asked_if operation ≡ Misformed → IsSome operation → ⊥
     some None h is = cc
-    some (Some doing) h is = cc
+    some (Some operation) h is = cc
 
-    none : (doing : Option Doing) → (¬ IsSome doing) → asked_if doing ≡ Misformed
+    none : (operation : Option Operation) → (¬ IsSome operation) → asked_if operation ≡ Misformed
     none None never = refl
-    none (Some doing) never = absurd (never refl)
+    none (Some operation) never = absurd (never refl)

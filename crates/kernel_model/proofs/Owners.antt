@@ -63,8 +63,8 @@ owned_case world call out h (case.filtered process errno living e) = h
 owned_case world call out h (case.killed process living e) = h
 owned_case world call out h (case.lacking process passes e) = h
 owned_case world call out h (case.misformed process passes e) = h
-owned_case world call out h (case.does process doing made passes e c) =
-    owned_effect world call.pid process (effect_of (host_of world) (caller_of world process) doing) made h c
+owned_case world call out h (case.does process operation made passes e c) =
+    owned_effect world call.pid process (effect_of (host_of world) (caller_of world process) operation) made h c
 
 pub owned_step : (world : World) (call : Call) → Owned world → Owned (step world call).1
 owned_step world call h = owned_case world call (step world call) h (steps_by_cases world call)

@@ -15,7 +15,7 @@ use Rattle.kernel_model.specs.kern_files.Bits.{has_some}
 use Rattle.kern_mounts.specs.Mounts.{Mounts as Table}
 use Rattle.kern_mounts.specs.Copying.{copied}
 use Rattle.kernel_model.specs.declared.kernel_calls.call.Call.{Call}
-use Rattle.kernel_model.specs.kernel_calls.Doing.{Doing, Does, Fork, Clone, Unshare, asked_of}
+use Rattle.kernel_model.specs.kernel_calls.Operation.{Operation, Does, Fork, Clone, Unshare, asked_of}
 use Rattle.kernel_model.specs.declared.process.Process.{Process}
 use Rattle.kernel_model.specs.declared.reply.Reply.{Reply}
 use Rattle.kernel_model.specs.declared.reply.Reply.TheVariants as reply
@@ -33,19 +33,19 @@ use Rattle.kernel_model.proofs.Places.{number_get, get_number, living_made}
 use Rattle.kernel_model.proofs.Cases.{effect_case}
 
 -- a step that is done is what its effect comes to
-decided_done : (world : World) (call : Call) (process : Process) (doing : Doing) (value : ℕ) (d : Decision)
-    → asked_of world.calls call ≡ Does doing → (decided world call process d).0 ≡ reply.Done value
-    → decided world call process d ≡ applied world call.pid process (effect_of (host_of world) (caller_of world process) doing)
-decided_done world call process doing value decision.Pass asked e = ap (answered world call.pid process) asked
-decided_done world call process doing value (decision.Errno errno) asked e = cc
-decided_done world call process doing value decision.Kill asked e = cc
+decided_done : (world : World) (call : Call) (process : Process) (operation : Operation) (value : ℕ) (d : Decision)
+    → asked_of world.calls call ≡ Does operation → (decided world call process d).0 ≡ reply.Done value
+    → decided world call process d ≡ applied world call.pid process (effect_of (host_of world) (caller_of world process) operation)
+decided_done world call process operation value decision.Pass asked e = ap (answered world call.pid process) asked
+decided_done world call process operation value (decision.Errno errno) asked e = cc
+decided_done world call process operation value decision.Kill asked e = cc
 
-done_is : (world : World) (call : Call) (process : Process) (doing : Doing) (value : ℕ) → living_of world call.pid ≡ Some process
-    → asked_of world.calls call ≡ Does doing → (step world call).0 ≡ reply.Done value
-    → step world call ≡ applied world call.pid process (effect_of (host_of world) (caller_of world process) doing)
-done_is world call process doing value living asked e =
+done_is : (world : World) (call : Call) (process : Process) (operation : Operation) (value : ℕ) → living_of world call.pid ≡ Some process
+    → asked_of world.calls call ≡ Does operation → (step world call).0 ≡ reply.Done value
+    → step world call ≡ applied world call.pid process (effect_of (host_of world) (caller_of world process) operation)
+done_is world call process operation value living asked e =
     let lived : step world call ≡ decided world call process (decision_of world call process) = ap (step_by world call) living in
-    lived ∙ decided_done world call process doing value (decision_of world call process) asked
+    lived ∙ decided_done world call process operation value (decision_of world call process) asked
     (ap (λ (out : Reply × World). out.0) (sym lived) ∙ e)
 
 -- what is behind the others has the next number

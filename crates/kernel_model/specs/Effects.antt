@@ -24,9 +24,9 @@ use Rattle.kern_mounts.specs.Mounts.{Mounts as Table, steps_of}
 use Rattle.kernel_model.specs.kern_files.Bits.{has_some}
 use Rattle.kernel_model.specs.kern_files.Looking.{flags_at, see_answer, write_answer, open_answer}
 use Rattle.kernel_model.specs.kern_files.Executing.{exec_answer_in}
-use Rattle.kernel_model.specs.kernel_calls.Doing.{Doing, See, Open, Create, Truncate, Execve, SetMode, Map, Protect, Attach, Schedule}
-use Rattle.kernel_model.specs.kernel_calls.Doing.{Personality, Socket, Enter, Fork, Clone, Unshare, Exit, Mount, Umount, Setuid, Setgid}
-use Rattle.kernel_model.specs.kernel_calls.Doing.{Setresuid, Setresgid, Setgroups, Capset, Prctl, Seccomp, Plain, Socketcall}
+use Rattle.kernel_model.specs.kernel_calls.Operation.{Operation, See, Open, Create, Truncate, Execve, SetMode, Map, Protect, Attach, Schedule}
+use Rattle.kernel_model.specs.kernel_calls.Operation.{Personality, Socket, Enter, Fork, Clone, Unshare, Exit, Mount, Umount, Setuid, Setgid}
+use Rattle.kernel_model.specs.kernel_calls.Operation.{Setresuid, Setresgid, Setgroups, Capset, Prctl, Seccomp, Plain, Socketcall}
 use Rattle.kernel_model.specs.kern_files.MountCall.{after_mount}
 use Rattle.kernel_model.specs.kern_files.UmountCall.{umount_answer}
 
@@ -136,9 +136,9 @@ socket_effect newer creds (Some line) = first_alone newer line.cap (with_cap_of 
 -- socketcall(2): SYS_SOCKET (1) is like socket(2). The other operations, from SYS_BIND (2) to SYS_SENDMMSG (20), succeed.
 -- EINVAL for any other
 abbrev pub socketcall_effect : Bool → Creds → ℕ → Option CallLine → Effect
-socketcall_effect newer creds operation line =
-    if operation == 1 then socket_effect newer creds line
-    else if nat_le 2 operation && nat_le operation 20 then Answer 0
+socketcall_effect newer creds op line =
+    if op == 1 then socket_effect newer creds line
+    else if nat_le 2 op && nat_le op 20 then Answer 0
     else Refuse einval
 
 -- CLONE_THREAD: the child is a thread of the caller
@@ -186,11 +186,11 @@ is_set_effect creds cap = if nat_lt cap_last_cap cap then Refuse einval else Ans
 -- PR_CAP_AMBIENT, whose operations are PR_CAP_AMBIENT_IS_SET 1, PR_CAP_AMBIENT_RAISE 2, PR_CAP_AMBIENT_LOWER 3 and
 -- PR_CAP_AMBIENT_CLEAR_ALL 4
 abbrev pub ambient_effect : Creds → ℕ → ℕ → Effect
-ambient_effect creds operation cap =
-    if operation == 1 then is_set_effect creds cap
-    else if operation == 2 then creds_effect (after_raise creds cap)
-    else if operation == 3 then creds_effect (after_lower creds cap)
-    else if operation == 4 then SetCreds (after_clear_ambient creds)
+ambient_effect creds op cap =
+    if op == 1 then is_set_effect creds cap
+    else if op == 2 then creds_effect (after_raise creds cap)
+    else if op == 3 then creds_effect (after_lower creds cap)
+    else if op == 4 then SetCreds (after_clear_ambient creds)
     else Refuse einval
 
 -- PR_SET_NO_NEW_PRIVS: EINVAL for any value but 1
@@ -220,13 +220,13 @@ push_effect stack (Some program) = if nat_le (room_of stack + length program) ma
 
 -- seccomp(2): SECCOMP_SET_MODE_FILTER, which is 1, without flags (else EINVAL), with no_new_privs or CAP_SYS_ADMIN (else EACCES)
 abbrev pub seccomp_effect : Creds → List (List Insn) → ℕ → ℕ → List ℕ → Effect
-seccomp_effect creds stack operation flags bytes =
-    if not (operation == 1 && flags == 0) then Refuse einval
+seccomp_effect creds stack op flags bytes =
+    if not (op == 1 && flags == 0) then Refuse einval
     else if not (creds.no_new_privs || has creds.effective cap_sys_admin) then Refuse eacces
     else push_effect stack (program_of bytes)
 
 -- the effect of what a call asks for, once the caller's programs let the call through
-abbrev pub effect_of : Host → Caller → Doing → Effect
+abbrev pub effect_of : Host → Caller → Operation → Effect
 effect_of host caller (See path) = looks (see_answer 0 (finds host.rows (steps_of caller.table) path))
 effect_of host caller (Open flags path) =
     looks (open_answer flags (flags_at (steps_of caller.table) path) (finds host.rows (steps_of caller.table) path))
@@ -244,7 +244,7 @@ effect_of host caller (Attach flags) = Answer 0
 effect_of host caller (Schedule policy) = looks (schedule_answer policy)
 effect_of host caller (Personality persona) = Answer 0
 effect_of host caller (Socket family) = socket_effect caller.newer caller.creds (numbered family host.families)
-effect_of host caller (Socketcall operation family) = socketcall_effect caller.newer caller.creds operation (numbered family host.families)
+effect_of host caller (Socketcall op family) = socketcall_effect caller.newer caller.creds op (numbered family host.families)
 effect_of host caller Enter = Refuse ebadf
 effect_of host caller Fork = Child false
 effect_of host caller (Clone flags) = clone_effect caller.creds flags
@@ -263,5 +263,5 @@ effect_of host caller (Setresgid real effective saved) = with_mapped_ids caller.
 effect_of host caller (Setgroups ids) = with_groups caller.newer (creds_effect (after_setgroups caller.creds ids))
 effect_of host caller (Capset permitted effective inheritable) = creds_effect (after_capset caller.creds permitted effective inheritable)
 effect_of host caller (Prctl option value third) = prctl_effect caller.creds option value third
-effect_of host caller (Seccomp operation flags bytes) = seccomp_effect caller.creds caller.stack operation flags bytes
+effect_of host caller (Seccomp op flags bytes) = seccomp_effect caller.creds caller.stack op flags bytes
 effect_of host caller (Plain cap) = first_alone caller.newer cap (with_cap_of cap caller.creds (Answer 0))

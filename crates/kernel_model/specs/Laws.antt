@@ -5,7 +5,7 @@ use Rattle.bpf_code.specs.declared.machine.Insn.{Insn}
 use Rattle.kernel_model.specs.kern_files.Bits.{has_some}
 use Rattle.kern_mounts.specs.Copying.{copied}
 use Rattle.kernel_model.specs.declared.kernel_calls.call.Call.{Call}
-use Rattle.kernel_model.specs.kernel_calls.Doing.{Does, Fork, Clone, Unshare, asked_of}
+use Rattle.kernel_model.specs.kernel_calls.Operation.{Does, Fork, Clone, Unshare, asked_of}
 use Rattle.kernel_model.specs.declared.reply.Reply.{Reply}
 use Rattle.kernel_model.specs.declared.reply.Reply.TheVariants.{Done, Refused, Killed}
 use Rattle.kernel_model.specs.declared.process.Process.{Process}

@@ -6,7 +6,7 @@ use Rattle.bpf_code.specs.declared.decision.Decision.TheVariants as decision
 use Rattle.kernel_model.specs.kern_files.Bits.{has_all}
 use Rattle.kernel_model.specs.kern_files.MountCall.{ms_remount_bind}
 use Rattle.kernel_model.specs.declared.kernel_calls.call.Call.{Call}
-use Rattle.kernel_model.specs.kernel_calls.Doing.{Doing, Mount, Setgroups, Seccomp, Asked, Lacking, Misformed, Does, asked_of}
+use Rattle.kernel_model.specs.kernel_calls.Operation.{Operation, Mount, Setgroups, Seccomp, Asked, Lacking, Misformed, Does, asked_of}
 use Rattle.kernel_model.specs.declared.process.Process.{Process}
 use Rattle.kernel_model.specs.Effects.{Effect, Refuse, Answer, SetCreds, SetTable, Push, Child, OwnTable, UserChild, OwnUser, End}
 use Rattle.kernel_model.specs.Effects.{effect_of}
@@ -14,11 +14,11 @@ use Rattle.kernel_model.specs.World.{World, living_of, host_of, caller_of}
 use Rattle.kernel_model.specs.Step.{most_processes, most_namespaces, has_user_left, decision_of}
 
 -- the call asks for a mount, a program or a list of groups
-abbrev pub asks_for_room : Doing → Bool
+abbrev pub asks_for_room : Operation → Bool
 asks_for_room (Mount source target flags) = not (has_all ms_remount_bind flags)
 asks_for_room (Setgroups ids) = true
-asks_for_room (Seccomp operation flags bytes) = true
-asks_for_room doing = false
+asks_for_room (Seccomp op flags bytes) = true
+asks_for_room operation = false
 
 -- the effect makes a process or a mount namespace. There is room for it besides those that exist, and for a user namespace if
 -- it makes one
@@ -35,14 +35,14 @@ makes_one user processes namespaces (SetTable table) = false
 makes_one user processes namespaces (Push program) = false
 makes_one user processes namespaces End = false
 
-abbrev pub takes_doing : World → Process → Doing → Bool
-takes_doing world process doing = asks_for_room doing || makes_one (has_user_left world) (length world.processes) (length world.tables)
-    (effect_of (host_of world) (caller_of world process) doing)
+abbrev pub takes_operation : World → Process → Operation → Bool
+takes_operation world process operation = asks_for_room operation || makes_one (has_user_left world) (length world.processes) (length world.tables)
+    (effect_of (host_of world) (caller_of world process) operation)
 
 abbrev pub takes_asked : World → Process → Asked → Bool
 takes_asked world process Lacking = false
 takes_asked world process Misformed = false
-takes_asked world process (Does doing) = takes_doing world process doing
+takes_asked world process (Does operation) = takes_operation world process operation
 
 -- a call that the caller's programs do not let through needs no memory
 abbrev pub takes_decided : World → Call → Process → Decision → Bool

@@ -7,7 +7,7 @@ use Rattle.kern_mounts.specs.Mounts.{Mounts as Table}
 use Rattle.kernel_model.specs.declared.process.Process.{Process}
 use Rattle.kernel_model.specs.declared.reply.Reply.{Reply}
 use Rattle.kernel_model.specs.declared.told.Told.{Told}
-use Rattle.kernel_model.specs.kernel_calls.Doing.{Doing}
+use Rattle.kernel_model.specs.kernel_calls.Operation.{Operation}
 use Rattle.kernel_model.specs.Effects.{Effect, Host, effect_of}
 use Rattle.kernel_model.specs.World.{World, if_alive, host_of, caller_of}
 use Rattle.kernel_model.specs.Step.{applied}
@@ -33,8 +33,8 @@ abbrev pub host_with : Told → Host
 host_with told = host_by told.calls.now told.site.now
 
 -- the effect of what a process asks for
-abbrev pub effect_in : World → Process → Doing → Effect
-effect_in world process doing = effect_of (host_of world) (caller_of world process) doing
+abbrev pub effect_in : World → Process → Operation → Effect
+effect_in world process operation = effect_of (host_of world) (caller_of world process) operation
 
 -- the place of the living process with this number
 abbrev pub place_of : List Process → ℕ → Option ℕ

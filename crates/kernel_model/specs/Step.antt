@@ -7,7 +7,7 @@ use Rattle.bpf_code.specs.Stack.{decision_on}
 use Rattle.kern_mounts.specs.linux_numbers.Errnos.{esrch, eagain, efault, enospc, enosys}
 use Rattle.call_table.specs.Table.{Abi, abi_at, arch_of}
 use Rattle.kernel_model.specs.declared.kernel_calls.call.Call.{Call}
-use Rattle.kernel_model.specs.kernel_calls.Doing.{Asked, Lacking, Misformed, Does, asked_of}
+use Rattle.kernel_model.specs.kernel_calls.Operation.{Asked, Lacking, Misformed, Does, asked_of}
 use Rattle.kernel_model.specs.declared.reply.Reply.{Reply}
 use Rattle.kernel_model.specs.declared.reply.Reply.TheVariants.{Done, Refused, Killed}
 use Rattle.kernel_model.specs.declared.process.Process.{Process}
@@ -72,7 +72,7 @@ applied world pid process End = (Done 0, with_process world pid (ended process))
 abbrev pub answered : World → ℕ → Process → Asked → Reply × World
 answered world pid process Lacking = (Refused enosys, world)
 answered world pid process Misformed = (Refused efault, world)
-answered world pid process (Does doing) = applied world pid process (effect_of (host_of world) (caller_of world process) doing)
+answered world pid process (Does operation) = applied world pid process (effect_of (host_of world) (caller_of world process) operation)
 
 -- the input of the stack of programs, struct seccomp_data of seccomp(2): the call's number, its ABI's architecture, no
 -- instruction pointer, and the six words

@@ -6,7 +6,7 @@ use Rattle.kern_mounts.specs.linux_numbers.Errnos.{esrch, eagain, efault, enospc
 use Rattle.kern_creds.specs.declared.creds.Creds.{Creds}
 use Rattle.kern_mounts.specs.Mounts.{Mounts as Table}
 use Rattle.kernel_model.specs.declared.kernel_calls.call.Call.{Call}
-use Rattle.kernel_model.specs.kernel_calls.Doing.{Doing, Lacking, Misformed, Does, asked_of}
+use Rattle.kernel_model.specs.kernel_calls.Operation.{Operation, Lacking, Misformed, Does, asked_of}
 use Rattle.kernel_model.specs.declared.reply.Reply.{Reply}
 use Rattle.kernel_model.specs.declared.reply.Reply.TheVariants.{Done, Refused, Killed}
 use Rattle.kernel_model.specs.declared.process.Process.{Process}
@@ -76,5 +76,5 @@ pub data StepCase (world : World) (call : Call) : Reply × World → Type 0 wher
       → StepCase world call (Refused enosys, world)
   misformed : (process : Process) → Passes world call process → asked_of world.calls call ≡ Misformed
       → StepCase world call (Refused efault, world)
-  does : (process : Process) (doing : Doing) (out : Reply × World) → Passes world call process → asked_of world.calls call ≡ Does doing
-      → EffectCase world call.pid process (effect_of (host_of world) (caller_of world process) doing) out → StepCase world call out
+  does : (process : Process) (operation : Operation) (out : Reply × World) → Passes world call process → asked_of world.calls call ≡ Does operation
+      → EffectCase world call.pid process (effect_of (host_of world) (caller_of world process) operation) out → StepCase world call out

@@ -1,5 +1,5 @@
 pub mod Words
 pub mod Calls
 pub mod Rules
-pub mod Doing
+pub mod Operation
 pub mod Seen

@@ -6,9 +6,9 @@
 
 mod asked;
 mod call;
-mod doing;
 mod held;
 pub mod laws;
+mod operation;
 mod payload;
 mod rule;
 mod rules;
@@ -16,8 +16,8 @@ mod words;
 
 pub use asked::Asked;
 pub use call::Call;
-pub use doing::{Doing, doing_of};
 pub use held::fits;
+pub use operation::{Operation, operation_of};
 pub use payload::{Bytes, IdList, Payload};
 pub use rule::Rule;
 pub use rules::Rules;

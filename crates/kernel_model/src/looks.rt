@@ -83,10 +83,10 @@ impl<'a> Told<'a> {
     }
 
     /// socketcall(2): like socket(2) for SYS_SOCKET. Returns EINVAL for an unknown operation.
-    pub fn socketcall(&self, creds: &Creds, newer: bool, operation: u32, family: u32) -> Reply
-        ensures by_the_family { Answers result (socketcall_effect newer creds.now operation (numbered family self.now.calls.now.families)) }
+    pub fn socketcall(&self, creds: &Creds, newer: bool, op: u32, family: u32) -> Reply
+        ensures by_the_family { Answers result (socketcall_effect newer creds.now op (numbered family self.now.calls.now.families)) }
     {
-        match operation {
+        match op {
             SYS_SOCKET => self.socket(creds, newer, family),
             SYS_BIND..=SYS_SENDMMSG => Reply::Done(0),
             _ => Reply::Refused(EINVAL),

@@ -13,7 +13,7 @@ ghost use Rattle.kernel_model.specs.declared.reply.Reply.TheVariants.{Done};
 
 use crate::clones::{clone, unshare};
 use crate::identity::setgroups;
-use crate::kernel_calls::Doing;
+use crate::kernel_calls::Operation;
 use crate::looks::{schedule, with_cap_of};
 use crate::mounts::umount;
 use crate::outcome::Outcome;
@@ -68,58 +68,68 @@ pub(crate) fn perform(
     caller: &mut Process,
     table: &mut MountTable,
     owns: bool,
-    doing: &Doing<'_>,
+    operation: &Operation<'_>,
 ) -> Result<Outcome, AllocError>
     ensures performs { IfOk result (λ outcome. (outcome, parts caller.new table.new)
-        ≡ done_here (parts caller.old table.old) (effect_of (host_with told.now) (caller_by caller.old table.old owns) (seen doing.now))) }
-    ensures needs_no_memory { asks_for_room (seen doing.now) ≡ false → IsOk result }
+        ≡ done_here (parts caller.old table.old) (effect_of (host_with told.now) (caller_by caller.old table.old owns) (seen operation.now))) }
+    ensures needs_no_memory { asks_for_room (seen operation.now) ≡ false → IsOk result }
     ensures stays_the_caller { OnErr result (caller.new ≡ caller.old) }
     ensures stays_the_table { OnErr result (table.new ≡ table.old) }
 {
     let newer = caller.user != FIRST_USER;
-    match *doing {
-        Doing::See(path) => Ok(Replied(told.see(table, path))),
-        Doing::Open(flags, path) => Ok(Replied(told.open(table, path, flags))),
-        Doing::Create(path) => Ok(Replied(told.create(table, path))),
-        Doing::Truncate(path) => Ok(Replied(told.truncate(table, path))),
-        Doing::Execve(path) => Ok(left(told.execute(&mut caller.creds, newer, table, path))),
-        Doing::SetMode(_)
-        | Doing::Map(_)
-        | Doing::Protect(_)
-        | Doing::Attach(_)
-        | Doing::Personality(_) => Ok(Replied(Reply::Done(0))),
-        Doing::Schedule(policy) => Ok(Replied(schedule(policy))),
-        Doing::Socket(family) => Ok(Replied(told.socket(&caller.creds, newer, family))),
-        Doing::Socketcall(operation, family) => {
-            Ok(Replied(told.socketcall(&caller.creds, newer, operation, family)))
+    match *operation {
+        Operation::See(path) => Ok(Replied(told.see(table, path))),
+        Operation::Open(flags, path) => Ok(Replied(told.open(table, path, flags))),
+        Operation::Create(path) => Ok(Replied(told.create(table, path))),
+        Operation::Truncate(path) => Ok(Replied(told.truncate(table, path))),
+        Operation::Execve(path) => Ok(left(told.execute(&mut caller.creds, newer, table, path))),
+        Operation::SetMode(_)
+        | Operation::Map(_)
+        | Operation::Protect(_)
+        | Operation::Attach(_)
+        | Operation::Personality(_) => Ok(Replied(Reply::Done(0))),
+        Operation::Schedule(policy) => Ok(Replied(schedule(policy))),
+        Operation::Socket(family) => Ok(Replied(told.socket(&caller.creds, newer, family))),
+        Operation::Socketcall(op, family) => {
+            Ok(Replied(told.socketcall(&caller.creds, newer, op, family)))
         }
-        Doing::Enter => Ok(Replied(Reply::Refused(EBADF))),
-        Doing::Fork => Ok(MakesChild { own_mounts: false }),
-        Doing::Clone(flags) => Ok(clone(&caller.creds, flags)),
-        Doing::Unshare(flags) => Ok(unshare(&caller.creds, flags)),
-        Doing::Exit => Ok(end(caller)),
-        Doing::Mount(source, target, flags) => {
+        Operation::Enter => Ok(Replied(Reply::Refused(EBADF))),
+        Operation::Fork => Ok(MakesChild { own_mounts: false }),
+        Operation::Clone(flags) => Ok(clone(&caller.creds, flags)),
+        Operation::Unshare(flags) => Ok(unshare(&caller.creds, flags)),
+        Operation::Exit => Ok(end(caller)),
+        Operation::Mount(source, target, flags) => {
             Ok(Replied(told.mount(alloc, &caller.creds, owns, table, source, target, flags)?))
         }
-        Doing::Umount(path, flags) => Ok(Replied(umount(&caller.creds, owns, table, path, flags))),
-        Doing::Setuid(_) | Doing::Setgid(_) if newer => Ok(Replied(Reply::Refused(EINVAL))),
-        Doing::Setresuid(real, effective, saved) | Doing::Setresgid(real, effective, saved)
+        Operation::Umount(path, flags) => Ok(Replied(umount(
+            &caller.creds,
+            owns,
+            table,
+            path,
+            flags,
+        ))),
+        Operation::Setuid(_) | Operation::Setgid(_) if newer => Ok(Replied(Reply::Refused(EINVAL))),
+        Operation::Setresuid(real, effective, saved) | Operation::Setresgid(real, effective, saved)
             if newer => { Ok(Replied(unmapped(real, effective, saved))) }
-        Doing::Setuid(id) => Ok(left(caller.creds.setuid(id))),
-        Doing::Setgid(id) => Ok(left(caller.creds.setgid(id))),
-        Doing::Setresuid(ruid, euid, suid) => Ok(left(caller.creds.setresuid(ruid, euid, suid))),
-        Doing::Setresgid(rgid, egid, sgid) => Ok(left(caller.creds.setresgid(rgid, egid, sgid))),
-        Doing::Setgroups(ids) => Ok(Replied(setgroups(&mut caller.creds, newer, ids)?)),
-        Doing::Capset(permitted, effective, inheritable) => {
+        Operation::Setuid(id) => Ok(left(caller.creds.setuid(id))),
+        Operation::Setgid(id) => Ok(left(caller.creds.setgid(id))),
+        Operation::Setresuid(ruid, euid, suid) => Ok(left(
+            caller.creds.setresuid(ruid, euid, suid),
+        )),
+        Operation::Setresgid(rgid, egid, sgid) => Ok(left(
+            caller.creds.setresgid(rgid, egid, sgid),
+        )),
+        Operation::Setgroups(ids) => Ok(Replied(setgroups(&mut caller.creds, newer, ids)?)),
+        Operation::Capset(permitted, effective, inheritable) => {
             Ok(left(caller.creds.capset(permitted, effective, inheritable)))
         }
-        Doing::Prctl(option, value, third) => {
+        Operation::Prctl(option, value, third) => {
             Ok(Replied(prctl(&mut caller.creds, option, value, third)))
         }
-        Doing::Seccomp(operation, flags, bytes) => {
+        Operation::Seccomp(op, flags, bytes) => {
             let stack = &mut caller.stack;
-            Ok(Replied(seccomp(alloc, &caller.creds, stack, operation, flags, bytes)?))
+            Ok(Replied(seccomp(alloc, &caller.creds, stack, op, flags, bytes)?))
         }
-        Doing::Plain(cap) => Ok(Replied(with_cap_of(cap, &caller.creds, newer, 0))),
+        Operation::Plain(cap) => Ok(Replied(with_cap_of(cap, &caller.creds, newer, 0))),
     }
 }

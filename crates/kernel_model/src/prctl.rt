@@ -39,10 +39,10 @@ fn is_ambient(creds: &Creds, cap: u32) -> Reply
 }
 
 // PR_CAP_AMBIENT. Returns EINVAL for an unknown operation.
-fn ambient(creds: &mut Creds, operation: u32, cap: u32) -> Reply
-    ensures { Changes creds.old result creds.new (ambient_effect creds.old operation cap) }
+fn ambient(creds: &mut Creds, op: u32, cap: u32) -> Reply
+    ensures { Changes creds.old result creds.new (ambient_effect creds.old op cap) }
 {
-    match operation {
+    match op {
         PR_CAP_AMBIENT_IS_SET => is_ambient(creds, cap),
         PR_CAP_AMBIENT_RAISE => zero_reply(creds.raise(cap)),
         PR_CAP_AMBIENT_LOWER => zero_reply(creds.lower(cap)),

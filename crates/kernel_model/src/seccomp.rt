@@ -42,14 +42,14 @@ pub(crate) fn seccomp(
     alloc: Global,
     creds: &Creds,
     stack: &mut Stack,
-    operation: u32,
+    op: u32,
     flags: u32,
     bytes: &[u8],
 ) -> Result<Reply, AllocError>
-    ensures pushes { IfOk result (λ reply. Pushes stack.old reply stack.new (seccomp_effect creds.now stack.old operation flags bytes.now)) }
+    ensures pushes { IfOk result (λ reply. Pushes stack.old reply stack.new (seccomp_effect creds.now stack.old op flags bytes.now)) }
     ensures stays { OnErr result (stack.new ≡ stack.old) }
 {
-    if operation != SECCOMP_SET_MODE_FILTER || flags != 0 {
+    if op != SECCOMP_SET_MODE_FILTER || flags != 0 {
         return Ok(Reply::Refused(EINVAL));
     }
     if !creds.no_new_privs() && !creds.effective().contains(CAP_SYS_ADMIN) {

@@ -99,7 +99,7 @@ impl<'a> World<'a> {
             Decision::Pass => match self.rules.asked(self.told.calls, call) {
                 Asked::Lacking => Ok(Reply::Refused(ENOSYS)),
                 Asked::Misformed => Ok(Reply::Refused(EFAULT)),
-                Asked::Does(doing) => self.state.perform(alloc, &self.told, place, &doing),
+                Asked::Does(operation) => self.state.perform(alloc, &self.told, place, &operation),
             },
         }
     }

@@ -243,8 +243,8 @@ module _ (launch : Launch) (l : IsLaunched launch) (o : Offers launch) where
           target = target;
           again = r;
           rootlike = inr plain;
-          no_uid = λ e. (avoid_one launch creds table _ ran.call _ ran.makes TakesUid refl, (avoid_one launch after table set.doing own_call _ set.makes TakesUid (set.no_uid refl), tt));
-          no_gid = (avoid_one launch creds table _ ran.call _ ran.makes TakesGid refl, (avoid_one launch after table set.doing own_call _ set.makes TakesGid set.no_gid, tt));
+          no_uid = λ e. (avoid_one launch creds table _ ran.call _ ran.makes TakesUid refl, (avoid_one launch after table set.operation own_call _ set.makes TakesUid (set.no_uid refl), tt));
+          no_gid = (avoid_one launch creds table _ ran.call _ ran.makes TakesGid refl, (avoid_one launch after table set.operation own_call _ set.makes TakesGid set.no_gid, tt));
         }
 
     -- what a row gives, it gives
@@ -295,7 +295,7 @@ module _ (launch : Launch) (l : IsLaunched launch) (o : Offers launch) where
           again = r;
           rootlike = like;
           no_uid = λ e. cc;
-          no_gid = avoid_join launch TakesGid calls (own_call ∷ ran.call ∷ []) no_gid (avoid_one launch creds table change.doing own_call _ change.makes TakesGid change.no_gid, (avoid_one launch after table _ ran.call _ ran.makes TakesGid refl, tt));
+          no_gid = avoid_join launch TakesGid calls (own_call ∷ ran.call ∷ []) no_gid (avoid_one launch creds table change.operation own_call _ change.makes TakesGid change.no_gid, (avoid_one launch after table _ ran.call _ ran.makes TakesGid refl, tt));
         }
 
     -- a member of the union over rows, from credentials that may expose

@@ -27,7 +27,7 @@ use Rattle.launcher.specs.kernel_model.kern_files.Looking.{flags_by}
 use Rattle.launcher.specs.kernel_model.kern_files.MountCall.{ms_bind, after_mount}
 use Rattle.launcher.specs.kernel_model.kern_files.UmountCall.{mnt_detach}
 use Rattle.launcher.specs.kernel_model.kernel_calls.Calls.{IsPath}
-use Rattle.launcher.specs.kernel_model.kernel_calls.Doing as d
+use Rattle.launcher.specs.kernel_model.kernel_calls.Operation as d
 use Rattle.launcher.specs.kernel_model.declared.kernel_calls.payload.Payload.TheVariants.{OnePath, TwoPaths}
 use Rattle.launcher.specs.kernel_model.declared.kernel_calls.rule.Rule.TheVariants.{Known}
 use Rattle.launcher.specs.kernel_model.Effects.{Refuse, SetTable, table_effect}

@@ -25,8 +25,8 @@ use Rattle.launcher.specs.kernel_model.kern_files.UmountCall.{umount_answer}
 use Rattle.launcher.specs.kern_mounts.Mounts.{Mounts as Mounts', steps_of}
 use Rattle.launcher.specs.kern_mounts.Finds.{finds}
 use Rattle.launcher.specs.kern_mounts.Split.{Table}
-use Rattle.launcher.specs.kernel_model.kernel_calls.Doing as d
-use Rattle.launcher.specs.kernel_model.kernel_calls.Doing.{Doing, Does, doing_by, asked_by, asked_if, asked_of}
+use Rattle.launcher.specs.kernel_model.kernel_calls.Operation as d
+use Rattle.launcher.specs.kernel_model.kernel_calls.Operation.{Operation, Does, operation_by, asked_by, asked_if, asked_of}
 use Rattle.launcher.specs.kernel_model.kernel_calls.Rules.{rule_at}
 use Rattle.launcher.specs.kernel_model.declared.kernel_calls.call.Call.{Call}
 use Rattle.launcher.specs.kernel_model.declared.kernel_calls.payload.Payload.{Payload}
@@ -62,7 +62,7 @@ use Rattle.launcher.specs.kern_mounts.Copying.{copied}
 use Rattle.launcher.specs.site_table.Table.{Site}
 
 -- clone(2) and unshare(2), which alone make namespaces
-abbrev pub parts : Doing → Bool
+abbrev pub parts : Operation → Bool
 parts (d.Clone flags) = true
 parts (d.Unshare flags) = true
 parts _ = false
@@ -108,11 +108,11 @@ stays_ids : (real effective saved : ℕ)
     → Stays (cond ((eqb real no_id && eqb effective no_id) && eqb saved no_id) (f.Answer 0) (f.Refuse einval))
 stays_ids real effective saved = either ((eqb real no_id && eqb effective no_id) && eqb saved no_id) (f.Answer 0) (f.Refuse einval) tt tt
 
-stays_socketcall : (newer : Bool) (creds : Creds) (operation : ℕ) (o : Option CallLine) → Stays (socketcall_effect newer creds operation o)
-stays_socketcall newer creds operation o =
-    let other : Effect = cond (nat_le 2 operation && nat_le operation 20) (f.Answer 0) (f.Refuse einval) in
-    either (eqb operation 1) (socket_effect newer creds o) other (stays_socket newer creds o)
-    (either (nat_le 2 operation && nat_le operation 20) (f.Answer 0) (f.Refuse einval) tt tt)
+stays_socketcall : (newer : Bool) (creds : Creds) (op : ℕ) (o : Option CallLine) → Stays (socketcall_effect newer creds op o)
+stays_socketcall newer creds op o =
+    let other : Effect = cond (nat_le 2 op && nat_le op 20) (f.Answer 0) (f.Refuse einval) in
+    either (eqb op 1) (socket_effect newer creds o) other (stays_socket newer creds o)
+    (either (nat_le 2 op && nat_le op 20) (f.Answer 0) (f.Refuse einval) tt tt)
 
 stays_push : (stack : List (List Insn)) (o : Option (List Insn)) → Stays (push_effect stack o)
 stays_push stack None = tt
@@ -122,20 +122,20 @@ stays_push stack (Some program) = either (nat_le (room_of stack + length program
 stays_admin : (creds : Creds) (r : Result Mounts' ℕ) → Stays (with_admin creds (table_effect r))
 stays_admin creds r = either (has creds.effective cap_sys_admin) (table_effect r) (f.Refuse eperm) (stays_table r) tt
 
-stays_ambient : (creds : Creds) (operation cap' : ℕ) → Stays (ambient_effect creds operation cap')
-stays_ambient creds operation cap' =
+stays_ambient : (creds : Creds) (op cap' : ℕ) → Stays (ambient_effect creds op cap')
+stays_ambient creds op cap' =
     let set : Effect = is_set_effect creds cap' in
     let raise : Effect = creds_effect (after_raise creds cap') in
     let lower : Effect = creds_effect (after_lower creds cap') in
     let clear : Effect = f.SetCreds (after_clear_ambient creds) in
-    let four : Effect = cond (eqb operation 4) clear (f.Refuse einval) in
-    let three : Effect = cond (eqb operation 3) lower four in
-    let two : Effect = cond (eqb operation 2) raise three in
-    either (eqb operation 1) set two
+    let four : Effect = cond (eqb op 4) clear (f.Refuse einval) in
+    let three : Effect = cond (eqb op 3) lower four in
+    let two : Effect = cond (eqb op 2) raise three in
+    either (eqb op 1) set two
     (either (nat_lt cap_last_cap cap') (f.Refuse einval) (f.Answer (cond (has creds.ambient cap') 1 0)) tt tt)
-    (either (eqb operation 2) raise three (stays_creds (after_raise creds cap'))
-    (either (eqb operation 3) lower four (stays_creds (after_lower creds cap'))
-    (either (eqb operation 4) clear (f.Refuse einval) tt tt)))
+    (either (eqb op 2) raise three (stays_creds (after_raise creds cap'))
+    (either (eqb op 3) lower four (stays_creds (after_lower creds cap'))
+    (either (eqb op 4) clear (f.Refuse einval) tt tt)))
 
 stays_prctl : (creds : Creds) (option value third : ℕ) → Stays (prctl_effect creds option value third)
 stays_prctl creds option value third =
@@ -153,16 +153,16 @@ stays_prctl creds option value third =
     (either (eqb option 24) drop five (stays_creds (after_drop_bounding creds value))
     (either (eqb option 47) (ambient_effect creds value third) (f.Refuse einval) (stays_ambient creds value third) tt))))
 
-stays_seccomp : (creds : Creds) (stack : List (List Insn)) (operation flags : ℕ) (code : List ℕ)
-    → Stays (seccomp_effect creds stack operation flags code)
-stays_seccomp creds stack operation flags code =
+stays_seccomp : (creds : Creds) (stack : List (List Insn)) (op flags : ℕ) (code : List ℕ)
+    → Stays (seccomp_effect creds stack op flags code)
+stays_seccomp creds stack op flags code =
     let pushed : Effect = push_effect stack (program_of code) in
     let allowed : Effect = cond (not (creds.no_new_privs || has creds.effective cap_sys_admin)) (f.Refuse eacces) pushed in
-    either (not (eqb operation 1 && eqb flags 0)) (f.Refuse einval) allowed tt
+    either (not (eqb op 1 && eqb flags 0)) (f.Refuse einval) allowed tt
     (either (not (creds.no_new_privs || has creds.effective cap_sys_admin)) (f.Refuse eacces) pushed tt
     (stays_push stack (program_of code)))
 
-effect_stays : (host : Host) (caller : Caller) (doing : Doing) → parts doing ≡ false → Stays (effect_of host caller doing)
+effect_stays : (host : Host) (caller : Caller) (operation : Operation) → parts operation ≡ false → Stays (effect_of host caller operation)
 effect_stays host caller (d.See path) e = stays_looks (see_answer 0 (finds host.rows (steps_of caller.table) path))
 effect_stays host caller (d.Open flags path) e = stays_looks
     (open_answer flags (flags_at (steps_of caller.table) path) (finds host.rows (steps_of caller.table) path))
@@ -180,8 +180,8 @@ effect_stays host caller (d.Attach flags) e = tt
 effect_stays host caller (d.Schedule policy) e = stays_looks (schedule_answer policy)
 effect_stays host caller (d.Personality persona) e = tt
 effect_stays host caller (d.Socket family) e = stays_socket caller.newer caller.creds (numbered family host.families)
-effect_stays host caller (d.Socketcall operation family) e =
-    stays_socketcall caller.newer caller.creds operation (numbered family host.families)
+effect_stays host caller (d.Socketcall op family) e =
+    stays_socketcall caller.newer caller.creds op (numbered family host.families)
 effect_stays host caller d.Enter e = tt
 effect_stays host caller d.Fork e = refl
 effect_stays host caller (d.Clone flags) e = cc
@@ -210,7 +210,7 @@ effect_stays host caller (d.Setgroups ids) e = either caller.newer (f.Refuse epe
 effect_stays host caller (d.Capset permitted effective inheritable) e =
     stays_creds (after_capset caller.creds permitted effective inheritable)
 effect_stays host caller (d.Prctl option value third) e = stays_prctl caller.creds option value third
-effect_stays host caller (d.Seccomp operation flags code) e = stays_seccomp caller.creds caller.stack operation flags code
+effect_stays host caller (d.Seccomp op flags code) e = stays_seccomp caller.creds caller.stack op flags code
 effect_stays host caller (d.Plain cap') e = stays_alone caller.newer cap' caller.creds 0
 
 -- ---- a step
@@ -264,14 +264,14 @@ module _ (world : World) where
   effect_more case.ends = omega arith
 
   case_count : {call : Call} {out : Reply × World} → StepCase world call out
-      → ((doing : Doing) → asked_of world.calls call ≡ Does doing → parts doing ≡ false) → length out.1.tables ≡ length world.tables
+      → ((operation : Operation) → asked_of world.calls call ≡ Does operation → parts operation ≡ false) → length out.1.tables ≡ length world.tables
   case_count (case.absent e) h = refl
   case_count (case.filtered process errno e g) h = refl
   case_count (case.killed process e g) h = refl
   case_count (case.lacking process passes e) h = refl
   case_count (case.misformed process passes e) h = refl
-  case_count (case.does process doing out passes e c) h = effect_count c
-      (effect_stays (host_of world) (caller_of world process) doing (h doing e))
+  case_count (case.does process operation out passes e c) h = effect_count c
+      (effect_stays (host_of world) (caller_of world process) operation (h operation e))
 
   case_more : {call : Call} {out : Reply × World} → StepCase world call out → length out.1.tables ≤ length world.tables + 1
   case_more (case.absent e) = omega arith
@@ -279,13 +279,13 @@ module _ (world : World) where
   case_more (case.killed process e g) = omega arith
   case_more (case.lacking process passes e) = omega arith
   case_more (case.misformed process passes e) = omega arith
-  case_more (case.does process doing out passes e c) = effect_more c
+  case_more (case.does process operation out passes e c) = effect_more c
 
 -- ---- steps of a launch
 module _ (table : calls.Table) where
   -- a step that makes no namespace
   abbrev IsQuiet : LaunchStep → Type 0
-  IsQuiet (Makes call) = (doing : Doing) → asked_of table call ≡ Does doing → parts doing ≡ false
+  IsQuiet (Makes call) = (operation : Operation) → asked_of table call ≡ Does operation → parts operation ≡ false
   IsQuiet (Mounts entry) = Unit {0}
 
   abbrev AreQuiet : List LaunchStep → Type 0
@@ -302,7 +302,7 @@ module _ (table : calls.Table) where
   quiet_step : (world : World) (own : LaunchStep) → world.calls ≡ table → IsQuiet own
       → length (launch_step world own).1.tables ≡ length world.tables
   quiet_step world (Makes call) is quiet = case_count world (steps_by_cases world call)
-      (λ doing e. quiet doing (ap (λ (t : calls.Table). asked_of t call) (sym is) ∙ e))
+      (λ operation e. quiet operation (ap (λ (t : calls.Table). asked_of t call) (sym is) ∙ e))
   quiet_step world (Mounts entry) is quiet = by (living_of world 1)
     where
       by : (o : Option Process) → length (stepped_by world entry o).tables ≡ length world.tables
@@ -320,15 +320,15 @@ module _ (table : calls.Table) where
   told_steps world last (own ∷ steps) l = told_steps (launch_step world own).1 last steps l.1 ∙ told_after world own
 
   -- calls by their names
-  quiet_call : (name args : List ℕ) (payload : Payload) (rule : Rule) (doing : Doing)
-      → rule_at table.calls (number_of table.calls name) ≡ Some rule → doing_by rule args payload ≡ Some doing → parts doing ≡ false
+  quiet_call : (name args : List ℕ) (payload : Payload) (rule : Rule) (operation : Operation)
+      → rule_at table.calls (number_of table.calls name) ≡ Some rule → operation_by rule args payload ≡ Some operation → parts operation ≡ false
       → IsQuiet (Makes (first_call table.calls name args payload))
-  quiet_call name args payload rule doing at is off other e =
-      let own : asked_of table (first_call table.calls name args payload) ≡ Does doing = ap (λ (r : Option Rule). asked_by r (first_call table.calls name args payload)) at ∙ ap asked_if is in
-      let same : doing ≡ other = does_same doing other (sym own ∙ e) in
+  quiet_call name args payload rule operation at is off other e =
+      let own : asked_of table (first_call table.calls name args payload) ≡ Does operation = ap (λ (r : Option Rule). asked_by r (first_call table.calls name args payload)) at ∙ ap asked_if is in
+      let same : operation ≡ other = does_same operation other (sym own ∙ e) in
       ap parts (sym same) ∙ off
     where
-      does_same : (one other : Doing) → Does one ≡ Does other → one ≡ other
+      does_same : (one other : Operation) → Does one ≡ Does other → one ≡ other
       does_same one other e = cc
 
   each_made : {X : Type 0} (own : X → LaunchStep) → ((x : X) → IsQuiet (own x)) → (xs : List X) → AreQuiet (map own xs)

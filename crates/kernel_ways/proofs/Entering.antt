@@ -16,7 +16,7 @@ use Rattle.launcher.specs.kern_mounts.Split.{Table}
 use Rattle.launcher.specs.kern_mounts.Mounts.{Mounts, plain, steps_of}
 use Rattle.launcher.proofs.OfKernMounts.Plain.{steps_plain}
 use Rattle.launcher.specs.kernel_model.declared.kernel_calls.call.Call.{Call}
-use Rattle.launcher.specs.kernel_model.kernel_calls.Doing.{Doing, Does, asked_of}
+use Rattle.launcher.specs.kernel_model.kernel_calls.Operation.{Operation, Does, asked_of}
 use Rattle.launcher.specs.kernel_model.Effects as f
 use Rattle.launcher.specs.kernel_model.Effects.{Effect, effect_of}
 use Rattle.launcher.specs.kernel_model.Runs.{moment_at, moments, run, IsDone}
@@ -53,35 +53,35 @@ module _ (launch : Launch) (creds : Creds) (table : Table) (pid : ℕ) (world : 
   done_by at (f.OwnUser apart) h = absurd h
   done_by at f.End h = tt
 
-  module _ (doing : Doing) (call : Call) (effect : Effect) (m : MakesIn launch creds table pid doing call effect) where
+  module _ (operation : Operation) (call : Call) (effect : Effect) (m : MakesIn launch creds table pid operation call effect) where
     is_living : living_of world call.pid ≡ Some own
     is_living = ap (living_of world) m.by ∙ e.lives
 
     is_passed : decision_of world call own ≡ decision.Pass
     is_passed =
         ap (λ (c : calls.Table). decision_by call own (calls.abi_at c call.abi)) e.calls
-        ∙ let_pass launch call own doing m.asks
+        ∙ let_pass launch call own operation m.asks
         (ap (λ (s : List (List Insn)). decision_on s (data_at launch call.abi call.nr call.args)) e.stack ∙ m.through)
 
-    is_asked : asked_of world.calls call ≡ Does doing
+    is_asked : asked_of world.calls call ≡ Does operation
     is_asked = ap (λ (c : calls.Table). asked_of c call) e.calls ∙ m.asks
 
     abbrev owns : Bool
     owns = eqb (owner_of world own.namespace) own.user
 
-    comes_to : effect_of (host_of world) (caller_of world own) doing ≡ effect
+    comes_to : effect_of (host_of world) (caller_of world own) operation ≡ effect
     comes_to =
-        ap (λ (s : Site). effect_of (record { rows = row_at s.rows; families = world.calls.families }) (caller_of world own) doing) e.site
+        ap (λ (s : Site). effect_of (record { rows = row_at s.rows; families = world.calls.families }) (caller_of world own) operation) e.site
         ∙ ap (λ (c : calls.Table). effect_of (record { rows = row_at launch.site.rows; families = c.families })
-        (caller_of world own) doing) e.calls
+        (caller_of world own) operation) e.calls
         ∙ ap (λ (c : Creds). effect_of (host_at launch)
-        (record { creds = c; stack = own.stack; table = mounts_of world own.namespace; newer = is_newer own; owns = owns }) doing) e.has
+        (record { creds = c; stack = own.stack; table = mounts_of world own.namespace; newer = is_newer own; owns = owns }) operation) e.has
         ∙ ap (λ (s : List (List Insn)). effect_of (host_at launch)
-        (record { creds = creds; stack = s; table = mounts_of world own.namespace; newer = is_newer own; owns = owns }) doing) e.stack
+        (record { creds = creds; stack = s; table = mounts_of world own.namespace; newer = is_newer own; owns = owns }) operation) e.stack
         ∙ ap (λ (t : Mounts). effect_of (host_at launch)
-        (record { creds = creds; stack = launch.stack; table = t; newer = is_newer own; owns = owns }) doing) e.own
+        (record { creds = creds; stack = launch.stack; table = t; newer = is_newer own; owns = owns }) operation) e.own
         ∙ ap (λ (b : Bool). effect_of (host_at launch)
-        (record { creds = creds; stack = launch.stack; table = map plain table; newer = b; owns = owns }) doing) e.newer
+        (record { creds = creds; stack = launch.stack; table = map plain table; newer = b; owns = owns }) operation) e.newer
         ∙ m.comes_to owns
 
     steps : step world call ≡ applied world call.pid own effect
@@ -95,15 +95,15 @@ module _ (launch : Launch) (creds : Creds) (table : Table) (pid : ℕ) (world : 
     own_table : table_of world own.namespace ≡ table
     own_table = ap (λ (t : Mounts). steps_of t) e.own ∙ steps_plain table
 
-    performs : (p : Doing → Bool) → p doing ≡ true → IsDone (step world call).0 → Performs p (moment_at world call)
-    performs p such done = record { done = done; doing = doing; is = is_asked; such = such }
+    performs : (p : Operation → Bool) → p operation ≡ true → IsDone (step world call).0 → Performs p (moment_at world call)
+    performs p such done = record { done = done; operation = operation; is = is_asked; such = such }
 
     reaches_row : (wish : Wish) (place : ℕ) (target : Row) → slice_get launch.site.rows place ≡ Some target → (path : Path)
-        → path_for wish doing ≡ Some path → finds (row_at launch.site.rows) table path ≡ row target → IsDone (step world call).0
+        → path_for wish operation ≡ Some path → finds (row_at launch.site.rows) table path ≡ row target → IsDone (step world call).0
         → ReachesRow wish place (moment_at world call)
     reaches_row wish place target listed path wanted found done = record {
       done = done;
-      doing = doing;
+      operation = operation;
       asks = is_asked;
       path = path;
       wanted = wanted;
@@ -115,13 +115,13 @@ module _ (launch : Launch) (creds : Creds) (table : Table) (pid : ℕ) (world : 
           ∙ ap (λ (t : Table). finds (row_at launch.site.rows) t path) own_table ∙ found;
     }
 
-    family_reached : (place : ℕ) → asks_family launch.calls.families place doing ≡ true → IsDone (step world call).0
+    family_reached : (place : ℕ) → asks_family launch.calls.families place operation ≡ true → IsDone (step world call).0
         → Reaches (asking.Socket place) (moment_at world call)
     family_reached place such done =
-        let P : calls.Table → Type 0 = λ t. asks_family t.families place doing ≡ true in
+        let P : calls.Table → Type 0 = λ t. asks_family t.families place operation ≡ true in
         performs (asks_family world.calls.families place) (subst P (sym e.calls) such) done
 
-    pub inside_reached : (question : Question) → Answers launch table question call doing → IsDone (step world call).0
+    pub inside_reached : (question : Question) → Answers launch table question call operation → IsDone (step world call).0
         → Reaches question (moment_at world call)
     inside_reached (asking.Path wish place) a done = reaches_row wish place a.1 a.3 a.0 a.2 a.4 done
     inside_reached (asking.Call place) a done = record {
@@ -150,14 +150,14 @@ run_one world [] call = refl
 run_one world (x ∷ xs) call = run_one (step world x).1 xs call
 
 pub calls_show_inside : CallsShowInside
-calls_show_inside launch from to table now world calls question pid user last doing effect solo way fit enters m doable a =
+calls_show_inside launch from to table now world calls question pid user last operation effect solo way fit enters m doable a =
     let w = way_runs way world solo in
     let u = enters (run world calls) w.solo in
     let entered' : IsEntered launch _ now pid (run world (calls ++ user ∷ [])) = subst (IsEntered launch _ now pid) (sym (run_one world calls user)) u.1 in
-    let own = inside_done launch _ now pid (run world (calls ++ user ∷ [])) entered' doing last effect m doable in
+    let own = inside_done launch _ now pid (run world (calls ++ user ∷ [])) entered' operation last effect m doable in
     record {
       fit = fit_behind (calls ++ user ∷ []) last (fit_behind calls user w.fit fit) m.fit;
       done = done_behind world (calls ++ user ∷ []) last (done_behind world calls user w.done u.0) own;
       last = inl (run_behind world (calls ++ user ∷ []) last (Reaches question)
-          (inside_reached launch _ now pid (run world (calls ++ user ∷ [])) entered' doing last effect m question a own));
+          (inside_reached launch _ now pid (run world (calls ++ user ∷ [])) entered' operation last effect m question a own));
     }

@@ -84,8 +84,8 @@ module _ (launch : Launch) (o : Offers launch) (creds : Creds) (admin : has cred
       record {
         calls = call.call ∷ rest.calls;
         way = by_table call.call call.makes rest.way;
-        no_uid = (avoid_one launch creds table call.doing call.call _ call.makes TakesUid call.no_uid, rest.no_uid);
-        no_gid = (avoid_one launch creds table call.doing call.call _ call.makes TakesGid call.no_gid, rest.no_gid);
+        no_uid = (avoid_one launch creds table call.operation call.call _ call.makes TakesUid call.no_uid, rest.no_uid);
+        no_gid = (avoid_one launch creds table call.operation call.call _ call.makes TakesGid call.no_gid, rest.no_gid);
       }
 
   -- two mounts show the whole host
@@ -108,8 +108,8 @@ module _ (launch : Launch) (o : Offers launch) (creds : Creds) (admin : has cred
         now = two.last;
         way = by_table one.call one.makes (by_table next.call next.makes here);
         each_row = two.each_row;
-        no_uid = (avoid_one launch creds launch.table one.doing one.call _ one.makes TakesUid one.no_uid, (avoid_one launch creds two.middle next.doing next.call _ next.makes TakesUid next.no_uid, tt));
-        no_gid = (avoid_one launch creds launch.table one.doing one.call _ one.makes TakesGid one.no_gid, (avoid_one launch creds two.middle next.doing next.call _ next.makes TakesGid next.no_gid, tt));
+        no_uid = (avoid_one launch creds launch.table one.operation one.call _ one.makes TakesUid one.no_uid, (avoid_one launch creds two.middle next.operation next.call _ next.makes TakesUid next.no_uid, tt));
+        no_gid = (avoid_one launch creds launch.table one.operation one.call _ one.makes TakesGid one.no_gid, (avoid_one launch creds two.middle next.operation next.call _ next.makes TakesGid next.no_gid, tt));
       }
 
 -- ---- all powers

@@ -15,7 +15,7 @@ use Rattle.launcher.specs.kern_creds.Exec.{is_refused, exec_done, exec_uids, exe
 use Rattle.launcher.specs.kern_creds.Capset.{may_capset}
 use Rattle.launcher.specs.kernel_laws.Bound.{is_barred}
 use Rattle.launcher.specs.kernel_model.declared.kernel_calls.call.Call.{Call}
-use Rattle.launcher.specs.kernel_model.kernel_calls.Doing as d
+use Rattle.launcher.specs.kernel_model.kernel_calls.Operation as d
 use Rattle.launcher.specs.kernel_model.declared.kernel_calls.payload.Payload.TheVariants as pay
 use Rattle.launcher.specs.kernel_model.Effects.{SetCreds}
 use Rattle.launcher.specs.kernel_model.kern_files.Looking.{flags_at}
@@ -29,7 +29,7 @@ use Rattle.reach_paths.specs.Finding.{FindsRow}
 use Rattle.launcher.proofs.OfKernelLaws.KeptExec.{above_if}
 use Rattle.kernel_ways.specs.Offers.{Offers}
 use Rattle.kernel_ways.specs.Ways.{place_of, Makes}
-use Rattle.kernel_ways.proofs.Doings.{exec_path}
+use Rattle.kernel_ways.proofs.Operations.{exec_path}
 use Rattle.kernel_ways.proofs.Lines.{Line, first_by, some_line}
 use Rattle.kernel_ways.proofs.Rows.{IsKnown}
 

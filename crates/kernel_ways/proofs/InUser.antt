@@ -20,8 +20,8 @@ use Rattle.launcher.proofs.OfKernMounts.Plain.{steps_plain}
 use Rattle.launcher.specs.kernel_model.kern_files.Executing.{marks_of, executed_in, exec_answer_in}
 use Rattle.launcher.specs.kernel_model.kern_files.Looking.{flags_at}
 use Rattle.launcher.specs.kernel_model.kernel_calls.Calls.{IsCall, IsPath, FitsPayload}
-use Rattle.launcher.specs.kernel_model.kernel_calls.Doing as d
-use Rattle.launcher.specs.kernel_model.kernel_calls.Doing.{Doing, asked_by, asked_if, doing_by}
+use Rattle.launcher.specs.kernel_model.kernel_calls.Operation as d
+use Rattle.launcher.specs.kernel_model.kernel_calls.Operation.{Operation, asked_by, asked_if, operation_by}
 use Rattle.launcher.specs.kernel_model.declared.kernel_calls.call.Call.{Call}
 use Rattle.launcher.specs.kernel_model.declared.kernel_calls.payload.Payload.{Payload}
 use Rattle.launcher.specs.kernel_model.declared.kernel_calls.payload.Payload.TheVariants as pay
@@ -61,10 +61,10 @@ admin_inside = has_all 21
 module _ (launch : Launch) (some : nat_lt 0 launch.site.user_namespaces ≡ true) (creds : Creds) (table : Table) where
   -- a call after which a process is in a user namespace of its own
   pub record Enters (own : Rule) (call : Call) : Type 0 where
-    pub doing : Doing
+    pub operation : Operation
     pub effect : Effect
-    pub makes : Makes launch creds table doing call effect
-    pub such : asks_space namespace.User doing ≡ true
+    pub makes : Makes launch creds table operation call effect
+    pub such : asks_space namespace.User operation ≡ true
     pub pid : ℕ
     pub small : pid < 2 ^ 32
     pub pid_is : pid ≡ pid_in own
@@ -120,10 +120,10 @@ module _ (launch : Launch) (some : nat_lt 0 launch.site.user_namespaces ≡ true
       → choices.Choice (k.ForNamespace namespace.User) own args → Enters own (first_by nr args pay.Nothing)
   enters_by nr n at t (choices.unshare _) =
       let m = make launch creds table nr (rule.Known known.Unshare) (one_word 0 (flag_of namespace.User)) pay.Nothing (d.Unshare (flag_of namespace.User)) (f.OwnUser false) n (flag_words namespace.User) tt at refl t refl in
-      record { doing = d.Unshare (flag_of namespace.User); effect = f.OwnUser false; makes = m; such = refl; pid = 1; small = omega arith; pid_is = refl; inside = by_unshare (first_by nr (one_word 0 (flag_of namespace.User)) pay.Nothing) m }
+      record { operation = d.Unshare (flag_of namespace.User); effect = f.OwnUser false; makes = m; such = refl; pid = 1; small = omega arith; pid_is = refl; inside = by_unshare (first_by nr (one_word 0 (flag_of namespace.User)) pay.Nothing) m }
   enters_by nr n at t (choices.clone _) =
       let m = make launch creds table nr (rule.Known known.Clone) (one_word 0 (flag_of namespace.User)) pay.Nothing (d.Clone (flag_of namespace.User)) (f.UserChild false) n (flag_words namespace.User) tt at refl t refl in
-      record { doing = d.Clone (flag_of namespace.User); effect = f.UserChild false; makes = m; such = refl; pid = 2; small = omega arith; pid_is = refl; inside = by_clone (first_by nr (one_word 0 (flag_of namespace.User)) pay.Nothing) m }
+      record { operation = d.Clone (flag_of namespace.User); effect = f.UserChild false; makes = m; such = refl; pid = 2; small = omega arith; pid_is = refl; inside = by_clone (first_by nr (one_word 0 (flag_of namespace.User)) pay.Nothing) m }
 
   pub enters : (line : Line launch (k.ForNamespace namespace.User)) → Enters line.own (first_by (place_of line.line) line.args pay.Nothing)
   enters line = enters_by (place_of line.line) line.number line.at line.through (choice_of line)
@@ -133,12 +133,12 @@ abbrev pub call_by : ℕ → CallAt → List ℕ → Payload → Call
 call_by pid nr args payload = record { pid = pid; abi = nr.abi; nr = nr.nr; args = args; payload = payload }
 
 module _ (launch : Launch) (creds : Creds) (table : Table) (pid : ℕ) (small : pid < 2 ^ 32) where
-  make_in : (nr : CallAt) (own : Rule) (args : List ℕ) (payload : Payload) (doing : Doing) (effect : Effect) → IsCallAt nr → AreWords args
+  make_in : (nr : CallAt) (own : Rule) (args : List ℕ) (payload : Payload) (operation : Operation) (effect : Effect) → IsCallAt nr → AreWords args
       → FitsPayload payload
-      → rule_there launch nr ≡ Some own → doing_by own args payload ≡ Some doing → passes_at launch nr args
-      → ((owns : Bool) → effect_of (host_at launch) (newer_at launch (entered creds) table owns) doing ≡ effect)
-      → MakesIn launch (entered creds) table pid doing (call_by pid nr args payload) effect
-  make_in nr own args payload doing effect n w p at is t e = record {
+      → rule_there launch nr ≡ Some own → operation_by own args payload ≡ Some operation → passes_at launch nr args
+      → ((owns : Bool) → effect_of (host_at launch) (newer_at launch (entered creds) table owns) operation ≡ effect)
+      → MakesIn launch (entered creds) table pid operation (call_by pid nr args payload) effect
+  make_in nr own args payload operation effect n w p at is t e = record {
     fit = record { pid = small; abi = n.abi; nr = n.number; count = w.count; args = w.each; payload = p };
     by = refl;
     through = t;
@@ -147,22 +147,22 @@ module _ (launch : Launch) (creds : Creds) (table : Table) (pid : ℕ) (small : 
   }
 
   -- a call inside that is done and asks for such a thing
-  pub record Inside (p : Doing → Bool) (call : Call) : Type 0 where
-    pub doing : Doing
+  pub record Inside (p : Operation → Bool) (call : Call) : Type 0 where
+    pub operation : Operation
     pub effect : Effect
-    pub makes : MakesIn launch (entered creds) table pid doing call effect
+    pub makes : MakesIn launch (entered creds) table pid operation call effect
     pub doable : IsDoable effect
-    pub such : p doing ≡ true
+    pub such : p operation ≡ true
 
   admits : (effect : Effect) → cond (has all 21) effect (f.Refuse eperm) ≡ effect
   admits effect = ap (λ b. cond b effect (f.Refuse eperm)) admin_inside
 
-  in_space : (space : NamespaceType) (nr : CallAt) (own : Rule) (doing : Doing) (effect : Effect) → IsCallAt nr
+  in_space : (space : NamespaceType) (nr : CallAt) (own : Rule) (operation : Operation) (effect : Effect) → IsCallAt nr
       → rule_there launch nr ≡ Some own → passes_at launch nr (one_word 0 (flag_of space))
-      → doing_by own (one_word 0 (flag_of space)) pay.Nothing ≡ Some doing
-      → ((owns : Bool) → effect_of (host_at launch) (newer_at launch (entered creds) table owns) doing ≡ effect) → IsDoable effect
-      → asks_space space doing ≡ true → Inside (asks_space space) (call_by pid nr (one_word 0 (flag_of space)) pay.Nothing)
-  in_space space nr own doing effect n at t is e h such = record { doing = doing; effect = effect; makes = make_in nr own (one_word 0 (flag_of space)) pay.Nothing doing effect n (flag_words space) tt at is t e; doable = h; such = such }
+      → operation_by own (one_word 0 (flag_of space)) pay.Nothing ≡ Some operation
+      → ((owns : Bool) → effect_of (host_at launch) (newer_at launch (entered creds) table owns) operation ≡ effect) → IsDoable effect
+      → asks_space space operation ≡ true → Inside (asks_space space) (call_by pid nr (one_word 0 (flag_of space)) pay.Nothing)
+  in_space space nr own operation effect n at t is e h such = record { operation = operation; effect = effect; makes = make_in nr own (one_word 0 (flag_of space)) pay.Nothing operation effect n (flag_words space) tt at is t e; doable = h; such = such }
 
   unshare_in : (space : NamespaceType) → is_user space ≡ false → (nr : CallAt) → IsCallAt nr
       → rule_there launch nr ≡ Some (rule.Known known.Unshare) → passes_at launch nr (one_word 0 (flag_of space))

@@ -2,7 +2,7 @@ pub mod Solo
 pub mod Choices
 pub mod Lines
 pub mod Rows
-pub mod Doings
+pub mod Operations
 pub mod Performing
 pub mod Avoiding
 pub mod Privileged

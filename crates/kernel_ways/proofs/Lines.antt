@@ -20,7 +20,7 @@ use Rattle.launcher.specs.kernel_model.kernel_calls.Calls.{FitsPayload}
 use Rattle.launcher.specs.kernel_model.declared.kernel_calls.rule.Rule.{Rule}
 use Rattle.launcher.specs.call_table.call_names.Known.{known_call}
 use Rattle.launcher.specs.kernel_model.kernel_calls.Rules.{rule_of, rule_at, rule_by}
-use Rattle.launcher.specs.kernel_model.kernel_calls.Doing.{Doing, doing_by, asked_by, asked_if}
+use Rattle.launcher.specs.kernel_model.kernel_calls.Operation.{Operation, operation_by, asked_by, asked_if}
 use Rattle.launcher.specs.kernel_model.Effects.{Effect, effect_of}
 use Rattle.launcher.specs.kernel_laws.declared.question_types.kind.CallKind.{CallKind}
 use Rattle.launcher.specs.kernel_laws.Kinds.{words, no_words, AreWords}
@@ -172,11 +172,11 @@ abbrev pub first_by : CallAt → List ℕ → Payload → Call
 first_by nr args payload = record { pid = 1; abi = nr.abi; nr = nr.nr; args = args; payload = payload }
 
 pub make : (launch : Launch) (creds : Creds) (table : Table) (nr : CallAt) (own : Rule) (args : List ℕ) (payload : Payload)
-    (doing : Doing) (effect : Effect) → IsCallAt nr → AreWords args → FitsPayload payload
-    → rule_there launch nr ≡ Some own → doing_by own args payload ≡ Some doing → passes_at launch nr args
-    → effect_on (host_at launch) (caller_at launch creds table) table doing ≡ effect
-    → Makes launch creds table doing (first_by nr args payload) effect
-make launch creds table nr own args payload doing effect n w p at is t e = record {
+    (operation : Operation) (effect : Effect) → IsCallAt nr → AreWords args → FitsPayload payload
+    → rule_there launch nr ≡ Some own → operation_by own args payload ≡ Some operation → passes_at launch nr args
+    → effect_on (host_at launch) (caller_at launch creds table) table operation ≡ effect
+    → Makes launch creds table operation (first_by nr args payload) effect
+make launch creds table nr own args payload operation effect n w p at is t e = record {
   fit = record { pid = omega arith; abi = n.abi; nr = n.number; count = w.count; args = w.each; payload = p };
   first = refl;
   through = t;

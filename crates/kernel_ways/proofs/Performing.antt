@@ -9,8 +9,8 @@ use Rattle.launcher.specs.call_table.declared.listed.CallLine.{CallLine}
 use Rattle.launcher.specs.call_table.Lookups.{numbered}
 use Rattle.launcher.specs.kern_creds.declared.creds.Creds.{Creds}
 use Rattle.launcher.specs.kern_mounts.Split.{Table}
-use Rattle.launcher.specs.kernel_model.kernel_calls.Doing as d
-use Rattle.launcher.specs.kernel_model.kernel_calls.Doing.{Doing}
+use Rattle.launcher.specs.kernel_model.kernel_calls.Operation as d
+use Rattle.launcher.specs.kernel_model.kernel_calls.Operation.{Operation}
 use Rattle.launcher.specs.kernel_model.kernel_calls.Rules.{rule_of, rule_at}
 use Rattle.launcher.specs.kernel_model.declared.kernel_calls.payload.Payload.TheVariants as pay
 use Rattle.launcher.specs.kernel_model.declared.kernel_calls.rule.Rule.{Rule}
@@ -29,7 +29,7 @@ use Rattle.launcher.specs.kernel_laws.Launched.{Launch, passes}
 use Rattle.launcher.specs.kernel_laws.Questions.{flag_of}
 use Rattle.kernel_ways.specs.Ways.{effect_on, host_at, caller_at, CallAt, IsCallAt, rule_there, passes_at, place_of}
 use Rattle.kernel_ways.proofs.Choices as choices
-use Rattle.kernel_ways.proofs.Doings.{Performed}
+use Rattle.kernel_ways.proofs.Operations.{Performed}
 use Rattle.kernel_ways.proofs.Lines.{Line, choice_of, flag_words, make, six, zeros, first_by}
 use Rattle.kernel_ways.specs.Showing.{IsDoable}
 
@@ -54,14 +54,14 @@ is_free kind = false
 
 module _ (launch : Launch) (creds : Creds) (table : Table) where
   -- a call without a payload, by its number and its words
-  bare_call : (p : Doing → Bool) (nr : CallAt) (own : Rule) (args : List ℕ) (doing : Doing) (effect : Effect) → IsCallAt nr
+  bare_call : (p : Operation → Bool) (nr : CallAt) (own : Rule) (args : List ℕ) (operation : Operation) (effect : Effect) → IsCallAt nr
       → AreWords args → rule_there launch nr ≡ Some own → passes_at launch nr args
-      → d.doing_by own args pay.Nothing ≡ Some doing → effect_on (host_at launch) (caller_at launch creds table) table doing ≡ effect
-      → IsDoable effect → p doing ≡ true → Performed launch creds table p (first_by nr args pay.Nothing)
-  bare_call p nr own args doing effect n w at t is e h such = record {
-    doing = doing;
+      → d.operation_by own args pay.Nothing ≡ Some operation → effect_on (host_at launch) (caller_at launch creds table) table operation ≡ effect
+      → IsDoable effect → p operation ≡ true → Performed launch creds table p (first_by nr args pay.Nothing)
+  bare_call p nr own args operation effect n w at t is e h such = record {
+    operation = operation;
     effect = effect;
-    makes = make launch creds table nr own args pay.Nothing doing effect n w tt at is t e;
+    makes = make launch creds table nr own args pay.Nothing operation effect n w tt at is t e;
     doable = h;
     such = such;
   }
@@ -109,7 +109,7 @@ module _ (launch : Launch) (creds : Creds) (table : Table) where
   plain_by line n is at t (choices.plain number) can =
       let has' : CapAtHand creds number = subst can_for is can in
       record {
-        doing = d.Plain number;
+        operation = d.Plain number;
         effect = f.Answer 0;
         makes = make launch creds table (place_of line) (rule.Plain number) no_words pay.Nothing (d.Plain number)
             (f.Answer 0) n zeros tt at refl t (cap_lets creds number (f.Answer 0) has');
@@ -127,7 +127,7 @@ module _ (launch : Launch) (creds : Creds) (table : Table) where
 
   socket_by : {own : Rule} {args : List ℕ} → (nr : CallAt) → IsCallAt nr → rule_there launch nr ≡ Some own → passes_at launch nr args
       → (family : CallLine) → family.number < 2 ^ 32 → choices.Choice (kinds.ForFamily family.number) own args
-      → numbered family.number launch.calls.families ≡ Some family → CapAtHand creds family.cap → (p : Doing → Bool)
+      → numbered family.number launch.calls.families ≡ Some family → CapAtHand creds family.cap → (p : Operation → Bool)
       → p (d.Socket family.number) ≡ true → p (d.Socketcall 1 family.number) ≡ true
       → Performed launch creds table p (first_by nr args (family_payload own family.number))
   socket_by nr n at t family small (choices.socket _) found can p such through =
@@ -137,7 +137,7 @@ module _ (launch : Launch) (creds : Creds) (table : Table) where
       (ap (λ w. Some (d.Socket w)) word)
       (ap (socket_effect false creds) found ∙ cap_lets creds family.cap (f.Answer 3) can) tt such
   socket_by nr n at t family small (choices.socketcall _) found can p such through = record {
-    doing = d.Socketcall 1 family.number;
+    operation = d.Socketcall 1 family.number;
     effect = f.Answer 3;
     makes =
         make launch creds table nr (rule.Known known.Socketcall) (one_word 0 1) (pay.Family family.number) (d.Socketcall 1 family.number)
@@ -148,7 +148,7 @@ module _ (launch : Launch) (creds : Creds) (table : Table) where
   }
 
   pub socket : (family : CallLine) → family.number < 2 ^ 32 → (line : Line launch (kinds.ForFamily family.number))
-      → numbered family.number launch.calls.families ≡ Some family → CapAtHand creds family.cap → (p : Doing → Bool)
+      → numbered family.number launch.calls.families ≡ Some family → CapAtHand creds family.cap → (p : Operation → Bool)
       → p (d.Socket family.number) ≡ true → p (d.Socketcall 1 family.number) ≡ true
       → Performed launch creds table p (first_by (place_of line.line) line.args (family_payload line.own family.number))
   socket family small line found can p such through = socket_by (place_of line.line) line.number line.at line.through family small
@@ -161,7 +161,7 @@ module _ (launch : Launch) (creds : Creds) (table : Table) where
 
     unshared : (space : NamespaceType) (effect : Effect) (nr : CallAt) → IsCallAt nr
         → rule_there launch nr ≡ Some (rule.Known known.Unshare) → passes_at launch nr (one_word 0 (flag_of space))
-        → d.doing_by (rule.Known known.Unshare) (one_word 0 (flag_of space)) pay.Nothing ≡ Some (d.Unshare (flag_of space))
+        → d.operation_by (rule.Known known.Unshare) (one_word 0 (flag_of space)) pay.Nothing ≡ Some (d.Unshare (flag_of space))
         → effect_on (host_at launch) (caller_at launch creds table) table (d.Unshare (flag_of space)) ≡ effect → IsDoable effect
         → asks_space space (d.Unshare (flag_of space)) ≡ true
         → Performed launch creds table (asks_space space) (first_by nr (one_word 0 (flag_of space)) pay.Nothing)
@@ -169,7 +169,7 @@ module _ (launch : Launch) (creds : Creds) (table : Table) where
         (d.Unshare (flag_of space)) effect n (flag_words space) at t is e h such
 
     cloned : (space : NamespaceType) (effect : Effect) (nr : CallAt) → IsCallAt nr → rule_there launch nr ≡ Some (rule.Known known.Clone)
-        → passes_at launch nr (one_word 0 (flag_of space)) → d.doing_by (rule.Known known.Clone) (one_word 0 (flag_of space)) pay.Nothing
+        → passes_at launch nr (one_word 0 (flag_of space)) → d.operation_by (rule.Known known.Clone) (one_word 0 (flag_of space)) pay.Nothing
         ≡ Some (d.Clone (flag_of space))
         → effect_on (host_at launch) (caller_at launch creds table) table (d.Clone (flag_of space)) ≡ effect → IsDoable effect
         → asks_space space (d.Clone (flag_of space)) ≡ true

@@ -15,8 +15,8 @@ use Rattle.launcher.specs.kernel_model.declared.kernel_calls.payload.Payload.The
 use Rattle.launcher.specs.kernel_model.declared.kernel_calls.call.Call.{Call}
 use Rattle.launcher.specs.kernel_model.kernel_calls.Calls.{IsPath}
 use Rattle.launcher.specs.kernel_laws.Denied.{HasGid}
-use Rattle.launcher.specs.kernel_model.kernel_calls.Doing as d
-use Rattle.launcher.specs.kernel_model.kernel_calls.Doing.{Doing}
+use Rattle.launcher.specs.kernel_model.kernel_calls.Operation as d
+use Rattle.launcher.specs.kernel_model.kernel_calls.Operation.{Operation}
 use Rattle.launcher.specs.kernel_model.Effects as f
 use Rattle.launcher.specs.kernel_model.Effects.{SetCreds, SetTable, creds_effect, table_effect}
 use Rattle.launcher.specs.kernel_laws.declared.question_types.kind.CallKind.TheVariants as k
@@ -44,20 +44,20 @@ not_none id h = grind (arith, nat_tests, h)
 module _ (launch : Launch) (o : Offers launch) (creds : Creds) (table : Table) where
   pub record TableCall (now : Table) : Type 0 where
     pub call : Call
-    pub doing : Doing
-    pub makes : Makes launch creds table doing call (SetTable (map plain now))
-    pub no_uid : asks k.TakesUid doing ≡ false
-    pub no_gid : asks k.TakesGid doing ≡ false
+    pub operation : Operation
+    pub makes : Makes launch creds table operation call (SetTable (map plain now))
+    pub no_uid : asks k.TakesUid operation ≡ false
+    pub no_gid : asks k.TakesGid operation ≡ false
 
   pub record CredsCall (spares : Bool) (now : Creds) (call : Call) : Type 0 where
-    pub doing : Doing
-    pub makes : Makes launch creds table doing call (SetCreds now)
-    pub no_uid : spares ≡ true → asks k.TakesUid doing ≡ false
-    pub no_gid : asks k.TakesGid doing ≡ false
+    pub operation : Operation
+    pub makes : Makes launch creds table operation call (SetCreds now)
+    pub no_uid : spares ≡ true → asks k.TakesUid operation ≡ false
+    pub no_gid : asks k.TakesGid operation ≡ false
 
   pub record GroupCall (now : Creds) (call : Call) : Type 0 where
-    pub doing : Doing
-    pub makes : Makes launch creds table doing call (SetCreds now)
+    pub operation : Operation
+    pub makes : Makes launch creds table operation call (SetCreds now)
 
   -- other words of a call that no filter looks at
   pub other : (nr : CallAt) (own : Rule) (args : List ℕ) → IsCallAt nr → AreWords args → rule_there launch nr ≡ Some own
@@ -72,7 +72,7 @@ module _ (launch : Launch) (o : Offers launch) (creds : Creds) (table : Table) w
         let w = six 0 2 0 0 (omega arith) (omega arith) (omega arith) (omega arith) in
         record {
           call = first_by nr (0 ∷ 2 ∷ 0 ∷ 0 ∷ 0 ∷ 0 ∷ []) (pay.OnePath path);
-          doing = d.Umount path 2;
+          operation = d.Umount path 2;
           makes = make launch creds table nr (rule.Known known.Umount) (0 ∷ 2 ∷ 0 ∷ 0 ∷ 0 ∷ 0 ∷ []) (pay.OnePath path) (d.Umount path 2)
               (SetTable (map plain now)) n w fit at refl (other nr (rule.Known known.Umount) (0 ∷ 2 ∷ 0 ∷ 0 ∷ 0 ∷ 0 ∷ []) n w at refl t)
               (ap (λ b. cond b (table_effect (after_umount (map plain table) path true)) (f.Refuse 1)) admin
@@ -83,7 +83,7 @@ module _ (launch : Launch) (o : Offers launch) (creds : Creds) (table : Table) w
     umount_by nr n at t choices.unmounts path fit false now e =
         record {
           call = first_by nr no_words (pay.OnePath path);
-          doing = d.Umount path 0;
+          operation = d.Umount path 0;
           makes = make launch creds table nr (rule.Known known.Umount) no_words (pay.OnePath path) (d.Umount path 0)
               (SetTable (map plain now)) n zeros fit at refl t
               (ap (λ b. cond b (table_effect (after_umount (map plain table) path false)) (f.Refuse 1)) admin
@@ -104,7 +104,7 @@ module _ (launch : Launch) (o : Offers launch) (creds : Creds) (table : Table) w
         let w = six 0 0 0 flags (omega arith) (omega arith) (omega arith) small in
         record {
           call = first_by nr (0 ∷ 0 ∷ 0 ∷ flags ∷ 0 ∷ 0 ∷ []) (pay.TwoPaths source target);
-          doing = d.Mount source target flags;
+          operation = d.Mount source target flags;
           makes = make launch creds table nr (rule.Known known.Mount) (0 ∷ 0 ∷ 0 ∷ flags ∷ 0 ∷ 0 ∷ []) (pay.TwoPaths source target)
               (d.Mount source target flags) (SetTable (map plain now)) n w (s, g) at
               (ap (λ w. Some (d.Mount source target w)) (low flags small))
@@ -124,7 +124,7 @@ module _ (launch : Launch) (o : Offers launch) (creds : Creds) (table : Table) w
       → (p e i : ℕ) → p < 2 ^ 41 → e < 2 ^ 41 → i < 2 ^ 41 → may_capset creds p e i ≡ true
       → CredsCall true (with_sets creds p e i) (sets_call nr p e i)
   capset_by nr n at t choices.capset p e i hp he hi may = record {
-    doing = d.Capset p e i;
+    operation = d.Capset p e i;
     makes = make launch creds table nr (rule.Known known.Capset) no_words (pay.Sets p e i) (d.Capset p e i)
         (SetCreds (with_sets creds p e i)) n zeros (hp, he, hi) at refl t
         (ap (λ b. creds_effect (cond {A = Result Creds ℕ} b (Ok (with_sets creds p e i)) (Err 1))) may);
@@ -147,7 +147,7 @@ module _ (launch : Launch) (o : Offers launch) (creds : Creds) (table : Table) w
     uid_by nr n at t choices.setuid h =
         let w = six id 0 0 0 word (omega arith) (omega arith) (omega arith) in
         record {
-          doing = d.Setuid id;
+          operation = d.Setuid id;
           makes = make launch creds table nr (rule.Known known.Setuid) (id ∷ 0 ∷ 0 ∷ 0 ∷ 0 ∷ 0 ∷ []) pay.Nothing (d.Setuid id)
               (SetCreds (with_uids creds (all_of id))) n w tt at (ap (λ w. Some (d.Setuid w)) (low id word))
               (other nr (rule.Known known.Setuid) (id ∷ 0 ∷ 0 ∷ 0 ∷ 0 ∷ 0 ∷ []) n w at refl t) (rw (not_none id small, h) refl);
@@ -157,7 +157,7 @@ module _ (launch : Launch) (o : Offers launch) (creds : Creds) (table : Table) w
     uid_by nr n at t choices.setresuid h =
         let w = six id id id 0 word word word (omega arith) in
         record {
-          doing = d.Setresuid id id id;
+          operation = d.Setresuid id id id;
           makes = make launch creds table nr (rule.Known known.Setresuid) (id ∷ id ∷ id ∷ 0 ∷ 0 ∷ 0 ∷ []) pay.Nothing
               (d.Setresuid id id id) (SetCreds (with_uids creds (all_of id))) n w tt at (ap (λ w. Some (d.Setresuid w w w)) (low id word))
               (other nr (rule.Known known.Setresuid) (id ∷ id ∷ id ∷ 0 ∷ 0 ∷ 0 ∷ []) n w at refl t) (rw (not_none id small, h) refl);
@@ -181,7 +181,7 @@ module _ (launch : Launch) (o : Offers launch) (creds : Creds) (table : Table) w
         record {
           now = record creds { gids = all_of id };
           change = record {
-            doing = d.Setgid id;
+            operation = d.Setgid id;
             makes = make launch creds table nr (rule.Known known.Setgid) (id ∷ 0 ∷ 0 ∷ 0 ∷ 0 ∷ 0 ∷ []) pay.Nothing (d.Setgid id)
                 (SetCreds (record creds { gids = all_of id })) n w tt at (ap (λ w. Some (d.Setgid w)) (low id word))
                 (other nr (rule.Known known.Setgid) (id ∷ 0 ∷ 0 ∷ 0 ∷ 0 ∷ 0 ∷ []) n w at refl t) (rw (not_none id small, h) refl);
@@ -193,7 +193,7 @@ module _ (launch : Launch) (o : Offers launch) (creds : Creds) (table : Table) w
         record {
           now = record creds { gids = all_of id };
           change = record {
-            doing = d.Setresgid id id id;
+            operation = d.Setresgid id id id;
             makes = make launch creds table nr (rule.Known known.Setresgid) (id ∷ id ∷ id ∷ 0 ∷ 0 ∷ 0 ∷ []) pay.Nothing
                 (d.Setresgid id id id) (SetCreds (record creds { gids = all_of id })) n w tt at
                 (ap (λ w. Some (d.Setresgid w w w)) (low id word))
@@ -205,7 +205,7 @@ module _ (launch : Launch) (o : Offers launch) (creds : Creds) (table : Table) w
         record {
           now = record creds { groups = id ∷ [] };
           change = record {
-            doing = d.Setgroups (id ∷ []);
+            operation = d.Setgroups (id ∷ []);
             makes = make launch creds table nr (rule.Known known.Setgroups) no_words (pay.Ids (id ∷ [])) (d.Setgroups (id ∷ []))
                 (SetCreds (record creds { groups = id ∷ [] })) n zeros (word, tt) at refl t (rw h refl);
           };

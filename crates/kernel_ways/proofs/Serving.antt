@@ -36,8 +36,8 @@ use Rattle.launcher.specs.kern_mounts.declared.step.Flags.{Flags}
 use Rattle.launcher.specs.kernel_model.kern_files.Executing.{marks_of, executed, exec_answer}
 use Rattle.launcher.specs.kernel_model.kern_files.Looking.{flags_at}
 use Rattle.launcher.specs.kernel_model.kernel_calls.Calls.{IsCall}
-use Rattle.launcher.specs.kernel_model.kernel_calls.Doing as d
-use Rattle.launcher.specs.kernel_model.kernel_calls.Doing.{Does, asked_by, asked_of}
+use Rattle.launcher.specs.kernel_model.kernel_calls.Operation as d
+use Rattle.launcher.specs.kernel_model.kernel_calls.Operation.{Does, asked_by, asked_of}
 use Rattle.launcher.specs.kernel_model.kernel_calls.Rules.{rule_at}
 use Rattle.launcher.specs.kernel_model.declared.kernel_calls.call.Call.{Call}
 use Rattle.launcher.specs.kernel_model.declared.kernel_calls.payload.Payload.TheVariants.{OnePath}

@@ -19,9 +19,9 @@ use Rattle.launcher.specs.kernel_laws.Bound.{caps_at, power_of, ceiling, is_open
 use Rattle.launcher.specs.kernel_model.declared.kernel_calls.call.Call.{Call}
 use Rattle.launcher.specs.kernel_model.kernel_calls.Calls.{IsPath}
 use Rattle.launcher.specs.kernel_laws.Denied.{asks_space, asks_family, is_family}
-use Rattle.launcher.specs.kernel_model.kernel_calls.Doing as d
+use Rattle.launcher.specs.kernel_model.kernel_calls.Operation as d
 use Rattle.launcher.specs.kernel_model.declared.kernel_calls.payload.Payload.TheVariants as pay
-use Rattle.launcher.specs.kernel_model.kernel_calls.Doing.{Doing}
+use Rattle.launcher.specs.kernel_model.kernel_calls.Operation.{Operation}
 use Rattle.launcher.specs.kernel_model.Effects.{SetCreds}
 use Rattle.launcher.specs.kernel_model.kern_files.Looking.{flags_at}
 use Rattle.launcher.specs.kernel_model.kern_files.Executing.{marks_of}
@@ -52,7 +52,7 @@ use Rattle.kernel_ways.specs.Showing.{Answers}
 use Rattle.kernel_ways.specs.Ways.{place_of, Way, here, IsSolo}
 use Rattle.kernel_ways.proofs.Solo.{way_join}
 use Rattle.kernel_ways.proofs.Lines.{same_rule, Line, first_by, low_number, some_line, line_at, any_at, of_abi}
-use Rattle.kernel_ways.proofs.Doings.{PathCall, Performed, see_path, read_path, write_path, exec_path}
+use Rattle.kernel_ways.proofs.Operations.{PathCall, Performed, see_path, read_path, write_path, exec_path}
 use Rattle.kernel_ways.proofs.Performing as performing
 use Rattle.kernel_ways.proofs.Performing.{CapAtHand, is_free}
 use Rattle.kernel_ways.proofs.Rows.{IsKnown, known_at}
@@ -85,7 +85,7 @@ module _ (world : World) (launch : Launch) (l : IsLaunched launch) (o : Offers l
       → (path : Path) → finds (row_at launch.site.rows) now path ≡ row target → {call : Call} → PathCall launch creds now wish path call
       → IsShown world (asking.Path wish place)
   by_path wish place target listed {calls = calls} creds now way path found {call = call} c =
-      (calls ++ call ∷ [], calls_show launch launch.creds creds launch.table now world calls (asking.Path wish place) c.doing call c.effect s way c.makes c.doable (path, target, c.wanted, listed, found))
+      (calls ++ call ∷ [], calls_show launch launch.creds creds launch.table now world calls (asking.Path wish place) c.operation call c.effect s way c.makes c.doable (path, target, c.wanted, listed, found))
 
   exec_call : (creds : Creds) (now : Table) (path : Path) → IsPath path → (target : Row)
       → finds (row_at launch.site.rows) now path ≡ row target → is_exe target.kind ≡ true → fits ToExec (flags_at now path) ≡ true
@@ -93,7 +93,7 @@ module _ (world : World) (launch : Launch) (l : IsLaunched launch) (o : Offers l
       → PathCall launch creds now ToExec path (first_by (place_of line.line) line.args (pay.OnePath path))
   exec_call creds now path fit target found exe runs admitted line =
       let x = exec_path launch creds now path fit target found exe runs admitted line in
-      record { doing = d.Execve path; effect = SetCreds (exec_done creds (marks_of target) (flags_at now path).no_suid); makes = x; doable = tt; wanted = refl }
+      record { operation = d.Execve path; effect = SetCreds (exec_done creds (marks_of target) (flags_at now path).no_suid); makes = x; doable = tt; wanted = refl }
 
   -- from the launch to the row at the launch's power
   module _ (place : ℕ) (target : Row) (listed : slice_get launch.site.rows place ≡ Some target) where
@@ -210,15 +210,15 @@ module _ (world : World) (launch : Launch) (l : IsLaunched launch) (o : Offers l
   having None e = record { calls = []; creds = launch.creds; now = launch.table; way = here; can = tt }
   having (Some number) e = let x = attained launch l o number e in let g = x.1 in record { calls = g.calls; creds = g.creds; now = x.0; way = g.way; can = g.holds }
 
-  by_performed : (question : Question) (p : Doing → Bool) {calls : List Call} (creds : Creds) (now : Table)
+  by_performed : (question : Question) (p : Operation → Bool) {calls : List Call} (creds : Creds) (now : Table)
       → Way launch launch.creds launch.table calls creds now → {call : Call} → (x : Performed launch creds now p call)
-      → Answers launch now question call x.doing → IsShown world question
-  by_performed question p {calls = calls} creds now way {call = call} x a = (calls ++ call ∷ [], calls_show launch launch.creds creds launch.table now world calls question x.doing call x.effect s way x.makes x.doable a)
+      → Answers launch now question call x.operation → IsShown world question
+  by_performed question p {calls = calls} creds now way {call = call} x a = (calls ++ call ∷ [], calls_show launch launch.creds creds launch.table now world calls question x.operation call x.effect s way x.makes x.doable a)
 
   -- what every process may ask for
   shown_free : (question : Question) (kind : CallKind) → is_free kind ≡ true
       → ((call : Call) (x : Performed launch launch.creds launch.table (k.asks kind) call)
-      → Answers launch launch.table question call x.doing) → lets launch kind ≡ true → IsShown world question
+      → Answers launch launch.table question call x.operation) → lets launch kind ≡ true → IsShown world question
   shown_free question kind h answers e = let x = performing.free launch launch.creds launch.table kind h (some_line launch l kind e) in by_performed question (k.asks kind) launch.creds launch.table here x (answers _ x)
 
   -- a user namespace itself
@@ -229,7 +229,7 @@ module _ (world : World) (launch : Launch) (l : IsLaunched launch) (o : Offers l
       let first = enters launch both.0 launch.creds launch.table line in
       let call = first_by (place_of line.line) line.args pay.Nothing in
       let done = (first.inside world s).0 in
-      (call ∷ [], record { fit = (first.makes.fit, tt); done = (done, tt); last = inl (performs launch launch.creds launch.table world s (asks_space namespace.User) first.doing call first.effect first.makes first.such done) })
+      (call ∷ [], record { fit = (first.makes.fit, tt); done = (done, tt); last = inl (performs launch launch.creds launch.table world s (asks_space namespace.User) first.operation call first.effect first.makes first.such done) })
 
   -- another one, in a user namespace of its own
   shown_within : (space : NamespaceType) → is_user space ≡ false → lets launch (kinds.ForNamespace space) ≡ true
@@ -238,7 +238,7 @@ module _ (world : World) (launch : Launch) (l : IsLaunched launch) (o : Offers l
       let both = and_parts (nat_lt 0 launch.site.user_namespaces) (lets launch (kinds.ForNamespace namespace.User)) user in
       let first = enters launch both.0 launch.creds launch.table (some_line launch l (kinds.ForNamespace namespace.User) both.1) in
       let x = own_space launch launch.creds launch.table first.pid first.small space u (some_line launch l (kinds.ForNamespace space) e) in
-      (_, calls_show_inside launch launch.creds launch.creds launch.table launch.table world [] (asking.Namespace space) first.pid _ _ x.doing x.effect s here first.makes.fit first.inside x.makes x.doable x.such)
+      (_, calls_show_inside launch launch.creds launch.creds launch.table launch.table world [] (asking.Namespace space) first.pid _ _ x.operation x.effect s here first.makes.fit first.inside x.makes x.doable x.such)
 
   shown_space : (space : NamespaceType) → is_user space ≡ false → lets launch (kinds.ForNamespace space) ≡ true
       → has (ceiling launch).effective 21 ≡ true → IsShown world (asking.Namespace space)
@@ -272,7 +272,7 @@ module _ (world : World) (launch : Launch) (l : IsLaunched launch) (o : Offers l
   shown_socket place line listed e h =
       let w = having line.cap h in
       let found : numbered line.number launch.calls.families ≡ Some line = at_position launch.calls.families line.number place line (l.families_once place line listed) listed in
-      let p : Doing → Bool = asks_family launch.calls.families place in
+      let p : Operation → Bool = asks_family launch.calls.families place in
       let such : p (d.Socket line.number) ≡ true = ap (λ (c : Option CallLine). is_family c line.number) listed ∙ eq-eqb line.number line.number refl in
       let x = performing.socket launch w.creds w.now line (low_number launch.calls.families o.calls.families.in_range place line listed) (some_line launch l (kinds.ForFamily line.number) e) found w.can p such such in
       by_performed (asking.Socket place) p w.creds w.now w.way x x.such

@@ -6,13 +6,13 @@ use Rattle.launcher.specs.kern_creds.declared.creds.Creds.{Creds}
 use Rattle.launcher.specs.kernel_model.declared.kernel_calls.call.Call.{Call}
 use Rattle.launcher.specs.kernel_model.kernel_calls.Calls.{IsCall, AreCalls}
 use Rattle.launcher.specs.kernel_laws.Denied.{LastIs, Shows, Reaches, Holds}
-use Rattle.launcher.specs.kernel_model.kernel_calls.Doing.{Doing, Does, asked_by, asked_of}
+use Rattle.launcher.specs.kernel_model.kernel_calls.Operation.{Operation, Does, asked_by, asked_of}
 use Rattle.launcher.specs.kernel_model.kernel_calls.Rules.{rule_at}
 use Rattle.launcher.specs.call_table.Table.{Abi, abi_at}
 use Rattle.launcher.specs.bpf_code.Stack.{decision_on}
 use Rattle.launcher.specs.bpf_code.declared.decision.Decision.TheVariants.{Pass}
 use Rattle.std.specs.Option.{option_map_or}
-use Rattle.launcher.specs.kernel_model.kernel_calls.Doing as d
+use Rattle.launcher.specs.kernel_model.kernel_calls.Operation as d
 use Rattle.launcher.specs.kernel_model.Effects as f
 use Rattle.launcher.specs.kernel_model.Effects.{Effect, Host, SetCreds, SetTable, effect_of, looks, creds_effect, table_effect, with_admin}
 use Rattle.launcher.specs.kernel_model.Effects.{Caller}
@@ -35,9 +35,9 @@ use Rattle.kernel_ways.specs.Showing.{IsDoable}
 use Rattle.kernel_ways.specs.Ways.{effect_on, IsSolo, Way, here, by_creds, by_table, Makes, solo_world, solo_process, host_at}
 
 -- by the entries alone, of a table that is not locked and keeps nothing
-effect_by : (host : Host) (creds : Creds) (stack : List (List Insn)) (table : Table) (doing : Doing)
-    → effect_of host (record { creds = creds; stack = stack; table = map plain table; newer = false; owns = true }) doing
-    ≡ effect_on host (record { creds = creds; stack = stack; table = map plain table; newer = false; owns = true }) table doing
+effect_by : (host : Host) (creds : Creds) (stack : List (List Insn)) (table : Table) (operation : Operation)
+    → effect_of host (record { creds = creds; stack = stack; table = map plain table; newer = false; owns = true }) operation
+    ≡ effect_on host (record { creds = creds; stack = stack; table = map plain table; newer = false; owns = true }) table operation
 effect_by host creds stack table (d.See path) = ap (λ (t : Table). looks (see_answer 0 (finds host.rows t path))) (steps_plain table)
 effect_by host creds stack table (d.Open flags path) =
     ap (λ (t : Table). looks (open_answer flags (flags_at t path) (finds host.rows t path))) (steps_plain table)
@@ -56,7 +56,7 @@ effect_by host creds stack table (d.Attach flags) = refl
 effect_by host creds stack table (d.Schedule policy) = refl
 effect_by host creds stack table (d.Personality persona) = refl
 effect_by host creds stack table (d.Socket family) = refl
-effect_by host creds stack table (d.Socketcall operation family) = refl
+effect_by host creds stack table (d.Socketcall op family) = refl
 effect_by host creds stack table d.Enter = refl
 effect_by host creds stack table d.Fork = refl
 effect_by host creds stack table (d.Clone flags) = refl
@@ -69,7 +69,7 @@ effect_by host creds stack table (d.Setresgid r e s) = refl
 effect_by host creds stack table (d.Setgroups ids) = refl
 effect_by host creds stack table (d.Capset p e i) = refl
 effect_by host creds stack table (d.Prctl option value third) = refl
-effect_by host creds stack table (d.Seccomp operation flags bytes) = refl
+effect_by host creds stack table (d.Seccomp op flags bytes) = refl
 effect_by host creds stack table (d.Plain cap) = refl
 
 pub way_join : {launch : Launch} {a b c : Creds} {s t u : Table} {xs ys : List Call} → Way launch a s xs b t → Way launch b t ys c u
@@ -84,19 +84,19 @@ put_length (z ∷ xs) zero y = refl
 put_length (z ∷ xs) (suc i) y = ap suc (put_length xs i y)
 
 -- a call that its ABI has, and whose data pass, is let through
-pub let_pass : (launch : Launch) (call : Call) (process : Process) (doing : Doing) → asked_of launch.calls call ≡ Does doing
+pub let_pass : (launch : Launch) (call : Call) (process : Process) (operation : Operation) → asked_of launch.calls call ≡ Does operation
     → decision_on process.stack (data_at launch call.abi call.nr call.args) ≡ Pass
     → decision_by call process (abi_at launch.calls call.abi) ≡ Pass
-let_pass launch call process doing asks through = by (abi_at launch.calls call.abi) refl
+let_pass launch call process operation asks through = by (abi_at launch.calls call.abi) refl
   where
     by : (o : Option Abi) → abi_at launch.calls call.abi ≡ o → decision_by call process (abi_at launch.calls call.abi) ≡ Pass
-    by None e = let none : asked_by (rule_at [] call.nr) call ≡ Does doing = ap (λ (o : Option Abi). asked_by (rule_at (option_map_or (λ found. found.calls) o []) call.nr) call) (sym e) ∙ asks in cc
+    by None e = let none : asked_by (rule_at [] call.nr) call ≡ Does operation = ap (λ (o : Option Abi). asked_by (rule_at (option_map_or (λ found. found.calls) o []) call.nr) call) (sym e) ∙ asks in cc
     by (Some abi) e =
         ap (decision_by call process) e
         ∙ ap (λ (o : Option Abi). decision_on process.stack
         (record { nr = call.nr; arch = option_map_or (λ found. found.arch) o 0; ip = 0; args = call.args })) (sym e) ∙ through
 
-module _ (launch : Launch) (creds : Creds) (table : Table) (namespace : ℕ) (tables : List Mounts) (owners : List ℕ) (numbered : eqb namespace 0 ≡ false) (own : slice_get tables (namespace - 1) ≡ Some (map plain table)) (home : slice_get owners (namespace - 1) ≡ Some 1) (few : nat_lt (length tables) most_namespaces ≡ true) (doing : Doing) (call : Call) (effect : Effect) (m : Makes launch creds table doing call effect) where
+module _ (launch : Launch) (creds : Creds) (table : Table) (namespace : ℕ) (tables : List Mounts) (owners : List ℕ) (numbered : eqb namespace 0 ≡ false) (own : slice_get tables (namespace - 1) ≡ Some (map plain table)) (home : slice_get owners (namespace - 1) ≡ Some 1) (few : nat_lt (length tables) most_namespaces ≡ true) (operation : Operation) (call : Call) (effect : Effect) (m : Makes launch creds table operation call effect) where
   abbrev own_world : World
   own_world = solo_world launch creds namespace tables owners
 
@@ -115,14 +115,14 @@ module _ (launch : Launch) (creds : Creds) (table : Table) (namespace : ℕ) (ta
   pub steps : step own_world call ≡ applied own_world 1 own_process effect
   steps =
       ap (λ (pid : ℕ). step_by own_world call (if_alive (of_number (own_process ∷ []) pid))) m.first
-      ∙ ap (decided own_world call own_process) (let_pass launch call own_process doing m.asks m.through)
+      ∙ ap (decided own_world call own_process) (let_pass launch call own_process operation m.asks m.through)
       ∙ ap (answered own_world call.pid own_process) m.asks
       ∙ ap (λ (pid : ℕ). applied own_world pid own_process
-      (effect_of (host_at launch) (caller_with (mounts_of own_world namespace) (owner_of own_world namespace)) doing)) m.first
+      (effect_of (host_at launch) (caller_with (mounts_of own_world namespace) (owner_of own_world namespace)) operation)) m.first
       ∙ ap (λ (t : Mounts). applied own_world 1 own_process
-      (effect_of (host_at launch) (caller_with t (owner_of own_world namespace)) doing)) mounts_are
-      ∙ ap (λ (o : ℕ). applied own_world 1 own_process (effect_of (host_at launch) (caller_with (map plain table) o) doing)) owner_is
-      ∙ ap (applied own_world 1 own_process) (effect_by (host_at launch) creds launch.stack table doing ∙ m.comes_to)
+      (effect_of (host_at launch) (caller_with t (owner_of own_world namespace)) operation)) mounts_are
+      ∙ ap (λ (o : ℕ). applied own_world 1 own_process (effect_of (host_at launch) (caller_with (map plain table) o) operation)) owner_is
+      ∙ ap (applied own_world 1 own_process) (effect_by (host_at launch) creds launch.stack table operation ∙ m.comes_to)
 
   done_by : (e : Effect) → IsDoable e → IsDone (applied own_world 1 own_process e).0
   done_by (f.Refuse errno) h = absurd h
@@ -140,19 +140,19 @@ module _ (launch : Launch) (creds : Creds) (table : Table) (namespace : ℕ) (ta
   is_done : IsDoable effect → IsDone (step own_world call).0
   is_done h = let P : Reply × World → Type 0 = λ r. IsDone r.0 in subst P (sym steps) (done_by effect h)
 
-module _ (launch : Launch) (creds : Creds) (table : Table) (world : World) (s : IsSolo launch creds table world) (doing : Doing) (call : Call) where
-  pub solo_done : (effect : Effect) → Makes launch creds table doing call effect → IsDoable effect → IsDone (step world call).0
-  solo_done effect m h = let P : World → Type 0 = λ w. IsDone (step w call).0 in subst P (sym s.is) (is_done launch creds table s.namespace s.tables s.owners s.numbered s.own s.home s.few doing call effect m h)
+module _ (launch : Launch) (creds : Creds) (table : Table) (world : World) (s : IsSolo launch creds table world) (operation : Operation) (call : Call) where
+  pub solo_done : (effect : Effect) → Makes launch creds table operation call effect → IsDoable effect → IsDone (step world call).0
+  solo_done effect m h = let P : World → Type 0 = λ w. IsDone (step w call).0 in subst P (sym s.is) (is_done launch creds table s.namespace s.tables s.owners s.numbered s.own s.home s.few operation call effect m h)
 
-  pub solo_creds : (now : Creds) → Makes launch creds table doing call (SetCreds now) → IsSolo launch now table (step world call).1
+  pub solo_creds : (now : Creds) → Makes launch creds table operation call (SetCreds now) → IsSolo launch now table (step world call).1
   solo_creds now m =
-      let is = ap (λ (w : World). (step w call).1) s.is ∙ ap (λ (r : Reply × World). r.1) (steps launch creds table s.namespace s.tables s.owners s.numbered s.own s.home s.few doing call (SetCreds now) m) in
+      let is = ap (λ (w : World). (step w call).1) s.is ∙ ap (λ (r : Reply × World). r.1) (steps launch creds table s.namespace s.tables s.owners s.numbered s.own s.home s.few operation call (SetCreds now) m) in
       record { namespace = s.namespace; tables = s.tables; owners = s.owners; is = is; numbered = s.numbered; own = s.own; home = s.home; few = s.few }
 
-  pub solo_table : (now : Table) → Makes launch creds table doing call (SetTable (map plain now))
+  pub solo_table : (now : Table) → Makes launch creds table operation call (SetTable (map plain now))
       → IsSolo launch creds now (step world call).1
   solo_table now m =
-      let is = ap (λ (w : World). (step w call).1) s.is ∙ ap (λ (r : Reply × World). r.1) (steps launch creds table s.namespace s.tables s.owners s.numbered s.own s.home s.few doing call (SetTable (map plain now)) m) in
+      let is = ap (λ (w : World). (step w call).1) s.is ∙ ap (λ (r : Reply × World). r.1) (steps launch creds table s.namespace s.tables s.owners s.numbered s.own s.home s.few operation call (SetTable (map plain now)) m) in
       record {
         namespace = s.namespace;
         tables = slice_set s.tables (s.namespace - 1) (map plain now);
@@ -196,13 +196,13 @@ fit_behind [] call h d = (d, tt)
 fit_behind (x ∷ xs) call h d = (h.0, fit_behind xs call h.1 d)
 
 pub shows_last : {launch : Launch} {a b : Creds} {s t : Table} {xs : List Call} → Way launch a s xs b t → (world : World)
-    → IsSolo launch a s world → (question : Question) (doing : Doing) (call : Call) (effect : Effect) → Makes launch b t doing call effect
+    → IsSolo launch a s world → (question : Question) (operation : Operation) (call : Call) (effect : Effect) → Makes launch b t operation call effect
     → IsDoable effect
     → ((now : World) → IsSolo launch b t now → IsDone (step now call).0 → Reaches question (moment_at now call))
     → Shows world question (xs ++ call ∷ [])
-shows_last {launch = launch} {b = b} {t = t} {xs = xs} way world s question doing call effect m d reached =
+shows_last {launch = launch} {b = b} {t = t} {xs = xs} way world s question operation call effect m d reached =
     let w = way_runs way world s in
-    let own = solo_done launch b t (run world xs) w.solo doing call effect m d in
+    let own = solo_done launch b t (run world xs) w.solo operation call effect m d in
     record {
       fit = fit_behind xs call w.fit m.fit;
       done = done_behind world xs call w.done own;

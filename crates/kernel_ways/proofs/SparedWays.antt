@@ -10,7 +10,7 @@ use Rattle.launcher.proofs.OfCapSets.Members.{has_union, has_none, within_union_
 use Rattle.launcher.specs.kern_creds.declared.creds.Creds.{Creds}
 use Rattle.launcher.specs.kernel_laws.Bound.{caps_at, caps_by, caps_before, with_root, when, power_by, power_using, power_of}
 use Rattle.launcher.specs.kernel_model.declared.kernel_calls.call.Call.{Call}
-use Rattle.launcher.specs.kernel_model.kernel_calls.Doing.{Doing, Does, asked_of}
+use Rattle.launcher.specs.kernel_model.kernel_calls.Operation.{Operation, Does, asked_of}
 use Rattle.launcher.specs.kernel_model.Effects.{Effect}
 use Rattle.launcher.specs.kernel_laws.Kinds.{asks}
 use Rattle.launcher.specs.kernel_laws.Launched.{Launch, IsLaunched, lets, data_at, launch_of}
@@ -35,12 +35,12 @@ use Rattle.kernel_ways.proofs.Solo.{solo_creds, solo_table}
 
 module _ (launch : Launch) (l : IsLaunched launch) (uids gids : Bool) where
   -- what passes may be used, where that is what may be used
-  lets_for : {creds : Creds} {table : Table} {own : Doing} {call : Call} {effect : Effect} → Makes launch creds table own call effect
-      → (doing : Doing) → asked_of launch.calls call ≡ Does doing
-      → (asks TakesUid doing ≡ true → lets launch TakesUid ≡ true) × (asks TakesGid doing ≡ true → lets launch TakesGid ≡ true)
-  lets_for {call = call} m doing e =
+  lets_for : {creds : Creds} {table : Table} {own : Operation} {call : Call} {effect : Effect} → Makes launch creds table own call effect
+      → (operation : Operation) → asked_of launch.calls call ≡ Does operation
+      → (asks TakesUid operation ≡ true → lets launch TakesUid ≡ true) × (asks TakesGid operation ≡ true → lets launch TakesGid ≡ true)
+  lets_for {call = call} m operation e =
       let through : decision_on (launch.stack ++ []) (data_at launch call.abi call.nr call.args) ≡ decision.Pass = ap (λ (s : List (List Insn)). decision_on s (data_at launch call.abi call.nr call.args)) (append-nil launch.stack) ∙ m.through in
-      ((λ h. (lets_through launch l).kinds [] call doing m.fit through e TakesUid h), (λ h. (lets_through launch l).kinds [] call doing m.fit through e TakesGid h))
+      ((λ h. (lets_through launch l).kinds [] call operation m.fit through e TakesUid h), (λ h. (lets_through launch l).kinds [] call operation m.fit through e TakesGid h))
 
   abbrev Uids : List Call → Type 0
   Uids list = (lets launch TakesUid ≡ uids) ⊎ Avoids launch TakesUid list
@@ -56,22 +56,22 @@ module _ (launch : Launch) (l : IsLaunched launch) (uids gids : Bool) where
   may kind lets' own h (inl e) k = sym e ∙ h k
   may kind lets' own h (inr off) k = cc
 
-  spare_one : {creds : Creds} {table : Table} {own : Doing} {call : Call} {effect : Effect} → Makes launch creds table own call effect
+  spare_one : {creds : Creds} {table : Table} {own : Operation} {call : Call} {effect : Effect} → Makes launch creds table own call effect
       → One call → (world : World) → IsSolo launch creds table world → Spares uids gids world call
-  spare_one {call = call} m one world s process doing lives first e =
-      let same : asked_of launch.calls call ≡ Does doing = ap (λ (w : World). asked_of w.calls call) (sym s.is) ∙ e in
-      let h = lets_for m doing same in
-      ((λ k c. may (asks TakesUid doing) (lets launch TakesUid) uids h.0 (by_uid same one.0) k), (λ k c. may (asks TakesGid doing) (lets launch TakesGid) gids h.1 (by_gid same one.1) k))
+  spare_one {call = call} m one world s process operation lives first e =
+      let same : asked_of launch.calls call ≡ Does operation = ap (λ (w : World). asked_of w.calls call) (sym s.is) ∙ e in
+      let h = lets_for m operation same in
+      ((λ k c. may (asks TakesUid operation) (lets launch TakesUid) uids h.0 (by_uid same one.0) k), (λ k c. may (asks TakesGid operation) (lets launch TakesGid) gids h.1 (by_gid same one.1) k))
     where
-      by_uid : asked_of launch.calls call ≡ Does doing → (lets launch TakesUid ≡ uids) ⊎ AvoidsOne launch TakesUid call
-          → (lets launch TakesUid ≡ uids) ⊎ (asks TakesUid doing ≡ false)
+      by_uid : asked_of launch.calls call ≡ Does operation → (lets launch TakesUid ≡ uids) ⊎ AvoidsOne launch TakesUid call
+          → (lets launch TakesUid ≡ uids) ⊎ (asks TakesUid operation ≡ false)
       by_uid e (inl h) = inl h
-      by_uid e (inr h) = inr (h doing e)
+      by_uid e (inr h) = inr (h operation e)
 
-      by_gid : asked_of launch.calls call ≡ Does doing → (lets launch TakesGid ≡ gids) ⊎ AvoidsOne launch TakesGid call
-          → (lets launch TakesGid ≡ gids) ⊎ (asks TakesGid doing ≡ false)
+      by_gid : asked_of launch.calls call ≡ Does operation → (lets launch TakesGid ≡ gids) ⊎ AvoidsOne launch TakesGid call
+          → (lets launch TakesGid ≡ gids) ⊎ (asks TakesGid operation ≡ false)
       by_gid e (inl h) = inl h
-      by_gid e (inr h) = inr (h doing e)
+      by_gid e (inr h) = inr (h operation e)
 
   heads : (call : Call) (list : List Call) → Uids (call ∷ list) → Gids (call ∷ list) → One call × Uids list × Gids list
   heads call list (inl u) (inl g) = ((inl u, inl g), inl u, inl g)

@@ -13,7 +13,7 @@ use Rattle.launcher.specs.kern_creds.declared.creds.Creds.{Creds}
 use Rattle.launcher.specs.kern_mounts.Finds.{row, finds}
 use Rattle.launcher.specs.kernel_model.declared.kernel_calls.call.Call.{Call}
 use Rattle.launcher.specs.kernel_laws.Denied.{path_for, ReachesRow, ReachesCall, Performs, SomeLiving}
-use Rattle.launcher.specs.kernel_model.kernel_calls.Doing.{Doing}
+use Rattle.launcher.specs.kernel_model.kernel_calls.Operation.{Operation}
 use Rattle.launcher.specs.kernel_model.Effects.{Effect}
 use Rattle.launcher.specs.kernel_laws.Launched.{Launch, IsLaunchedWorld, launch_of, first_of}
 use Rattle.launcher.specs.kern_mounts.Mounts.{Mounts, plain, steps_of}
@@ -66,14 +66,14 @@ module _ (launch : Launch) (creds : Creds) (table : Table) (world : World) (s : 
       subst Q (sym s.is) (record { pid = 1; process = solo_process launch creds s.namespace; lives = refl; has = h })
 
   pub reaches_row : (wish : Wish) (place : ℕ) (target : Row) → slice_get launch.site.rows place ≡ Some target
-      → (doing : Doing) (call : Call) (effect : Effect) → Makes launch creds table doing call effect → (path : Path)
-      → path_for wish doing ≡ Some path
+      → (operation : Operation) (call : Call) (effect : Effect) → Makes launch creds table operation call effect → (path : Path)
+      → path_for wish operation ≡ Some path
       → finds (row_at launch.site.rows) table path ≡ row target → IsDone (step world call).0 → ReachesRow wish place (moment_at world call)
-  reaches_row wish place target listed doing call effect m path wanted found =
+  reaches_row wish place target listed operation call effect m path wanted found =
       let Q : World → Type 0 = λ w. IsDone (step w call).0 → ReachesRow wish place (moment_at w call) in
       subst Q (sym s.is) (λ done. record {
         done = done;
-        doing = doing;
+        operation = operation;
         asks = m.asks;
         path = path;
         wanted = wanted;
@@ -84,11 +84,11 @@ module _ (launch : Launch) (creds : Creds) (table : Table) (world : World) (s : 
         found = ap (λ (t : Table). finds (row_at launch.site.rows) t path) table_is ∙ found;
       })
 
-  pub performs : (p : Doing → Bool) (doing : Doing) (call : Call) (effect : Effect) → Makes launch creds table doing call effect
-      → p doing ≡ true → IsDone (step world call).0 → Performs p (moment_at world call)
-  performs p doing call effect m such =
+  pub performs : (p : Operation → Bool) (operation : Operation) (call : Call) (effect : Effect) → Makes launch creds table operation call effect
+      → p operation ≡ true → IsDone (step world call).0 → Performs p (moment_at world call)
+  performs p operation call effect m such =
       let Q : World → Type 0 = λ w. IsDone (step w call).0 → Performs p (moment_at w call) in
-      subst Q (sym s.is) (λ done. record { done = done; doing = doing; is = m.asks; such = such })
+      subst Q (sym s.is) (λ done. record { done = done; operation = operation; is = m.asks; such = such })
 
   pub reaches_call : (place : ℕ) (line : CallLine) → slice_get (every_call launch.calls) place ≡ Some line
       → (called : CallLine) (call : Call) → numbered call.nr (calls_in launch.calls call.abi) ≡ Some called → line.name ≡ called.name

@@ -1,5 +1,6 @@
 -- Filters of settings look at no words of execve(2), of the calls that mount, and of those that set ids or capabilities.
-use Rattle.std.proofs.Common.{◌≡◌, ℕ, Bool, true, false, cond, codes, List, [], ◌∷◌, Option, Some, refl, ap, ◌∙◌, sym, arith, eqb}
+use Rattle.std.proofs.Common.{◌≡◌, ℕ, Bool, true, false, cond, codes, List, [], ◌∷◌, Option, Some, None, refl, ap, ◌∙◌, sym, arith, eqb}
+use Rattle.std.specs.Prelude.{◌||◌, ◌&&◌}
 use Rattle.std.specs.List.{AllByRecursion}
 use Rattle.std.specs.Option.{option_map_or}
 use Rattle.std.specs.Str.{bytes_eq}
@@ -13,7 +14,8 @@ use Rattle.launcher.specs.call_table.call_names.Known.{known_call}
 use Rattle.launcher.specs.call_table.declared.call_names.rule.Argument.TheVariants.{Second, Third}
 use Rattle.launcher.specs.call_table.declared.call_names.rule.CallRule.TheVariants as known
 use Rattle.launcher.specs.call_rules.Action.{word_of}
-use Rattle.launcher.specs.call_rules.declared.actions.Action.TheVariants.{KillProcess}
+use Rattle.launcher.specs.call_rules.declared.actions.Action.TheVariants.{KillProcess, Errno, Allow}
+use Rattle.launcher.specs.unit_names.declared.version.Version.{Version}
 use Rattle.launcher.specs.call_table.declared.listed.CallLine.{CallLine}
 use Rattle.launcher.specs.call_table.Table as calls
 use Rattle.launcher.specs.call_table.Lookups.{numbered}
@@ -22,20 +24,20 @@ use Rattle.launcher.specs.filter_settings.declared.filter_rules.names.FilterName
 use Rattle.launcher.specs.filter_settings.declared.filter_rules.names.FilterName.TheVariants as filter
 use Rattle.launcher.specs.filter_settings.declared.filter_rules.namespace_types.NamespaceTypes.{NamespaceTypes}
 use Rattle.launcher.specs.filter_settings.declared.filter_rules.settings.FilterSettings.{FilterSettings}
-use Rattle.launcher.specs.filter_settings.filter_rules.Actions.{unless_refused}
+use Rattle.launcher.specs.filter_settings.filter_rules.Actions.{unless_refused, low, has_bits}
 use Rattle.launcher.specs.filter_settings.filter_rules.Families.{refuses_family}
 use Rattle.launcher.specs.filter_settings.filter_rules.Mapping.{refuses_mapping}
-use Rattle.launcher.specs.filter_settings.filter_rules.Namespaces.{refuses_namespace}
+use Rattle.launcher.specs.filter_settings.filter_rules.Namespaces.{refuses_namespace, clone_newtime, namespace_action}
 use Rattle.launcher.specs.filter_settings.filter_rules.Personality.{refuses_personality}
 use Rattle.launcher.specs.filter_settings.filter_rules.Realtime.{refuses_policy}
-use Rattle.launcher.specs.filter_settings.filter_rules.Suid.{refuses_mode}
+use Rattle.launcher.specs.filter_settings.filter_rules.Suid.{refuses_mode, sets_id_bit, suid_action}
 use Rattle.launcher.specs.filter_settings.filter_rules.Wanted.{named_action, unnamed_action, wanted_action}
 use Rattle.launcher.specs.kernel_model.kernel_calls.Rules.{rule_of}
 use Rattle.launcher.specs.kernel_model.declared.kernel_calls.rule.Rule.{Rule}
 use Rattle.launcher.specs.kernel_model.declared.kernel_calls.rule.Rule.TheVariants.{Known}
 use Rattle.launcher.specs.kernel_laws.FirstChoice.{Means}
 use Rattle.launcher.specs.kernel_laws.Launched.{Launch, data_at}
-use Rattle.launcher.proofs.OfKernelLaws.FilterChoices.{with_name, rule_named}
+use Rattle.launcher.proofs.OfKernelLaws.FilterChoices.{with_name, rule_named, named_none}
 use Rattle.launcher.proofs.OfKernelLaws.Filters.{HasRule, has_rule}
 use Rattle.launcher.proofs.OfKernelLaws.Programs.{stack_passes}
 use Rattle.kernel_ways.specs.Launching.{SettingsPassAlike}
@@ -96,6 +98,34 @@ module _ (line : CallLine) (rule : Rule) (is : rule_of line ≡ Some rule) (unlo
         no_name (codes "setns") (Known known.Enter) refl refl,
       ) refl
 
+  -- with a version of systemd, whose further calls have no rule
+  suid_alike : (systemd : Option Version) (one other : CallData) → suid_action systemd line.name one ≡ suid_action systemd line.name other
+  unfolding rule_of known_call
+  suid_alike None one other = ap (λ b. unless_refused 1 b) (mode_free one ∙ sym (mode_free other))
+  suid_alike (Some version) one other = at one ∙ sym (at other)
+    where
+      at : (input : CallData) → suid_action (Some version) line.name input
+          ≡ cond (bytes_eq line.name (codes "openat2")) (Errno 38) Allow
+      at input =
+          ap (λ b. cond (bytes_eq line.name (codes "openat2")) (Errno 38)
+          (unless_refused 1 (refuses_mode line.name input || (b && sets_id_bit (low input 2)))))
+          (named_none line rule is (codes "fchmodat2") refl)
+          ∙ ap (λ b. cond (bytes_eq line.name (codes "openat2")) (Errno 38) (unless_refused 1 (b || false))) (mode_free input)
+
+  space_alike : (systemd : Option Version) (types : NamespaceTypes) (one other : CallData)
+      → namespace_action systemd types line.name one ≡ namespace_action systemd types line.name other
+  unfolding rule_of known_call
+  space_alike None types one other = ap (λ b. unless_refused 1 b) (namespace_free types one ∙ sym (namespace_free types other))
+  space_alike (Some version) types one other = at one ∙ sym (at other)
+    where
+      at : (input : CallData) → namespace_action (Some version) types line.name input
+          ≡ cond (bytes_eq line.name (codes "clone3")) (Errno 38) Allow
+      at input =
+          ap (λ b. cond (bytes_eq line.name (codes "clone3")) (Errno 38)
+          (unless_refused 1 (refuses_namespace types line.name input || (b && has_bits (low input 0) clone_newtime))))
+          (no_name (codes "clone") (Known known.Clone) refl refl)
+          ∙ ap (λ b. cond (bytes_eq line.name (codes "clone3")) (Errno 38) (unless_refused 1 (b || false))) (namespace_free types input)
+
   personality_free : (input : CallData) → refuses_personality line.name input ≡ false
   unfolding rule_of known_call
   personality_free input = rw (no_name (codes "personality") (Known known.Personality) refl refl) refl
@@ -108,9 +138,9 @@ module _ (line : CallLine) (rule : Rule) (is : rule_of line ≡ Some rule) (unlo
   named_alike filter.MemoryDenyWriteExecute settings table one other =
       ap (λ b. unless_refused 1 b) (mapping_free one ∙ sym (mapping_free other))
   named_alike filter.Realtime settings table one other = ap (λ b. unless_refused 1 b) (policy_free one ∙ sym (policy_free other))
-  named_alike filter.Suid settings table one other = ap (λ b. unless_refused 1 b) (mode_free one ∙ sym (mode_free other))
-  named_alike filter.Namespaces settings table one other = ap (λ b. unless_refused 1 b)
-      (namespace_free settings.namespaces one ∙ sym (namespace_free settings.namespaces other))
+  named_alike filter.Suid settings table one other = suid_alike settings.systemd one other
+  named_alike filter.Namespaces settings table one other = space_alike settings.systemd settings.namespaces one other
+  named_alike filter.Tunables settings table one other = refl
   named_alike filter.Personality settings table one other = ap (λ b. unless_refused 1 b)
       (personality_free one ∙ sym (personality_free other))
   named_alike filter.Archs settings table one other = refl

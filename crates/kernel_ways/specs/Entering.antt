@@ -9,7 +9,7 @@ use Rattle.launcher.specs.kernel_model.declared.kernel_calls.rule.Rule.{Rule}
 use Rattle.launcher.specs.kernel_model.declared.kernel_calls.rule.Rule.TheVariants.{Known}
 use Rattle.launcher.specs.call_table.declared.call_names.rule.CallRule.TheVariants.{Unshare}
 use Rattle.launcher.specs.kernel_model.kernel_calls.Calls.{IsCall}
-use Rattle.launcher.specs.kernel_model.kernel_calls.Doing.{Doing, Does, asked_of}
+use Rattle.launcher.specs.kernel_model.kernel_calls.Operation.{Operation, Does, asked_of}
 use Rattle.launcher.specs.kernel_model.Effects.{Effect, Caller, effect_of}
 use Rattle.launcher.specs.kernel_model.Runs.{IsDone}
 use Rattle.launcher.specs.kernel_model.Step.{most_processes, most_namespaces, step}
@@ -45,19 +45,19 @@ abbrev pub newer_at : Launch → Creds → Table → Bool → Caller
 newer_at launch creds table owns = record { creds = creds; stack = launch.stack; table = map plain table; newer = true; owns = owns }
 
 -- the process can make the call, the filters let it through, it asks for this, and has this effect
-pub record MakesIn (launch : Launch) (creds : Creds) (table : Table) (pid : ℕ) (doing : Doing) (call : Call) (effect : Effect) : Type 0 where
+pub record MakesIn (launch : Launch) (creds : Creds) (table : Table) (pid : ℕ) (operation : Operation) (call : Call) (effect : Effect) : Type 0 where
   pub fit : IsCall call
   pub by : call.pid ≡ pid
   pub through : passes launch call.abi call.nr call.args
-  pub asks : asked_of launch.calls call ≡ Does doing
-  pub comes_to : (owns : Bool) → effect_of (host_at launch) (newer_at launch creds table owns) doing ≡ effect
+  pub asks : asked_of launch.calls call ≡ Does operation
+  pub comes_to : (owns : Bool) → effect_of (host_at launch) (newer_at launch creds table owns) operation ≡ effect
 
 -- a way, a call that makes a user namespace, and one more call in it
 abbrev pub CallsShowInside : Type 0
 CallsShowInside = (launch : Launch) (from to : Creds) (table now : Table) (world : World) (calls : List Call) (question : Question)
-    (pid : ℕ) (user last : Call) (doing : Doing) (effect : Effect)
+    (pid : ℕ) (user last : Call) (operation : Operation) (effect : Effect)
     → IsSolo launch from table world → Way launch from table calls to now
     → IsCall user → ((after : World) → IsSolo launch to now after
     → IsDone (step after user).0 × IsEntered launch (entered to) now pid (step after user).1)
-    → MakesIn launch (entered to) now pid doing last effect → IsDoable effect → Answers launch now question last doing
+    → MakesIn launch (entered to) now pid operation last effect → IsDoable effect → Answers launch now question last operation
     → Shows world question ((calls ++ user ∷ []) ++ last ∷ [])

@@ -11,7 +11,7 @@ use Rattle.launcher.specs.kern_creds.declared.creds.Creds.{Creds}
 use Rattle.launcher.specs.kern_mounts.Finds.{row, finds}
 use Rattle.launcher.specs.kern_mounts.Split.{Table}
 use Rattle.launcher.specs.kernel_model.declared.kernel_calls.call.Call as call
-use Rattle.launcher.specs.kernel_model.kernel_calls.Doing.{Doing}
+use Rattle.launcher.specs.kernel_model.kernel_calls.Operation.{Operation}
 use Rattle.launcher.specs.kernel_model.Effects.{Effect, Refuse, Answer, SetCreds, SetTable, Push, Child, OwnTable, UserChild, OwnUser, End}
 use Rattle.launcher.specs.kernel_model.kernel_calls.Calls.{AreCalls}
 use Rattle.launcher.specs.kernel_model.Runs.{moments, run, AllDone}
@@ -42,23 +42,23 @@ IsDoable End = Unit {0}
 
 -- once such a call is done, it answers the question if it asks for this. For a path: the path finds this row on the mount
 -- table. For a call: the call at this place has the same name. Otherwise: the call asks for the thing in question
-abbrev pub Answers : Launch → Table → Question → call.Call → Doing → Type 0
-Answers launch table (ByPath wish place) call doing =
-    (path : Path) × (target : Row) × (path_for wish doing ≡ Some path) × (slice_get launch.site.rows place ≡ Some target) ×
+abbrev pub Answers : Launch → Table → Question → call.Call → Operation → Type 0
+Answers launch table (ByPath wish place) call operation =
+    (path : Path) × (target : Row) × (path_for wish operation ≡ Some path) × (slice_get launch.site.rows place ≡ Some target) ×
     (finds (row_at launch.site.rows) table path ≡ row target)
-Answers launch table (Call place) call doing = (line : CallLine) × (slice_get (every_call launch.calls) place ≡ Some line) ×
+Answers launch table (Call place) call operation = (line : CallLine) × (slice_get (every_call launch.calls) place ≡ Some line) ×
     (called : CallLine) × (numbered call.nr (calls_in launch.calls call.abi) ≡ Some called) × (line.name ≡ called.name)
-Answers launch table (Socket place) call doing = asks_family launch.calls.families place doing ≡ true
-Answers launch table (Ns space) call doing = asks_space space doing ≡ true
-Answers launch table MapWx call doing = asks_map doing ≡ true
-Answers launch table ProtectX call doing = asks_protect doing ≡ true
-Answers launch table ShmX call doing = asks_attach doing ≡ true
-Answers launch table Realtime call doing = asks_realtime doing ≡ true
-Answers launch table Personality call doing = asks_personality doing ≡ true
-Answers launch table SuidBit call doing = asks_mode doing ≡ true
-Answers launch table (Cap number) call doing = ⊥
-Answers launch table (Uid id) call doing = ⊥
-Answers launch table (Gid id) call doing = ⊥
+Answers launch table (Socket place) call operation = asks_family launch.calls.families place operation ≡ true
+Answers launch table (Ns space) call operation = asks_space space operation ≡ true
+Answers launch table MapWx call operation = asks_map operation ≡ true
+Answers launch table ProtectX call operation = asks_protect operation ≡ true
+Answers launch table ShmX call operation = asks_attach operation ≡ true
+Answers launch table Realtime call operation = asks_realtime operation ≡ true
+Answers launch table Personality call operation = asks_personality operation ≡ true
+Answers launch table SuidBit call operation = asks_mode operation ≡ true
+Answers launch table (Cap number) call operation = ⊥
+Answers launch table (Uid id) call operation = ⊥
+Answers launch table (Gid id) call operation = ⊥
 
 -- such credentials answer the question
 abbrev pub HaveAsked : Question → Creds → Type 0
@@ -70,9 +70,9 @@ HaveAsked question creds = ⊥
 -- a way and one more call show the question
 abbrev pub CallsShow : Type 0
 CallsShow = (launch : Launch) (from to : Creds) (table now : Table) (world : World) (calls : List call.Call) (question : Question)
-    (doing : Doing) (last : call.Call) (effect : Effect)
-    → IsSolo launch from table world → Way launch from table calls to now → Makes launch to now doing last effect → IsDoable effect
-    → Answers launch now question last doing
+    (operation : Operation) (last : call.Call) (effect : Effect)
+    → IsSolo launch from table world → Way launch from table calls to now → Makes launch to now operation last effect → IsDoable effect
+    → Answers launch now question last operation
     → Shows world question (calls ++ last ∷ [])
 
 -- a way alone shows the question

@@ -13,7 +13,7 @@ use Rattle.launcher.specs.call_table.declared.listed.CallLine.{CallLine}
 use Rattle.launcher.specs.kernel_model.kernel_calls.Calls.{IsCall}
 use Rattle.launcher.specs.kernel_model.kernel_calls.Rules.{rule_at}
 use Rattle.launcher.specs.kernel_model.declared.kernel_calls.rule.Rule.{Rule}
-use Rattle.launcher.specs.kernel_model.kernel_calls.Doing.{Doing, See, Open, Create, Truncate, Execve, Does, asked_of}
+use Rattle.launcher.specs.kernel_model.kernel_calls.Operation.{Operation, See, Open, Create, Truncate, Execve, Does, asked_of}
 use Rattle.launcher.specs.kernel_model.Effects.{Effect, SetCreds, SetTable, Host, Caller, effect_of, looks, creds_effect}
 use Rattle.launcher.specs.kernel_model.Step.{most_namespaces}
 use Rattle.launcher.specs.kernel_model.World.{World}
@@ -47,13 +47,13 @@ abbrev pub caller_at : Launch → Creds → Table → Caller
 caller_at launch creds table = record { creds = creds; stack = launch.stack; table = map plain table; newer = false; owns = true }
 
 -- the effect of a call; where it looks at a path, by the entries of the caller's table alone
-abbrev pub effect_on : Host → Caller → Table → Doing → Effect
+abbrev pub effect_on : Host → Caller → Table → Operation → Effect
 effect_on host caller table (See path) = looks (see_answer 0 (finds host.rows table path))
 effect_on host caller table (Open flags path) = looks (open_answer flags (flags_at table path) (finds host.rows table path))
 effect_on host caller table (Create path) = looks (write_answer 3 (flags_at table path) (finds host.rows table path))
 effect_on host caller table (Truncate path) = looks (write_answer 0 (flags_at table path) (finds host.rows table path))
 effect_on host caller table (Execve path) = creds_effect (exec_answer caller.creds (flags_at table path) (finds host.rows table path))
-effect_on host caller table doing = effect_of host caller doing
+effect_on host caller table operation = effect_of host caller operation
 
 -- a call of an ABI, by its number
 pub record CallAt : Type 0 where
@@ -74,19 +74,19 @@ abbrev pub passes_at : Launch → CallAt → List ℕ → Type 0
 passes_at launch at args = passes launch at.abi at.nr args
 
 -- process 1 can make the call, the filters let it through, it asks for this, and has this effect
-pub record Makes (launch : Launch) (creds : Creds) (table : Table) (doing : Doing) (call : Call) (effect : Effect) : Type 0 where
+pub record Makes (launch : Launch) (creds : Creds) (table : Table) (operation : Operation) (call : Call) (effect : Effect) : Type 0 where
   pub fit : IsCall call
   pub first : call.pid ≡ 1
   pub through : passes launch call.abi call.nr call.args
-  pub asks : asked_of launch.calls call ≡ Does doing
-  pub comes_to : effect_on (host_at launch) (caller_at launch creds table) table doing ≡ effect
+  pub asks : asked_of launch.calls call ≡ Does operation
+  pub comes_to : effect_on (host_at launch) (caller_at launch creds table) table operation ≡ effect
 
 -- the calls lead from these credentials and this mount table to those
 pub data Way (launch : Launch) : Creds → Table → List Call → Creds → Table → Type 0 where
   here : {creds : Creds} {table : Table} → Way launch creds table [] creds table
-  by_creds : {creds now last : Creds} {table end : Table} {rest : List Call} {doing : Doing} (call : Call)
-      → Makes launch creds table doing call (SetCreds now) →
+  by_creds : {creds now last : Creds} {table end : Table} {rest : List Call} {operation : Operation} (call : Call)
+      → Makes launch creds table operation call (SetCreds now) →
       Way launch now table rest last end → Way launch creds table (call ∷ rest) last end
-  by_table : {creds last : Creds} {table now end : Table} {rest : List Call} {doing : Doing} (call : Call)
-      → Makes launch creds table doing call (SetTable (map plain now)) →
+  by_table : {creds last : Creds} {table now end : Table} {rest : List Call} {operation : Operation} (call : Call)
+      → Makes launch creds table operation call (SetTable (map plain now)) →
       Way launch creds now rest last end → Way launch creds table (call ∷ rest) last end

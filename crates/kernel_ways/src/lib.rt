@@ -69,7 +69,7 @@ pub fn blindness()
 
 pub use launcher::{
     CallData, CallKind, Decision, FilterProgram, LaunchError, Launched, Mentions, MountSteps,
-    NamespaceType, PlanError, Power, Resolved, Settings, SettingsError, Wish, is_judged, launch,
-    linux_numbers, plan, settings,
+    NamespaceType, PlanError, Power, Resolved, Settings, SettingsError, Version, Wish, is_read,
+    launch, linux_numbers, plan, settings,
 };
 pub use reach_paths::{is_covered, reach};

@@ -17,8 +17,8 @@ use Rattle.kernel_laws.specs.bpf_code.Stack.{answer_of, answers_of, decision_by,
 use Rattle.exec_settings.specs.cap_sets.Sets.{has}
 use Rattle.kernel_laws.specs.kernel_model.declared.kernel_calls.call.Call.{Call}
 use Rattle.kernel_laws.specs.kernel_model.kernel_calls.Calls.{IsCall}
-use Rattle.kernel_laws.specs.kernel_model.kernel_calls.Doing as d
-use Rattle.kernel_laws.specs.kernel_model.kernel_calls.Doing.{Doing, Asked, Lacking, Misformed, Does, asked_of}
+use Rattle.kernel_laws.specs.kernel_model.kernel_calls.Operation as d
+use Rattle.kernel_laws.specs.kernel_model.kernel_calls.Operation.{Operation, Asked, Lacking, Misformed, Does, asked_of}
 use Rattle.kernel_laws.specs.kernel_model.Effects as f
 use Rattle.kernel_laws.specs.kernel_model.Effects.{Effect, Caller, effect_of, push_effect}
 use Rattle.kernel_laws.specs.kernel_model.declared.reply.Reply.TheVariants as w
@@ -192,7 +192,7 @@ module _ (programs : List (List Insn)) where
   abbrev pub own_answered : World → ℕ → Process → Asked → Reply × World
   own_answered world pid process Lacking = (w.Refused enosys, world)
   own_answered world pid process Misformed = (w.Refused efault, world)
-  own_answered world pid process (Does doing) = applied world pid process (effect_of (host_of world) (caller_over world process) doing)
+  own_answered world pid process (Does operation) = applied world pid process (effect_of (host_of world) (caller_over world process) operation)
 
   abbrev pub own_decided : World → Call → Process → Decision → Reply × World
   own_decided world call process decision.Pass = own_answered world call.pid process (asked_of world.calls call)
@@ -210,8 +210,8 @@ module _ (programs : List (List Insn)) where
       → answered (above programs world) pid (over programs process) asked ≡ lifted (own_answered world pid process asked)
   answered_above world pid process Lacking = refl
   answered_above world pid process Misformed = refl
-  answered_above world pid process (Does doing) = applied_above world pid process
-      (effect_of (host_of world) (caller_over world process) doing)
+  answered_above world pid process (Does operation) = applied_above world pid process
+      (effect_of (host_of world) (caller_over world process) operation)
 
   decided_above : (world : World) (call : Call) (process : Process) (c : Decision)
       → decided (above programs world) call (over programs process) c ≡ lifted (own_decided world call process c)
@@ -259,10 +259,10 @@ same_decided one other world call process alike fit = by (abi_at world.calls cal
 
 -- the call is full in one of two replies
 pub record FullInOne (calls : _) (call : Call) (one other : Reply) : Type 0 where
-  pub operation : ℕ
+  pub op : ℕ
   pub flags : ℕ
   pub bytes : List ℕ
-  pub asks : asked_of calls call ≡ Does (d.Seccomp operation flags bytes)
+  pub asks : asked_of calls call ≡ Does (d.Seccomp op flags bytes)
   pub replies : ((one ≡ w.Refused enomem) × (other ≡ w.Done 0)) ⊎ ((one ≡ w.Done 0) × (other ≡ w.Refused enomem))
 
 module _ (one other : List (List Insn)) (world : World) (call : Call) where
@@ -270,75 +270,75 @@ module _ (one other : List (List Insn)) (world : World) (call : Call) where
   Outcome x y = (x ≡ y) ⊎ FullInOne world.calls call x.0 y.0
 
   module _ (process : Process) where
-    pushed_alike : (operation flags : ℕ) (bytes : List ℕ) → asked_of world.calls call ≡ Does (d.Seccomp operation flags bytes)
+    pushed_alike : (op flags : ℕ) (bytes : List ℕ) → asked_of world.calls call ≡ Does (d.Seccomp op flags bytes)
         → (code : List Insn) (b c : Bool)
         → Outcome (applied world call.pid process (cond b (f.Push code) (f.Refuse enomem)))
         (applied world call.pid process (cond c (f.Push code) (f.Refuse enomem)))
-    pushed_alike operation flags bytes asks code true true = inl refl
-    pushed_alike operation flags bytes asks code false false = inl refl
-    pushed_alike operation flags bytes asks code true false =
-        inr (record { operation = operation; flags = flags; bytes = bytes; asks = asks; replies = inr (refl, refl) })
-    pushed_alike operation flags bytes asks code false true =
-        inr (record { operation = operation; flags = flags; bytes = bytes; asks = asks; replies = inl (refl, refl) })
+    pushed_alike op flags bytes asks code true true = inl refl
+    pushed_alike op flags bytes asks code false false = inl refl
+    pushed_alike op flags bytes asks code true false =
+        inr (record { op = op; flags = flags; bytes = bytes; asks = asks; replies = inr (refl, refl) })
+    pushed_alike op flags bytes asks code false true =
+        inr (record { op = op; flags = flags; bytes = bytes; asks = asks; replies = inl (refl, refl) })
 
-    read_alike : (operation flags : ℕ) (bytes : List ℕ) → asked_of world.calls call ≡ Does (d.Seccomp operation flags bytes)
+    read_alike : (op flags : ℕ) (bytes : List ℕ) → asked_of world.calls call ≡ Does (d.Seccomp op flags bytes)
         → (read : Option (List Insn))
         → Outcome (applied world call.pid process (push_effect (one ++ process.stack) read))
         (applied world call.pid process (push_effect (other ++ process.stack) read))
-    read_alike operation flags bytes asks None = inl refl
-    read_alike operation flags bytes asks (Some code) = pushed_alike operation flags bytes asks code
+    read_alike op flags bytes asks None = inl refl
+    read_alike op flags bytes asks (Some code) = pushed_alike op flags bytes asks code
         (nat_le (room_of (one ++ process.stack) + length code) max_insns_per_path)
         (nat_le (room_of (other ++ process.stack) + length code) max_insns_per_path)
 
-    seccomp_alike : (operation flags : ℕ) (bytes : List ℕ) → asked_of world.calls call ≡ Does (d.Seccomp operation flags bytes)
+    seccomp_alike : (op flags : ℕ) (bytes : List ℕ) → asked_of world.calls call ≡ Does (d.Seccomp op flags bytes)
         → (b c : Bool)
         → Outcome (applied world call.pid process
         (cond b (f.Refuse einval) (cond c (f.Refuse eacces) (push_effect (one ++ process.stack) (program_of bytes)))))
         (applied world call.pid process
         (cond b (f.Refuse einval) (cond c (f.Refuse eacces) (push_effect (other ++ process.stack) (program_of bytes)))))
-    seccomp_alike operation flags bytes asks true c = inl refl
-    seccomp_alike operation flags bytes asks false true = inl refl
-    seccomp_alike operation flags bytes asks false false = read_alike operation flags bytes asks (program_of bytes)
+    seccomp_alike op flags bytes asks true c = inl refl
+    seccomp_alike op flags bytes asks false true = inl refl
+    seccomp_alike op flags bytes asks false false = read_alike op flags bytes asks (program_of bytes)
 
-    doing_alike : (doing : Doing) → asked_of world.calls call ≡ Does doing
-        → Outcome (applied world call.pid process (effect_of (host_of world) (caller_over one world process) doing))
-        (applied world call.pid process (effect_of (host_of world) (caller_over other world process) doing))
-    doing_alike (d.See path) asks = inl refl
-    doing_alike (d.Open flags path) asks = inl refl
-    doing_alike (d.Create path) asks = inl refl
-    doing_alike (d.Truncate path) asks = inl refl
-    doing_alike (d.Execve path) asks = inl refl
-    doing_alike (d.SetMode mode) asks = inl refl
-    doing_alike (d.Map protection) asks = inl refl
-    doing_alike (d.Protect protection) asks = inl refl
-    doing_alike (d.Attach flags) asks = inl refl
-    doing_alike (d.Schedule policy) asks = inl refl
-    doing_alike (d.Personality domain) asks = inl refl
-    doing_alike (d.Socket family) asks = inl refl
-    doing_alike (d.Socketcall operation family) asks = inl refl
-    doing_alike d.Enter asks = inl refl
-    doing_alike d.Fork asks = inl refl
-    doing_alike (d.Clone flags) asks = inl refl
-    doing_alike (d.Unshare flags) asks = inl refl
-    doing_alike d.Exit asks = inl refl
-    doing_alike (d.Mount source target flags) asks = inl refl
-    doing_alike (d.Umount path flags) asks = inl refl
-    doing_alike (d.Setuid id) asks = inl refl
-    doing_alike (d.Setgid id) asks = inl refl
-    doing_alike (d.Setresuid r e s) asks = inl refl
-    doing_alike (d.Setresgid r e s) asks = inl refl
-    doing_alike (d.Setgroups ids) asks = inl refl
-    doing_alike (d.Capset p e i) asks = inl refl
-    doing_alike (d.Prctl option value third) asks = inl refl
-    doing_alike (d.Seccomp operation flags bytes) asks = seccomp_alike operation flags bytes asks (not (eqb operation 1 && eqb flags 0))
+    operation_alike : (operation : Operation) → asked_of world.calls call ≡ Does operation
+        → Outcome (applied world call.pid process (effect_of (host_of world) (caller_over one world process) operation))
+        (applied world call.pid process (effect_of (host_of world) (caller_over other world process) operation))
+    operation_alike (d.See path) asks = inl refl
+    operation_alike (d.Open flags path) asks = inl refl
+    operation_alike (d.Create path) asks = inl refl
+    operation_alike (d.Truncate path) asks = inl refl
+    operation_alike (d.Execve path) asks = inl refl
+    operation_alike (d.SetMode mode) asks = inl refl
+    operation_alike (d.Map protection) asks = inl refl
+    operation_alike (d.Protect protection) asks = inl refl
+    operation_alike (d.Attach flags) asks = inl refl
+    operation_alike (d.Schedule policy) asks = inl refl
+    operation_alike (d.Personality domain) asks = inl refl
+    operation_alike (d.Socket family) asks = inl refl
+    operation_alike (d.Socketcall op family) asks = inl refl
+    operation_alike d.Enter asks = inl refl
+    operation_alike d.Fork asks = inl refl
+    operation_alike (d.Clone flags) asks = inl refl
+    operation_alike (d.Unshare flags) asks = inl refl
+    operation_alike d.Exit asks = inl refl
+    operation_alike (d.Mount source target flags) asks = inl refl
+    operation_alike (d.Umount path flags) asks = inl refl
+    operation_alike (d.Setuid id) asks = inl refl
+    operation_alike (d.Setgid id) asks = inl refl
+    operation_alike (d.Setresuid r e s) asks = inl refl
+    operation_alike (d.Setresgid r e s) asks = inl refl
+    operation_alike (d.Setgroups ids) asks = inl refl
+    operation_alike (d.Capset p e i) asks = inl refl
+    operation_alike (d.Prctl option value third) asks = inl refl
+    operation_alike (d.Seccomp op flags bytes) asks = seccomp_alike op flags bytes asks (not (eqb op 1 && eqb flags 0))
         (not (process.creds.no_new_privs || has process.creds.effective cap_sys_admin))
-    doing_alike (d.Plain cap) asks = inl refl
+    operation_alike (d.Plain cap) asks = inl refl
 
     asked_alike : (asked : Asked) → asked_of world.calls call ≡ asked
         → Outcome (own_answered one world call.pid process asked) (own_answered other world call.pid process asked)
     asked_alike Lacking asks = inl refl
     asked_alike Misformed asks = inl refl
-    asked_alike (Does doing) asks = doing_alike doing asks
+    asked_alike (Does operation) asks = operation_alike operation asks
 
     decided_alike : (c : Decision) → Outcome (own_decided one world call process c) (own_decided other world call process c)
     decided_alike decision.Pass = asked_alike (asked_of world.calls call) refl
@@ -413,8 +413,8 @@ calls_answered : (programs : List (List Insn)) (world : World) (pid : ℕ) (proc
     → (own_answered programs world pid process asked).1.calls ≡ world.calls
 calls_answered programs world pid process Lacking = refl
 calls_answered programs world pid process Misformed = refl
-calls_answered programs world pid process (Does doing) = calls_applied world pid process
-    (effect_of (host_of world) (caller_over programs world process) doing)
+calls_answered programs world pid process (Does operation) = calls_applied world pid process
+    (effect_of (host_of world) (caller_over programs world process) operation)
 
 calls_decided : (programs : List (List Insn)) (world : World) (call : Call) (process : Process) (c : Decision)
     → (own_decided programs world call process c).1.calls ≡ world.calls
@@ -464,7 +464,7 @@ alike_replies one other world (call ∷ calls) alike arch fit =
               (subst (λ (v : World). SameReplies (above one next) v calls) (sym after') (rest next kept)),
         )
     by (inr full) rest = inr (record
-        { operation = full.operation; flags = full.flags; bytes = full.bytes; asks = full.asks; replies = by_replies full.replies })
+        { op = full.op; flags = full.flags; bytes = full.bytes; asks = full.asks; replies = by_replies full.replies })
       where
         by_replies : (((own_step one world call).0 ≡ w.Refused enomem) × ((own_step other world call).0 ≡ w.Done 0)) ⊎
             (((own_step one world call).0 ≡ w.Done 0) × ((own_step other world call).0 ≡ w.Refused enomem))
@@ -525,7 +525,7 @@ alike_runs one other base (call ∷ calls) alike arch fit =
           rest (own_step one base call).1 (subst HasWordArchs (sym (calls_kept one base call)) arch),
         )
     by (inr full) rest = inr (record
-        { operation = full.operation; flags = full.flags; bytes = full.bytes; asks = full.asks; replies = by_replies full.replies })
+        { op = full.op; flags = full.flags; bytes = full.bytes; asks = full.asks; replies = by_replies full.replies })
       where
         by_replies : (((own_step one base call).0 ≡ w.Refused enomem) × ((own_step other base call).0 ≡ w.Done 0)) ⊎
             (((own_step one base call).0 ≡ w.Done 0) × ((own_step other base call).0 ≡ w.Refused enomem))

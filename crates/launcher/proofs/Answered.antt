@@ -19,7 +19,7 @@ use Rattle.launcher.specs.declared.launched.Launched.{Launched as Service}
 use Rattle.launcher.specs.Answers.{AreProgramsOf, EndsAs, LaunchesTo, LeavesService, codes_of, given_bytes, launch_with, wanted_of}
 use Rattle.launcher.specs.Conditions.{CanBeLaunched}
 use Rattle.launcher.specs.Ends.{Ends}
-use Rattle.launcher.specs.Launch.{LaunchStep, Ending, Launched, StepRefused, StepKilled, PrivilegedProgram, call_steps, is_privileged_row}
+use Rattle.launcher.specs.Launch.{LaunchStep, LaunchOutcome, Launched, StepRefused, StepKilled, PrivilegedProgram, call_steps, is_privileged_row}
 use Rattle.launcher.specs.Launch.{launch_from, launch_steps, mount_steps, with_unshare}
 use Rattle.launcher.specs.Launches.{AreRead}
 use Rattle.launcher.specs.LaunchesAlike.{AreInstalled, EndAlike}
@@ -36,20 +36,20 @@ at_error P (Ok service) e is holds = absurd is
 at_error P (Err own) e is holds = subst (λ (one : LaunchError). P (Err one)) (sym is) holds
 
 -- launches that end alike are refused at one step, or killed at one
-refused_alike : (one other : List (List Insn)) (x y : Ending) (step errno : ℕ) → x ≡ StepRefused step errno → EndAlike one other x y
+refused_alike : (one other : List (List Insn)) (x y : LaunchOutcome) (step errno : ℕ) → x ≡ StepRefused step errno → EndAlike one other x y
     → y ≡ StepRefused step errno
-refused_alike one other x y step errno is same = by y (subst (λ (z : Ending). EndAlike one other z y) is same)
+refused_alike one other x y step errno is same = by y (subst (λ (z : LaunchOutcome). EndAlike one other z y) is same)
   where
-    by : (y : Ending) → EndAlike one other (StepRefused step errno) y → y ≡ StepRefused step errno
+    by : (y : LaunchOutcome) → EndAlike one other (StepRefused step errno) y → y ≡ StepRefused step errno
     by (Launched world count) h = absurd h
     by (StepRefused at number) h = ap (λ n. StepRefused n number) (sym h.0) ∙ ap (StepRefused step) (sym h.1)
     by (StepKilled at) h = absurd h
     by (PrivilegedProgram path) h = absurd h
 
-killed_alike : (one other : List (List Insn)) (x y : Ending) (step : ℕ) → x ≡ StepKilled step → EndAlike one other x y → y ≡ StepKilled step
-killed_alike one other x y step is same = by y (subst (λ (z : Ending). EndAlike one other z y) is same)
+killed_alike : (one other : List (List Insn)) (x y : LaunchOutcome) (step : ℕ) → x ≡ StepKilled step → EndAlike one other x y → y ≡ StepKilled step
+killed_alike one other x y step is same = by y (subst (λ (z : LaunchOutcome). EndAlike one other z y) is same)
   where
-    by : (y : Ending) → EndAlike one other (StepKilled step) y → y ≡ StepKilled step
+    by : (y : LaunchOutcome) → EndAlike one other (StepKilled step) y → y ≡ StepKilled step
     by (Launched world count) h = absurd h
     by (StepRefused at number) h = absurd h
     by (StepKilled at) h = ap StepKilled (sym h)
@@ -107,7 +107,7 @@ module _ (table : calls.Table) (site : Site) (settings : Settings) (plan : Table
         ap (λ (w : World). launch_from w (with_unshare w.calls.calls (mount_steps plan) ++ list) 0) starts
         ∙ ap (λ (steps : List LaunchStep). launch_from (start_world table site) (with_unshare table.calls (mount_steps plan) ++ steps) 0) is
         ∙ sym (by_steps (given_bytes made) plain) in
-        subst (λ (ending : Ending). Ends ending result after) same ends
+        subst (λ (outcome : LaunchOutcome). Ends outcome result after) same ends
 
   -- what a launched service is
   pub service_left : (service : Service) → LaunchesTo table site settings plan service → LeavesService table site settings plan service

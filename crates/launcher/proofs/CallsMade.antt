@@ -6,10 +6,10 @@ use Rattle.kernel_laws.specs.kernel_model.declared.reply.Reply.TheVariants.{Done
 use Rattle.kernel_laws.specs.kernel_model.Runs.{IsDone}
 use Rattle.kernel_laws.specs.kernel_model.World.{World}
 use Rattle.launcher.specs.Ends.{StepsTo}
-use Rattle.launcher.specs.Launch.{LaunchStep, Ending, launch_step, launch_on, launch_from}
+use Rattle.launcher.specs.Launch.{LaunchStep, LaunchOutcome, launch_step, launch_on, launch_from}
 
 -- after a step that is done the launch goes on
-pub done_on : (reply : Reply) (count : ℕ) (rest : Ending) → IsDone reply → launch_on reply count rest ≡ rest
+pub done_on : (reply : Reply) (count : ℕ) (rest : LaunchOutcome) → IsDone reply → launch_on reply count rest ≡ rest
 done_on (Done value) count rest done = refl
 done_on (Refused errno) count rest done = absurd done
 done_on Killed count rest done = absurd done

@@ -28,7 +28,7 @@ use Rattle.kernel_laws.specs.kernel_model.declared.kernel_calls.call.Call.{Call}
 use Rattle.kernel_laws.specs.kernel_model.declared.kernel_calls.payload.Payload.TheVariants.{Nothing, OnePath, Sets, Ids, Code}
 use Rattle.kernel_laws.specs.kernel_model.declared.kernel_calls.rule.Rule.TheVariants as rule
 use Rattle.kernel_laws.specs.call_table.declared.call_names.rule.CallRule.TheVariants as known
-use Rattle.kernel_laws.specs.kernel_model.kernel_calls.Doing as d
+use Rattle.kernel_laws.specs.kernel_model.kernel_calls.Operation as d
 use Rattle.kernel_laws.specs.kernel_model.Effects.{Effect, creds_effect}
 use Rattle.kernel_laws.specs.kernel_model.kern_files.Looking.{flags_at}
 use Rattle.kernel_laws.specs.kernel_model.kern_files.Executing.{marks_of, executed as executed_by, exec_answer}

@@ -1,7 +1,8 @@
 -- A launch by the programs of settings leaves what the judge stands on.
 use Rattle.std.proofs.Common.{◌≡◌, ℕ, Bool, true, false, cond, List, [], ◌∷◌, Option, Some, None, inl, inr, refl, ap, ◌∙◌, sym, subst}
-use Rattle.std.proofs.Common.{arith, map}
-use Rattle.std.specs.Prelude.{◌==◌, ◌≤◌, find, reverse, option_and_then, unwrap_or, IfSome}
+use Rattle.std.proofs.Common.{arith, map, codes}
+use Rattle.std.specs.Str.{bytes_eq}
+use Rattle.std.specs.Prelude.{◌==◌, ◌&&◌, ◌≤◌, find, reverse, option_and_then, unwrap_or, IfSome}
 use mathlib.Core.List.{reverse_aux}
 use Rattle.std.specs.List.{AllByRecursion}
 use Rattle.std.specs.Option.{option_map_or}
@@ -22,15 +23,19 @@ use Rattle.exec_settings.specs.filter_settings.filter_rules.Actions.{unless_refu
 use Rattle.exec_settings.specs.filter_settings.filter_rules.Refusing.{IsRefusing, HasRefusal, HasRefusals, AreRefusing}
 use Rattle.std.proofs.lemmas.List.Elements.{recursion_from_All}
 use Rattle.exec_settings.specs.filter_settings.filter_rules.Calls.{call_action, rest_action, listed_by, last_mention, if_adds}
-use Rattle.exec_settings.specs.filter_settings.filter_rules.Calls.{listed_action, unlisted_action}
+use Rattle.exec_settings.specs.filter_settings.filter_rules.Calls.{listed_action, hidden_action, is_unknown}
 use Rattle.exec_settings.specs.filter_settings.filter_rules.Covers.{covers}
+use Rattle.exec_settings.specs.filter_settings.filter_rules.Suid.{suid_action}
+use Rattle.exec_settings.specs.filter_settings.filter_rules.Namespaces.{namespace_action}
+use Rattle.exec_settings.specs.filter_settings.declared.filter_rules.namespace_types.NamespaceTypes.{NamespaceTypes}
+use Rattle.exec_settings.specs.unit_names.declared.version.Version.{Version}
 use Rattle.exec_settings.specs.filter_settings.declared.filter_rules.mentions.CallList.{CallList}
 use Rattle.exec_settings.specs.filter_settings.declared.filter_rules.mentions.Mention.{Mention}
 use Rattle.exec_settings.specs.filter_settings.declared.filter_rules.mentions.Mode.{Mode}
 use Rattle.exec_settings.specs.filter_settings.declared.filter_rules.mentions.Mode.TheVariants.{Allow, Deny}
 use Rattle.exec_settings.specs.filter_settings.declared.filter_rules.names.FilterName.{FilterName}
 use Rattle.exec_settings.specs.filter_settings.declared.filter_rules.names.FilterName.TheVariants.{Families, MemoryDenyWriteExecute}
-use Rattle.exec_settings.specs.filter_settings.declared.filter_rules.names.FilterName.TheVariants.{Realtime, Suid, Namespaces, Hostname}
+use Rattle.exec_settings.specs.filter_settings.declared.filter_rules.names.FilterName.TheVariants.{Realtime, Suid, Namespaces, Tunables, Hostname}
 use Rattle.exec_settings.specs.filter_settings.declared.filter_rules.names.FilterName.TheVariants.{Modules, Logs, Clock, Devices}
 use Rattle.exec_settings.specs.filter_settings.declared.filter_rules.names.FilterName.TheVariants.{Personality, Calls, Archs}
 use Rattle.exec_settings.specs.filter_settings.declared.filter_rules.settings.FilterSettings.{FilterSettings}
@@ -87,16 +92,22 @@ all_onto P (x ∷ xs) ys all' own = all_onto P xs (x ∷ ys) all'.1 (all'.0, own
 all_reverse : {X : Type 0} (P : X → Type 0) (xs : List X) → AllByRecursion P xs → AllByRecursion P (reverse xs)
 all_reverse P xs all' = all_onto P xs [] all' tt
 
-listed_plain : (default : Action) (mode : Mode) (listed : Option Mention) → IsRefusing default → IfSome listed HasRefusal
-    → IsPlain (word_of (option_map_or (listed_action mode default) listed (unlisted_action mode default)))
-listed_plain default Allow None d m = refusing_plain default d
-listed_plain default Deny None d m = allow_plain
-listed_plain default Allow (Some mention) d m = allow_plain
-listed_plain default Deny (Some mention) d m = by mention.action m
-  where
-    by : (o : Option Action) → IfSome o IsRefusing → IsPlain (word_of (unwrap_or o default))
-    by None h = refusing_plain default d
-    by (Some action) h = refusing_plain action h
+-- the action of a word, or another
+word_plain : (own : Option Action) (other : Action) → IfSome own IsRefusing → IsPlain (word_of other) → IsPlain (word_of (unwrap_or own other))
+word_plain None other h plain = plain
+word_plain (Some own) other h plain = refusing_plain own h
+
+-- what is not listed
+hidden_plain : (default : Action) (mode : Mode) (hides : Bool) → IsRefusing default → IsPlain (word_of (hidden_action hides mode default))
+hidden_plain default mode true d = errno_plain 38 (omega arith)
+hidden_plain default Allow false d = refusing_plain default d
+hidden_plain default Deny false d = allow_plain
+
+listed_plain : (default : Action) (mode : Mode) (hides : Bool) (listed : Option Mention) → IsRefusing default → IfSome listed HasRefusal
+    → IsPlain (word_of (option_map_or (listed_action mode default) listed (hidden_action hides mode default)))
+listed_plain default mode hides None d m = hidden_plain default mode hides d
+listed_plain default Allow hides (Some mention) d m = word_plain mention.action action.Allow m allow_plain
+listed_plain default Deny hides (Some mention) d m = word_plain mention.action default m (refusing_plain default d)
 
 adding : (o : Option Mention) → IfSome o HasRefusal → IfSome (option_and_then if_adds o) HasRefusal
 adding None h = tt
@@ -110,26 +121,36 @@ calls_plain : (table : calls.Table) (list : Option CallList) (default : Action) 
     → IsPlain (word_of (call_action table list default name))
 calls_plain table None default name d m = allow_plain
 calls_plain table (Some list) default name d m =
-    listed_plain default list.mode (listed_by table list.mentions name) d
+    listed_plain default list.mode (list.hides_unknown && is_unknown table name) (listed_by table list.mentions name) d
     (adding (last_mention table list.mentions name)
     (found_has HasRefusal (λ mention. covers table mention.name name) (reverse list.mentions)
     (all_reverse HasRefusal list.mentions (recursion_from_All HasRefusal list.mentions m))))
 
 rest_plain : (list : Option CallList) (default : Action) → IsRefusing default → IsPlain (word_of (rest_action list default))
 rest_plain None default d = allow_plain
-rest_plain (Some list) default d = by list.mode
-  where
-    by : (mode : Mode) → IsPlain (word_of (unlisted_action mode default))
-    by Allow = refusing_plain default d
-    by Deny = allow_plain
+rest_plain (Some list) default d = hidden_plain default list.mode list.hides_unknown d
 
 module _ (settings : FilterSettings) (table : calls.Table) (a : AreRefusing settings) where
+  lacking_plain : (lacks refused : Bool) → IsPlain (word_of (cond lacks (action.Errno 38) (unless_refused 1 refused)))
+  lacking_plain true refused = errno_plain 38 (omega arith)
+  lacking_plain false refused = unless_plain 1 refused (omega arith)
+
+  suid_plain : (systemd : Option Version) (name : List ℕ) (input : CallData) → IsPlain (word_of (suid_action systemd name input))
+  suid_plain None name input = unless_plain 1 _ (omega arith)
+  suid_plain (Some version) name input = lacking_plain (bytes_eq name (codes "openat2")) _
+
+  space_plain : (systemd : Option Version) (types : NamespaceTypes) (name : List ℕ) (input : CallData)
+      → IsPlain (word_of (namespace_action systemd types name input))
+  space_plain None types name input = unless_plain 1 _ (omega arith)
+  space_plain (Some version) types name input = lacking_plain (bytes_eq name (codes "clone3")) _
+
   named_plain : (filter : FilterName) (name : List ℕ) (input : CallData) → IsPlain (word_of (named_action filter settings table name input))
   named_plain Families name input = unless_plain 97 _ (omega arith)
   named_plain MemoryDenyWriteExecute name input = unless_plain 1 _ (omega arith)
   named_plain Realtime name input = unless_plain 1 _ (omega arith)
-  named_plain Suid name input = unless_plain 1 _ (omega arith)
-  named_plain Namespaces name input = unless_plain 1 _ (omega arith)
+  named_plain Suid name input = suid_plain settings.systemd name input
+  named_plain Namespaces name input = space_plain settings.systemd settings.namespaces name input
+  named_plain Tunables name input = unless_plain 1 _ (omega arith)
   named_plain Hostname name input = unless_plain 1 _ (omega arith)
   named_plain Modules name input = unless_plain 1 _ (omega arith)
   named_plain Logs name input = unless_plain 1 _ (omega arith)
@@ -145,6 +166,7 @@ module _ (settings : FilterSettings) (table : calls.Table) (a : AreRefusing sett
   unnamed_plain Realtime = allow_plain
   unnamed_plain Suid = allow_plain
   unnamed_plain Namespaces = allow_plain
+  unnamed_plain Tunables = allow_plain
   unnamed_plain Hostname = allow_plain
   unnamed_plain Modules = allow_plain
   unnamed_plain Logs = allow_plain

@@ -21,11 +21,11 @@ use Rattle.kernel_laws.specs.kern_mounts.Finds.{finds}
 use Rattle.kernel_laws.specs.kernel_model.declared.kernel_calls.call.Call.{Call}
 use Rattle.kernel_laws.specs.kernel_model.declared.kernel_calls.payload.Payload.TheVariants.{OnePath, Code}
 use Rattle.kernel_laws.specs.kernel_model.declared.kernel_calls.rule.Rule.{Rule}
-use Rattle.kernel_laws.specs.kernel_model.kernel_calls.Doing as d
-use Rattle.kernel_laws.specs.kernel_model.kernel_calls.Doing.{Asked, Does, asked_of, asked_by}
+use Rattle.kernel_laws.specs.kernel_model.kernel_calls.Operation as d
+use Rattle.kernel_laws.specs.kernel_model.kernel_calls.Operation.{Asked, Does, asked_of, asked_by}
 use Rattle.kernel_laws.specs.kernel_model.Effects as f
 use Rattle.kernel_laws.specs.kernel_model.Effects.{Effect, push_effect}
-use Rattle.launcher.specs.Launch.{LaunchStep, Ending, Launched, StepRefused, StepKilled, PrivilegedProgram, first_call, number_of}
+use Rattle.launcher.specs.Launch.{LaunchStep, LaunchOutcome, Launched, StepRefused, StepKilled, PrivilegedProgram, first_call, number_of}
 use Rattle.launcher.specs.Launch.{launch_step, launch_steps, launch_on, launch_from, is_privileged_row, mount_steps, with_unshare}
 use Rattle.launcher.specs.Launch.{identity_steps, filter_steps, program_steps}
 use Rattle.kernel_laws.specs.kern_mounts.Mounts.{Mounts as MountList}
@@ -80,14 +80,14 @@ begun world (step' ∷ first) count = by (launch_step world step').0 refl (begun
     by (w.Done value) is (goes mid done on) =
         goes mid (subst IsDone (sym is) tt, done) (λ then. let same : count + 1 + length first ≡ count + suc (length first) = omega arith in at (w.Done value) is then ∙ on then ∙ ap (launch_from mid then) same)
 
-same_end : (one one' other other' : List (List Insn)) (x y : Ending) → one ≡ one' → other ≡ other' → EndAlike one other x y
+same_end : (one one' other other' : List (List Insn)) (x y : LaunchOutcome) → one ≡ one' → other ≡ other' → EndAlike one other x y
     → EndAlike one' other' x y
 same_end one one' other other' x y e e' h = subst (λ (s : List (List Insn)). EndAlike s other' x y) e
     (subst (λ (s : List (List Insn)). EndAlike one s x y) e' h)
 
-same_ends : (one other : List (List Insn)) (x x' y y' : Ending) → x ≡ x' → y ≡ y' → EndAlike one other x' y' → EndAlike one other x y
-same_ends one other x x' y y' e e' h = subst (λ (z : Ending). EndAlike one other z y) (sym e)
-    (subst (λ (z : Ending). EndAlike one other x' z) (sym e') h)
+same_ends : (one other : List (List Insn)) (x x' y y' : LaunchOutcome) → x ≡ x' → y ≡ y' → EndAlike one other x' y' → EndAlike one other x y
+same_ends one other x x' y y' e e' h = subst (λ (z : LaunchOutcome). EndAlike one other z y) (sym e)
+    (subst (λ (z : LaunchOutcome). EndAlike one other x' z) (sym e') h)
 
 pushed_alike : (one other : List (List Insn)) (code own : List Insn) → AnswerAlike one other
     → ((input : CallData) → IsCallData input → answer_of code input ≡ answer_of own input)
@@ -185,9 +185,9 @@ module _ (table : calls.Table) (site : Site) (whole : IsWhole table) (arch : Has
             by_reply (w.Refused errno) = (refl, refl)
             by_reply w.Killed = refl
 
-        other_doing : (operation flags : ℕ) (bytes : List ℕ)
-            → ◌≡◌ {A = Asked} (Does (d.Execve program)) (Does (d.Seccomp operation flags bytes)) → ⊥
-        other_doing operation flags bytes e = cc
+        other_operation : (op flags : ℕ) (bytes : List ℕ)
+            → ◌≡◌ {A = Asked} (Does (d.Execve program)) (Does (d.Seccomp op flags bytes)) → ⊥
+        other_operation op flags bytes e = cc
 
         by : (call : Call) → asked_of table call ≡ Does (d.Execve program) → (out : Reply × World) → own_step one (with_stack []) call ≡ out
             → (own_step one (with_stack []) call ≡ own_step other (with_stack []) call) ⊎ FullInOne table call
@@ -195,7 +195,7 @@ module _ (table : calls.Table) (site : Site) (whole : IsWhole table) (arch : Has
             → step (with_stack one) call ≡ lifted one (own_step one (with_stack []) call)
             → step (with_stack other) call ≡ lifted other (own_step other (with_stack []) call)
             → E (step (with_stack one) call) (step (with_stack other) call)
-        by call asks out is (inr full) first second = absurd (other_doing full.operation full.flags full.bytes (sym asks ∙ full.asks))
+        by call asks out is (inr full) first second = absurd (other_operation full.op full.flags full.bytes (sym asks ∙ full.asks))
         by call asks out is (inl same) first second =
             subst (λ (x : Reply × World). E x (step (with_stack other) call)) (sym first)
             (subst (λ (y : Reply × World). E (lifted one (own_step one (with_stack []) call)) y)
@@ -237,7 +237,7 @@ module _ (table : calls.Table) (site : Site) (whole : IsWhole table) (arch : Has
         (launch_from (with_stack (other ++ own ∷ [])) (filter_steps table.calls programs' ++ program_steps table.calls program) (count + 1))
         (append_assoc one (code ∷ []) codes') (append_assoc other (own ∷ []) own') more)
       where
-        rest : World → List LaunchStep → Ending
+        rest : World → List LaunchStep → LaunchOutcome
         rest world steps = launch_from world (steps ++ program_steps table.calls program) (count + 1)
 
         by : (x y : Reply × World) → StepsAlike (one ++ code ∷ []) (other ++ own ∷ []) x y
@@ -267,7 +267,7 @@ launches_alike table site wanted plan programs one other whole arch can small fi
     after : List (List ℕ) → List LaunchStep
     after programs = filter_steps table.calls programs ++ program_steps table.calls wanted.program
 
-    from_start : List (List ℕ) → Ending
+    from_start : List (List ℕ) → LaunchOutcome
     from_start programs = launch_from (start_world table site) (before ++ after programs) 0
 
     empty_room : (stack : List (List Insn)) → 0 + room_of stack ≤ max_insns_per_path → room_of [] + room_of stack ≤ max_insns_per_path
@@ -282,7 +282,7 @@ launches_alike table site wanted plan programs one other whole arch can small fi
         (StepKilled place) (stop (after wanted.programs)) (stop (after programs)) refl
     by_begun (goes mid done on) =
         let ready = ready_at table site (launch_calls table whole) wanted plan mid (begins_at_host (site_host site) plan can) small done in
-        let there : (programs : List (List ℕ)) → Ending = λ programs. launch_from (solo table site ready.creds [] ready.namespace ready.tables) (after programs) (0 + length before) in
+        let there : (programs : List (List ℕ)) → LaunchOutcome = λ programs. launch_from (solo table site ready.creds [] ready.namespace ready.tables) (after programs) (0 + length before) in
         let reached : (programs : List (List ℕ)) → from_start programs ≡ there programs = λ programs. on (after programs) ∙ ap (λ (v : World). launch_from v (after programs) (0 + length before)) ready.is in
         let r : 0 + room_of one ≤ max_insns_per_path = let h = first.room in omega arith in
         let r' : 0 + room_of other ≤ max_insns_per_path = let h = second.room in omega arith in

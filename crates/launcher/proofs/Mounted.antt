@@ -121,7 +121,7 @@ begins_mounted world own after lines plan (entry ∷ entries) count are some cou
 abbrev Any : Creds → Type 0
 Any creds = Unit {0}
 
-pub room_of_own : (world own : World) (count : ℕ) → IsStart world → IsWhole world.calls → count ≤ 161
+pub room_of_own : (world own : World) (count : ℕ) → IsStart world → IsWhole world.calls → count ≤ 193
     → StepsTo world (unshare_of world.calls.calls) 1 (Ok tt) own → HasRoomFor count own
 room_of_own world own count starts whole few done =
     let calls' = launch_calls world.calls whole in

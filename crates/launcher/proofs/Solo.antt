@@ -19,8 +19,8 @@ use Rattle.kernel_laws.specs.kernel_model.declared.kernel_calls.rule.Rule.{Rule}
 use Rattle.kernel_laws.specs.kernel_model.kernel_calls.Rules.{rule_at}
 use Rattle.kernel_laws.specs.kernel_model.declared.kernel_calls.rule.Rule.TheVariants as rule
 use Rattle.kernel_laws.specs.call_table.declared.call_names.rule.CallRule.TheVariants as known
-use Rattle.kernel_laws.specs.kernel_model.kernel_calls.Doing as d
-use Rattle.kernel_laws.specs.kernel_model.kernel_calls.Doing.{Doing, doing_by, asked_by, asked_if, asked_of}
+use Rattle.kernel_laws.specs.kernel_model.kernel_calls.Operation as d
+use Rattle.kernel_laws.specs.kernel_model.kernel_calls.Operation.{Operation, operation_by, asked_by, asked_if, asked_of}
 use Rattle.kernel_laws.specs.kernel_model.Effects as f
 use Rattle.kernel_laws.specs.kernel_model.Effects.{Effect, Host, effect_of, creds_effect, push_effect, seccomp_effect}
 use Rattle.launcher.specs.Launch.{LaunchStep, Mounts, number_of, first_call, makes, launch_step, new_mounts}
@@ -125,16 +125,16 @@ module _ (table : calls.Table) (site : Site) where
     abbrev process : Process
     process = only creds stack namespace
 
-    pub does : (nr : ℕ) (args : List ℕ) (payload : Payload) (rule' : Rule) (doing : Doing) → rule_at table.calls nr ≡ Some rule'
-        → doing_by rule' args payload ≡ Some doing
+    pub does : (nr : ℕ) (args : List ℕ) (payload : Payload) (rule' : Rule) (operation : Operation) → rule_at table.calls nr ≡ Some rule'
+        → operation_by rule' args payload ≡ Some operation
         → IsDone (step world (record { pid = 1; abi = 0; nr = nr; args = args; payload = payload })).0
         → step world (record { pid = 1; abi = 0; nr = nr; args = args; payload = payload })
-        ≡ applied world 1 process (effect_of (host_of world) (caller_of world process) doing)
-    does nr args payload rule' doing by_rule is done =
+        ≡ applied world 1 process (effect_of (host_of world) (caller_of world process) operation)
+    does nr args payload rule' operation by_rule is done =
         let call : Call = record { pid = 1; abi = 0; nr = nr; args = args; payload = payload } in
         let_through world call process (decision_on stack (data_of world call)) done
         ∙ ap (λ (o : Option Rule). answered world 1 process (asked_by o call)) by_rule
-        ∙ ap (λ (o : Option Doing). answered world 1 process (asked_if o)) is
+        ∙ ap (λ (o : Option Operation). answered world 1 process (asked_if o)) is
 
     pub creds_done : (answer : Result Creds ℕ) → IsDone (applied world 1 process (creds_effect answer)).0
         → (now : Creds) × (answer ≡ Ok now) × ((applied world 1 process (creds_effect answer)).1 ≡ solo now stack namespace tables)
@@ -148,22 +148,22 @@ module _ (table : calls.Table) (site : Site) where
     own_table mounts own = ap (λ (t : MountList). steps_of t) (own_mounts mounts own) ∙ steps_plain mounts
 
   -- a call of the launch that changes credentials
-  pub makes_creds : (Q R : Creds → Type 0) (name : List ℕ) (one two three : ℕ) (payload : Payload) (rule' : Rule) (doing : Doing)
+  pub makes_creds : (Q R : Creds → Type 0) (name : List ℕ) (one two three : ℕ) (payload : Payload) (rule' : Rule) (operation : Operation)
       (answer : Creds → Result Creds ℕ)
       → rule_at table.calls (number_of table.calls name) ≡ Some rule'
-      → doing_by rule' (one ∷ two ∷ three ∷ 0 ∷ 0 ∷ 0 ∷ []) payload ≡ Some doing
+      → operation_by rule' (one ∷ two ∷ three ∷ 0 ∷ 0 ∷ 0 ∷ []) payload ≡ Some operation
       → ((host : Host) (creds : Creds) (stack : List (List Insn)) (mounts : MountList) (owns : Bool)
-      → effect_of host (record { creds = creds; stack = stack; table = mounts; newer = false; owns = owns }) doing
+      → effect_of host (record { creds = creds; stack = stack; table = mounts; newer = false; owns = owns }) operation
       ≡ creds_effect (answer creds))
       → ((creds now : Creds) → Q creds → answer creds ≡ Ok now → R now)
       → (stack : List (List Insn)) (mounts : Table) (world' : World) → At Q stack mounts world'
       → IsDone (launch_step world' (makes table.calls name one two three payload)).0
       → At R stack mounts (launch_step world' (makes table.calls name one two three payload)).1
-  makes_creds Q R name one two three payload rule' doing answer by_rule is effect to stack mounts world' at done =
+  makes_creds Q R name one two three payload rule' operation answer by_rule is effect to stack mounts world' at done =
       let own : World = solo at.creds stack at.namespace at.tables in
       let call : Call = first_call table.calls name (one ∷ two ∷ three ∷ 0 ∷ 0 ∷ 0 ∷ []) payload in
       let done' : IsDone (step own call).0 = subst (λ (v : World). IsDone (step v call).0) at.is done in
-      let stepped = does at.creds stack at.namespace at.tables call.nr call.args payload rule' doing by_rule is done'
+      let stepped = does at.creds stack at.namespace at.tables call.nr call.args payload rule' operation by_rule is done'
       ∙ ap (λ (e : Effect). applied own 1 (only at.creds stack at.namespace) e) (effect (host_of own) at.creds stack (mounts_of own at.namespace) (eqb (owner_of own at.namespace) 1)) in
       let found = creds_done at.creds stack at.namespace at.tables (answer at.creds) (subst (λ (out : Reply × World). IsDone out.0) stepped done') in
       record {

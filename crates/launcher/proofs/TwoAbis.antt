@@ -108,8 +108,8 @@ IsThere table abi = (found : Abi) × (abi_at table abi ≡ Some found)
 
 there_in : (n : Abi) (o : Option Abi)
     → AllByRecursion (λ (place : Place). (found : Abi) × (slice_get (n ∷ option_to_list o) place.1 ≡ Some found)) (all_programs o)
-there_in n None = ((n, refl), ((n, refl), ((n, refl), ((n, refl), ((n, refl), ((n, refl), ((n, refl), ((n, refl), ((n, refl), ((n, refl), ((n, refl), ((n, refl), tt))))))))))))
-there_in n (Some s) = ((s, refl), ((n, refl), ((s, refl), ((n, refl), ((s, refl), ((n, refl), ((s, refl), ((n, refl), ((s, refl), ((n, refl), ((s, refl), ((n, refl), ((s, refl), ((n, refl), ((s, refl), ((n, refl), ((s, refl), ((n, refl), ((s, refl), ((n, refl), ((s, refl), ((n, refl), ((s, refl), ((n, refl), ((s, refl), tt)))))))))))))))))))))))))
+there_in n None = ((n, refl), ((n, refl), ((n, refl), ((n, refl), ((n, refl), ((n, refl), ((n, refl), ((n, refl), ((n, refl), ((n, refl), ((n, refl), ((n, refl), ((n, refl), tt)))))))))))))
+there_in n (Some s) = ((s, refl), ((n, refl), ((s, refl), ((n, refl), ((s, refl), ((n, refl), ((s, refl), ((n, refl), ((s, refl), ((n, refl), ((s, refl), ((n, refl), ((s, refl), ((n, refl), ((s, refl), ((n, refl), ((s, refl), ((n, refl), ((s, refl), ((n, refl), ((s, refl), ((n, refl), ((s, refl), ((n, refl), ((s, refl), ((n, refl), ((s, refl), tt)))))))))))))))))))))))))))
 
 kept : {X : Type 0} (P : X → Type 0) (test : X → Bool) (xs : List X) → AllByRecursion P xs → AllByRecursion P (filter test xs)
 kept P test [] each = tt

@@ -13,7 +13,7 @@ use Rattle.kernel_laws.specs.linux_numbers.Errnos.{enomem}
 use Rattle.kernel_laws.specs.linux_numbers.Limits.{max_insns_per_path}
 use Rattle.kernel_laws.specs.kernel_model.declared.kernel_calls.call.Call.{Call}
 use Rattle.kernel_laws.specs.kernel_model.kernel_calls.Calls.{AreCalls}
-use Rattle.kernel_laws.specs.kernel_model.kernel_calls.Doing.{Does, Seccomp, asked_of}
+use Rattle.kernel_laws.specs.kernel_model.kernel_calls.Operation.{Does, Seccomp, asked_of}
 use Rattle.kernel_laws.specs.kernel_model.World.{World, living_of}
 use Rattle.kernel_laws.specs.kernel_model.declared.process.Process.{Process}
 use Rattle.kernel_laws.specs.kernel_model.declared.reply.Reply.{Reply}
@@ -41,10 +41,10 @@ above programs world = record world { processes = map (over programs) world.proc
 
 -- seccomp(2), ENOMEM: a call of it answers that there is no room in the one world alone
 pub record IsFullInOne (one other : World) (call : Call) : Type 0 where
-  pub operation : ℕ
+  pub op : ℕ
   pub flags : ℕ
   pub bytes : List ℕ
-  pub asks : asked_of one.calls call ≡ Does (Seccomp operation flags bytes)
+  pub asks : asked_of one.calls call ≡ Does (Seccomp op flags bytes)
   pub replies : (((step one call).0 ≡ Refused enomem) × ((step other call).0 ≡ Done 0)) ⊎
       (((step one call).0 ≡ Done 0) × ((step other call).0 ≡ Refused enomem))
 

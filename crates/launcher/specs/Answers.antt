@@ -13,7 +13,7 @@ use Rattle.launcher.specs.declared.error.LaunchError.{LaunchError}
 use Rattle.launcher.specs.declared.error.LaunchError.TheVariants as error
 use Rattle.launcher.specs.declared.filters.FilterProgram.{FilterProgram}
 use Rattle.launcher.specs.declared.launched.Launched.{Launched as Service}
-use Rattle.launcher.specs.Launch.{Wanted, Ending, Launched, StepRefused, StepKilled, PrivilegedProgram, launch, launch_steps}
+use Rattle.launcher.specs.Launch.{Wanted, LaunchOutcome, Launched, StepRefused, StepKilled, PrivilegedProgram, launch, launch_steps}
 use Rattle.launcher.specs.Launches.{AreRead, Leaves}
 use Rattle.launcher.specs.Matching.{AreMatching, IsMatch}
 
@@ -53,7 +53,7 @@ abbrev pub given_bytes : List FilterProgram → List (List ℕ)
 given_bytes filters = map bytes_of (codes_of filters)
 
 -- a launch of the settings with these bytes of programs
-abbrev pub launch_with : calls.Table → Site → Settings → Table → List (List ℕ) → Ending
+abbrev pub launch_with : calls.Table → Site → Settings → Table → List (List ℕ) → LaunchOutcome
 launch_with table site settings plan programs = launch table site (wanted_of settings programs) plan
 
 -- a launch ends in this world after so many steps with the programs that are handed out, one for each filter
@@ -63,12 +63,12 @@ pub record LaunchesTo (table : calls.Table) (site : Site) (settings : Settings) 
   pub ends : launch_with table site settings plan (given_bytes service.filters) ≡ Launched service.world service.steps
 
 -- some programs match the filters, and with all that do a launch ends so
-pub record EndsWithAll (table : calls.Table) (site : Site) (settings : Settings) (plan : Table) (ending : Ending) : Type 0 where
+pub record EndsWithAll (table : calls.Table) (site : Site) (settings : Settings) (plan : Table) (outcome : LaunchOutcome) : Type 0 where
   pub codes : List (List Insn)
   pub matching : AreMatching settings.filters.items codes
   pub read : AreRead (map bytes_of codes) codes
   pub each : (programs : List (List ℕ)) (stack : List (List Insn)) → AreRead programs stack → AreMatching settings.filters.items stack
-      → launch_with table site settings plan programs ≡ ending
+      → launch_with table site settings plan programs ≡ outcome
 
 -- the answer says how the launch ends; whether the program is privileged does not depend on any programs of filters
 abbrev pub EndsAs : calls.Table → Site → Settings → Table → Result Service LaunchError → Type 0

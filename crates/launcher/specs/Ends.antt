@@ -10,15 +10,15 @@ use Rattle.kernel_laws.specs.kernel_model.World.{World, living_of, mounts_of, st
 use Rattle.kernel_laws.specs.linux_numbers.Limits.{mount_max}
 use Rattle.launcher.specs.declared.error.LaunchError.{LaunchError}
 use Rattle.launcher.specs.declared.error.LaunchError.TheVariants as error
-use Rattle.launcher.specs.Launch.{LaunchStep, Ending, Launched, StepRefused, StepKilled, launch_step, launch_from}
+use Rattle.launcher.specs.Launch.{LaunchStep, LaunchOutcome, Launched, StepRefused, StepKilled, launch_step, launch_from}
 
 -- the answer says how the launch ends, and the world is the launched one
-abbrev pub Ends : Ending → Result ℕ LaunchError → World → Type 0
-Ends ending (Ok count) after = ending ≡ Launched after count
-Ends ending (Err (error.Refused step errno)) after = ending ≡ StepRefused step errno
-Ends ending (Err (error.Killed step)) after = ending ≡ StepKilled step
-Ends ending (Err (error.PrivilegedProgram path)) after = ⊥
-Ends ending (Err error.Memory) after = ⊤
+abbrev pub Ends : LaunchOutcome → Result ℕ LaunchError → World → Type 0
+Ends outcome (Ok count) after = outcome ≡ Launched after count
+Ends outcome (Err (error.Refused step errno)) after = outcome ≡ StepRefused step errno
+Ends outcome (Err (error.Killed step)) after = outcome ≡ StepKilled step
+Ends outcome (Err (error.PrivilegedProgram path)) after = ⊥
+Ends outcome (Err error.Memory) after = ⊤
 
 -- the answer to a step of this number
 abbrev pub StepsTo : World → LaunchStep → ℕ → Result (Unit {0}) LaunchError → World → Type 0

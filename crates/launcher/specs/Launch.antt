@@ -160,19 +160,19 @@ launch_step world (Mounts entry) = (Done 0, after_mount_step world 1 entry)
 
 -- how a launch ends: in this world after so many steps; at the first step that is not done, counted from 1; or before all
 -- steps, since the program has a set-id bit or capabilities
-pub data Ending : Type 0 where
-  Launched : World → ℕ → Ending
-  StepRefused : ℕ → ℕ → Ending
-  StepKilled : ℕ → Ending
-  PrivilegedProgram : Path → Ending
+pub data LaunchOutcome : Type 0 where
+  Launched : World → ℕ → LaunchOutcome
+  StepRefused : ℕ → ℕ → LaunchOutcome
+  StepKilled : ℕ → LaunchOutcome
+  PrivilegedProgram : Path → LaunchOutcome
 
-abbrev pub launch_on : Reply → ℕ → Ending → Ending
+abbrev pub launch_on : Reply → ℕ → LaunchOutcome → LaunchOutcome
 launch_on (Done value) count rest = rest
 launch_on (Refused errno) count rest = StepRefused count errno
 launch_on Killed count rest = StepKilled count
 
 -- the steps in order, after so many others
-abbrev pub launch_from : World → List LaunchStep → ℕ → Ending
+abbrev pub launch_from : World → List LaunchStep → ℕ → LaunchOutcome
 launch_from world [] count = Launched world count
 launch_from world (step ∷ steps) count =
     launch_on (launch_step world step).0 (count + 1) (launch_from (launch_step world step).1 steps (count + 1))
@@ -184,7 +184,7 @@ is_privileged_row empty_directory = false
 is_privileged_row (nothing errno) = false
 
 -- the launch in the world that a kernel of these tables starts with
-abbrev pub launch : calls.Table → Site → Wanted → Table → Ending
+abbrev pub launch : calls.Table → Site → Wanted → Table → LaunchOutcome
 launch calls site wanted plan =
     if is_privileged_row (finds (row_at site.rows) plan wanted.program) then PrivilegedProgram wanted.program
     else launch_from (start_world calls site) (launch_steps calls.calls wanted plan) 0

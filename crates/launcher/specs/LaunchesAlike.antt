@@ -11,11 +11,11 @@ use Rattle.kernel_laws.specs.linux_numbers.Limits.{max_insns_per_path, no_id}
 use Rattle.mount_plan.specs.Host.{host_of}
 use Rattle.exec_settings.specs.site_table.Table.{Site}
 use Rattle.launcher.specs.Alike.{HasWordArchs, AnswerAlike, above}
-use Rattle.launcher.specs.Launch.{Wanted, Ending, Launched, StepRefused, StepKilled, PrivilegedProgram, launch}
+use Rattle.launcher.specs.Launch.{Wanted, LaunchOutcome, Launched, StepRefused, StepKilled, PrivilegedProgram, launch}
 use Rattle.launcher.specs.Launches.{AreRead}
 
 -- both launch after the same number of steps, and the worlds differ in the programs alone; or both are refused alike
-abbrev pub EndAlike : List (List Insn) → List (List Insn) → Ending → Ending → Type 0
+abbrev pub EndAlike : List (List Insn) → List (List Insn) → LaunchOutcome → LaunchOutcome → Type 0
 EndAlike one other (Launched world count) (Launched world' count') =
     (count ≡ count') × (base : World) × (world ≡ above one base) × (world' ≡ above other base)
 EndAlike one other (StepRefused count errno) (StepRefused count' errno') = (count ≡ count') × (errno ≡ errno')

@@ -33,7 +33,7 @@ fn make_steps(
 ) -> Result<u32, LaunchError>
     requires starts { IsStart world.old }
     requires has_the_calls { IsWhole world.old.calls }
-    requires few_mounts { length plan.now ≤ 161 }
+    requires few_mounts { length plan.now ≤ 193 }
     requires few_calls { length calls.now ≤ 40000 }
     ensures { Ends (launch_from world.old (with_unshare world.old.calls.calls (mount_steps plan.now) ++ calls.now) 0) result world.new }
 {

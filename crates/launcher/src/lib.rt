@@ -21,7 +21,8 @@ mod steps;
 pub use error::LaunchError;
 pub use exec_settings::{
     Filter, Mentions, NameError, Resolved, Settings, SettingsError, SiteError, SiteTable, Text,
-    UnitError, UnitFile, UnitFiles, UnitName, UnitText, is_judged, read_site, read_unit, settings,
+    UnitError, UnitFile, UnitFiles, UnitName, UnitText, Version, is_read, read_site, read_unit,
+    settings,
 };
 pub use filters::{FilterProgram, FilterPrograms, compile_all};
 pub use kernel_laws::question_types::{CallKind, NamespaceType, Power, Wish};

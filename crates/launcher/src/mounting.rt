@@ -62,9 +62,9 @@ fn mount_each(alloc: Global, world: &mut World, entries: &[MountStep]) -> Result
 pub fn mount_plan(alloc: Global, world: &mut World, plan: &[MountStep]) -> Result<u32, LaunchError>
     requires starts { IsStart world.old }
     requires has_the_calls { IsWhole world.old.calls }
-    requires few { length plan.now ≤ 161 }
+    requires few { length plan.now ≤ 193 }
     ensures begins { Begins world.old (with_unshare world.old.calls.calls (mount_steps plan.now)) result world.new }
-    ensures few_steps { IfOk result (λ count. count ≤ 162) }
+    ensures few_steps { IfOk result (λ count. count ≤ 194) }
 {
     let entries = mounted(plan);
     if entries.is_empty() {

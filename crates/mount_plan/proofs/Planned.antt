@@ -86,7 +86,7 @@ are_short mentions h = all_weaker (λ mention. is_short mention ≡ true) (λ me
 
 -- a plan of short mentions can be mounted
 pub can_be_mounted : (site : Site) (mentions : List Mention) → IsSite site → list_all is_whole mentions ≡ true
-    → leaves_the_root mentions ≡ true → length mentions ≤ 160 → AreShort mentions → (r : Result (List MountStep) PlanError)
+    → leaves_the_root mentions ≡ true → length mentions ≤ 192 → AreShort mentions → (r : Result (List MountStep) PlanError)
     → Plans (host_of site) mentions r → IfOk r (CanBeMounted (host_of site))
 can_be_mounted site mentions is_site whole leave few short r h = if_planned (host_of site) mentions (CanBeMounted (host_of site))
     (λ kept e. let form = plans_have_form site mentions kept is_site whole leave e in record {

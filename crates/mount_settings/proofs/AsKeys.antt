@@ -1,14 +1,17 @@
 -- Written paths are as their keys say: only four keys say what stands at a path.
 use Rattle.std.proofs.Common.{◌≡◌, ℕ, Bool, true, false, cond, Option, Some, None, List, [], ◌∷◌, refl, sym, ap, ◌∙◌}
 use Rattle.std.specs.Prelude.{◌&&◌, ◌||◌, not, codes, unwrap_or}
-use Rattle.std.specs.List.{cons_option, list_all, list_any}
+use Rattle.std.specs.List.{list_all, list_any}
+use Rattle.std.proofs.lemmas.Bool.{and_from}
 use Rattle.std.specs.Option.{option_map}
 use Rattle.std.proofs.lemmas.List.Folds.{list_all-append}
-use Rattle.path_settings.specs.abs_path.Paths.{Path}
+use Rattle.path_settings.specs.abs_path.Paths.{Path, is_root}
+use Rattle.path_settings.specs.declared.dialect.Dialect.{Dialect}
+use Rattle.path_settings.specs.declared.dialect.Dialect.TheVariants.{Base, Systemd252, Systemd257}
 use Rattle.path_settings.specs.declared.keys.PathKey.{PathKey}
 use Rattle.path_settings.specs.declared.keys.PathKey.TheVariants.{ReadWritePaths, ReadOnlyPaths, InaccessiblePaths, ExecPaths, NoExecPaths}
 use Rattle.path_settings.specs.declared.keys.PathKey.TheVariants.{BindPaths, BindReadOnlyPaths, TemporaryFileSystem, StateDirectory}
-use Rattle.path_settings.specs.declared.keys.PathKey.TheVariants.{RuntimeDirectory, CacheDirectory, LogsDirectory}
+use Rattle.path_settings.specs.declared.keys.PathKey.TheVariants.{RuntimeDirectory, CacheDirectory, LogsDirectory, ConfigurationDirectory}
 use Rattle.path_settings.specs.declared.mentions.Kind.{Kind}
 use Rattle.path_settings.specs.declared.mentions.Kind.TheVariants.{Ro, Rw, Exec, NoExec}
 use Rattle.path_settings.specs.declared.mentions.Mention.{Mention}
@@ -17,13 +20,16 @@ use Rattle.path_settings.specs.Marks.{is_marked, without}
 use Rattle.path_settings.specs.SettingPaths.{setting_path}
 use Rattle.path_settings.specs.Folders.{is_relative, text_below, folder_mention}
 use Rattle.path_settings.specs.Lists.{path_mention}
-use Rattle.path_settings.specs.Keys.{mention_of}
-use Rattle.path_settings.specs.Short.{is_short}
+use Rattle.path_settings.specs.Keys.{is_implied, mention_of}
+use Rattle.path_settings.specs.FolderWords.{folder_of, mentions_of_word, one_mention, shown_at, word_below}
+use Rattle.path_settings.proofs.ReadFolders.{of_words}
+use Rattle.path_settings.specs.Short.{is_short, is_short_path}
 use Rattle.path_settings.proofs.ReadMentions.{mention_short}
 use Rattle.mount_settings.specs.declared.written.WrittenPath.{WrittenPath}
 use Rattle.mount_settings.specs.Assigned.{Assigned, is_key}
 use Rattle.dropin_merge.specs.unit_values.Words.{split}
-use Rattle.mount_settings.specs.Written.{paths_in, gives, is_reset_by, written}
+use Rattle.mount_settings.specs.Written.{gives, is_reset_by, mentions_in_word, of_its_key, paths_in, word_paths, written}
+use Rattle.mount_settings.proofs.EachMention.{both}
 use Rattle.mount_settings.specs.Roots.{is_as_its_key, root_keys, AreRead}
 
 -- what a key may say
@@ -31,20 +37,23 @@ abbrev fits : PathKey → Option Mention → Bool
 fits key None = true
 fits key (Some mention) = is_as_its_key (record { key = key; mention = mention })
 
-or_true : (a : Bool) → (a || true) ≡ true
+pub or_true : (a : Bool) → (a || true) ≡ true
 or_true true = refl
 or_true false = refl
 
 -- a key among the four says what it likes
 any_fits : (key : PathKey) (mention : Option Mention) → list_any (is_key key) root_keys ≡ true → fits key mention ≡ true
 any_fits key None among = refl
-any_fits key (Some mention) among = ap (λ v. not (is_origin mention.kind) || v) among ∙ or_true (not (is_origin mention.kind))
+any_fits key (Some mention) among =
+    ap (λ v. not (is_origin mention.kind) || (v || (is_implied key && not (is_root mention.path)))) among
+    ∙ or_true (not (is_origin mention.kind))
 
 -- a kind that does not say what stands there fits each key
 use_fits : (key : PathKey) (kind : Kind) (optional : Bool) (path : Option Path) → is_origin kind ≡ false
     → fits key (option_map (λ place. record { path = place; kind = kind; optional = optional }) path) ≡ true
 use_fits key kind optional None plain = refl
-use_fits key kind optional (Some path) plain = ap (λ v. not v || list_any (is_key key) root_keys) plain
+use_fits key kind optional (Some path) plain =
+    ap (λ v. not v || (list_any (is_key key) root_keys || (is_implied key && not (is_root path)))) plain
 
 path_fits : (key : PathKey) (kind : Kind) (word : List ℕ) → is_origin kind ≡ false → fits key (path_mention kind word) ≡ true
 path_fits key kind word plain = use_fits key kind (is_marked word) (setting_path (without (codes "+") (without (codes "-") word))) plain
@@ -71,40 +80,105 @@ mention_fits StateDirectory word = folder_fits StateDirectory (codes "/var/lib")
 mention_fits RuntimeDirectory word = folder_fits RuntimeDirectory (codes "/run") word
 mention_fits CacheDirectory word = folder_fits CacheDirectory (codes "/var/cache") word
 mention_fits LogsDirectory word = folder_fits LogsDirectory (codes "/var/log") word
+mention_fits ConfigurationDirectory word = folder_fits ConfigurationDirectory (codes "/etc") word
 
--- what holds of each mention that a word of a key is holds of all that is written
-one_holds : (q : PathKey → Mention → Bool) (key : PathKey) (mention : Option Mention) (rest : List WrittenPath)
-    → ((m : Mention) → mention ≡ Some m → q key m ≡ true) → list_all (λ path. q path.key path.mention) rest ≡ true
-    → list_all (λ path. q path.key path.mention) (cons_option (option_map (λ m. record { key = key; mention = m }) mention) rest) ≡ true
-one_holds q key None rest h all = all
-one_holds q key (Some mention) rest h all = ap (λ v. v && list_all (λ path. q path.key path.mention) rest) (h mention refl) ∙ all
+-- a folder that is shown below the root is as its key
+shown_fits : (key : PathKey) (read_only : Bool) (source path : Path) → is_implied key ≡ true → is_root path ≡ false
+    → is_as_its_key (record { key = key; mention = shown_at read_only source path }) ≡ true
+shown_fits key read_only source path implied deep =
+    ap (λ v. list_any (is_key key) root_keys || (v && not (is_root path))) implied
+    ∙ ap (λ v. list_any (is_key key) root_keys || not v) deep
+    ∙ or_true (list_any (is_key key) root_keys)
 
-words_hold : (q : PathKey → Mention → Bool)
-    → ((key : PathKey) (word : List ℕ) (mention : Mention) → mention_of key word ≡ Some mention → q key mention ≡ true)
-    → (key : PathKey) (words : List (List ℕ)) → list_all (λ path. q path.key path.mention) (paths_in key words) ≡ true
-words_hold q h key [] = refl
-words_hold q h key (word ∷ words) = one_holds q key (mention_of key word) (paths_in key words) (λ mention e. h key word mention e)
-    (words_hold q h key words)
+-- what holds of each mention that a word of a key is, and of each folder that is shown, holds of all that is written
+pub record Holds (q : PathKey → Mention → Bool) : Type 0 where
+  pub alone : (key : PathKey) (word : List ℕ) (mention : Mention) → mention_of key word ≡ Some mention → q key mention ≡ true
+  pub shown : (key : PathKey) (read_only : Bool) (source path : Path) → is_implied key ≡ true → is_short_path source ≡ true
+      → is_short_path path ≡ true → is_root path ≡ false → q key (shown_at read_only source path) ≡ true
 
-in_force_hold : (q : PathKey → Mention → Bool)
-    → ((key : PathKey) (word : List ℕ) (mention : Mention) → mention_of key word ≡ Some mention → q key mention ≡ true)
-    → (reset : Bool) (one : Assigned) → list_all (λ path. q path.key path.mention) (cond reset [] (gives one)) ≡ true
-in_force_hold q h true one = refl
-in_force_hold q h false one = words_hold q h one.key (unwrap_or (split one.value.text) [])
+module _ (q : PathKey → Mention → Bool) (h : Holds q) where
+  in_some : (key : PathKey) (o : Option (List Mention)) → ((mentions : List Mention) → o ≡ Some mentions → list_all (q key) mentions ≡ true)
+      → list_all (q key) (unwrap_or o []) ≡ true
+  in_some key None each = refl
+  in_some key (Some mentions) each = each mentions refl
 
-all_hold : (q : PathKey → Mention → Bool)
-    → ((key : PathKey) (word : List ℕ) (mention : Mention) → mention_of key word ≡ Some mention → q key mention ≡ true)
-    → (values : List Assigned) → list_all (λ path. q path.key path.mention) (written values) ≡ true
-all_hold q h [] = refl
-all_hold q h (one ∷ later) =
-    list_all-append (λ path. q path.key path.mention) (cond (is_reset_by later one.key) [] (gives one)) (written later)
-    ∙ ap (λ v. v && list_all (λ path. q path.key path.mention) (written later)) (in_force_hold q h (is_reset_by later one.key) one)
-    ∙ all_hold q h later
+  one_holds : (key : PathKey) (word : List ℕ) → list_all (q key) (unwrap_or (one_mention key word) []) ≡ true
+  one_holds key word =
+      (elim (mention_of key word) as (λ o. mention_of key word ≡ o
+      → list_all (q key) (unwrap_or (option_map (λ (m : Mention). m ∷ []) o) []) ≡ true) [
+        | None ↦ λ e. refl
+        | Some mention ↦ λ e. ap (λ v. v && true) (h.alone key word mention e)
+      ]) refl
+
+  -- of a key that has no folder
+  plain_holds : (dialect : Dialect) (key : PathKey) (word : List ℕ) → folder_of key ≡ None
+      → list_all (q key) (mentions_in_word dialect key word) ≡ true
+  plain_holds Base key word none = one_holds key word
+  plain_holds Systemd252 key word none =
+      ap (λ folder. list_all (q key) (unwrap_or (word_below false key word folder) [])) none ∙ one_holds key word
+  plain_holds Systemd257 key word none =
+      ap (λ folder. list_all (q key) (unwrap_or (word_below true key word folder) [])) none ∙ one_holds key word
+
+  folder_holds : (dialect : Dialect) (key : PathKey) (word : List ℕ) → is_implied key ≡ true
+      → list_all (q key) (mentions_in_word dialect key word) ≡ true
+  folder_holds dialect key word implied =
+      in_some key (mentions_of_word dialect key word)
+      (λ mentions e. of_words (q key) (λ read_only source path from at deep. h.shown key read_only source path implied from at deep)
+      dialect key word mentions (h.alone key word) e)
+
+  word_holds : (dialect : Dialect) (key : PathKey) (word : List ℕ) → list_all (q key) (mentions_in_word dialect key word) ≡ true
+  word_holds dialect ReadWritePaths word = plain_holds dialect ReadWritePaths word refl
+  word_holds dialect ReadOnlyPaths word = plain_holds dialect ReadOnlyPaths word refl
+  word_holds dialect InaccessiblePaths word = plain_holds dialect InaccessiblePaths word refl
+  word_holds dialect ExecPaths word = plain_holds dialect ExecPaths word refl
+  word_holds dialect NoExecPaths word = plain_holds dialect NoExecPaths word refl
+  word_holds dialect BindPaths word = plain_holds dialect BindPaths word refl
+  word_holds dialect BindReadOnlyPaths word = plain_holds dialect BindReadOnlyPaths word refl
+  word_holds dialect TemporaryFileSystem word = plain_holds dialect TemporaryFileSystem word refl
+  word_holds dialect StateDirectory word = folder_holds dialect StateDirectory word refl
+  word_holds dialect RuntimeDirectory word = folder_holds dialect RuntimeDirectory word refl
+  word_holds dialect CacheDirectory word = folder_holds dialect CacheDirectory word refl
+  word_holds dialect LogsDirectory word = folder_holds dialect LogsDirectory word refl
+  word_holds dialect ConfigurationDirectory word = folder_holds dialect ConfigurationDirectory word refl
+
+  of_key_holds : (key : PathKey) (mentions : List Mention) → list_all (q key) mentions ≡ true
+      → list_all (λ path. q path.key path.mention) (of_its_key key mentions) ≡ true
+  of_key_holds key [] all = refl
+  of_key_holds key (m ∷ mentions) all =
+      let parts = both (q key m) (list_all (q key) mentions) all in
+      ap (λ v. v && list_all (λ path. q path.key path.mention) (of_its_key key mentions)) parts.0 ∙ of_key_holds key mentions parts.1
+
+  words_hold : (dialect : Dialect) (key : PathKey) (words : List (List ℕ))
+      → list_all (λ path. q path.key path.mention) (paths_in dialect key words) ≡ true
+  words_hold dialect key [] = refl
+  words_hold dialect key (word ∷ words) =
+      list_all-append (λ path. q path.key path.mention) (word_paths dialect key word) (paths_in dialect key words)
+      ∙ ap (λ v. v && list_all (λ path. q path.key path.mention) (paths_in dialect key words))
+      (of_key_holds key (mentions_in_word dialect key word) (word_holds dialect key word))
+      ∙ words_hold dialect key words
+
+  in_force_hold : (dialect : Dialect) (reset : Bool) (one : Assigned)
+      → list_all (λ path. q path.key path.mention) (cond reset [] (gives dialect one)) ≡ true
+  in_force_hold dialect true one = refl
+  in_force_hold dialect false one = words_hold dialect one.key (unwrap_or (split one.value.text) [])
+
+  pub all_hold : (dialect : Dialect) (values : List Assigned) → list_all (λ path. q path.key path.mention) (written dialect values) ≡ true
+  all_hold dialect [] = refl
+  all_hold dialect (one ∷ later) =
+      list_all-append (λ path. q path.key path.mention) (cond (is_reset_by later one.key) [] (gives dialect one)) (written dialect later)
+      ∙ ap (λ v. v && list_all (λ path. q path.key path.mention) (written dialect later))
+      (in_force_hold dialect (is_reset_by later one.key) one)
+      ∙ all_hold dialect later
 
 -- so written paths are as their keys say, and short
-pub written_are_read : (values : List Assigned) → AreRead (written values)
-written_are_read values = record {
-  as_their_keys = all_hold (λ key mention. is_as_its_key (record { key = key; mention = mention }))
-      (λ key word mention e. ap (fits key) (sym e) ∙ mention_fits key word) values;
-  short = all_hold (λ key mention. is_short mention) (λ key word mention e. mention_short key word mention e) values;
+pub written_are_read : (dialect : Dialect) (values : List Assigned) → AreRead (written dialect values)
+written_are_read dialect values = record {
+  as_their_keys = all_hold (λ key mention. is_as_its_key (record { key = key; mention = mention })) (record {
+    alone = λ key word mention e. ap (fits key) (sym e) ∙ mention_fits key word;
+    shown = λ key read_only source path implied from at deep. shown_fits key read_only source path implied deep;
+  }) dialect values;
+  short = all_hold (λ key mention. is_short mention) (record {
+    alone = λ key word mention e. mention_short key word mention e;
+    shown = λ key read_only source path implied from at deep. and_from _ _ at from;
+  }) dialect values;
 }

@@ -4,7 +4,7 @@ use Rattle.std.specs.Prelude.{filter}
 use Rattle.path_settings.specs.declared.keys.PathKey.{PathKey}
 use Rattle.path_settings.specs.declared.keys.PathKey.TheVariants.{ReadWritePaths, ReadOnlyPaths, InaccessiblePaths, ExecPaths, NoExecPaths}
 use Rattle.path_settings.specs.declared.keys.PathKey.TheVariants.{BindPaths, BindReadOnlyPaths, TemporaryFileSystem, StateDirectory}
-use Rattle.path_settings.specs.declared.keys.PathKey.TheVariants.{RuntimeDirectory, CacheDirectory, LogsDirectory}
+use Rattle.path_settings.specs.declared.keys.PathKey.TheVariants.{RuntimeDirectory, CacheDirectory, LogsDirectory, ConfigurationDirectory}
 use Rattle.path_settings.specs.declared.mentions.Mention.{Mention}
 use Rattle.site_table.specs.Table.{Site}
 use Rattle.mount_settings.specs.declared.written.WrittenPath.{WrittenPath}
@@ -60,7 +60,7 @@ control_groups_few true = lit≤ tt
 four : (q r s t : List Mention) → length (joined (q ∷ r ∷ s ∷ t ∷ [])) ≡ length q + (length r + (length s + length t))
 four q r s t = omega (arith, length-append q (r ++ (s ++ (t ++ []))), length-append r (s ++ (t ++ [])), length-append s (t ++ []), length-append t [])
 
-filter_few : (p : Mention → Bool) (xs : List Mention) → length (filter p xs) ≤ length xs
+pub filter_few : (p : Mention → Bool) (xs : List Mention) → length (filter p xs) ≤ length xs
 filter_few p [] = lit≤ tt
 filter_few p (x ∷ xs) =
     let h = filter_few p xs in
@@ -86,8 +86,9 @@ one_part StateDirectory mention paths h = omega (arith, h)
 one_part RuntimeDirectory mention paths h = omega (arith, h)
 one_part CacheDirectory mention paths h = omega (arith, h)
 one_part LogsDirectory mention paths h = omega (arith, h)
+one_part ConfigurationDirectory mention paths h = omega (arith, h)
 
--- each path is written, or a folder of one key
+-- each path is written, or a folder of one key; the base profile has no folders of a fifth
 all_parts : (paths : List WrittenPath) → parts paths ≤ length paths
 all_parts [] = lit≤ tt
 all_parts (path ∷ paths) = one_part path.key path.mention paths (all_parts paths)
@@ -108,8 +109,3 @@ pub counted : (site : Site) (switches : Switches) (protections : Protections) (p
 unfolding mentions_of implied
 counted site switches protections paths =
     omega (arith, length-append (as_written paths) (filter (stands site) (asked switches protections paths)), filter_few (stands site) (asked switches protections paths), asked_few switches protections paths)
-
--- 128 that are written and 31 that are implied
-pub few_mentions : (site : Site) (switches : Switches) (protections : Protections) (paths : List WrittenPath) → length paths ≤ 128
-    → length (mentions_of site switches protections paths) ≤ 160
-few_mentions site switches protections paths few = let most = counted site switches protections paths in omega (arith, few, most)

@@ -61,7 +61,7 @@ of_switch : (q : Mention → Bool) (by : Bool → List Mention) → list_all q (
 of_switch q by off on true = on
 of_switch q by off on false = off
 
-of_picked : {X : Type 0} (p q : X → Bool) (xs : List X) → list_all q xs ≡ true → list_all q (filter p xs) ≡ true
+pub of_picked : {X : Type 0} (p q : X → Bool) (xs : List X) → list_all q xs ≡ true → list_all q (filter p xs) ≡ true
 of_picked p q [] all = refl
 of_picked p q (x ∷ xs) all =
     let rest = of_picked p q xs (both (q x) (list_all q xs) all).1 in
@@ -70,7 +70,7 @@ of_picked p q (x ∷ xs) all =
       | false ↦ rest
     ]
 
-of_two : (q : Mention → Bool) (xs ys : List Mention) → list_all q xs ≡ true → list_all q ys ≡ true → list_all q (xs ++ ys) ≡ true
+pub of_two : (q : Mention → Bool) (xs ys : List Mention) → list_all q xs ≡ true → list_all q ys ≡ true → list_all q (xs ++ ys) ≡ true
 of_two q xs ys one other = list_all-append q xs ys ∙ ap (λ v. v && list_all q ys) one ∙ other
 
 of_four : (q : Mention → Bool) (one two three four : List Mention) → list_all q one ≡ true → list_all q two ≡ true
@@ -78,6 +78,13 @@ of_four : (q : Mention → Bool) (one two three four : List Mention) → list_al
 of_four q one two three four a b c d =
     of_two q one (two ++ (three ++ (four ++ []))) a
     (of_two q two (three ++ (four ++ [])) b (of_two q three (four ++ []) c (of_two q four [] d refl)))
+
+-- of all folders
+pub of_folders : (q : Mention → Bool) (paths : List WrittenPath)
+    → ((key : PathKey) → is_implied key ≡ true → list_all q (of_key key paths) ≡ true) → list_all q (joined (by_folders paths)) ≡ true
+of_folders q paths folders =
+    of_four q (of_key StateDirectory paths) (of_key RuntimeDirectory paths) (of_key CacheDirectory paths) (of_key LogsDirectory paths)
+    (folders StateDirectory refl) (folders RuntimeDirectory refl) (folders CacheDirectory refl) (folders LogsDirectory refl)
 
 -- of all that is implied, where it holds of folders
 pub of_implied : (q : Mention → Bool) → OfTable q → (site : Site) (switches : Switches) (protections : Protections)
@@ -89,14 +96,12 @@ of_implied q of site switches protections paths folders =
     (of_system q of protections.protect_system) (of_home q of protections.protect_home) (of_switch q by_tmp refl (of_group q 6 groups of) protections.private_tmp) (of_switch q by_devices refl (of_group q 7 groups of) switches.private_devices) in
     let kernel = of_four q (by_tunables protections.protect_kernel_tunables) (by_modules switches.protect_kernel_modules) (by_logs switches.protect_kernel_logs) (by_control_groups protections.protect_control_groups)
     (of_switch q by_tunables refl (of_group q 8 groups of) protections.protect_kernel_tunables) (of_switch q by_modules refl (of_group q 9 groups of) switches.protect_kernel_modules) (of_switch q by_logs refl (of_group q 10 groups of) switches.protect_kernel_logs) (of_switch q by_control_groups refl (of_group q 11 groups of) protections.protect_control_groups) in
-    let of_folders = of_four q (of_key StateDirectory paths) (of_key RuntimeDirectory paths) (of_key CacheDirectory paths) (of_key LogsDirectory paths)
-    (folders StateDirectory refl) (folders RuntimeDirectory refl) (folders CacheDirectory refl) (folders LogsDirectory refl) in
     of_picked (stands site) q (asked switches protections paths)
     (of_two q (joined (by_files switches protections)) (joined (by_kernel switches protections) ++ joined (by_folders paths)) files
-    (of_two q (joined (by_kernel switches protections)) (joined (by_folders paths)) kernel of_folders))
+    (of_two q (joined (by_kernel switches protections)) (joined (by_folders paths)) kernel (of_folders q paths folders)))
 
 -- of some of the written paths
-of_some : (q : Mention → Bool) (p : WrittenPath → Bool) (paths : List WrittenPath) → list_all (λ path. q path.mention) paths ≡ true
+pub of_some : (q : Mention → Bool) (p : WrittenPath → Bool) (paths : List WrittenPath) → list_all (λ path. q path.mention) paths ≡ true
     → list_all q (map (λ path. path.mention) (filter p paths)) ≡ true
 of_some q p paths all = list_all-map q (λ (path : WrittenPath). path.mention) (filter p paths)
     ∙ of_picked p (λ path. q path.mention) paths all

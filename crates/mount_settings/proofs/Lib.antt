@@ -2,14 +2,21 @@ pub mod Passing
 pub mod Standing
 pub mod AsKeys
 pub mod Counting
+pub mod CountingRows
 pub mod EachMention
+pub mod EachOfTable
+pub mod FurtherSame
 pub mod Placing
 pub mod SameKeys
+pub mod SameUnits
 pub mod OwnValues
 pub mod KeyByKey
 pub mod Protecting
 pub mod Worked
+pub mod WorkedTable
 pub mod Optional
+pub mod OptionalFolders
+pub mod OtherSites
 pub mod WorkedUnits
 pub mod OfPathSettings
 pub use Rattle.path_settings.proofs.OfAbsPath as OfAbsPath

@@ -6,7 +6,7 @@ use Rattle.std.proofs.lemmas.Slice.Eq.{bytes_eq-Decides}
 use Rattle.path_settings.specs.declared.keys.PathKey.{PathKey}
 use Rattle.path_settings.specs.declared.keys.PathKey.TheVariants.{ReadWritePaths, ReadOnlyPaths, InaccessiblePaths, ExecPaths, NoExecPaths}
 use Rattle.path_settings.specs.declared.keys.PathKey.TheVariants.{BindPaths, BindReadOnlyPaths, TemporaryFileSystem, StateDirectory}
-use Rattle.path_settings.specs.declared.keys.PathKey.TheVariants.{RuntimeDirectory, CacheDirectory, LogsDirectory}
+use Rattle.path_settings.specs.declared.keys.PathKey.TheVariants.{RuntimeDirectory, CacheDirectory, LogsDirectory, ConfigurationDirectory}
 use Rattle.path_settings.specs.Keys.{path_keys, name_of}
 use Rattle.mount_settings.specs.Assigned.{is_key}
 
@@ -23,6 +23,7 @@ found_by_name StateDirectory = refl
 found_by_name RuntimeDirectory = refl
 found_by_name CacheDirectory = refl
 found_by_name LogsDirectory = refl
+found_by_name ConfigurationDirectory = refl
 
 pub same_name : (one other : PathKey) → is_key one other ≡ true → name_of one ≡ name_of other
 same_name one other e = (bytes_eq-Decides (name_of one) (name_of other)).0 e

@@ -55,9 +55,9 @@ four_brought p q r s t old a b c d to_a to_b to_c to_d =
 pub three_joined : (q r s t : List Mention) → q ++ (r ++ (s ++ t)) ≡ (q ++ (r ++ s)) ++ t
 three_joined q r s t = ap (λ xs. q ++ xs) (sym (append_assoc r s t)) ∙ sym (append_assoc q (r ++ s) t)
 
--- a list of 160 has none left
-pub no_room : (list rest left all : List Mention) (mention : Mention) → length list ≡ 160 → rest ≡ mention ∷ left → list ++ rest ≡ all
-    → length all ≤ 160 → ⊥
+-- a list of 192 has none left
+pub no_room : (list rest left all : List Mention) (mention : Mention) → length list ≡ 192 → rest ≡ mention ∷ left → list ++ rest ≡ all
+    → length all ≤ 192 → ⊥
 no_room list rest left all mention full first whole few = omega
     (arith, full, few, length-append list rest, ap length first, ap length whole)
 

@@ -5,6 +5,7 @@ use lib.Utf8.{encode}
 use Rattle.dropin_merge.specs.text_forms.Booleans.{bool_value, is_one_of}
 use Rattle.dropin_merge.specs.text_forms.Words.{words_of, words_in, text_only, closed_only, mark_of, open_after, escape_of, symbols_of}
 use Rattle.path_settings.specs.abs_path.Paths.{Path}
+use Rattle.path_settings.specs.declared.dialect.Dialect.TheVariants.{Base}
 use Rattle.path_settings.specs.declared.keys.PathKey.{PathKey}
 use Rattle.path_settings.specs.declared.keys.PathKey.TheVariants.{ReadWritePaths, ReadOnlyPaths}
 use Rattle.mount_settings.specs.declared.protections.SystemProtection.TheVariants.{Yes, Strict}
@@ -43,7 +44,7 @@ abbrev said : List WrittenPath → List (PathKey × Path)
 said paths = map (λ path. (path.key, path.mention.path)) paths
 
 -- two keys, of which one is reset between
-one_key_is_reset : said (written
+one_key_is_reset : said (written Base
     (at 2 ReadOnlyPaths (codes "/a /b") ∷ at 3 ReadWritePaths (codes "/c") ∷ at 4 ReadOnlyPaths [] ∷ at 5 ReadOnlyPaths
     (codes "/d d") ∷ [])) ≡ (ReadWritePaths, codes "c" ∷ []) ∷ (ReadOnlyPaths, codes "d" ∷ []) ∷ []
 unfolding at words_of words_in text_only closed_only mark_of open_after escape_of symbols_of is_utf8 chars encode

@@ -23,7 +23,7 @@ by_kernel switches protections =
     by_tunables protections.protect_kernel_tunables ∷ by_modules switches.protect_kernel_modules ∷ by_logs switches.protect_kernel_logs ∷
     by_control_groups protections.protect_control_groups ∷ []
 
--- folders that are the service's to write to
+-- folders that are the service's to write to. The base profile reads no ConfigurationDirectory=
 abbrev pub by_folders : List WrittenPath → List (List Mention)
 by_folders paths = of_key StateDirectory paths ∷ of_key RuntimeDirectory paths ∷ of_key CacheDirectory paths ∷ of_key LogsDirectory paths
     ∷ []

@@ -11,6 +11,7 @@ pub mod Protections
 pub mod Effects
 pub mod Table
 pub mod Implied
+pub mod systemd
 pub mod Settings
 pub mod OneKey
 pub mod path_settings

@@ -10,6 +10,8 @@ use Rattle.mount_settings.specs.declared.protections.Protections.{Protections}
 use Rattle.mount_settings.specs.System.{unit_system, unit_system_notes}
 use Rattle.mount_settings.specs.Home.{unit_home, unit_home_notes}
 use Rattle.mount_settings.specs.Tmp.{unit_tmp, unit_tmp_notes}
+use Rattle.mount_settings.specs.systemd.Keys.{unit_groups, unit_groups_notes}
+use Rattle.mount_settings.specs.systemd.Words.{is_on}
 
 -- what the files of a unit say
 unfoldable pub unit_protections : Resolved → Protections
@@ -19,7 +21,7 @@ unit_protections unit =
       protect_home = unit_home unit;
       private_tmp = unit_tmp unit;
       protect_kernel_tunables = unit_flag unit (codes "ProtectKernelTunables");
-      protect_control_groups = unit_flag unit (codes "ProtectControlGroups");
+      protect_control_groups = is_on (unit_groups unit);
     }
 
 -- and what is noted, key by key
@@ -28,7 +30,7 @@ protection_notes unit =
     (((unit_system_notes unit ++ unit_home_notes unit)
     ++ unit_tmp_notes unit)
     ++ unit_flag_notes unit (codes "ProtectKernelTunables"))
-    ++ unit_flag_notes unit (codes "ProtectControlGroups")
+    ++ unit_groups_notes unit
 
 -- the homes are at least read-only
 abbrev pub raised : HomeProtection → HomeProtection

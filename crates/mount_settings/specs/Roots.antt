@@ -5,6 +5,7 @@ use Rattle.std.specs.List.{list_any, list_all}
 use Rattle.path_settings.specs.abs_path.Paths.{is_root}
 use Rattle.path_settings.specs.declared.keys.PathKey.{PathKey}
 use Rattle.path_settings.specs.declared.keys.PathKey.TheVariants.{InaccessiblePaths, BindPaths, BindReadOnlyPaths, TemporaryFileSystem}
+use Rattle.path_settings.specs.Keys.{is_implied}
 use Rattle.path_settings.specs.Mentions.{is_origin}
 use Rattle.path_settings.specs.Short.{is_short}
 use Rattle.mount_settings.specs.declared.written.WrittenPath.{WrittenPath}
@@ -22,9 +23,13 @@ mentions_root paths key = list_any (λ path. is_key path.key key && is_root path
 abbrev pub root_key : List WrittenPath → Option PathKey
 root_key paths = find (mentions_root paths) root_keys
 
--- only these keys hide a path, empty it or put another one there
+-- a folder is shown at its own path and at its links, and never at the root
+abbrev pub is_folder : WrittenPath → Bool
+is_folder path = is_implied path.key && not (is_root path.mention.path)
+
+-- else only these keys hide a path, empty it or put another one there
 abbrev pub is_as_its_key : WrittenPath → Bool
-is_as_its_key path = not (is_origin path.mention.kind) || list_any (is_key path.key) root_keys
+is_as_its_key path = not (is_origin path.mention.kind) || (list_any (is_key path.key) root_keys || is_folder path)
 
 -- what the keys of written paths say: each as its key may, with short paths
 pub record AreRead (paths : List WrittenPath) : Type 0 where

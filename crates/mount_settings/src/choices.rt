@@ -9,8 +9,8 @@ use crate::protections::{HomeProtection, SystemProtection};
 use dropin_merge::unit_values::KeyValue;
 use path_settings::read_bool;
 
-// Returns the value beside the first row of this word.
-fn beside<T: Copy>(rows: &[(&str, T)], text: &str) -> Option<T>
+/// Returns the value beside the first row of this word.
+pub(crate) fn beside<T: Copy>(rows: &[(&str, T)], text: &str) -> Option<T>
     ensures { result ≡ beside (map (λ row. (row.0.now, row.1)) rows.now) text.now }
 {
     for row in rows {

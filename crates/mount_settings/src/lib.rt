@@ -16,12 +16,13 @@ pub mod laws;
 mod protections;
 mod roots;
 mod settings;
+mod systemd;
 mod table;
 mod tmp;
 mod written;
 
 pub use assigned::written_paths;
-pub use dropin_merge::{NameError, UnitName, expand};
+pub use dropin_merge::{ExpandError, NameError, UnitName, Version, expand};
 pub use error::MountSettingsError;
 pub use path_settings::{Mentions, PathKey};
 pub use protections::{HomeProtection, Protections, Switches, SystemProtection};

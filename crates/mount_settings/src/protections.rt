@@ -2,7 +2,8 @@
 ghost use Rattle.std.specs.Prelude.{◌≡◌, IfOk};
 ghost use Rattle.mount_settings.specs.Protections.{unit_protections, protection_notes, raised, in_effect};
 
-use crate::tmp::PrivateTmp;
+use crate::systemd::read_groups;
+use crate::tmp::read_tmp;
 use dropin_merge::Resolved;
 use dropin_merge::unit_values::{Said, flag_of_key, last_of_key};
 use std::alloc::{AllocError, Global};
@@ -16,7 +17,7 @@ pub enum SystemProtection {
     Yes,
     /// `/etc` too.
     Full,
-    /// All but `/dev`, `/proc` and `/sys`.
+    /// All but `/dev`, `/proc` and `/sys`, and by a known version of systemd also but for the homes of users.
     Strict,
 }
 
@@ -29,7 +30,7 @@ pub enum HomeProtection {
     Yes,
     /// All, to be read only.
     ReadOnly,
-    /// Empty folders, to be read only.
+    /// Empty folders, to be read only; of systemd 252 they are writable.
     Tmpfs,
 }
 
@@ -76,12 +77,11 @@ pub(crate) fn read_protections(
     } = last_of_key(alloc, unit, "ProtectSystem", SystemProtection::No)?;
     let home = last_of_key(alloc, unit, "ProtectHome", HomeProtection::No)?;
     let protect_home = home.noted_in(&mut notes)?;
-    let tmp = last_of_key(alloc, unit, "PrivateTmp", PrivateTmp { on: false })?;
-    let private_tmp = tmp.noted_in(&mut notes)?.on;
+    let private_tmp = read_tmp(alloc, unit)?.noted_in(&mut notes)?;
     let tunables = flag_of_key(alloc, unit, "ProtectKernelTunables")?;
     let protect_kernel_tunables = tunables.noted_in(&mut notes)?;
-    let groups = flag_of_key(alloc, unit, "ProtectControlGroups")?;
-    let protect_control_groups = groups.noted_in(&mut notes)?;
+    let groups = read_groups(alloc, unit)?.noted_in(&mut notes)?;
+    let protect_control_groups = groups.is_on();
     let what = Protections {
         protect_system,
         protect_home,

@@ -1,7 +1,7 @@
 //! Collects all mentions of a unit's settings.
 ghost use Rattle.std.specs.Prelude.{◌≡◌, ◌↔◌, ◌<◌, ◌≤◌, None, not, length, IfOk, IsErrOf, IsTrue};
 ghost use Rattle.mount_settings.specs.Protections.{protection_notes};
-ghost use Rattle.mount_settings.specs.Settings.{as_written, mentions_of, protections_of};
+ghost use Rattle.mount_settings.specs.Settings.{as_written, mentions_of, all_mentions, protections_of};
 ghost use Rattle.path_settings.specs.Mentions.{leaves_the_root};
 ghost use Rattle.path_settings.specs.Short.{AreShort};
 ghost use Rattle.mount_settings.specs.Roots.{root_key as first_root_key};
@@ -9,6 +9,7 @@ ghost use Rattle.mount_settings.specs.Roots.{root_key as first_root_key};
 use crate::error::MountSettingsError;
 use crate::implied::bring_implied;
 use crate::protections::{Protections, Switches, in_effect, read_protections};
+use crate::systemd::{further_keys, mentions_by};
 use crate::written::{WrittenPath, WrittenPaths};
 use dropin_merge::Resolved;
 use dropin_merge::unit_values::Said;
@@ -28,8 +29,11 @@ pub struct MountSettings {
     pub mentions: Mentions,
 }
 
-// The mentions of the written paths.
-fn written_mentions(alloc: Global, paths: &[WrittenPath]) -> Result<Vec<Mention>, AllocError>
+/// The mentions of the written paths that are none of folder keys.
+pub(crate) fn written_mentions(
+    alloc: Global,
+    paths: &[WrittenPath],
+) -> Result<Vec<Mention>, AllocError>
     ensures { IfOk result (λ mentions. mentions.items ≡ as_written paths.now) }
 {
     let mut mentions = Vec::new(alloc);
@@ -41,9 +45,9 @@ fn written_mentions(alloc: Global, paths: &[WrittenPath]) -> Result<Vec<Mention>
     Ok(mentions)
 }
 
-// Written and implied mentions.
+// Written and implied mentions by the rules of the base profile.
 #[tactic(auto, unfolding(crate::specs::Settings::mentions_of))]
-fn all_mentions(
+fn base_mentions(
     alloc: Global,
     site: &SiteTable,
     switches: Switches,
@@ -57,9 +61,30 @@ fn all_mentions(
     Ok(mentions)
 }
 
+// Written and implied mentions, by the systemd that reads the unit.
+fn all_mentions(
+    alloc: Global,
+    unit: &Resolved,
+    site: &SiteTable,
+    switches: Switches,
+    protections: Protections,
+    paths: &[WrittenPath],
+) -> Result<Vec<Mention>, AllocError>
+    requires { protections ≡ protections_of unit.now switches }
+    ensures { IfOk result (λ mentions. mentions.items ≡ all_mentions unit.now site.now switches paths.now) }
+{
+    match unit.systemd {
+        None => base_mentions(alloc, site, switches, protections, paths),
+        Some(version) => {
+            let keys = further_keys(alloc, unit)?;
+            mentions_by(alloc, site, version, switches, protections, keys, paths)
+        }
+    }
+}
+
 // The list of these mentions, of which there are few enough.
 fn listed(alloc: Global, mentions: Vec<Mention>) -> Result<Mentions, AllocError>
-    requires { length mentions.items ≤ 160 }
+    requires { length mentions.items ≤ 192 }
     ensures { IfOk result (λ list. list ≡ mentions.items) }
 {
     let mut list = Mentions::new(alloc);
@@ -76,7 +101,8 @@ fn listed(alloc: Global, mentions: Vec<Mention>) -> Result<Mentions, AllocError>
 /// Returns the mentions of a unit: the written ones, as `written_paths` has them, and after them those that the
 /// protections and the folder keys imply (systemd.exec(5), Sandboxing).
 ///
-/// An implied path is skipped if the site has no row for it, and is optional otherwise. TooManyPaths comes if more
+/// Where the unit is read by a known version of systemd, the table of this version has the paths, and a service without
+/// mounts of its own has none. An implied path is skipped if the site has no row for it, and is optional otherwise. TooManyPaths comes if more
 /// than 128 paths are written, those of folders that the site does not have among them. Notes come for values of
 /// ProtectSystem=, ProtectHome=, PrivateTmp=, ProtectKernelTunables= and ProtectControlGroups= that cannot be read.
 /// Each path, and each source of a bind, has at most 250 bytes. `mentions_root` says if a key mentions `/`.
@@ -87,7 +113,7 @@ pub fn mount_settings(
     site: &SiteTable,
     switches: Switches,
 ) -> Result<Said<MountSettings>, MountSettingsError>
-    ensures written_then_implied { IfOk result (λ said. said.what.mentions ≡ mentions_of site.now switches (protections_of unit.now switches) paths.now) }
+    ensures written_then_implied { IfOk result (λ said. said.what.mentions ≡ all_mentions unit.now site.now switches paths.now) }
     ensures protections_in_effect { IfOk result (λ said. said.what.protections ≡ protections_of unit.now switches) }
     ensures notes_the_unread { IfOk result (λ said. said.notes.items ≡ protection_notes unit.now) }
     ensures leaves_the_root { IfOk result (λ said. first_root_key paths.now ≡ None → IsTrue (leaves_the_root said.what.mentions)) }
@@ -100,7 +126,7 @@ pub fn mount_settings(
     }
     let Said { what: said, notes } = read_protections(alloc, unit)?;
     let protections = in_effect(switches.dynamic_user, said);
-    let mentions = all_mentions(alloc, site, switches, protections, paths)?;
+    let mentions = all_mentions(alloc, unit, site, switches, protections, paths)?;
     let what = MountSettings {
         protections,
         mentions: listed(alloc, mentions)?,

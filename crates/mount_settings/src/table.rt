@@ -101,8 +101,8 @@ fn bring_home(
     }
 }
 
-// Adds what each group brings where it is on: an effect at paths.
-fn bring_groups(
+/// Adds what each group brings where it is on: an effect at paths.
+pub(crate) fn bring_groups(
     alloc: Global,
     site: &SiteTable,
     groups: &[(bool, Effect, &[&str])],

@@ -1,14 +1,13 @@
 //! Keeps the paths that are written in the files of a unit, each with its key.
-ghost use Rattle.std.specs.Prelude.{◌≡◌, ◌++◌, [], flat_map, OnOk};
-ghost use Rattle.std.specs.List.{cons_option};
+ghost use Rattle.std.specs.Prelude.{◌≡◌, ◌++◌, flat_map, OnOk};
 ghost use Rattle.mount_settings.specs.Assigned.{is_key};
-ghost use Rattle.mount_settings.specs.Written.{path_in, paths_in};
+ghost use Rattle.mount_settings.specs.Written.{of_its_key, word_paths, paths_in};
 ghost use Rattle.mount_settings.specs.Notes.{word_notes, value_notes};
 ghost use Rattle.mount_settings.specs.Steps.{without_key, with_value};
 
 use dropin_merge::unit_values::{FileNote, Value, note_value, read_words};
 use dropin_merge::{NoteCause, Text};
-use path_settings::{Held, HeldList, Mention, PathKey, read_mention};
+use path_settings::{Dialect, Held, HeldList, Mention, PathKey, read_mentions};
 use std::alloc::{AllocError, Global};
 
 /// A path that is written in a file of a unit.
@@ -27,8 +26,8 @@ impl Held for WrittenPath {
 }
 
 /// The paths that are written in the files of a unit and are in force, in their order. Only the keys that say which
-/// object is at a path hide it, empty it or put another there. Each path, and each source of a bind, has at most 250
-/// bytes.
+/// object is at a path hide it, empty it or put another there, but for folders, which are shown below the root. Each
+/// path, and each source of a bind, has at most 250 bytes.
 pub type WrittenPaths = HeldList<WrittenPath>;
 
 /// Returns whether two keys are the same.
@@ -45,39 +44,54 @@ fn forget(key: PathKey, paths: &mut Vec<WrittenPath>)
     paths.retain(|path| !is_key(path.key, key));
 }
 
-// Adds the path of a word after the others, or notes the word.
+// Adds mentions of a key after the others.
+fn add_mentions(
+    key: PathKey,
+    mentions: Vec<Mention>,
+    paths: &mut Vec<WrittenPath>,
+) -> Result<(), AllocError>
+    ensures { OnOk result (paths.new.items ≡ paths.old.items ++ of_its_key key mentions.items) }
+{
+    for mention in mentions {
+        paths.push(WrittenPath { key, mention })?;
+    }
+    Ok(())
+}
+
+// Adds the paths of a word after the others, or notes the word.
 fn add_word(
     alloc: Global,
+    dialect: Dialect,
     key: PathKey,
     word: &str,
     value: &Value,
     paths: &mut Vec<WrittenPath>,
     notes: &mut Vec<FileNote>,
 ) -> Result<(), AllocError>
-    ensures added { OnOk result (paths.new.items ≡ paths.old.items ++ cons_option (path_in key word.now) []) }
-    ensures noted { OnOk result (notes.new.items ≡ notes.old.items ++ word_notes key value.now word.now) }
+    ensures added { OnOk result (paths.new.items ≡ paths.old.items ++ word_paths dialect key word.now) }
+    ensures noted { OnOk result (notes.new.items ≡ notes.old.items ++ word_notes dialect key value.now word.now) }
 {
-    match read_mention(alloc, key, word)? {
-        Some(mention) => paths.push(WrittenPath { key, mention })?,
-        None => note_value(notes, value, NoteCause::Value)?,
+    match read_mentions(alloc, dialect, key, word)? {
+        Some(mentions) => add_mentions(key, mentions, paths),
+        None => note_value(notes, value, NoteCause::Value),
     }
-    Ok(())
 }
 
 // Adds the paths of the words of a value after the others.
 fn add_words(
     alloc: Global,
+    dialect: Dialect,
     key: PathKey,
     words: &[Text],
     value: &Value,
     paths: &mut Vec<WrittenPath>,
     notes: &mut Vec<FileNote>,
 ) -> Result<(), AllocError>
-    ensures added { OnOk result (paths.new.items ≡ paths.old.items ++ paths_in key words.now) }
-    ensures noted { OnOk result (notes.new.items ≡ notes.old.items ++ flat_map (word_notes key value.now) words.now) }
+    ensures added { OnOk result (paths.new.items ≡ paths.old.items ++ paths_in dialect key words.now) }
+    ensures noted { OnOk result (notes.new.items ≡ notes.old.items ++ flat_map (word_notes dialect key value.now) words.now) }
 {
     for word in words {
-        add_word(alloc, key, word.as_str(), value, paths, notes)?;
+        add_word(alloc, dialect, key, word.as_str(), value, paths, notes)?;
     }
     Ok(())
 }
@@ -86,20 +100,21 @@ fn add_words(
 /// other are added after the others.
 pub(crate) fn add_value(
     alloc: Global,
+    dialect: Dialect,
     key: PathKey,
     value: &Value,
     paths: &mut Vec<WrittenPath>,
     notes: &mut Vec<FileNote>,
 ) -> Result<(), AllocError>
-    ensures means { OnOk result (paths.new.items ≡ with_value paths.old.items (record { key = key; value = value.now })) }
-    ensures noted { OnOk result (notes.new.items ≡ notes.old.items ++ value_notes key value.now) }
+    ensures means { OnOk result (paths.new.items ≡ with_value dialect paths.old.items (record { key = key; value = value.now })) }
+    ensures noted { OnOk result (notes.new.items ≡ notes.old.items ++ value_notes dialect key value.now) }
 {
     if value.text.as_str().is_empty() {
         forget(key, paths);
         return Ok(());
     }
     match read_words(alloc, value.text.as_str())? {
-        Some(words) => add_words(alloc, key, words.list(), value, paths, notes),
+        Some(words) => add_words(alloc, dialect, key, words.list(), value, paths, notes),
         None => note_value(notes, value, NoteCause::Value),
     }
 }

@@ -14,7 +14,7 @@ use Rattle.ceilings.specs.kern_mounts.Split.{Table}
 use Rattle.ceilings.specs.kernel_model.kern_files.Executing.{marks_of}
 use Rattle.ceilings.specs.kernel_model.kern_files.Looking.{flags_at}
 use Rattle.ceilings.specs.kernel_model.kern_files.MountCall.{ms_remount_bind}
-use Rattle.ceilings.specs.kernel_model.kernel_calls.Doing as d
+use Rattle.ceilings.specs.kernel_model.kernel_calls.Operation as d
 use Rattle.ceilings.specs.kernel_model.declared.kernel_calls.call.Call.{Call}
 use Rattle.ceilings.specs.kernel_model.declared.kernel_calls.payload.Payload.TheVariants.{OnePath}
 use Rattle.ceilings.specs.kernel_model.Effects.{SetCreds}
@@ -35,12 +35,12 @@ use Rattle.ceilings.specs.kernel_ways.Laws.{IsFit}
 use Rattle.ceilings.specs.kernel_ways.Offers.{Offers, RunsProgram}
 use Rattle.ceilings.specs.kernel_ways.Ways.{Way, here, IsSolo}
 use Rattle.ceilings.proofs.OfKernelWays.Solo.{way_join}
-use Rattle.ceilings.proofs.OfKernelWays.Doings.{PathCall, see_path, read_path, write_path, exec_path}
+use Rattle.ceilings.proofs.OfKernelWays.Operations.{PathCall, see_path, read_path, write_path, exec_path}
 use Rattle.ceilings.proofs.OfKernelWays.Exposing.{mounts_pass}
 use Rattle.ceilings.proofs.OfKernelWays.Gains.{Basis}
 use Rattle.ceilings.proofs.OfKernelWays.Rows.{IsKnown, known_at}
 use Rattle.ceilings.proofs.OfKernelWays.Showing.{calls_show}
-use Rattle.open_calls.specs.chosen_calls.Chosen.{unmarked, doing_calls, row_calls, user_call, pid_inside, call_inside, inside_calls}
+use Rattle.open_calls.specs.chosen_calls.Chosen.{unmarked, operation_calls, row_calls, user_call, pid_inside, call_inside, inside_calls}
 use Rattle.open_calls.specs.chosen_calls.Chosen.{row_inside}
 use Rattle.open_calls.proofs.ChosenCallsInside.{user_called, inside_is, at_place}
 use Rattle.ceilings.specs.kernel_ways.Entering.{MakesIn}
@@ -134,20 +134,20 @@ module _ (world : World) (launch : Launch) (l : IsLaunched launch) (o : Offers l
       let path = exposing_path launch power ToExec target.path in
       let P : Call → Type 0 = λ call. PathCall launch creds x.now ToExec path call in
       let makes = exec_path launch creds x.now path x.found.can_be_named target x.found.is_found (fit target listed) x.found.is_allowed admitted c.line in
-      subst P (sym (call_is c (OnePath path))) (record { doing = d.Execve path; effect = SetCreds (exec_done creds (marks_of target) (flags_at x.now path).no_suid); makes = makes; doable = tt; wanted = refl })
+      subst P (sym (call_is c (OnePath path))) (record { operation = d.Execve path; effect = SetCreds (exec_done creds (marks_of target) (flags_at x.now path).no_suid); makes = makes; doable = tt; wanted = refl })
 
   -- behind any calls that leave the launched table
   behind : (wish : Wish) → IsFit launch.site (asking.Path wish place) → lets launch (ForPath wish) ≡ true
       → {front : List Call} (creds : Creds) → Way launch launch.creds launch.table front creds launch.table
       → (power : Power) (flags : ℕ) → (x : ExposedAt launch creds power flags target wish)
       → Admits wish creds target (flags_at x.now (exposing_path launch power wish target.path)).no_suid
-      → Shows world (asking.Path wish place) (front ++ doing_calls launch power flags wish target)
+      → Shows world (asking.Path wish place) (front ++ operation_calls launch power flags wish target)
   behind wish fit passes {front = front} creds way power flags x admitted =
       let path = exposing_path launch power wish target.path in
       let call = call_by launch (ForPath wish) (OnePath path) in
       let calls = exposing_calls launch power flags wish target.path in
       let c = path_call wish fit passes creds power flags x admitted in
-      let shown = calls_show launch launch.creds creds launch.table x.now world (front ++ calls) (asking.Path wish place) c.doing call c.effect s (way_join way x.way) c.makes c.doable (path, target, c.wanted, listed, x.found.is_found) in
+      let shown = calls_show launch launch.creds creds launch.table x.now world (front ++ calls) (asking.Path wish place) c.operation call c.effect s (way_join way x.way) c.makes c.doable (path, target, c.wanted, listed, x.found.is_found) in
       subst (Shows world (asking.Path wish place)) (append_assoc front calls (call ∷ [])) shown
 
   -- where marks are looked at, a row that is free is admitted
@@ -162,7 +162,7 @@ module _ (world : World) (launch : Launch) (l : IsLaunched launch) (o : Offers l
   -- on the launched table
   near : (wish : Wish) → IsFit launch.site (asking.Path wish place) → lets launch (ForPath wish) ≡ true → IsFree launch wish target
       → reaches Nowise launch.table target.path wish ≡ true → Shows world (asking.Path wish place)
-      (doing_calls launch Nowise ms_remount_bind wish target)
+      (operation_calls launch Nowise ms_remount_bind wish target)
   near wish fit passes free e =
       let m = marked launch l o launch.creds target own_known wish Nowise (inl refl) e in
       behind wish fit passes launch.creds here Nowise ms_remount_bind m.exposed
@@ -173,7 +173,7 @@ module _ (world : World) (launch : Launch) (l : IsLaunched launch) (o : Offers l
   far : (wish : Wish) → IsFit launch.site (asking.Path wish place) → lets launch (ForPath wish) ≡ true → IsFree launch wish target
       → (power_of launch ≡ Nowise → ⊥) → reaches (power_of launch) launch.table target.path wish ≡ true
       → Shows world (asking.Path wish place)
-      (gaining launch program cap_sys_admin ++ doing_calls launch (power_of launch) ms_remount_bind wish target)
+      (gaining launch program cap_sys_admin ++ operation_calls launch (power_of launch) ms_remount_bind wish target)
   far wish fit passes free some e =
       let a = admin_gained launch l o program p some in
       let m = marked launch l o a.creds target own_known wish (power_of launch) (inr (a.holds, refl)) e in
@@ -184,15 +184,15 @@ module _ (world : World) (launch : Launch) (l : IsLaunched launch) (o : Offers l
   near_or_far : (wish : Wish) → IsFit launch.site (asking.Path wish place) → lets launch (ForPath wish) ≡ true → IsFree launch wish target
       → reaches (power_of launch) launch.table target.path wish ≡ true → (b : Bool) → reaches Nowise launch.table target.path wish ≡ b
       → Shows world (asking.Path wish place)
-      (cond b (doing_calls launch Nowise ms_remount_bind wish target)
-      (gaining launch program cap_sys_admin ++ doing_calls launch (power_of launch) ms_remount_bind wish target))
+      (cond b (operation_calls launch Nowise ms_remount_bind wish target)
+      (gaining launch program cap_sys_admin ++ operation_calls launch (power_of launch) ms_remount_bind wish target))
   near_or_far wish fit passes free e true n = near wish fit passes free n
   near_or_far wish fit passes free e false n = far wish fit passes free (λ none'. let yes : reaches Nowise launch.table target.path wish ≡ true = ap (λ power. reaches power launch.table target.path wish) (sym none') ∙ e in cc) e
 
   -- a barred row is run where marks are not looked at
   far_unmarked : IsFit launch.site (asking.Path ToExec place) → lets launch (ForPath ToExec) ≡ true → (power : Power)
       → power_of launch ≡ power → power ≡ Mounting → Shows world (asking.Path ToExec place)
-      (gaining launch program cap_sys_admin ++ doing_calls launch power unmarked ToExec target)
+      (gaining launch program cap_sys_admin ++ operation_calls launch power unmarked ToExec target)
   far_unmarked fit passes Nowise e m = cc
   far_unmarked fit passes Unmounting e m = cc
   far_unmarked fit passes Mounting e m =
@@ -249,8 +249,8 @@ module _ (world : World) (launch : Launch) (l : IsLaunched launch) (o : Offers l
 
   abbrev exec_calls : Bool → Bool → List Call
   exec_calls b m = cond (b && not m) (row_inside launch program target)
-      (cond (not b && reaches Nowise launch.table target.path ToExec) (doing_calls launch Nowise ms_remount_bind ToExec target)
-      (gaining launch program cap_sys_admin ++ doing_calls launch (power_of launch) (cond b unmarked ms_remount_bind) ToExec target))
+      (cond (not b && reaches Nowise launch.table target.path ToExec) (operation_calls launch Nowise ms_remount_bind ToExec target)
+      (gaining launch program cap_sys_admin ++ operation_calls launch (power_of launch) (cond b unmarked ms_remount_bind) ToExec target))
 
   exec_shown : IsFit launch.site (asking.Path ToExec place) → lets launch (ForPath ToExec) ≡ true
       → reaches (power_of launch) launch.table target.path ToExec ≡ true → (b : Bool) → is_barred launch target ≡ b → (m : Bool)

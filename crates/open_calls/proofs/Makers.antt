@@ -12,7 +12,7 @@ use Rattle.ceilings.specs.linux_numbers.Capabilities.{cap_sys_admin, cap_setuid,
 use Rattle.ceilings.specs.site_table.declared.row.Row.{Row}
 use Rattle.ceilings.specs.kernel_model.kern_files.MountCall.{ms_remount_bind}
 use Rattle.ceilings.specs.kernel_model.kernel_calls.Rules.{rule_of}
-use Rattle.ceilings.specs.kernel_model.kernel_calls.Doing.{Clone, Does, asked_by, asked_of}
+use Rattle.ceilings.specs.kernel_model.kernel_calls.Operation.{Clone, Does, asked_by, asked_of}
 use Rattle.ceilings.specs.kernel_model.declared.kernel_calls.call.Call.{Call}
 use Rattle.ceilings.specs.kernel_model.declared.kernel_calls.payload.Payload.TheVariants.{Nothing, OnePath}
 use Rattle.ceilings.specs.kernel_model.declared.kernel_calls.rule.Rule.{Rule}
@@ -40,7 +40,7 @@ use Rattle.ceilings.specs.kernel_ways.Uncovering.{covering, umount_calls}
 use Rattle.ceilings.specs.kernel_ways.Ways.{CallAt, place_of, rule_there}
 use Rattle.ceilings.proofs.OfKernelWays.Choices as choices
 use Rattle.ceilings.proofs.OfKernelWays.Lines.{choice_of, first_by}
-use Rattle.open_calls.specs.chosen_calls.Chosen.{unmarked, is_held_off, doing_calls, user_call, pid_inside, call_inside, inside_calls}
+use Rattle.open_calls.specs.chosen_calls.Chosen.{unmarked, is_held_off, operation_calls, user_call, pid_inside, call_inside, inside_calls}
 use Rattle.open_calls.specs.chosen_calls.Chosen.{row_inside, row_calls, runner, taking, id_at_power, id_by_cap, id_by_row, id_calls}
 use Rattle.open_calls.specs.chosen_calls.Chosen.{uid_calls, gid_calls, plain_cap, plain_line, plain_calls, socket_payload, socket_calls}
 use Rattle.open_calls.specs.chosen_calls.Chosen.{space_calls, calls_for}
@@ -81,8 +81,8 @@ module _ (launch : Launch) where
       unmounts (place_of (line_of launch RemovesMounts)) (covering (shown_at launch.table row at) (drop (at + 1) launch.table))
   exposing Mounting flags wish row = (refl, (refl, tt))
 
-  doing : (power : Power) (flags : ℕ) (wish : Wish) (row : Row) → AreFirst (doing_calls launch power flags wish row)
-  doing power flags wish row =
+  operation : (power : Power) (flags : ℕ) (wish : Wish) (row : Row) → AreFirst (operation_calls launch power flags wish row)
+  operation power flags wish row =
       join (exposing_calls launch power flags wish row.path)
       (call_by launch (ForPath wish) (OnePath (exposing_path launch power wish row.path)) ∷ []) (exposing power flags wish row.path)
       (refl, tt)
@@ -201,10 +201,10 @@ module _ (launch : Launch) (entered : can_make_user launch ≡ true → IsInside
 
   module _ (wish : Wish) (row : Row) where
     abbrev at_first : List Call
-    at_first = doing_calls launch Nowise ms_remount_bind wish row
+    at_first = operation_calls launch Nowise ms_remount_bind wish row
 
     abbrev later : List Call
-    later = gaining launch program cap_sys_admin ++ doing_calls launch (power_of launch)
+    later = gaining launch program cap_sys_admin ++ operation_calls launch (power_of launch)
         (cond (is_held_off launch wish row) unmarked ms_remount_bind) wish row
 
     abbrev others : List Call
@@ -214,9 +214,9 @@ module _ (launch : Launch) (entered : can_make_user launch ≡ true → IsInside
     others_first =
         let flags = cond (is_held_off launch wish row) unmarked ms_remount_bind in
         either (not (is_held_off launch wish row) && reaches Nowise launch.table row.path wish) at_first later
-        (doing launch Nowise ms_remount_bind wish row)
-        (join (gaining launch program cap_sys_admin) (doing_calls launch (power_of launch) flags wish row)
-        (gains launch program cap_sys_admin) (doing launch (power_of launch) flags wish row))
+        (operation launch Nowise ms_remount_bind wish row)
+        (join (gaining launch program cap_sys_admin) (operation_calls launch (power_of launch) flags wish row)
+        (gains launch program cap_sys_admin) (operation launch (power_of launch) flags wish row))
 
     for_row : can_reach launch (power_of launch) wish row ≡ true → Made (row_calls launch program wish row)
     for_row open' = by (is_held_off launch wish row && not (is_mounting (power_of launch))) refl

@@ -9,7 +9,7 @@ use Rattle.ceilings.specs.kern_creds.Exec.{exec_done}
 use Rattle.ceilings.specs.kern_mounts.Split.{Table}
 use Rattle.ceilings.specs.kernel_model.kern_files.Executing.{marks_of}
 use Rattle.ceilings.specs.kernel_model.kern_files.Looking.{flags_at}
-use Rattle.ceilings.specs.kernel_model.kernel_calls.Doing as d
+use Rattle.ceilings.specs.kernel_model.kernel_calls.Operation as d
 use Rattle.ceilings.specs.kernel_model.declared.kernel_calls.call.Call.{Call}
 use Rattle.ceilings.specs.kernel_model.declared.kernel_calls.payload.Payload.TheVariants.{OnePath}
 use Rattle.ceilings.specs.kernel_model.Effects.{SetCreds}

@@ -13,8 +13,8 @@ use Rattle.ceilings.specs.call_table.Lookups.{numbered}
 use Rattle.ceilings.specs.call_table.Table.{calls_in, every_call}
 use Rattle.ceilings.specs.kern_creds.declared.creds.Creds.{Creds}
 use Rattle.ceilings.specs.kern_mounts.Split.{Table}
-use Rattle.ceilings.specs.kernel_model.kernel_calls.Doing as d
-use Rattle.ceilings.specs.kernel_model.kernel_calls.Doing.{Doing}
+use Rattle.ceilings.specs.kernel_model.kernel_calls.Operation as d
+use Rattle.ceilings.specs.kernel_model.kernel_calls.Operation.{Operation}
 use Rattle.ceilings.specs.kernel_model.kernel_calls.Rules.{rule_of}
 use Rattle.ceilings.specs.kernel_model.declared.kernel_calls.call.Call.{Call}
 use Rattle.ceilings.specs.kernel_model.declared.kernel_calls.payload.Payload.TheVariants.{Nothing}
@@ -38,7 +38,7 @@ use Rattle.ceilings.specs.kernel_ways.Offers.{Offers, RunsProgram}
 use Rattle.ceilings.specs.kernel_ways.Showing.{Answers}
 use Rattle.ceilings.specs.kernel_ways.Ways.{Way, here, IsSolo, place_of}
 use Rattle.ceilings.proofs.OfKernelWays.Choices as choices
-use Rattle.ceilings.proofs.OfKernelWays.Doings.{Performed}
+use Rattle.ceilings.proofs.OfKernelWays.Operations.{Performed}
 use Rattle.ceilings.proofs.OfKernelWays.Lines.{choice_of, first_by, low_number, line_at, of_abi, same_rule}
 use Rattle.ceilings.proofs.OfKernelWays.Performing as performing
 use Rattle.ceilings.proofs.OfKernelWays.Performing.{CapAtHand, is_free}
@@ -59,16 +59,16 @@ use Rattle.open_calls.proofs.ChosenCallsRows.{gained, row_shown}
 
 module _ (world : World) (launch : Launch) (l : IsLaunched launch) (o : Offers launch) (s : IsSolo launch launch.creds launch.table world) (program : Path) (p : RunsProgram launch program) where
   -- a call behind a way
-  by_performed : (question : Question) (asks : Doing → Bool) {front : List Call} (creds : Creds) (now : Table)
+  by_performed : (question : Question) (asks : Operation → Bool) {front : List Call} (creds : Creds) (now : Table)
       → Way launch launch.creds launch.table front creds now → {call : Call} → (x : Performed launch creds now asks call)
-      → Answers launch now question call x.doing → Shows world question (front ++ call ∷ [])
+      → Answers launch now question call x.operation → Shows world question (front ++ call ∷ [])
   by_performed question asks {front = front} creds now way {call = call} x a =
-      calls_show launch launch.creds creds launch.table now world front question x.doing call x.effect s way x.makes x.doable a
+      calls_show launch launch.creds creds launch.table now world front question x.operation call x.effect s way x.makes x.doable a
 
   -- the first call of a kind that every process may ask for
   shown_free : (question : Question) (kind : CallKind) → is_free kind ≡ true → lets launch kind ≡ true
       → ((call : Call) (x : Performed launch launch.creds launch.table (k.asks kind) call)
-      → Answers launch launch.table question call x.doing)
+      → Answers launch launch.table question call x.operation)
       → Shows world question (call_by launch kind Nothing ∷ [])
   shown_free question kind h e answers =
       let c = chosen launch l kind e in
@@ -106,7 +106,7 @@ module _ (world : World) (launch : Launch) (l : IsLaunched launch) (o : Offers l
       let call = first_by (place_of c.line.line) c.line.args Nothing in
       let done = (first.inside world s).0 in
       let P : Call → Type 0 = λ own. Shows world (asking.Namespace namespace.User) (own ∷ []) in
-      subst P (sym (call_is c Nothing)) (record { fit = (first.makes.fit, tt); done = (done, tt); last = inl (performs launch launch.creds launch.table world s (asks_space namespace.User) first.doing call first.effect first.makes first.such done) })
+      subst P (sym (call_is c Nothing)) (record { fit = (first.makes.fit, tt); done = (done, tt); last = inl (performs launch launch.creds launch.table world s (asks_space namespace.User) first.operation call first.effect first.makes first.such done) })
 
   -- another one in it
   shown_within : (space : NamespaceType) → is_user space ≡ false → lets launch (kinds.ForNamespace space) ≡ true
@@ -118,7 +118,7 @@ module _ (world : World) (launch : Launch) (l : IsLaunched launch) (o : Offers l
       let P : Call → Type 0 = λ call. Inside launch launch.creds launch.table (pid_inside launch) v.small (asks_space space) call in
       let x = subst P (sym (inside_is launch c Nothing)) (own_space launch launch.creds launch.table (pid_inside launch) v.small space u c.line) in
       calls_show_inside launch launch.creds launch.creds launch.table launch.table world [] (asking.Namespace space) (pid_inside launch)
-      (user_call launch) (call_inside launch (kinds.ForNamespace space) Nothing) x.doing x.effect s here v.fit v.inside x.makes
+      (user_call launch) (call_inside launch (kinds.ForNamespace space) Nothing) x.operation x.effect s here v.fit v.inside x.makes
       x.doable x.such
 
   other_space : (space : NamespaceType) → is_user space ≡ false
@@ -201,7 +201,7 @@ module _ (world : World) (launch : Launch) (l : IsLaunched launch) (o : Offers l
   shown_socket place line listed e h =
       let w = having line.cap h in
       let found : numbered line.number launch.calls.families ≡ Some line = at_position launch.calls.families line.number place line (l.families_once place line listed) listed in
-      let asks : Doing → Bool = asks_family launch.calls.families place in
+      let asks : Operation → Bool = asks_family launch.calls.families place in
       let such : asks (d.Socket line.number) ≡ true = ap (λ (c : Option CallLine). is_family c line.number) listed ∙ eq-eqb line.number line.number refl in
       let c = chosen launch l (kinds.ForFamily line.number) e in
       let payload : socket_payload launch line.number ≡ k.family_payload c.line.own line.number = ap (λ own. k.family_payload own line.number) (rule_is c) in

@@ -6,7 +6,7 @@ ghost use Rattle.ceilings.specs.abs_path.Paths.{Path, tail_of, proc};
 ghost use Rattle.ceilings.specs.abs_path.Prefix.{is_prefix, rest_of};
 ghost use Rattle.ceilings.specs.kern_mounts.Split.{Table};
 ghost use Rattle.ceilings.specs.site_table.Table.{row_at};
-ghost use Rattle.open_calls.specs.chosen_calls.Chosen.{doing_calls, inside_calls};
+ghost use Rattle.open_calls.specs.chosen_calls.Chosen.{operation_calls, inside_calls};
 ghost use Rattle.open_calls.specs.chosen_calls.Exposing.{IsLead, PassesFor, exposing_calls, exposing_path, lead, shown_at};
 ghost use Rattle.open_calls.specs.chosen_calls.First.{line_of};
 ghost use Rattle.ceilings.specs.kernel_laws.declared.question_types.kind.CallKind.TheVariants.{ChangesMounts, ForPath, ForNamespace, RemovesMounts};
@@ -221,12 +221,17 @@ impl Service<'_> {
     }
 
     /// Adds the calls that expose the row, and the first call for the wish.
-    pub(crate) fn push_doing(&self, calls: &mut Vec<Call>, flags: u64, aim: &Aim<'_>) -> Made<()>
+    pub(crate) fn push_operation(
+        &self,
+        calls: &mut Vec<Call>,
+        flags: u64,
+        aim: &Aim<'_>,
+    ) -> Made<()>
         requires served { IsServedWorld self.now.world.now }
         requires aimed { IsAim self.now.world.now aim.now }
         requires passes { PassesFor (launch_of self.now.world.now) aim.now.power }
         requires some_passes { lets (launch_of self.now.world.now) (ForPath aim.now.wish) ≡ true }
-        ensures { OnOk result (calls.new.items ≡ calls.old.items ++ doing_calls (launch_of self.now.world.now) aim.now.power flags aim.now.wish aim.now.row.now) }
+        ensures { OnOk result (calls.new.items ≡ calls.old.items ++ operation_calls (launch_of self.now.world.now) aim.now.power flags aim.now.wish aim.now.row.now) }
     {
         self.push_exposing(calls, flags, aim)?;
         let path = self.exposing_path(aim)?;

@@ -43,7 +43,7 @@ impl Service<'_> {
             row,
             at,
         };
-        self.push_doing(calls, REMOUNT, &aim)
+        self.push_operation(calls, REMOUNT, &aim)
     }
 
     // Adds the calls of a way by a file.

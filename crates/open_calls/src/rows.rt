@@ -120,7 +120,7 @@ impl Service<'_> {
         if !held_off && near.is_some() {
             let power = Power::None;
             let at = number_of(near);
-            return self.push_doing(
+            return self.push_operation(
                 calls,
                 REMOUNT,
                 &Aim {
@@ -140,6 +140,6 @@ impl Service<'_> {
             row,
             at,
         };
-        self.push_doing(calls, remount_flags(held_off), &aim)
+        self.push_operation(calls, remount_flags(held_off), &aim)
     }
 }

@@ -1,7 +1,7 @@
 //! Calls readers, and reports why they refuse the text of a row.
 use crate::escapes::bytes_of;
 use abs_path::{AbsPath, PathError};
-use exec_settings::{UnitName, expand, read_calls, read_site, read_unit, words};
+use exec_settings::{UnitName, Version, expand, read_calls, read_site, read_unit, words};
 use mount_plan::{Kind, Mention, MentionError, Mentions};
 use row_tools::{long_path, number, said, text_of};
 use std::alloc::{AllocError, Global};
@@ -12,8 +12,10 @@ pub fn answer(alloc: Global, row: &[&str]) -> Result<String, AllocError> {
         ["form", "words", text] => split(alloc, text_of(alloc, text)?.as_str()),
         ["mention", "many", count] => many(alloc, number(count)),
         ["path", rest @ ..] => of_path(alloc, rest),
-        ["name", "read", text] => name(alloc, text, ""),
-        ["name", "expand", text, value] => name(alloc, text, value),
+        ["name", "read", text] => name(alloc, None, text, ""),
+        ["name", "expand", text, value] => name(alloc, None, text, value),
+        ["name", "expand 252", text, value] => name(alloc, Some(Version::V252), text, value),
+        ["name", "expand 257", text, value] => name(alloc, Some(Version::V257), text, value),
         ["text", "read", text] => unit(alloc, bytes_of(alloc, text)?.as_slice()),
         ["text", "crowded", count, rest] => crowded(alloc, number(count), rest),
         _ => of_table(alloc, row),
@@ -105,16 +107,26 @@ fn behind(alloc: Global, front: &AbsPath, path: &AbsPath) -> Result<String, Allo
     }
 }
 
-// A name, and a value with its specifiers expanded.
-fn name(alloc: Global, text: &str, value: &str) -> Result<String, AllocError> {
+// A name, and a value with its specifiers expanded as this systemd does.
+fn name(
+    alloc: Global,
+    systemd: Option<Version>,
+    text: &str,
+    value: &str,
+) -> Result<String, AllocError> {
     match &UnitName::read(alloc, text) {
-        Ok(name) => expanded(alloc, name, value),
+        Ok(name) => expanded(alloc, systemd, name, value),
         Err(error) => error.to_string(alloc),
     }
 }
 
-fn expanded(alloc: Global, name: &UnitName, value: &str) -> Result<String, AllocError> {
-    match &expand(alloc, name, value) {
+fn expanded(
+    alloc: Global,
+    systemd: Option<Version>,
+    name: &UnitName,
+    value: &str,
+) -> Result<String, AllocError> {
+    match &expand(alloc, systemd, name, value) {
         Ok(text) => format!(in alloc; "'{}'", text.as_str()),
         Err(error) => error.to_string(alloc),
     }

@@ -26,7 +26,7 @@ fn of_settings(alloc: Global, inputs: &Inputs) -> Result<String, AllocError> {
 }
 
 fn of_ids(alloc: Global, inputs: &Inputs) -> Result<String, AllocError> {
-    match &identity_of_unit(alloc, &inputs.unit, &inputs.site, false) {
+    match &identity_of_unit(alloc, &inputs.unit, &inputs.site, false, false) {
         Ok(said) => format!(in alloc; "{} {}", said.what.uid, said.what.gid),
         Err(error) => error.to_string(alloc),
     }

@@ -19,7 +19,7 @@ pub fn hold(alloc: Global, files: &mut UnitFiles, row: &[&str]) -> Result<String
         }
         ["one", path, text] => file(alloc, files, path, bytes_of(alloc, text)?),
         ["large", path, count] => file(alloc, files, path, comment(alloc, number(count))?),
-        ["many", folder, ending, count] => numbered(alloc, files, folder, ending, number(count)),
+        ["many", folder, status, count] => numbered(alloc, files, folder, status, number(count)),
         _ => said(alloc, "no row"),
     }
 }
@@ -65,11 +65,11 @@ fn numbered(
     alloc: Global,
     files: &mut UnitFiles,
     folder: &str,
-    ending: &str,
+    status: &str,
     count: u64,
 ) -> Result<String, AllocError> {
     for number in 0..count {
-        let path = format!(in alloc; "{folder}/{number}{ending}")?;
+        let path = format!(in alloc; "{folder}/{number}{status}")?;
         files.push((path, b"[A]".to_vec(alloc)?))?;
     }
     said(alloc, "held")

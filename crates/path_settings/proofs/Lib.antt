@@ -1,4 +1,6 @@
+pub mod Named
 pub mod ReadMentions
+pub mod ReadFolders
 pub mod Worked
 pub mod Largest
 pub mod ViewMapLists

@@ -9,7 +9,7 @@ use Rattle.abs_path.specs.declared.error.PathError.{PathError}
 use Rattle.path_settings.specs.declared.keys.PathKey.{PathKey}
 use Rattle.path_settings.specs.declared.keys.PathKey.TheVariants.{ReadWritePaths, ReadOnlyPaths, InaccessiblePaths, ExecPaths, NoExecPaths}
 use Rattle.path_settings.specs.declared.keys.PathKey.TheVariants.{BindPaths, BindReadOnlyPaths, TemporaryFileSystem, StateDirectory}
-use Rattle.path_settings.specs.declared.keys.PathKey.TheVariants.{RuntimeDirectory, CacheDirectory, LogsDirectory}
+use Rattle.path_settings.specs.declared.keys.PathKey.TheVariants.{RuntimeDirectory, CacheDirectory, LogsDirectory, ConfigurationDirectory}
 use Rattle.path_settings.specs.declared.mentions.Kind.{Kind}
 use Rattle.path_settings.specs.declared.mentions.Kind.TheVariants.{Ro, Rw, Exec, NoExec, Hide, Tmp, Bind}
 use Rattle.path_settings.specs.declared.mentions.Mention.{Mention}
@@ -22,7 +22,7 @@ use Rattle.path_settings.specs.Temporary.{is_colon, asks_read_only, temporary_me
 use Rattle.path_settings.specs.Folders.{is_relative, text_below, folder_mention}
 use Rattle.path_settings.specs.Keys.{is_implied, mention_of}
 
-setting_is_short : (text : List ℕ) (path : Path) → setting_path text ≡ Some path → is_short_path path ≡ true
+pub setting_is_short : (text : List ℕ) (path : Path) → setting_path text ≡ Some path → is_short_path path ≡ true
 setting_is_short text path e = by (fault_of text) e
   where
     by : (fault : Option PathError) → unless_fault fault (parts_of text) ≡ Some path → is_short_path path ≡ true
@@ -108,6 +108,7 @@ mention_short StateDirectory word mention e = folder_short (codes "/var/lib") wo
 mention_short RuntimeDirectory word mention e = folder_short (codes "/run") word mention e
 mention_short CacheDirectory word mention e = folder_short (codes "/var/cache") word mention e
 mention_short LogsDirectory word mention e = folder_short (codes "/var/log") word mention e
+mention_short ConfigurationDirectory word mention e = folder_short (codes "/etc") word mention e
 
 pub implied_optional : (key : PathKey) (word : List ℕ) (mention : Mention) → is_implied key ≡ true → mention_of key word ≡ Some mention
     → mention.optional ≡ true
@@ -115,4 +116,5 @@ implied_optional StateDirectory word mention implied e = folder_optional (codes 
 implied_optional RuntimeDirectory word mention implied e = folder_optional (codes "/run") word mention e
 implied_optional CacheDirectory word mention implied e = folder_optional (codes "/var/cache") word mention e
 implied_optional LogsDirectory word mention implied e = folder_optional (codes "/var/log") word mention e
+implied_optional ConfigurationDirectory word mention implied e = folder_optional (codes "/etc") word mention e
 implied_optional _ word mention implied e = cc

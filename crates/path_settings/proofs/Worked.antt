@@ -1,14 +1,16 @@
 -- Worked words of each key, which compute.
-use Rattle.std.proofs.Common.{◌≡◌, Bool, true, false, [], ◌∷◌, ◌++◌, Option, Some, None, refl}
+use Rattle.std.proofs.Common.{◌≡◌, ℕ, Bool, true, false, List, [], ◌∷◌, ◌++◌, Option, Some, None, refl}
 use Rattle.std.specs.Prelude.{codes, replicate}
 use Rattle.abs_path.specs.Paths.{Path}
 use Rattle.path_settings.specs.declared.keys.PathKey.TheVariants.{ReadWritePaths, ReadOnlyPaths, InaccessiblePaths, ExecPaths, NoExecPaths}
 use Rattle.path_settings.specs.declared.keys.PathKey.TheVariants.{BindPaths, BindReadOnlyPaths, TemporaryFileSystem, StateDirectory}
-use Rattle.path_settings.specs.declared.keys.PathKey.TheVariants.{CacheDirectory}
+use Rattle.path_settings.specs.declared.keys.PathKey.TheVariants.{CacheDirectory, ConfigurationDirectory}
 use Rattle.path_settings.specs.declared.mentions.Kind.{Kind}
 use Rattle.path_settings.specs.declared.mentions.Kind.TheVariants.{Ro, Rw, Exec, NoExec, Hide, Tmp, Bind}
 use Rattle.path_settings.specs.declared.mentions.Mention.{Mention}
 use Rattle.path_settings.specs.SettingPaths.{setting_path}
+use Rattle.path_settings.specs.declared.dialect.Dialect.TheVariants.{Base, Systemd252, Systemd257}
+use Rattle.path_settings.specs.FolderWords.{mentions_of_word}
 use Rattle.path_settings.specs.Keys.{mention_of}
 
 abbrev srv : Path
@@ -92,6 +94,38 @@ empty = refl
 
 climbing : mention_of CacheDirectory (codes "a/../b") ≡ None
 climbing = refl
+
+-- folders as a version of systemd reads them: with a link, and of 257 with a mark
+abbrev of_folder : Path → Path → Bool → Mention
+of_folder source path read_only = record { path = path; kind = Bind source read_only; optional = true }
+
+abbrev state_of : List ℕ → Path
+state_of name = codes "var" ∷ codes "lib" ∷ name ∷ []
+
+folder_alone : mentions_of_word Systemd252 StateDirectory (codes "a") ≡ Some (of_folder (state_of (codes "a")) (state_of (codes "a")) false ∷ [])
+folder_alone = refl
+
+folder_and_link : mentions_of_word Systemd252 StateDirectory (codes "a:b") ≡ Some (of_folder (state_of (codes "a")) (state_of (codes "a")) false
+    ∷ of_folder (state_of (codes "a")) (state_of (codes "b")) false ∷ [])
+folder_and_link = refl
+
+folder_marked : mentions_of_word Systemd257 StateDirectory (codes "a::ro") ≡ Some (of_folder (state_of (codes "a")) (state_of (codes "a")) true ∷ [])
+folder_marked = refl
+
+no_mark_before_257 : mentions_of_word Systemd252 StateDirectory (codes "a:b:ro") ≡ None
+no_mark_before_257 = refl
+
+other_mark : mentions_of_word Systemd257 StateDirectory (codes "a:b:rw") ≡ None
+other_mark = refl
+
+private_folder : mentions_of_word Systemd257 StateDirectory (codes "private/a") ≡ None
+private_folder = refl
+
+no_link_of_configuration : mentions_of_word Systemd257 ConfigurationDirectory (codes "foo:bar") ≡ None
+no_link_of_configuration = refl
+
+base_knows_no_link : mentions_of_word Base StateDirectory (codes "a:b") ≡ Some (record { path = state_of (codes "a:b"); kind = Rw; optional = true } ∷ [])
+base_knows_no_link = refl
 
 -- 250 bytes are read, and 251 are not
 longest : setting_path (codes "/" ++ replicate 249 97) ≡ Some (replicate 249 97 ∷ [])

@@ -1,9 +1,13 @@
 -- The keys that speak of paths (systemd.exec(5), Sandboxing), and the mention that a word of each is.
-use Rattle.std.specs.Prelude.{ℕ, Bool, true, false, codes, List, [], ◌∷◌, Option}
+use Rattle.std.specs.Prelude.{ℕ, Bool, true, false, cond, codes, find, List, [], ◌∷◌, ◌++◌, Option, Some, None}
+use Rattle.std.specs.List.{cons_option, list_any}
+use Rattle.std.specs.Str.{bytes_eq}
+use Rattle.path_settings.specs.declared.dialect.Dialect.{Dialect}
+use Rattle.path_settings.specs.declared.dialect.Dialect.TheVariants.{Base, Systemd252, Systemd257}
 use Rattle.path_settings.specs.declared.keys.PathKey.{PathKey}
 use Rattle.path_settings.specs.declared.keys.PathKey.TheVariants.{ReadWritePaths, ReadOnlyPaths, InaccessiblePaths, ExecPaths, NoExecPaths}
 use Rattle.path_settings.specs.declared.keys.PathKey.TheVariants.{BindPaths, BindReadOnlyPaths, TemporaryFileSystem, StateDirectory}
-use Rattle.path_settings.specs.declared.keys.PathKey.TheVariants.{RuntimeDirectory, CacheDirectory, LogsDirectory}
+use Rattle.path_settings.specs.declared.keys.PathKey.TheVariants.{RuntimeDirectory, CacheDirectory, LogsDirectory, ConfigurationDirectory}
 use Rattle.path_settings.specs.declared.mentions.Kind.TheVariants.{Ro, Rw, Exec, NoExec, Hide}
 use Rattle.path_settings.specs.declared.mentions.Mention.{Mention}
 use Rattle.path_settings.specs.Lists.{path_mention}
@@ -11,10 +15,10 @@ use Rattle.path_settings.specs.Binds.{bind_mention}
 use Rattle.path_settings.specs.Temporary.{temporary_mention}
 use Rattle.path_settings.specs.Folders.{folder_mention}
 
--- the keys whose values speak of paths, each once
+-- the keys whose values speak of paths, each once; the base profile knows all but the last
 abbrev pub path_keys : List PathKey
 path_keys = ReadWritePaths ∷ ReadOnlyPaths ∷ InaccessiblePaths ∷ ExecPaths ∷ NoExecPaths ∷ BindPaths ∷ BindReadOnlyPaths ∷
-    TemporaryFileSystem ∷ StateDirectory ∷ RuntimeDirectory ∷ CacheDirectory ∷ LogsDirectory ∷ []
+    TemporaryFileSystem ∷ StateDirectory ∷ RuntimeDirectory ∷ CacheDirectory ∷ LogsDirectory ∷ ConfigurationDirectory ∷ []
 
 abbrev pub name_of : PathKey → List ℕ
 name_of ReadWritePaths = codes "ReadWritePaths"
@@ -29,6 +33,32 @@ name_of StateDirectory = codes "StateDirectory"
 name_of RuntimeDirectory = codes "RuntimeDirectory"
 name_of CacheDirectory = codes "CacheDirectory"
 name_of LogsDirectory = codes "LogsDirectory"
+name_of ConfigurationDirectory = codes "ConfigurationDirectory"
+
+-- the older names by which systemd still knows lists of paths
+abbrev pub older_name : PathKey → Option (List ℕ)
+older_name ReadWritePaths = Some (codes "ReadWriteDirectories")
+older_name ReadOnlyPaths = Some (codes "ReadOnlyDirectories")
+older_name InaccessiblePaths = Some (codes "InaccessibleDirectories")
+older_name _ = None
+
+-- a key that the base profile knows
+abbrev pub is_of_base : PathKey → Bool
+is_of_base ConfigurationDirectory = false
+is_of_base _ = true
+
+-- the names by which a key is known; the base profile knows one of each of its keys
+abbrev pub names_of : Dialect → PathKey → List (List ℕ)
+names_of Base key = cond (is_of_base key) (name_of key ∷ []) []
+names_of Systemd252 key = name_of key ∷ cons_option (older_name key) []
+names_of Systemd257 key = name_of key ∷ cons_option (older_name key) []
+
+abbrev pub is_named : Dialect → List ℕ → PathKey → Bool
+is_named dialect text key = list_any (λ name. bytes_eq name text) (names_of dialect key)
+
+-- the key of a name
+abbrev pub key_named : Dialect → List ℕ → Option PathKey
+key_named dialect text = find (is_named dialect text) path_keys
 
 -- folders are implied: their mentions come after all written ones
 abbrev pub is_implied : PathKey → Bool
@@ -36,6 +66,7 @@ is_implied StateDirectory = true
 is_implied RuntimeDirectory = true
 is_implied CacheDirectory = true
 is_implied LogsDirectory = true
+is_implied ConfigurationDirectory = true
 is_implied _ = false
 
 abbrev pub mention_of : PathKey → List ℕ → Option Mention
@@ -51,3 +82,4 @@ mention_of StateDirectory word = folder_mention (codes "/var/lib") word
 mention_of RuntimeDirectory word = folder_mention (codes "/run") word
 mention_of CacheDirectory word = folder_mention (codes "/var/cache") word
 mention_of LogsDirectory word = folder_mention (codes "/var/log") word
+mention_of ConfigurationDirectory word = folder_mention (codes "/etc") word

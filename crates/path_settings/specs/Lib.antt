@@ -7,5 +7,6 @@ pub mod Binds
 pub mod Temporary
 pub mod Folders
 pub mod Keys
+pub mod FolderWords
 pub mod view_map
 pub mod abs_path

@@ -46,7 +46,7 @@ has_whole_source _ = true
 abbrev pub is_whole : Mention → Bool
 is_whole mention = is_path mention.path && has_whole_source mention.kind
 
--- at most 160 mentions, each whole
+-- at most 192 mentions, each whole
 pub record AreKept (mentions : List Mention) : Type 0 where
-  pub few : length mentions ≤ 160
+  pub few : length mentions ≤ 192
   pub whole : list_all is_whole mentions ≡ true

@@ -9,7 +9,8 @@ use crate::mentions::{Kind, Mention};
 use crate::paths::read_setting_path;
 use std::alloc::{AllocError, Global};
 
-fn pieces(alloc: Global, text: &str) -> Result<Vec<&str>, AllocError>
+/// The pieces of a text between its colons.
+pub(crate) fn pieces(alloc: Global, text: &str) -> Result<Vec<&str>, AllocError>
     ensures { IfOk result (λ found. map (λ piece. piece.now) found.items ≡ bind_pieces text.now) }
 {
     text.split(':').collect(alloc)

@@ -5,8 +5,8 @@ use thiserror::Error;
 /// Why a mention is not added.
 #[derive(Clone, Copy, Debug, PartialEq, Eq, Error)]
 pub enum MentionError {
-    /// There are 160 mentions.
-    #[error("there are 160 mentions")]
+    /// There are 192 mentions.
+    #[error("there are 192 mentions")]
     Full,
     /// There was no memory for the mention.
     #[error("out of memory")]

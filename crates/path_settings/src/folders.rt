@@ -7,13 +7,15 @@ use crate::mentions::{Kind, Mention};
 use crate::paths::read_setting_path;
 use std::alloc::{AllocError, Global};
 
-fn is_relative(name: &str) -> bool
+/// Returns whether a name is not empty and has no slash in front.
+pub(crate) fn is_relative(name: &str) -> bool
     ensures { result ≡ is_relative name.now }
 {
     name.as_bytes().first().is_some_and(|byte| *byte != b'/')
 }
 
-fn text_below(alloc: Global, folder: &str, name: &str) -> Result<String, AllocError>
+/// The text of a name below a folder.
+pub(crate) fn text_below(alloc: Global, folder: &str, name: &str) -> Result<String, AllocError>
     ensures { IfOk result (λ text. string_bytes text ≡ text_below folder.now name.now) }
 {
     let mut text = String::new(alloc);

@@ -1,20 +1,29 @@
 //! The keys that speak of paths, and the mentions that their words are.
 
-ghost use Rattle.std.specs.Prelude.{◌≡◌, IfOk, find};
+ghost use Rattle.std.specs.Prelude.{◌≡◌, IfOk, map};
+ghost use Rattle.std.specs.List.{list_any};
 ghost use Rattle.std.specs.Str.{bytes_eq};
-ghost use Rattle.path_settings.specs.Keys.{path_keys, name_of, is_implied, mention_of};
+ghost use Rattle.path_settings.specs.declared.dialect.Dialect.TheVariants.{Base, Systemd257};
+ghost use Rattle.path_settings.specs.Keys.{name_of, names_of, is_named, key_named, is_implied, mention_of};
 
 use crate::binds::read_bind;
+use crate::dialect::Dialect;
 use crate::folders::read_folder;
 use crate::lists::read_path;
 use crate::mentions::{Kind, Mention};
 use crate::temporary::read_temporary;
 use PathKey::{
-    BindPaths, BindReadOnlyPaths, CacheDirectory, ExecPaths, InaccessiblePaths, LogsDirectory,
-    NoExecPaths, ReadOnlyPaths, ReadWritePaths, RuntimeDirectory, StateDirectory,
-    TemporaryFileSystem,
+    BindPaths, BindReadOnlyPaths, CacheDirectory, ConfigurationDirectory, ExecPaths,
+    InaccessiblePaths, LogsDirectory, NoExecPaths, ReadOnlyPaths, ReadWritePaths, RuntimeDirectory,
+    StateDirectory, TemporaryFileSystem,
 };
 use std::alloc::{AllocError, Global};
+
+fn is_among(names: &[&str], text: &str) -> bool
+    ensures { result ≡ list_any (λ name. bytes_eq name.now text.now) names.now }
+{
+    names.iter().any(|name| *name == text)
+}
 
 /// A key of `[Service]` whose value is a list of paths, binds, empty file systems or folders (systemd.exec(5)).
 #[derive(Clone, Copy, Debug, PartialEq, Eq)]
@@ -35,10 +44,12 @@ pub enum PathKey {
     CacheDirectory,
     /// Folders below `/var/log`.
     LogsDirectory,
+    /// Folders below `/etc`. The base profile does not know this key.
+    ConfigurationDirectory,
 }
 
 /// All keys.
-pub const ALL_PATH_KEYS: [PathKey; 12] = [
+pub const ALL_PATH_KEYS: [PathKey; 13] = [
     PathKey::ReadWritePaths,
     PathKey::ReadOnlyPaths,
     PathKey::InaccessiblePaths,
@@ -51,14 +62,75 @@ pub const ALL_PATH_KEYS: [PathKey; 12] = [
     PathKey::RuntimeDirectory,
     PathKey::CacheDirectory,
     PathKey::LogsDirectory,
+    PathKey::ConfigurationDirectory,
 ];
 
 impl PathKey {
-    /// The key that is written so, if it speaks of paths.
-    pub fn named(text: &str) -> Option<PathKey>
-        ensures first_of_this_name { result ≡ find (λ key. bytes_eq (name_of key) text.now) path_keys }
+    /// The key that is known by this name, if it speaks of paths.
+    pub fn named(dialect: Dialect, text: &str) -> Option<PathKey>
+        ensures first_of_this_name { result ≡ key_named dialect text.now }
     {
-        ALL_PATH_KEYS.iter().copied().find(|key| key.name() == text)
+        ALL_PATH_KEYS
+            .iter()
+            .copied()
+            .find(|key| key.is_named(dialect, text))
+    }
+
+    // Returns whether it is known by this name.
+    fn is_named(self, dialect: Dialect, text: &str) -> bool
+        ensures { result ≡ is_named dialect text.now self }
+    {
+        is_among(self.names(dialect), text)
+    }
+
+    /// The names by which it is known.
+    pub fn names(self, dialect: Dialect) -> &'static [&'static str]
+        ensures all_names { map (λ name. name.now) result.now ≡ names_of dialect self }
+    {
+        match dialect {
+            Dialect::Base => self.base_names(),
+            Dialect::Systemd252 | Dialect::Systemd257 => self.all_names(),
+        }
+    }
+
+    fn base_names(self) -> &'static [&'static str]
+        ensures { map (λ name. name.now) result.now ≡ names_of Base self }
+    {
+        match self {
+            ReadWritePaths => &["ReadWritePaths"],
+            ReadOnlyPaths => &["ReadOnlyPaths"],
+            InaccessiblePaths => &["InaccessiblePaths"],
+            ExecPaths => &["ExecPaths"],
+            NoExecPaths => &["NoExecPaths"],
+            BindPaths => &["BindPaths"],
+            BindReadOnlyPaths => &["BindReadOnlyPaths"],
+            TemporaryFileSystem => &["TemporaryFileSystem"],
+            StateDirectory => &["StateDirectory"],
+            RuntimeDirectory => &["RuntimeDirectory"],
+            CacheDirectory => &["CacheDirectory"],
+            LogsDirectory => &["LogsDirectory"],
+            ConfigurationDirectory => &[],
+        }
+    }
+
+    fn all_names(self) -> &'static [&'static str]
+        ensures { map (λ name. name.now) result.now ≡ names_of Systemd257 self }
+    {
+        match self {
+            ReadWritePaths => &["ReadWritePaths", "ReadWriteDirectories"],
+            ReadOnlyPaths => &["ReadOnlyPaths", "ReadOnlyDirectories"],
+            InaccessiblePaths => &["InaccessiblePaths", "InaccessibleDirectories"],
+            ConfigurationDirectory => &["ConfigurationDirectory"],
+            ExecPaths => &["ExecPaths"],
+            NoExecPaths => &["NoExecPaths"],
+            BindPaths => &["BindPaths"],
+            BindReadOnlyPaths => &["BindReadOnlyPaths"],
+            TemporaryFileSystem => &["TemporaryFileSystem"],
+            StateDirectory => &["StateDirectory"],
+            RuntimeDirectory => &["RuntimeDirectory"],
+            CacheDirectory => &["CacheDirectory"],
+            LogsDirectory => &["LogsDirectory"],
+        }
     }
 
     /// The key as it is written.
@@ -78,6 +150,7 @@ impl PathKey {
             RuntimeDirectory => "RuntimeDirectory",
             CacheDirectory => "CacheDirectory",
             LogsDirectory => "LogsDirectory",
+            ConfigurationDirectory => "ConfigurationDirectory",
         }
     }
 
@@ -87,7 +160,11 @@ impl PathKey {
     {
         matches!(
             self,
-            StateDirectory | RuntimeDirectory | CacheDirectory | LogsDirectory
+            StateDirectory
+                | RuntimeDirectory
+                | CacheDirectory
+                | LogsDirectory
+                | ConfigurationDirectory
         )
     }
 }
@@ -109,5 +186,6 @@ pub fn read_mention(alloc: Global, key: PathKey, word: &str) -> Result<Option<Me
         RuntimeDirectory => read_folder(alloc, "/run", word),
         CacheDirectory => read_folder(alloc, "/var/cache", word),
         LogsDirectory => read_folder(alloc, "/var/log", word),
+        ConfigurationDirectory => read_folder(alloc, "/etc", word),
     }
 }

@@ -8,7 +8,9 @@
 #![tactic(auto)]
 
 mod binds;
+mod dialect;
 mod error;
+mod folder_words;
 mod folders;
 mod keys;
 pub mod laws;
@@ -20,7 +22,9 @@ mod temporary;
 pub mod view_map;
 
 pub use binds::read_bind;
+pub use dialect::Dialect;
 pub use error::MentionError;
+pub use folder_words::read_mentions;
 pub use folders::read_folder;
 pub use keys::{ALL_PATH_KEYS, PathKey, read_mention};
 pub use lists::read_path;

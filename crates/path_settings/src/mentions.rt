@@ -12,7 +12,7 @@ use std::marker::Model;
 use text_forms::item_list::ItemList;
 
 /// How many mentions there are at most.
-const MOST: usize = 160;
+const MOST: usize = 192;
 
 /// The effect of a mention at its path (systemd.exec(5), Sandboxing).
 #[derive(Drop)]
@@ -117,7 +117,7 @@ impl Mention {
     }
 }
 
-/// Mentions in the order in which they were written, at most 160, which contracts see as a list.
+/// Mentions in the order in which they were written, at most 192, which contracts see as a list.
 #[derive(Drop)]
 pub struct Mentions {
     items: ItemList<Mention>,
@@ -164,7 +164,7 @@ impl Mentions {
     /// The mentions in the order in which they were added.
     pub fn list(&self) -> &[Mention]
         ensures all_in_order { result.now ≡ self.now }
-        ensures at_most_160 { length self.now ≤ 160 }
+        ensures at_most_192 { length self.now ≤ 192 }
         ensures whole { IsTrue (list_all is_whole self.now) }
     {
         self.items.list()
@@ -177,10 +177,10 @@ impl Mentions {
         self.list().iter().all(|mention| !(mention.path.is_root() && mention.kind.is_origin()))
     }
 
-    /// Puts a mention after the others. Full if there are 160 of them. On an error they stay as they were.
+    /// Puts a mention after the others. Full if there are 192 of them. On an error they stay as they were.
     pub fn add(&mut self, mention: Mention) -> Result<(), MentionError>
         ensures adds_behind { OnOk result (self.new ≡ self.old ++ mention ∷ []) }
-        ensures full_exactly_at_160 { IsErrOf result MentionError.Full ↔ (length self.old ≡ 160) }
+        ensures full_exactly_at_192 { IsErrOf result MentionError.Full ↔ (length self.old ≡ 192) }
         ensures unchanged_on_error { OnErr result (self.new ≡ self.old) }
     {
         if self.items.list().len() == MOST {

@@ -11,7 +11,7 @@ use Rattle.mount_plan.specs.AsView.{FindsAsView}
 use Rattle.mount_plan.specs.Form.{HasPlacesOf}
 use Rattle.mount_plan.specs.declared.error.PlanError.{PlanError}
 use Rattle.mount_plan.specs.declared.error.PlanError.TheVariants.{Missing, Kind, Memory}
-use Rattle.unit_inputs.specs.command_answers.Stops.{Prepares, first_refusal, or_line, refusal_in, stop_of}
+use Rattle.unit_inputs.specs.command_answers.CommandErrors.{Prepares, first_refusal, or_line, refusal_in, error_of_line}
 use Rattle.plan_command.specs.Planned.{IsPlan, path_refusals}
 use Rattle.plan_command.specs.Refusals.{error_line, plan_line}
 
@@ -37,7 +37,7 @@ module _ (unit : List ℕ) (row_at : Host) (mentions : List Mention) where
   -- an error is the first path that is refused
   pub plan_stops : (error : PlanError) (line : Result (Vec ℕ Global) AllocError) → error ≢ Memory → Plans row_at mentions (Err error)
       → IfOk line (λ l. l.items ≡ error_line unit error) → Prepares (IsPlan row_at mentions) (path_refusals unit row_at mentions)
-      (Err (stop_of line))
+      (Err (error_of_line line))
   plan_stops error (Err none) told refuses is = tt
   plan_stops (Missing path) (Ok line) told refuses is = ap (λ found. first_refusal (refusal_in (or_line (plan_line unit) found) ∷ []))
       refuses ∙ ap Some (sym is)

@@ -6,11 +6,11 @@ use Rattle.mount_plan.specs.kern_mounts.declared.step.MountStep.{MountStep}
 use Rattle.mount_plan.specs.Host.{host_of}
 use Rattle.unit_inputs.specs.exec_settings.Mounts.{unit_mentions}
 use Rattle.mount_plan.specs.path_settings.declared.mentions.Mention.{Mention}
-use Rattle.unit_inputs.specs.command_answers.Endings.{is_answer}
+use Rattle.unit_inputs.specs.command_answers.ExitStatuses.{is_answer}
 use Rattle.unit_inputs.specs.command_answers.Laws.{AcceptsFiles, GoTogether, IsAdmitted, laws_over}
-use Rattle.unit_inputs.specs.command_answers.Stops.{Prepares, first_refusal}
-use Rattle.unit_inputs.specs.declared.command_answers.ending.Ending.{Ending}
-use Rattle.unit_inputs.specs.declared.command_answers.stop.Stop.{Stop}
+use Rattle.unit_inputs.specs.command_answers.CommandErrors.{Prepares, first_refusal}
+use Rattle.unit_inputs.specs.declared.command_answers.exit_status.ExitStatus.{ExitStatus}
+use Rattle.unit_inputs.specs.declared.command_answers.error.CommandError.{CommandError}
 use Rattle.unit_inputs.proofs.FileCommands.{go_together, ready_is_admitted, stop_is_admitted}
 use Rattle.unit_inputs.proofs.Refusing.{stops_as, stops_before}
 use Rattle.unit_inputs.specs.site_table.Table.{Site}
@@ -21,27 +21,27 @@ use Rattle.unit_inputs.proofs.Steps.{refusals_with}
 use Rattle.plan_command.specs.declared.command.Mounts.{Mounts}
 use Rattle.plan_command.specs.Lines.{text_of}
 use Rattle.plan_command.specs.Planned.{IsPlan, path_refusals}
-use Rattle.plan_command.specs.Prints.{PrintsPlan, ending_of, mounts_text, plan_laws, plan_refusals, refused_paths}
+use Rattle.plan_command.specs.Prints.{PrintsPlan, status_of, mounts_text, plan_laws, plan_refusals, refused_paths}
 
 -- the answer is printed whole
-pub done_is_answer : (unit : List ℕ) (ending : Ending) → (plan_laws unit).may_end ending → IsTrue (is_answer ending)
-done_is_answer unit ending done = subst (λ e. IsTrue (is_answer e)) (sym done) refl
+pub done_is_answer : (unit : List ℕ) (status : ExitStatus) → (plan_laws unit).may_end status → IsTrue (is_answer status)
+done_is_answer unit status done = subst (λ e. IsTrue (is_answer e)) (sym done) refl
 
 pub together : (told : Option Files) (unit : List ℕ) → GoTogether (laws_over told (plan_laws unit))
 together told unit = go_together (plan_laws unit) told (done_is_answer unit)
 
 -- an input or a setting is refused
-pub refused_before : (P : SettledUnit → Type 0) (told : Option Files) (unit : List ℕ) (stop : Stop)
+pub refused_before : (P : SettledUnit → Type 0) (told : Option Files) (unit : List ℕ) (stop : CommandError)
     → IfSome told (λ files. Prepares P (unit_refusals files unit) (Err stop))
     → IfSome told (λ files. Prepares P (plan_refusals files unit) (Err stop))
 refused_before P None unit stop said = tt
 refused_before P (Some files) unit stop said = stops_before P P stop (unit_refusals files unit)
     (refusals_by (refused_paths unit) (inputs_of files unit)) said
 
-pub stops_before_paths : (P : SettledUnit → Type 0) (told : Option Files) (unit : List ℕ) (stop : Stop)
+pub stops_before_paths : (P : SettledUnit → Type 0) (told : Option Files) (unit : List ℕ) (stop : CommandError)
     → IfSome told (λ files. Prepares P (unit_refusals files unit) (Err stop))
-    → IsAdmitted (laws_over told (plan_laws unit)) ending_of mounts_text (Err stop)
-stops_before_paths P told unit stop said = stop_is_admitted (plan_laws unit) ending_of mounts_text P told stop
+    → IsAdmitted (laws_over told (plan_laws unit)) status_of mounts_text (Err stop)
+stops_before_paths P told unit stop said = stop_is_admitted (plan_laws unit) status_of mounts_text P told stop
     (refused_before P told unit stop said)
 
 module _ (told : Option Files) (unit : List ℕ) (one : SettledUnit) (mentions : List Mention) (site : Site) where
@@ -55,7 +55,7 @@ module _ (told : Option Files) (unit : List ℕ) (one : SettledUnit) (mentions :
       ∙ ap (λ these. first_refusal (path_refusals unit (host_of (inputs_view one.inputs).site) these)) (sym same)
       ∙ ap (λ place. first_refusal (path_refusals unit (host_of place) mentions)) (sym lies)
 
-  pub at_paths : (P : List MountStep → Type 0) (told : Option Files) (stop : Stop)
+  pub at_paths : (P : List MountStep → Type 0) (told : Option Files) (stop : CommandError)
       → mentions ≡ unit_mentions (inputs_view one.inputs).unit (inputs_view one.inputs).site → site ≡ (inputs_view one.inputs).site
       → IfSome told (λ files. (first_refusal (unit_refusals files unit) ≡ None) × (inputs_of files unit ≡ Some (inputs_view one.inputs)))
       → Prepares P (path_refusals unit (host_of site) mentions) (Err stop)
@@ -65,13 +65,13 @@ module _ (told : Option Files) (unit : List ℕ) (one : SettledUnit) (mentions :
       (plan_refusals files unit) (refused_as files same lies settles) said
 
   -- a path is refused
-  pub stops_at_paths : (stop : Stop) → mentions ≡ unit_mentions (inputs_view one.inputs).unit (inputs_view one.inputs).site
+  pub stops_at_paths : (stop : CommandError) → mentions ≡ unit_mentions (inputs_view one.inputs).unit (inputs_view one.inputs).site
       → site ≡ (inputs_view one.inputs).site
       → IfSome told (λ files. (first_refusal (unit_refusals files unit) ≡ None) × (inputs_of files unit ≡ Some (inputs_view one.inputs)))
       → Prepares (IsPlan (host_of site) mentions) (path_refusals unit (host_of site) mentions) (Err stop)
-      → IsAdmitted (laws_over told (plan_laws unit)) ending_of mounts_text (Err stop)
+      → IsAdmitted (laws_over told (plan_laws unit)) status_of mounts_text (Err stop)
   stops_at_paths stop same lies settles said =
-      stop_is_admitted (plan_laws unit) ending_of mounts_text (IsPlan (host_of site) mentions) told stop
+      stop_is_admitted (plan_laws unit) status_of mounts_text (IsPlan (host_of site) mentions) told stop
       (at_paths (IsPlan (host_of site) mentions) told stop same lies settles said)
 
   prints_it : (table : List MountStep) (told : Option Files)
@@ -97,6 +97,6 @@ module _ (told : Option Files) (unit : List ℕ) (one : SettledUnit) (mentions :
       → site ≡ (inputs_view one.inputs).site
       → IfSome told (λ files. (first_refusal (unit_refusals files unit) ≡ None) × (inputs_of files unit ≡ Some (inputs_view one.inputs)))
       → (first_refusal (path_refusals unit (host_of site) mentions) ≡ None) × IsPlan (host_of site) mentions mounts.table
-      → IsAdmitted (laws_over told (plan_laws unit)) ending_of mounts_text (Ok mounts)
-  ready mounts same lies settles planned = ready_is_admitted (plan_laws unit) ending_of mounts_text told mounts refl
+      → IsAdmitted (laws_over told (plan_laws unit)) status_of mounts_text (Ok mounts)
+  ready mounts same lies settles planned = ready_is_admitted (plan_laws unit) status_of mounts_text told mounts refl
       (prints_it mounts.table told same lies settles planned.0 planned.1)

@@ -7,7 +7,7 @@ use Rattle.mount_plan.specs.kern_mounts.declared.step.MountStep.{MountStep}
 use Rattle.mount_plan.specs.AsView.{FindsAsView}
 use Rattle.mount_plan.specs.Form.{HasPlacesOf}
 use Rattle.mount_plan.specs.Plan.{table_of}
-use Rattle.unit_inputs.specs.command_answers.Stops.{or_line, refusal_in}
+use Rattle.unit_inputs.specs.command_answers.CommandErrors.{or_line, refusal_in}
 use Rattle.plan_command.specs.Refusals.{plan_line}
 
 -- a table is the plan of mentions. It is the table of those that the rules keep, and each path belongs to an entry that has what the view

@@ -5,8 +5,8 @@ use Rattle.mount_plan.specs.kern_mounts.declared.step.MountStep.{MountStep}
 use Rattle.mount_plan.specs.Host.{host_of}
 use Rattle.unit_inputs.specs.exec_settings.Mounts.{unit_mentions}
 use Rattle.unit_inputs.specs.command_answers.Laws.{FileLaws}
-use Rattle.unit_inputs.specs.declared.command_answers.ending.Ending.{Ending}
-use Rattle.unit_inputs.specs.declared.command_answers.ending.Ending.TheVariants.{Done}
+use Rattle.unit_inputs.specs.declared.command_answers.exit_status.ExitStatus.{ExitStatus}
+use Rattle.unit_inputs.specs.declared.command_answers.exit_status.ExitStatus.TheVariants.{Done}
 use Rattle.unit_inputs.specs.Inputs.{Inputs, inputs_of}
 use Rattle.unit_inputs.specs.unit_names.Cutting.{name_of}
 use Rattle.unit_inputs.specs.Settled.{refusals_by, unit_refusals}
@@ -33,8 +33,8 @@ pub record PrintsPlan (files : Files) (unit text : List ℕ) : Type 0 where
 abbrev pub plan_laws : List ℕ → FileLaws
 plan_laws unit = record {
   refusals = λ files. plan_refusals files unit;
-  prints = λ files ending text. PrintsPlan files unit text;
-  may_end = λ ending. ending ≡ Done;
+  prints = λ files status text. PrintsPlan files unit text;
+  may_end = λ status. status ≡ Done;
   reads = IsSome (name_of unit);
 }
 
@@ -42,5 +42,5 @@ plan_laws unit = record {
 abbrev pub mounts_text : Mounts → List ℕ
 mounts_text mounts = text_of mounts.table
 
-abbrev pub ending_of : Mounts → Ending
-ending_of mounts = Done
+abbrev pub status_of : Mounts → ExitStatus
+status_of mounts = Done

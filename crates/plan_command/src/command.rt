@@ -3,7 +3,7 @@ ghost use Rattle.unit_inputs.specs.command_answers.Asking.{course};
 ghost use Rattle.unit_inputs.specs.command_answers.Laws.{IsAdmitted, laws_over};
 ghost use Rattle.unit_inputs.specs.Asking.{AsksInOrder, input_asks};
 ghost use Rattle.unit_inputs.specs.ReadsFor.{ReadsFor};
-ghost use Rattle.plan_command.specs.Prints.{ending_of, mounts_text, plan_laws};
+ghost use Rattle.plan_command.specs.Prints.{status_of, mounts_text, plan_laws};
 
 use crate::lines::count_line;
 use crate::planning::plan_mounts;
@@ -11,7 +11,7 @@ use crate::printing::print_mounts;
 use host_io::{Shelf, Sink, SinkError};
 use mount_plan::MountSteps;
 use std::alloc::Global;
-use unit_inputs::command_answers::{Ending, Ready, Stop, put_line};
+use unit_inputs::command_answers::{CommandError, ExitStatus, Ready, put_line};
 use unit_inputs::settle_unit;
 
 /// The mounts of a unit, ready to be printed.
@@ -21,14 +21,14 @@ pub struct Mounts {
 }
 
 impl Ready for Mounts {
-    ghost use Rattle.plan_command.specs.Prints.{ending_of, mounts_text};
+    ghost use Rattle.plan_command.specs.Prints.{status_of, mounts_text};
 
     ghost text = { mounts_text };
 
-    ghost ending = { ending_of };
+    ghost status = { status_of };
 
-    fn ending(&self) -> Ending {
-        Ending::Done
+    fn status(&self) -> ExitStatus {
+        ExitStatus::Done
     }
 
     fn print<K: Sink>(&mut self, alloc: Global, out: &mut K) -> Result<(), SinkError> {
@@ -40,8 +40,8 @@ impl Ready for Mounts {
 
 /// Prepares `plan` and the name of a unit: reads the unit, calls.txt and site.toml, finds the first refusal of them, of the
 /// settings and of the paths that they mention, and plans the mounts.
-pub fn prepare<S: Shelf>(alloc: Global, shelf: &mut S, unit: &str) -> Result<Mounts, Stop>
-    ensures prepares { IsAdmitted (laws_over (S.told shelf.old) (plan_laws unit.now)) ending_of mounts_text result }
+pub fn prepare<S: Shelf>(alloc: Global, shelf: &mut S, unit: &str) -> Result<Mounts, CommandError>
+    ensures prepares { IsAdmitted (laws_over (S.told shelf.old) (plan_laws unit.now)) status_of mounts_text result }
     ensures asks_in_order { AsksInOrder S.asks (S.told shelf.old) (λ files. input_asks files unit.now) shelf.old shelf.new (course result) }
     ensures reads_for_the_unit { ReadsFor S.told S.faults unit.now shelf.old shelf.new result }
 {

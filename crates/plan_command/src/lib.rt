@@ -16,8 +16,8 @@ pub use command::{Mounts, prepare};
 pub use planning::plan_mounts;
 pub use refusals::plan_line;
 pub use unit_inputs::command_answers::{
-    Ending, Ready, ReadyText, Stop, ending_after, finish, finish_stop, put_line, put_lines, refuse,
-    refused_line,
+    CommandError, ExitStatus, Ready, ReadyText, finish, finish_error, put_line, put_lines, refuse,
+    refused_line, status_after,
 };
 pub use unit_inputs::{
     ItemList, Line, SettledUnit, push_u64, push_word, read_decimal, read_input, read_inputs,

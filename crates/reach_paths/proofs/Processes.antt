@@ -15,7 +15,7 @@ use Rattle.kernel_laws.proofs.OfKernMounts.Unmounting.{removes_plain, trims_plai
 use Rattle.kernel_laws.specs.kernel_model.kern_files.MountCall.{ms_bind, after_mount}
 use Rattle.kernel_laws.specs.kernel_model.kern_files.UmountCall.{umount_answer}
 use Rattle.kernel_laws.specs.kernel_model.kernel_calls.Calls.{IsPath}
-use Rattle.kernel_laws.specs.kernel_model.kernel_calls.Doing.{Doing, Mount, Umount}
+use Rattle.kernel_laws.specs.kernel_model.kernel_calls.Operation.{Operation, Mount, Umount}
 use Rattle.kernel_laws.specs.kernel_model.declared.kernel_calls.call.Call.{Call}
 use Rattle.kernel_laws.specs.kernel_model.Effects.{Effect, Refuse, SetTable, table_effect, effect_of}
 use Rattle.kernel_laws.specs.kernel_model.Runs.{moments, run, IsDone, AllDone}
@@ -55,10 +55,10 @@ module _ (world : World) (pid : ℕ) (process : Process) (table : Table) (can : 
       }
 
   -- a call that asks for a change of the table makes it
-  steps : (call : Call) (doing : Doing) (next : Table) → AsksFor world pid process call doing
-      → effect_of (host_of world) (caller_of world process) doing ≡ SetTable (map plain next)
+  steps : (call : Call) (operation : Operation) (next : Table) → AsksFor world pid process call operation
+      → effect_of (host_of world) (caller_of world process) operation ≡ SetTable (map plain next)
       → step world call ≡ (Done 0, after next)
-  steps call doing next asks makes =
+  steps call operation next asks makes =
       ap (λ p. step_by world call (living_of world p)) asks.caller
       ∙ ap (step_by world call) can.lives
       ∙ ap (decided world call process) asks.through
@@ -96,19 +96,19 @@ module _ (world : World) (pid : ℕ) (process : Process) (table : Table) (can : 
       ∙ ap table_effect (umount_is detach path next e)
 
   -- and then further calls
-  one_more : (call : Call) (doing : Doing) (next : Table) → AsksFor world pid process call doing
-      → effect_of (host_of world) (caller_of world process) doing ≡ SetTable (map plain next)
+  one_more : (call : Call) (operation : Operation) (next : Table) → AsksFor world pid process call operation
+      → effect_of (host_of world) (caller_of world process) operation ≡ SetTable (map plain next)
       → (calls : List Call) (now : Table) → LeadsTo (after next) pid process calls now → LeadsTo world pid process (call ∷ calls) now
-  one_more call doing next asks makes calls now more =
-      let is = steps call doing next asks makes in
+  one_more call operation next asks makes calls now more =
+      let is = steps call operation next asks makes in
       let P : Reply × World → Type 0 = λ out. IsDone out.0 × AllDone (moments out.1 calls) in
       let Q : Reply × World → Type 0 = λ out. CanMount (run out.1 calls) pid process now in
       record { done = subst P (sym is) (tt, more.done); can = subst Q (sym is) more.can }
 
 -- the tables and filters stay, so a call asks for the same later
-later_asks : (world : World) (pid : ℕ) (process : Process) (next : Table) (call : Call) (doing : Doing)
-    → AsksFor world pid process call doing → AsksFor (with_table world process.namespace (map plain next)) pid process call doing
-later_asks world pid process next call doing asks = record { caller = asks.caller; through = asks.through; asks = asks.asks }
+later_asks : (world : World) (pid : ℕ) (process : Process) (next : Table) (call : Call) (operation : Operation)
+    → AsksFor world pid process call operation → AsksFor (with_table world process.namespace (map plain next)) pid process call operation
+later_asks world pid process next call operation asks = record { caller = asks.caller; through = asks.through; asks = asks.asks }
 
 nothing_more : (world : World) (pid : ℕ) (process : Process) (table : Table) → CanMount world pid process table
     → LeadsTo world pid process [] table

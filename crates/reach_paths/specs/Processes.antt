@@ -14,7 +14,7 @@ use Rattle.kernel_laws.specs.kernel_model.kern_files.Bits.{has_all}
 use Rattle.kernel_laws.specs.kernel_model.kern_files.MountCall.{ms_bind, ms_remount_bind, has_other_kind}
 use Rattle.kernel_laws.specs.kernel_model.kern_files.UmountCall.{mnt_detach}
 use Rattle.kernel_laws.specs.kernel_model.kernel_calls.Calls.{IsPath}
-use Rattle.kernel_laws.specs.kernel_model.kernel_calls.Doing.{Doing, Mount, Umount, Does, asked_of}
+use Rattle.kernel_laws.specs.kernel_model.kernel_calls.Operation.{Operation, Mount, Umount, Does, asked_of}
 use Rattle.kernel_laws.specs.kernel_model.declared.kernel_calls.call.Call.{Call}
 use Rattle.kernel_laws.specs.kernel_model.Runs.{moments, run, AllDone}
 use Rattle.kernel_laws.specs.kernel_model.Step.{decision_of}
@@ -32,10 +32,10 @@ pub record CanMount (world : World) (pid : ℕ) (process : Process) (table : Tab
   pub own : of_number world.tables process.namespace ≡ Some (map plain table)
 
 -- a call of the process that asks for this, and that its filters let through
-pub record AsksFor (world : World) (pid : ℕ) (process : Process) (call : Call) (doing : Doing) : Type 0 where
+pub record AsksFor (world : World) (pid : ℕ) (process : Process) (call : Call) (operation : Operation) : Type 0 where
   pub caller : call.pid ≡ pid
   pub through : decision_of world call process ≡ Pass
-  pub asks : asked_of world.calls call ≡ Does doing
+  pub asks : asked_of world.calls call ≡ Does operation
 
 -- every call is done, and then the process may still mount, and its namespace has this table
 pub record LeadsTo (world : World) (pid : ℕ) (process : Process) (calls : List Call) (now : Table) : Type 0 where

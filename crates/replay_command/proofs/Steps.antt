@@ -11,8 +11,8 @@ use Rattle.asked_service.specs.kernel_model.declared.kernel_calls.call.Call.{Cal
 use Rattle.asked_service.specs.mount_plan.Host.{host_of}
 use Rattle.asked_service.specs.exec_settings.Mounts.{unit_mentions}
 use Rattle.asked_service.specs.path_settings.declared.mentions.Mention.{Mention}
-use Rattle.asked_service.specs.unit_inputs.command_answers.Stops.{IsAnswer, Prepares, first_refusal}
-use Rattle.asked_service.specs.unit_inputs.declared.command_answers.stop.Stop.{Stop}
+use Rattle.asked_service.specs.unit_inputs.command_answers.CommandErrors.{IsAnswer, Prepares, first_refusal}
+use Rattle.asked_service.specs.unit_inputs.declared.command_answers.error.CommandError.{CommandError}
 use Rattle.asked_service.proofs.OfUnitInputs.Refusing.{behind_none, passes, stops, stops_as, stops_before}
 use Rattle.asked_service.specs.site_table.Table.{Site}
 use Rattle.asked_service.specs.unit_inputs.Inputs.{input_refusals, inputs_of, inputs_view}
@@ -27,7 +27,7 @@ use Rattle.replay_command.specs.Prepared.{CanBeStarted, IsPrepared, refusals_beh
 use Rattle.replay_command.specs.Scripts.{script_in}
 
 -- an input is refused
-pub stops_at_inputs : (P : UnitInputs → Type 0) (told : Option Files) (unit path : List ℕ) (stop : Stop)
+pub stops_at_inputs : (P : UnitInputs → Type 0) (told : Option Files) (unit path : List ℕ) (stop : CommandError)
     → IfSome told (λ files. Prepares P (input_refusals files unit) (Err stop))
     → IfSome told (λ files. Prepares (IsPrepared files unit path) (replay_refusals files unit path) (Err stop))
 stops_at_inputs P told unit path stop said =
@@ -53,7 +53,7 @@ module _ (files : Files) (unit path : List ℕ) (inputs : UnitInputs) (read : Ar
       (refused_paths unit (inputs_view inputs)) none
 
 -- the script is refused
-pub stops_at_script : (told now : Option Files) (unit path : List ℕ) (inputs : UnitInputs) (table : Table) (stop : Stop) → now ≡ told
+pub stops_at_script : (told now : Option Files) (unit path : List ℕ) (inputs : UnitInputs) (table : Table) (stop : CommandError) → now ≡ told
     → table ≡ (inputs_view inputs).calls
     → IfSome told (λ files. AreRead files unit inputs)
     → IfSome now (λ files. IsAnswer {T = List Call} (λ script. script) (Err stop) (script_in files path table))
@@ -84,7 +84,7 @@ script_is (Some files) now path inputs table script same by said =
 
 -- a setting is refused
 pub stops_at_settings : (P : SettledUnit → Type 0) (told : Option Files) (unit path : List ℕ) (inputs : UnitInputs) (script : List Call)
-    (stop : Stop)
+    (stop : CommandError)
     → IfSome told (λ files. AreRead files unit inputs) → IsScript told path inputs script
     → Prepares P (refusals_of unit (inputs_view inputs)) (Err stop)
     → IfSome told (λ files. Prepares (IsPrepared files unit path) (replay_refusals files unit path) (Err stop))
@@ -109,12 +109,12 @@ module _ (told : Option Files) (unit path : List ℕ) (inputs : UnitInputs) (scr
       (lies ∙ ap (λ (own : UnitInputs). (inputs_view own).site) same)
 
   -- a path is refused
-  pub stops_at_paths : (P : List MountStep → Type 0) (stop : Stop) → IfSome told (λ files. AreRead files unit inputs)
+  pub stops_at_paths : (P : List MountStep → Type 0) (stop : CommandError) → IfSome told (λ files. AreRead files unit inputs)
       → IsScript told path inputs script
       → Prepares P (path_refusals unit (host_of site) mentions) (Err stop)
       → IfSome told (λ files. Prepares (IsPrepared files unit path) (replay_refusals files unit path) (Err stop))
   stops_at_paths P stop = at_paths P stop told where
-    at_paths : (P : List MountStep → Type 0) (stop : Stop) (told : Option Files) → IfSome told (λ files. AreRead files unit inputs)
+    at_paths : (P : List MountStep → Type 0) (stop : CommandError) (told : Option Files) → IfSome told (λ files. AreRead files unit inputs)
         → IsScript told path inputs script
         → Prepares P (path_refusals unit (host_of site) mentions) (Err stop)
         → IfSome told (λ files. Prepares (IsPrepared files unit path) (replay_refusals files unit path) (Err stop))

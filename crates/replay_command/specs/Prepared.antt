@@ -5,7 +5,7 @@ use Rattle.asked_service.specs.kern_mounts.Launch.{CanBeMounted}
 use Rattle.asked_service.specs.kernel_model.kernel_calls.Calls.{AreCalls}
 use Rattle.asked_service.specs.mount_plan.Host.{host_of}
 use Rattle.asked_service.specs.exec_settings.Mounts.{unit_mentions}
-use Rattle.asked_service.specs.unit_inputs.command_answers.Stops.{refusal_in}
+use Rattle.asked_service.specs.unit_inputs.command_answers.CommandErrors.{refusal_in}
 use Rattle.asked_service.specs.unit_inputs.Inputs.{Inputs, input_refusals, inputs_of, inputs_view}
 use Rattle.asked_service.specs.unit_inputs.Settled.{AreSettled, refusals_by, refusals_of}
 use Rattle.asked_service.specs.plan_command.Planned.{IsPlan}

@@ -6,8 +6,8 @@ use Rattle.asked_service.specs.mount_plan.Host.{host_of}
 use Rattle.asked_service.specs.exec_settings.Mounts.{unit_mentions}
 use Rattle.asked_service.specs.exec_settings.declared.service.Settings.{Settings}
 use Rattle.asked_service.specs.unit_inputs.command_answers.Laws.{FileLaws}
-use Rattle.asked_service.specs.unit_inputs.declared.command_answers.ending.Ending.{Ending}
-use Rattle.asked_service.specs.unit_inputs.declared.command_answers.ending.Ending.TheVariants.{Done, LaunchRefused}
+use Rattle.asked_service.specs.unit_inputs.declared.command_answers.exit_status.ExitStatus.{ExitStatus}
+use Rattle.asked_service.specs.unit_inputs.declared.command_answers.exit_status.ExitStatus.TheVariants.{Done, LaunchRefused}
 use Rattle.asked_service.specs.kernel_model.declared.kernel_calls.call.Call.{Call}
 use Rattle.asked_service.specs.bpf_code.declared.machine.Insn.{Insn}
 use Rattle.asked_service.specs.kernel_model.World.{World}
@@ -26,7 +26,7 @@ use Rattle.asked_service.specs.declared.unit_launch.launching.UnitLaunch.TheVari
 use Rattle.asked_service.specs.plan_command.Planned.{IsPlan}
 use Rattle.replay_command.specs.Prepared.{replay_refusals}
 use Rattle.replay_command.specs.Scripts.{script_in}
-use Rattle.replay_command.specs.Texts.{ending_behind, replay_text}
+use Rattle.replay_command.specs.Texts.{status_behind, replay_text}
 
 -- With any programs that match the filters, including the launch's own, the launch takes the same number of steps. The replies
 -- are the same up to the first call of seccomp(2) that the kernel answers with ENOMEM under only one of the two lists of
@@ -41,7 +41,7 @@ RepliesAlike table site settings plan script (Refused refusal) = Unit {0}
 
 -- the replay of a script. By the inputs of the unit, its settings and the plan of its mounts the unit is launched. Then the script, as
 -- the table of calls reads it, is run from the launched world on, and each call is printed with its reply
-pub record PrintsReplay (files : Files) (unit path : List ℕ) (ending : Ending) (text : List ℕ) : Type 0 where
+pub record PrintsReplay (files : Files) (unit path : List ℕ) (status : ExitStatus) (text : List ℕ) : Type 0 where
   pub inputs : Inputs
   pub inputs_are : inputs_of files unit ≡ Some inputs
   pub script : List Call
@@ -54,13 +54,13 @@ pub record PrintsReplay (files : Files) (unit path : List ℕ) (ending : Ending)
   pub comes_to : ComesTo inputs.calls inputs.site settings plan launch
   pub replies_alike : RepliesAlike inputs.calls inputs.site settings plan script launch
   pub is_its_text : text ≡ replay_text inputs.calls script launch
-  pub is_its_ending : ending ≡ ending_behind launch
+  pub is_its_status : status ≡ status_behind launch
 
 -- the refusals in their order; if the launch is refused, the status is 7
 abbrev pub replay_laws : List ℕ → List ℕ → FileLaws
 replay_laws unit path = record {
   refusals = λ files. replay_refusals files unit path;
-  prints = λ files ending text. PrintsReplay files unit path ending text;
-  may_end = λ ending. (ending ≡ Done) ⊎ (ending ≡ LaunchRefused);
+  prints = λ files status text. PrintsReplay files unit path status text;
+  may_end = λ status. (status ≡ Done) ⊎ (status ≡ LaunchRefused);
   reads = IsSome (name_of unit);
 }

@@ -10,7 +10,7 @@ use Rattle.asked_service.specs.script_text.declared.error.ScriptCause.{ScriptCau
 use Rattle.asked_service.specs.script_text.declared.error.ScriptError.{ScriptError}
 use Rattle.asked_service.specs.script_text.declared.error.ScriptError.TheVariants.{NotText, Line, TooMany, Memory}
 use Rattle.asked_service.specs.unit_inputs.command_answers.Refusals.{refused_line}
-use Rattle.asked_service.specs.unit_inputs.command_answers.Stops.{and_then, or_line}
+use Rattle.asked_service.specs.unit_inputs.command_answers.CommandErrors.{and_then, or_line}
 use Rattle.asked_service.specs.unit_inputs.FileRefusals.{bytes_in}
 
 -- the first faulty line, from 1, and why

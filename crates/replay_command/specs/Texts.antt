@@ -2,8 +2,8 @@
 use Rattle.std.specs.Prelude.{ℕ, List, [], ◌∷◌, ◌++◌, length, codes}
 use Rattle.std.specs.Fmt.{decimal}
 use Rattle.asked_service.specs.call_table.Table.{Table}
-use Rattle.asked_service.specs.unit_inputs.declared.command_answers.ending.Ending.{Ending}
-use Rattle.asked_service.specs.unit_inputs.declared.command_answers.ending.Ending.TheVariants.{Done, LaunchRefused}
+use Rattle.asked_service.specs.unit_inputs.declared.command_answers.exit_status.ExitStatus.{ExitStatus}
+use Rattle.asked_service.specs.unit_inputs.declared.command_answers.exit_status.ExitStatus.TheVariants.{Done, LaunchRefused}
 use Rattle.asked_service.specs.kernel_model.declared.kernel_calls.call.Call.{Call}
 use Rattle.asked_service.specs.launcher.declared.launched.Launched.{Launched as Service}
 use Rattle.replay_command.specs.Lines.{run_text}
@@ -27,6 +27,6 @@ abbrev pub replay_text : Table → List Call → UnitLaunch → List ℕ
 replay_text table script (Launched service) = service_text table script service
 replay_text table script (Refused refusal) = refusal_line refusal
 
-abbrev pub ending_behind : UnitLaunch → Ending
-ending_behind (Launched service) = Done
-ending_behind (Refused refusal) = LaunchRefused
+abbrev pub status_behind : UnitLaunch → ExitStatus
+status_behind (Launched service) = Done
+status_behind (Refused refusal) = LaunchRefused

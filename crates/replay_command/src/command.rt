@@ -12,18 +12,18 @@ ghost use Rattle.replay_command.specs.Started.{FinishesStarted};
 
 use crate::launching::start;
 use crate::preparing::{Prepared, prepare};
-use asked_service::{Ending, finish, finish_stop};
+use asked_service::{ExitStatus, finish, finish_error};
 use host_io::{Shelf, Sink};
 use std::alloc::Global;
 
 // Launches what is prepared and prints its replay.
-fn answer_prepared<K: Sink>(alloc: Global, prepared: &Prepared, out: &mut K) -> Ending
+fn answer_prepared<K: Sink>(alloc: Global, prepared: &Prepared, out: &mut K) -> ExitStatus
     requires can_be_started { CanBeStarted prepared.now }
     ensures finishes { FinishesStarted prepared.now result (output_of K.faults K.taken K.puts out.old out.new) }
 {
     match start(alloc, prepared) {
         Ok(replay) => finish(alloc, Ok(replay), out),
-        Err(_) => Ending::OutOfMemory,
+        Err(_) => ExitStatus::OutOfMemory,
     }
 }
 
@@ -36,7 +36,7 @@ pub fn answer<S: Shelf, K: Sink>(
     unit: &str,
     script: &str,
     out: &mut K,
-) -> Ending
+) -> ExitStatus
     ensures runs { IsRun (laws_over (S.told shelf.old) (replay_laws unit.now script.now)) result
         (record { shelf_before = S.faults shelf.old; shelf_after = S.faults shelf.new; sink = output_of K.faults K.taken K.puts out.old out.new }) }
     ensures asks_in_order { AsksInOrder S.asks (S.told shelf.old) (λ files. asks_with_file files unit.now script.now) shelf.old shelf.new (course_of_run result) }
@@ -45,6 +45,6 @@ pub fn answer<S: Shelf, K: Sink>(
 {
     match prepare(alloc, shelf, unit, script) {
         Ok(prepared) => answer_prepared(alloc, &prepared, out),
-        Err(stop) => finish_stop(stop, out),
+        Err(stop) => finish_error(stop, out),
     }
 }

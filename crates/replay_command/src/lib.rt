@@ -21,8 +21,8 @@ mod script;
 
 pub use asked_service::unit_launch::{LaunchRefusal, refusal_line};
 pub use asked_service::{
-    CallTable, Ending, ReadyText, Script as ScriptTextScript, SiteTable, Stop, VerdictRow,
-    plan_line, read_inputs, refuse, refused_line, settings_line,
+    CallTable, CommandError, ExitStatus, ReadyText, Script as ScriptTextScript, SiteTable,
+    VerdictRow, plan_line, read_inputs, refuse, refused_line, settings_line,
 };
 pub use command::answer;
 pub use script::read_script;

@@ -1,7 +1,7 @@
 //! What `replay` reads, and what it takes from that.
 ghost use Rattle.std.specs.Prelude.{All, IfOk, IfSome};
 ghost use Rattle.asked_service.specs.unit_inputs.command_answers.Asking.{course};
-ghost use Rattle.asked_service.specs.unit_inputs.command_answers.Stops.{Prepares};
+ghost use Rattle.asked_service.specs.unit_inputs.command_answers.CommandErrors.{Prepares};
 ghost use Rattle.asked_service.specs.kernel_model.kernel_calls.Calls.{IsCall};
 ghost use Rattle.asked_service.specs.unit_inputs.Asking.{AsksInOrder, asks_with_file};
 ghost use Rattle.asked_service.specs.unit_inputs.ReadsFor.{ReadsFor};
@@ -9,7 +9,7 @@ ghost use Rattle.replay_command.specs.Prepared.{CanBeStarted, IsPrepared, replay
 
 use crate::script::read_script;
 use asked_service::{
-    Call, MountSteps, Script, SettledUnit, Stop, fits, plan_mounts, read_inputs, settle,
+    Call, CommandError, MountSteps, Script, SettledUnit, fits, plan_mounts, read_inputs, settle,
 };
 use host_io::Shelf;
 use std::alloc::Global;
@@ -41,7 +41,7 @@ pub fn prepare<S: Shelf>(
     shelf: &mut S,
     unit: &str,
     script: &str,
-) -> Result<Prepared, Stop>
+) -> Result<Prepared, CommandError>
     ensures prepares { IfSome (S.told shelf.old) (λ files. Prepares (IsPrepared files unit.now script.now) (replay_refusals files unit.now script.now) result) }
     ensures can_be_started { IfOk result CanBeStarted }
     ensures asks_in_order { AsksInOrder S.asks (S.told shelf.old) (λ files. asks_with_file files unit.now script.now) shelf.old shelf.new (course result) }

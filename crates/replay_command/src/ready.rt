@@ -1,10 +1,10 @@
 //! A replay, ready to be made and printed.
 ghost use Rattle.std.specs.Prelude.{◌≡◌};
-ghost use Rattle.replay_command.specs.Texts.{ending_behind};
+ghost use Rattle.replay_command.specs.Texts.{status_behind};
 
 use crate::printing::print_replay;
 use asked_service::unit_launch::UnitLaunch;
-use asked_service::{CallTable, Ending, Ready, Script};
+use asked_service::{CallTable, ExitStatus, Ready, Script};
 use host_io::{Sink, SinkError};
 use std::alloc::Global;
 
@@ -20,24 +20,24 @@ pub struct Replay<'a> {
 }
 
 // How a run ends after this result of the launch.
-fn ending_behind(launch: &UnitLaunch) -> Ending
-    ensures { result ≡ ending_behind launch.now }
+fn status_behind(launch: &UnitLaunch) -> ExitStatus
+    ensures { result ≡ status_behind launch.now }
 {
     match launch {
-        UnitLaunch::Launched(_) => Ending::Done,
-        UnitLaunch::Refused(_) => Ending::LaunchRefused,
+        UnitLaunch::Launched(_) => ExitStatus::Done,
+        UnitLaunch::Refused(_) => ExitStatus::LaunchRefused,
     }
 }
 
 impl<'a> Ready for Replay<'a> {
-    ghost use Rattle.replay_command.specs.Started.{ending_of, text_of};
+    ghost use Rattle.replay_command.specs.Started.{status_of, text_of};
 
     ghost text = { text_of };
 
-    ghost ending = { ending_of };
+    ghost status = { status_of };
 
-    fn ending(&self) -> Ending {
-        ending_behind(&self.launch)
+    fn status(&self) -> ExitStatus {
+        status_behind(&self.launch)
     }
 
     fn print<K: Sink>(&mut self, alloc: Global, out: &mut K) -> Result<(), SinkError> {

@@ -1,13 +1,13 @@
 //! The script, with the lines of its refusals.
 ghost use Rattle.std.specs.Prelude.{◌≡◌, ◌∷◌, [], IfOk, IfSome, IsErrOf};
-ghost use Rattle.asked_service.specs.host_io.Calls.{Went};
+ghost use Rattle.asked_service.specs.host_io.Calls.{AsksExactly};
 ghost use Rattle.asked_service.specs.unit_inputs.command_answers.Asking.{course, input_file};
-ghost use Rattle.asked_service.specs.unit_inputs.command_answers.Stops.{HasReadCause, IsAnswer};
+ghost use Rattle.asked_service.specs.unit_inputs.command_answers.CommandErrors.{HasReadCause, IsAnswer};
 ghost use Rattle.replay_command.specs.Scripts.{line_cause, script_cause, script_in, script_line, script_said};
 
 use asked_service::{
-    CallTable, Script, ScriptCause, ScriptError, Stop, read_input, read_script as read_bytes,
-    refuse, refused_line,
+    CallTable, CommandError, Script, ScriptCause, ScriptError, read_input,
+    read_script as read_bytes, refuse, refused_line,
 };
 use host_io::Shelf;
 use std::alloc::{AllocError, Global};
@@ -46,13 +46,13 @@ fn script_of_bytes(
     path: &str,
     calls: &CallTable,
     bytes: &[u8],
-) -> Result<Script, Stop>
+) -> Result<Script, CommandError>
     ensures says { IsAnswer (λ script. script) result (script_said path.now calls.now bytes.now) }
-    ensures reads_nothing { IsErrOf result Stop.ReadFault → ⊥ }
+    ensures reads_nothing { IsErrOf result CommandError.ReadFault → ⊥ }
 {
     match read_bytes(alloc, calls, bytes) {
         Ok(script) => Ok(script),
-        Err(ScriptError::Memory) => Err(Stop::Memory),
+        Err(ScriptError::Memory) => Err(CommandError::Memory),
         Err(error) => Err(refuse(script_line(alloc, path, error))),
     }
 }
@@ -63,9 +63,9 @@ pub fn read_script<S: Shelf>(
     shelf: &mut S,
     path: &str,
     calls: &CallTable,
-) -> Result<Script, Stop>
+) -> Result<Script, CommandError>
     ensures reads_the_script { IfSome (S.told shelf.old) (λ files. IsAnswer (λ script. script) result (script_in files path.now calls.now)) }
-    ensures asks_for_it { Went S.asks shelf.old shelf.new (input_file path.now ∷ []) (course result) }
+    ensures asks_for_it { AsksExactly S.asks shelf.old shelf.new (input_file path.now ∷ []) (course result) }
     ensures map_stays { S.told shelf.new ≡ S.told shelf.old }
     ensures fault_rose { HasReadCause (S.faults shelf.old) (S.faults shelf.new) result }
 {

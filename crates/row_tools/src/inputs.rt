@@ -4,7 +4,7 @@
 use crate::held::HeldText;
 use crate::wording::{said, text_of};
 use call_table::{CallTable, read_calls};
-use dropin_merge::{Resolved, Text, UnitFile, UnitFiles, UnitName, read_unit};
+use dropin_merge::{Resolved, Text, UnitFile, UnitFiles, UnitName, Version, read_unit};
 use site_table::{SiteTable, read_site};
 use std::alloc::{AllocError, Global};
 
@@ -46,17 +46,25 @@ fn files_of(alloc: Global, files: &[&str]) -> Option<Vec<UnitFile>> {
 }
 
 // The unit web.service with these files; of each the lines of its section of the service.
-fn unit_of(alloc: Global, files: &[&str]) -> Option<Box<Resolved>> {
+fn unit_of(alloc: Global, files: &[&str], systemd: Option<Version>) -> Option<Box<Resolved>> {
     let name = UnitName::read(alloc, "web.service").ok()?;
     let files = UnitFiles::new(files_of(alloc, files)?);
-    Box::new(alloc, Resolved { name, files }).ok()
+    Box::new(
+        alloc,
+        Resolved {
+            name,
+            files,
+            systemd,
+        },
+    )
+    .ok()
 }
 
 /// Reads these texts, if none is refused.
 pub fn inputs_of(alloc: Global, calls: &str, site: &str, files: &[&str]) -> Option<Inputs> {
     let calls = calls_of(alloc, calls)?;
     let site = site_of(alloc, site)?;
-    let unit = unit_of(alloc, files)?;
+    let unit = unit_of(alloc, files, site.systemd())?;
     Some(Inputs { unit, calls, site })
 }
 

@@ -2,7 +2,7 @@
 use Rattle.std.proofs.Common.{◌≡◌, ℕ, List, ap, refl, sym, subst}
 use Rattle.std.specs.Prelude.{IsTrue}
 use Rattle.judge_command.specs.call_table.Table as calls
-use Rattle.judge_command.specs.unit_inputs.command_answers.Endings.{is_answer, is_whole}
+use Rattle.judge_command.specs.unit_inputs.command_answers.ExitStatuses.{is_answer, is_whole}
 use Rattle.judge_command.specs.unit_inputs.command_answers.Laws.{GoTogether}
 use Rattle.judge_command.specs.dropin_merge.declared.resolved.Resolved.{Resolved}
 use Rattle.judge_command.specs.Answers.{AreAnswers}
@@ -17,9 +17,9 @@ use Rattle.sample_command.specs.declared.sampled.Sampled.{Sampled}
 
 pub together : (n : ℕ) → GoTogether (sample_laws n)
 together n = record {
-  ends = λ ending text admitted. admitted.0;
-  whole = λ ending done. subst (λ e. IsTrue (is_whole e)) (sym done) refl;
-  answers = λ all ending done. subst (λ e. IsTrue (is_answer e)) (sym done) refl;
+  ends = λ status text admitted. admitted.0;
+  whole = λ status done. subst (λ e. IsTrue (is_whole e)) (sym done) refl;
+  answers = λ all status done. subst (λ e. IsTrue (is_answer e)) (sym done) refl;
 }
 
 -- over the tables that the world was launched with

@@ -3,8 +3,8 @@ use Rattle.std.specs.Prelude.{◌≡◌, ℕ, List, [], ◌∷◌, ◌++◌, cod
 use Rattle.std.specs.Fmt.{decimal}
 use Rattle.judge_command.specs.call_table.Table as calls
 use Rattle.judge_command.specs.unit_inputs.command_answers.Laws.{Laws}
-use Rattle.judge_command.specs.unit_inputs.declared.command_answers.ending.Ending.{Ending}
-use Rattle.judge_command.specs.unit_inputs.declared.command_answers.ending.Ending.TheVariants.{Done}
+use Rattle.judge_command.specs.unit_inputs.declared.command_answers.exit_status.ExitStatus.{ExitStatus}
+use Rattle.judge_command.specs.unit_inputs.declared.command_answers.exit_status.ExitStatus.TheVariants.{Done}
 use Rattle.judge_command.specs.dropin_merge.declared.resolved.Resolved.{Resolved}
 use Rattle.judge_command.specs.Answers.{Answer, AreAnswers}
 use Rattle.judge_command.specs.asked_service.launched_units.Launching.{IsLaunchedUnit}
@@ -42,11 +42,11 @@ pub record PrintsSample (n : ℕ) (text : List ℕ) : Type 0 where
 -- nothing is refused, and no file is read
 abbrev pub sample_laws : ℕ → Laws
 sample_laws n = record {
-  admits = λ ending text. (ending ≡ Done) × PrintsSample n text;
-  may_end = λ ending. ending ≡ Done;
+  admits = λ status text. (status ≡ Done) × PrintsSample n text;
+  may_end = λ status. status ≡ Done;
   accepts = Unit {0};
   reads = ⊥;
 }
 
-abbrev pub ending_of : Sampled → Ending
-ending_of counts = Done
+abbrev pub status_of : Sampled → ExitStatus
+status_of counts = Done

@@ -3,7 +3,7 @@ ghost use Rattle.std.specs.Prelude.{◌≡◌, IfOk};
 ghost use Rattle.sample_command.specs.Prints.{count_line};
 
 use host_io::{Sink, SinkError};
-use judge_command::{Ending, Ready, put_line};
+use judge_command::{ExitStatus, Ready, put_line};
 use std::alloc::{AllocError, Global};
 
 /// What a sample came to.
@@ -29,14 +29,14 @@ fn count_line(alloc: Global, word: &str, number: usize) -> Result<Vec<u8>, Alloc
 }
 
 impl Ready for Sampled {
-    ghost use Rattle.sample_command.specs.Prints.{ending_of, sampled_text};
+    ghost use Rattle.sample_command.specs.Prints.{status_of, sampled_text};
 
     ghost text = { sampled_text };
 
-    ghost ending = { ending_of };
+    ghost status = { status_of };
 
-    fn ending(&self) -> Ending {
-        Ending::Done
+    fn status(&self) -> ExitStatus {
+        ExitStatus::Done
     }
 
     fn print<K: Sink>(&mut self, alloc: Global, out: &mut K) -> Result<(), SinkError> {

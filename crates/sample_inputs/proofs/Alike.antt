@@ -1,5 +1,5 @@
 -- A unit that says a sample, in four cases; and a site, of which the users and groups are written out.
-use Rattle.std.proofs.Common.{◌≡◌, ◌∙◌, ℕ, zero, suc, ◌<◌, ◌%◌, [], ◌∷◌, refl, ap, arith}
+use Rattle.std.proofs.Common.{◌≡◌, ◌∙◌, ℕ, zero, suc, ◌<◌, ◌%◌, None, [], ◌∷◌, refl, ap, arith}
 use Rattle.std.specs.Prelude.{◌+◌, ◌++◌, List, flat_map}
 use Rattle.launcher.specs.dropin_merge.declared.resolved.Resolved.{Resolved}
 use Rattle.launcher.specs.site_table.Table.{Site}
@@ -10,7 +10,7 @@ use Rattle.sample_inputs.specs.sample_launch.Mentions.{folder_mentions_by, sampl
 use Rattle.sample_inputs.proofs.SampleLaunchTurns.{same_said, same_turn}
 
 abbrev pub unit_by : Resolved → ℕ → Resolved
-unit_by unit m = record unit { files = record { path = unit_path; text = unit_said m } ∷ [] }
+unit_by unit m = record unit { files = record { path = unit_path; text = unit_said m } ∷ []; systemd = None }
 
 abbrev pub site_by : Site → Site
 site_by site = record site { users = site_accounts; groups = site_account_groups }
@@ -33,6 +33,7 @@ same_twice n = omega arith
 pub unit_is : (n : ℕ) (unit : Resolved) → SaysSample n unit → unit ≡ unit_by unit (n % 4)
 unit_is n unit says = ap (λ files. record unit { files = files }) says.files
     ∙ ap (λ said. record unit { files = record { path = unit_path; text = said } ∷ [] }) (same_said n (n % 4) (same_twice n))
+    ∙ ap (λ systemd. record unit { files = record { path = unit_path; text = unit_said (n % 4) } ∷ []; systemd = systemd }) says.systemd
 
 pub site_is : (site : Site) → HasSampleRows site → site ≡ site_by site
 site_is site has = ap (λ users. record site { users = users }) has.users

@@ -12,7 +12,7 @@ use Rattle.launcher.specs.kern_mounts.Launch.{CanBeMounted}
 use Rattle.launcher.specs.kern_mounts.Split.{Table}
 use Rattle.launcher.specs.kernel_model.World.{World, start_world}
 use Rattle.launcher.specs.Answers.{EndsAs, EndsWithAll, launch_with, wanted_of}
-use Rattle.launcher.specs.Launch.{Wanted, LaunchStep, Ending, Launched, StepRefused, StepKilled, PrivilegedProgram, launch, launch_from}
+use Rattle.launcher.specs.Launch.{Wanted, LaunchStep, LaunchOutcome, Launched, StepRefused, StepKilled, PrivilegedProgram, launch, launch_from}
 use Rattle.launcher.specs.Launch.{launch_steps, mount_steps, with_unshare, identity_steps, filter_steps, program_steps, is_privileged_row}
 use Rattle.launcher.specs.Matching.{AreMatching}
 use Rattle.launcher.proofs.HostRoot.{begins_at_host}
@@ -92,8 +92,8 @@ module _ (table : calls.Table) (site : Site) (settings : Settings) (plan : Table
   none_match : AreMatching settings.filters.items []
   none_match = subst (λ (filters : List Filter). AreMatching filters []) (sym are.filters) tt
 
-  ends_so : (ending : Ending) → EndsWithAll table site settings plan ending → launch_with table site settings plan [] ≡ ending
-  ends_so ending ends = ends.each [] [] tt none_match
+  ends_so : (outcome : LaunchOutcome) → EndsWithAll table site settings plan outcome → launch_with table site settings plan [] ≡ outcome
+  ends_so outcome ends = ends.each [] [] tt none_match
 
   no_privileged : (path : Path) → EndsAs table site settings plan (Err (error.PrivilegedProgram path)) → ⊥
   no_privileged path ends = differ (sym own.1 ∙ ends [])

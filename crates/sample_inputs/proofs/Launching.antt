@@ -19,7 +19,7 @@ use Rattle.launcher.specs.kern_creds.Prctl.{after_drop_bounding, after_raise, af
 use Rattle.launcher.specs.kern_mounts.Split.{Table}
 use Rattle.launcher.specs.kernel_model.declared.kernel_calls.payload.Payload.TheVariants.{Nothing, Sets, Ids}
 use Rattle.launcher.specs.kernel_model.declared.kernel_calls.rule.Rule.TheVariants as rule
-use Rattle.launcher.specs.kernel_model.kernel_calls.Doing as d
+use Rattle.launcher.specs.kernel_model.kernel_calls.Operation as d
 use Rattle.launcher.specs.kernel_laws.Questions.{if_so, count_from}
 use Rattle.launcher.specs.kernel_model.World.{World}
 use Rattle.launcher.specs.Launch.{Wanted, makes, prctl_step, capset_step, group_steps, drop_steps, inherit_steps, user_steps, raise_steps}

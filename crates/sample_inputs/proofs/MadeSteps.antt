@@ -23,8 +23,8 @@ use Rattle.launcher.specs.kernel_model.declared.kernel_calls.payload.Payload.The
 use Rattle.launcher.specs.kernel_model.declared.kernel_calls.rule.Rule.{Rule}
 use Rattle.launcher.specs.kernel_model.declared.kernel_calls.rule.Rule.TheVariants as rule
 use Rattle.launcher.specs.kernel_model.kernel_calls.Rules.{rule_at}
-use Rattle.launcher.specs.kernel_model.kernel_calls.Doing as d
-use Rattle.launcher.specs.kernel_model.kernel_calls.Doing.{Doing, doing_by, asked_by, asked_if}
+use Rattle.launcher.specs.kernel_model.kernel_calls.Operation as d
+use Rattle.launcher.specs.kernel_model.kernel_calls.Operation.{Operation, operation_by, asked_by, asked_if}
 use Rattle.launcher.specs.kernel_laws.Questions.{if_so}
 use Rattle.launcher.specs.kernel_model.Effects as f
 use Rattle.launcher.specs.kernel_model.Effects.{Effect, Host, Caller, effect_of, creds_effect}
@@ -48,35 +48,35 @@ use Rattle.sample_inputs.proofs.Granted.{full, exec_granted}
 
 module _ (table : calls.Table) (site : Site) where
   passes : (creds : Creds) (namespace : ℕ) (tables : List MountList) (nr : ℕ) (args : List ℕ) (payload : Payload) (rule' : Rule)
-      (doing : Doing)
-      → rule_at table.calls nr ≡ Some rule' → doing_by rule' args payload ≡ Some doing
+      (operation : Operation)
+      → rule_at table.calls nr ≡ Some rule' → operation_by rule' args payload ≡ Some operation
       → step (solo table site creds [] namespace tables) (record { pid = 1; abi = 0; nr = nr; args = args; payload = payload })
       ≡ applied (solo table site creds [] namespace tables) 1 (only table site creds [] namespace)
       (effect_of (host_of (solo table site creds [] namespace tables))
-      (caller_of (solo table site creds [] namespace tables) (only table site creds [] namespace)) doing)
-  passes creds namespace tables nr args payload rule' doing by_rule is =
+      (caller_of (solo table site creds [] namespace tables) (only table site creds [] namespace)) operation)
+  passes creds namespace tables nr args payload rule' operation by_rule is =
       let own : World = solo table site creds [] namespace tables in
       let call : Call = record { pid = 1; abi = 0; nr = nr; args = args; payload = payload } in
       ap (λ (o : Option Rule). answered own 1 (only table site creds [] namespace) (asked_by o call)) by_rule
-      ∙ ap (λ (o : Option Doing). answered own 1 (only table site creds [] namespace) (asked_if o)) is
+      ∙ ap (λ (o : Option Operation). answered own 1 (only table site creds [] namespace) (asked_if o)) is
 
   -- a call that changes credentials, where its rule grants it
-  pub goes_creds : (Q R : Creds → Type 0) (name : List ℕ) (one two three : ℕ) (payload : Payload) (rule' : Rule) (doing : Doing)
+  pub goes_creds : (Q R : Creds → Type 0) (name : List ℕ) (one two three : ℕ) (payload : Payload) (rule' : Rule) (operation : Operation)
       (answer : Creds → Result Creds ℕ) (made : Creds → Creds)
       → rule_at table.calls (number_of table.calls name) ≡ Some rule'
-      → doing_by rule' (one ∷ two ∷ three ∷ 0 ∷ 0 ∷ 0 ∷ []) payload ≡ Some doing
+      → operation_by rule' (one ∷ two ∷ three ∷ 0 ∷ 0 ∷ 0 ∷ []) payload ≡ Some operation
       → ((host : Host) (process : Process) (mounts : MountList) (owns : Bool)
-      → effect_of host (record { creds = process.creds; stack = process.stack; table = mounts; newer = false; owns = owns }) doing
+      → effect_of host (record { creds = process.creds; stack = process.stack; table = mounts; newer = false; owns = owns }) operation
       ≡ creds_effect (answer process.creds))
       → ((creds : Creds) → Q creds → answer creds ≡ Ok (made creds)) → ((creds : Creds) → Q creds → R (made creds))
       → (plan : Table) (world : World) → At table site Q [] plan world
       → Goes (At table site R [] plan) world (makes table.calls name one two three payload ∷ [])
-  goes_creds Q R name one two three payload rule' doing answer made by_rule is effect may to plan world at =
+  goes_creds Q R name one two three payload rule' operation answer made by_rule is effect may to plan world at =
       let own : World = solo table site at.creds [] at.namespace at.tables in
       let process : Process = only table site at.creds [] at.namespace in
       let call : Call = first_call table.calls name (one ∷ two ∷ three ∷ 0 ∷ 0 ∷ 0 ∷ []) payload in
       let stepped = ap (λ (v : World). step v call) at.is
-      ∙ passes at.creds at.namespace at.tables call.nr call.args payload rule' doing by_rule is
+      ∙ passes at.creds at.namespace at.tables call.nr call.args payload rule' operation by_rule is
       ∙ ap (λ (e : Effect). applied own 1 process e)
       (effect (host_of own) process (caller_of own process).table (caller_of own process).owns)
       ∙ ap (λ (a : Result Creds ℕ). applied own 1 process (creds_effect a)) (may at.creds at.as_asked) in

@@ -69,6 +69,7 @@ sample_rows n text site tree read =
     let said : site ≡ site_in (table (site_tree n)) = cc in
     record {
       dynamic_uid = ap (λ (site : Site). site.dynamic_uid) said;
+      systemd = ap (λ (site : Site). site.systemd) said;
       folders = λ k low. exact.as_listed (dir_row (folder_path k)) (folder k)
           (in_site n (dir_row (folder_path k)) (folder_listed n k low)) (folder_reads k low)
           ∙ ap Some (dir_said (folder_path k) (folder k) (folder_reads k low));

@@ -18,8 +18,10 @@ use Rattle.launcher.specs.cred_settings.declared.accounts.Identity.{Identity}
 use Rattle.launcher.specs.dropin_merge.declared.resolved.Resolved.{Resolved}
 use Rattle.launcher.specs.exec_settings.AreSettings.{AreSettings}
 use Rattle.launcher.specs.exec_settings.Bounding.{left_of, taken_caps}
-use Rattle.launcher.specs.exec_settings.Commands.{command_of, program_of, unit_command}
+use Rattle.launcher.specs.exec_settings.Commands.{command_of, program_of}
+use Rattle.launcher.specs.exec_settings.Launched.{reading_of, unit_command, unit_leaves_ids}
 use Rattle.launcher.specs.exec_settings.Dynamic.{is_dynamic, sets_new_privileges, unit_filters}
+use Rattle.launcher.specs.exec_settings.RunsAs.{unit_identity}
 use Rattle.launcher.specs.exec_settings.Groups.{missing_group}
 use Rattle.launcher.specs.exec_settings.Keys.{keys}
 use Rattle.launcher.specs.exec_settings.Mounts.{paths_refusal, unit_mentions, unit_switches}
@@ -66,7 +68,7 @@ any_namespace = record { cgroup = true; ipc = true; net = true; mnt = true; pid 
 
 -- no filter is asked for
 abbrev bare_but : Bool → FilterSettings
-bare_but refused = made false false false false false false false false false KillProcess any_namespace None None refused
+bare_but refused = made false false false false false false false false false KillProcess any_namespace None None refused None false
 
 abbrev bare : FilterSettings
 bare = bare_but false
@@ -81,21 +83,21 @@ or_false false = refl
 
 -- ---- the four units, part by part
 
-launches : (unit : Resolved) (m : ℕ) → m < 4 → unit_program (unit_by unit m) ≡ Some program
-unfolding unit_program unit_command command_of program_of service_assignments words_of words_in text_only closed_only mark_of open_after
+launches : (unit : Resolved) (site : Site) (m : ℕ) → m < 4 → unit_program (unit_by unit m) site ≡ Some program
+unfolding unit_program unit_command reading_of command_of program_of service_assignments words_of words_in text_only closed_only mark_of open_after
     escape_of symbols_of is_utf8 chars encode
-launches unit m h = below_four (λ m. unit_program (unit_by unit m) ≡ Some program) refl refl refl refl m h
+launches unit site m h = below_four (λ m. unit_program (unit_by unit m) site ≡ Some program) refl refl refl refl m h
 
-command_passes : (unit : Resolved) (m : ℕ) → m < 4 → command_refusal (unit_by unit m) ≡ None
-unfolding command_refusal outside_key keys unit_command command_of program_of unit_written service_assignments digits words_of words_in
+command_passes : (unit : Resolved) (site : Site) (m : ℕ) → m < 4 → command_refusal (unit_by unit m) site ≡ None
+unfolding command_refusal outside_key keys unit_command reading_of command_of program_of unit_written service_assignments digits words_of words_in
     text_only closed_only mark_of open_after escape_of symbols_of is_utf8 chars encode
-command_passes unit m h = below_four (λ m. command_refusal (unit_by unit m) ≡ None) refl refl refl refl m h
+command_passes unit site m h = below_four (λ m. command_refusal (unit_by unit m) site ≡ None) refl refl refl refl m h
 
 user_passes : (unit : Resolved) (site : Site) (m : ℕ) → m < 4
-    → identity_of (unit_by unit m) (site_by site) (is_dynamic (unit_by unit m)) ≡ Ok app
-unfolding is_dynamic identity_of unit_last unit_last_text unit_words service_assignments is_utf8 chars encode
-user_passes unit site m h = below_four (λ m. identity_of (unit_by unit m) (site_by site) (is_dynamic (unit_by unit m)) ≡ Ok app) refl refl
-    refl refl m h
+    → unit_identity (unit_by unit m) (site_by site) ≡ Ok app
+unfolding is_dynamic identity_of unit_last unit_last_text unit_words service_assignments unit_leaves_ids unit_command reading_of command_of
+    program_of words_of words_in text_only closed_only mark_of open_after escape_of symbols_of is_utf8 chars encode
+user_passes unit site m h = below_four (λ m. unit_identity (unit_by unit m) (site_by site) ≡ Ok app) refl refl refl refl m h
 
 unfiltered : (unit : Resolved) (table : Table) (m : ℕ) → m < 4 → unit_filters (unit_by unit m) table ≡ bare
 unfolding unit_filters is_dynamic unit_call_list unit_family_list unit_namespaces unit_refuses_second unit_last unit_listed
@@ -144,7 +146,7 @@ none_of_four a b c d not_a not_b not_c not_d =
 
 no_refusal : (unit : Resolved) (table : Table) (site : Site) (m : ℕ) → m < 4 → refusal_of (unit_by unit m) table (site_by site) ≡ None
 unfolding refusal_of identity_refusal
-no_refusal unit table site m h = none_of_four _ _ _ _ (command_passes unit m h) (ap identity_reason (user_passes unit site m h))
+no_refusal unit table site m h = none_of_four _ _ _ _ (command_passes unit (site_by site) m h) (ap identity_reason (user_passes unit site m h))
     (group_passes unit table m h) (paths_pass unit m h)
 
 pub are_not_refused : SettingsAreNotRefused
@@ -161,7 +163,7 @@ no_names (one ∷ filters) e = cc
 
 module _ (unit : Resolved) (table : Table) (site : Site) (made : Settings) (m : ℕ) (h : m < 4) (are : AreSettings (unit_by unit m) table (site_by site) made) where
   its_program : made.program ≡ program
-  its_program = let e = are.launches_the_first_command in let f = launches unit m h in cc
+  its_program = let e = are.launches_the_first_command in let f = launches unit (site_by site) m h in cc
 
   its_identity : record { uid = made.uid; gid = made.gid; groups = made.groups } ≡ app
   its_identity = let e = are.runs_as in let f = user_passes unit site m h in cc

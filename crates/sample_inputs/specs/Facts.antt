@@ -30,15 +30,17 @@ site_accounts = record { name = codes "root"; uid = 0; gid = 0; groups = [] } �
 abbrev pub site_account_groups : List Group
 site_account_groups = record { name = codes "root"; gid = 0 } ∷ record { name = codes "app"; gid = 100 } ∷ []
 
--- the uid of services with a dynamic user (systemd.exec(5), DynamicUser=), the sixteen folders and the program as rows, and the users and
+-- the uid of services with a dynamic user (systemd.exec(5), DynamicUser=), no version of systemd, the sixteen folders and the program as rows, and the users and
 -- groups
 pub record HasSampleRows (site : Site) : Type 0 where
   pub dynamic_uid : site.dynamic_uid ≡ 61184
+  pub systemd : site.systemd ≡ None
   pub folders : (k : ℕ) → k < 16 → row_at site.rows (folder k) ≡ Some (plain_dir (folder k))
   pub program : row_at site.rows program ≡ Some (plain_exe program)
   pub users : site.users ≡ site_accounts
   pub groups : site.groups ≡ site_account_groups
 
--- the unit has one file, which says this
+-- the unit has one file, which says this, and is read without a version of systemd
 pub record SaysSample (n : ℕ) (unit : Resolved) : Type 0 where
   pub files : unit.files ≡ record { path = unit_path; text = unit_said n } ∷ []
+  pub systemd : unit.systemd ≡ None

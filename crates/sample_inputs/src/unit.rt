@@ -137,5 +137,12 @@ pub fn sample_unit(alloc: Global, n: u32) -> Result<Box<Resolved>, AllocError>
 {
     let files = files(alloc, n)?;
     let name = name(alloc)?;
-    Ok(Box::new(alloc, Resolved { name, files })?)
+    Ok(Box::new(
+        alloc,
+        Resolved {
+            name,
+            files,
+            systemd: None,
+        },
+    )?)
 }

@@ -7,10 +7,10 @@ use Rattle.top_call.specs.host_io.Calls.{ShelfCall}
 use Rattle.top_call.specs.host_io.Files.{Files}
 use Rattle.top_call.specs.exposure_score.StoredTests.{StoredTests}
 use Rattle.top_call.specs.tighten_command.tightening.Wishes.{Wishes}
-use Rattle.top_call.specs.unit_inputs.command_answers.Endings.{code_of}
+use Rattle.top_call.specs.unit_inputs.command_answers.ExitStatuses.{code_of}
 use Rattle.top_call.specs.unit_inputs.command_answers.Runs.{Outside}
-use Rattle.top_call.specs.unit_inputs.declared.command_answers.ending.Ending.{Ending}
-use Rattle.top_call.specs.unit_inputs.declared.command_answers.ending.Ending.TheVariants.{OutOfMemory}
+use Rattle.top_call.specs.unit_inputs.declared.command_answers.exit_status.ExitStatus.{ExitStatus}
+use Rattle.top_call.specs.unit_inputs.declared.command_answers.exit_status.ExitStatus.TheVariants.{OutOfMemory}
 use Rattle.top_call.specs.Asked.{Asked}
 use Rattle.top_call.specs.Promise.{DoesWhatIsAsked}
 
@@ -24,18 +24,18 @@ abbrev pub asked_by : List (List ℕ) → Option Files → StoredTests → Wishe
 asked_by words told stored wishes = record { words = words; told = told; stored = stored; wishes = wishes }
 
 -- the run does what the words ask; or there was not even memory for the words, and nothing was read or written
-abbrev pub EndsWords : {S K : Type 0} → (S → ShelfCall → S → Type 0) → Asked → Outside → S → S → K → K → Ending → Type 0
-EndsWords asks asked outside shelf_before shelf_after sink_before sink_after ending =
-    DoesWhatIsAsked asks asked outside shelf_before shelf_after ending ⊎
-    ((ending ≡ OutOfMemory) × (shelf_after ≡ shelf_before) × (sink_after ≡ sink_before))
+abbrev pub EndsWords : {S K : Type 0} → (S → ShelfCall → S → Type 0) → Asked → Outside → S → S → K → K → ExitStatus → Type 0
+EndsWords asks asked outside shelf_before shelf_after sink_before sink_after status =
+    DoesWhatIsAsked asks asked outside shelf_before shelf_after status ⊎
+    ((status ≡ OutOfMemory) × (shelf_after ≡ shelf_before) × (sink_after ≡ sink_before))
 
 -- the exit status belongs to such an ending
-abbrev pub ExitsBy : (Ending → Type 0) → ExitCode → Type 0
-ExitsBy Ends code = (ending : Ending) × Ends ending × (exit_status code ≡ code_of ending)
+abbrev pub ExitsBy : (ExitStatus → Type 0) → ExitCode → Type 0
+ExitsBy Ends code = (status : ExitStatus) × Ends status × (exit_status code ≡ code_of status)
 
 -- the exit status belongs to some ending
 abbrev pub IsExit : ExitCode → Type 0
-IsExit code = ExitsBy (λ ending. Unit {0}) code
+IsExit code = ExitsBy (λ status. Unit {0}) code
 
 -- the exit status that was made, or the status for lack of memory
 abbrev pub ExitsUnlessMemory : {E : Type 0} → Result ExitCode E → ExitCode → Type 0

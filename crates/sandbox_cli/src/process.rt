@@ -10,7 +10,7 @@ use std::alloc::AllocError;
 use std::process::ExitCode;
 use std::rt::{Env, Files};
 use std::{env, io};
-use top_call::{Ending, Status};
+use top_call::{ExitStatus, Status};
 
 // The arguments, the program's name the first of them.
 fn arguments<R: Env + AllocGlobal>(rt: &R) -> io::Result<Vec<String>> {
@@ -22,7 +22,7 @@ fn arguments<R: Env + AllocGlobal>(rt: &R) -> io::Result<Vec<String>> {
 fn run_arguments<R: Env + Files + Print + AllocGlobal + Clone + Drop>(
     rt: &R,
 ) -> Result<ExitCode, AllocError>
-    ensures exits_by_an_ending { IfOk result IsExit }
+    ensures exits_by_a_status { IfOk result IsExit }
 {
     let mut shelf = DirShelf::new(rt.clone()?);
     let mut sink = StdSink::new(rt.clone()?);
@@ -35,13 +35,13 @@ fn or_out_of_memory(made: Result<ExitCode, AllocError>) -> ExitCode
 {
     match made {
         Ok(code) => code,
-        Err(_) => exit_code(Status::of(Ending::OutOfMemory)),
+        Err(_) => exit_code(Status::of(ExitStatus::OutOfMemory)),
     }
 }
 
 /// Runs the words of the process over the current folder and the standard output, and answers the status that it ends with.
 pub fn run_process<R: Env + Files + Print + AllocGlobal + Clone + Drop>(rt: &R) -> ExitCode
-    ensures exits_by_an_ending { IsExit result }
+    ensures exits_by_a_status { IsExit result }
 {
     or_out_of_memory(run_arguments(rt))
 }

@@ -1,7 +1,7 @@
 //! A run of the program's arguments, over any files and any output.
 ghost use Rattle.std.specs.Prelude.{◌≡◌, IfOk, drop, map, string_bytes};
 ghost use Rattle.std.specs.Process.{exit_status};
-ghost use Rattle.top_call.specs.unit_inputs.command_answers.Endings.{code_of};
+ghost use Rattle.top_call.specs.unit_inputs.command_answers.ExitStatuses.{code_of};
 ghost use Rattle.top_call.specs.Around.{around};
 ghost use Rattle.sandbox_cli.specs.Running.{EndsWords, ExitsBy, asked_by, words_behind};
 ghost use Rattle.sandbox_cli.specs.Tests.{AreProgramTests};
@@ -11,7 +11,9 @@ use host_io::{Shelf, Sink};
 use std::alloc::{AllocError, Global};
 use std::io;
 use std::process::ExitCode;
-use top_call::{CustomTest, Ending, Facts, Status, Stored, StoredWish, VerdictRow, Wished, run};
+use top_call::{
+    CustomTest, ExitStatus, Facts, Status, Stored, StoredWish, VerdictRow, Wished, run,
+};
 
 // The words after the program's name, which is the first argument.
 fn behind_name(all: &[String]) -> &[String]
@@ -58,7 +60,7 @@ fn run_words<S: Shelf, K: Sink>(
 {
     match texts_of(alloc, words) {
         Ok(texts) => run(alloc, texts.as_slice(), shelf, out, tests, wishes),
-        Err(_) => Status::of(Ending::OutOfMemory),
+        Err(_) => Status::of(ExitStatus::OutOfMemory),
     }
 }
 
@@ -82,7 +84,7 @@ fn run_arguments<S: Shelf, K: Sink>(
         Err(error) if error.kind() == io::ErrorKind::InvalidData => {
             run_words(alloc, &[], tests, wishes, shelf, out)
         }
-        Err(_) => Status::of(Ending::OutOfMemory),
+        Err(_) => Status::of(ExitStatus::OutOfMemory),
     }
 }
 

@@ -26,7 +26,7 @@ pub fn run_with_tests<S: Shelf, K: Sink>(
     shelf: &mut S,
     out: &mut K,
 ) -> Result<ExitCode, AllocError>
-    ensures faults_have_causes { IfOk result (ExitsBy (λ ending. HasFaultCause ending
+    ensures faults_have_causes { IfOk result (ExitsBy (λ status. HasFaultCause status
         (around S.faults K.faults K.taken K.puts shelf.old shelf.new out.old out.new))) }
     ensures map_stays { S.told shelf.new ≡ S.told shelf.old }
 

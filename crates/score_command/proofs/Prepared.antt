@@ -10,47 +10,47 @@ use Rattle.report_text.specs.exposure_score.declared.rows.Score.{Score}
 use Rattle.report_text.specs.exposure_score.declared.policy_file.policy.PolicyTest.{PolicyTest}
 use Rattle.report_text.proofs.OfExposureScore.Weights.{weighs_alike}
 use Rattle.report_text.specs.exposure_score.service_facts.Facts.{AreFacts}
-use Rattle.unit_inputs.specs.command_answers.Endings.{is_answer}
+use Rattle.unit_inputs.specs.command_answers.ExitStatuses.{is_answer}
 use Rattle.unit_inputs.specs.command_answers.Laws.{AcceptsFiles, GoTogether, IsAdmitted, laws_over}
-use Rattle.unit_inputs.specs.command_answers.Stops.{HasReadCause, Prepares, first_refusal}
-use Rattle.unit_inputs.specs.declared.command_answers.ending.Ending.{Ending}
-use Rattle.unit_inputs.specs.declared.command_answers.ending.Ending.TheVariants.{Done, AboveThreshold}
-use Rattle.unit_inputs.specs.declared.command_answers.stop.Stop.{Stop}
-use Rattle.unit_inputs.specs.declared.command_answers.stop.Stop.TheVariants as stop
+use Rattle.unit_inputs.specs.command_answers.CommandErrors.{HasReadCause, Prepares, first_refusal}
+use Rattle.unit_inputs.specs.declared.command_answers.exit_status.ExitStatus.{ExitStatus}
+use Rattle.unit_inputs.specs.declared.command_answers.exit_status.ExitStatus.TheVariants.{Done, AboveThreshold}
+use Rattle.unit_inputs.specs.declared.command_answers.error.CommandError.{CommandError}
+use Rattle.unit_inputs.specs.declared.command_answers.error.CommandError.TheVariants as stop
 use Rattle.unit_inputs.proofs.FileCommands.{go_together, ready_is_admitted, stop_is_admitted}
 use Rattle.unit_inputs.proofs.Refusing.{stops_as, stops_before}
 use Rattle.unit_inputs.specs.Inputs.{inputs_of}
 use Rattle.unit_inputs.specs.Settled.{refusals_by}
 use Rattle.unit_inputs.proofs.Steps.{refusals_with}
 use Rattle.score_command.specs.Prepared.{CanBeWeighed, IsPrepared, inputs_in}
-use Rattle.score_command.specs.Prints.{PrintsScore, ending_of, score_laws, scored_text}
+use Rattle.score_command.specs.Prints.{PrintsScore, status_of, score_laws, scored_text}
 use Rattle.score_command.specs.Refusals.{read_refusals, score_refusals, weight_refusals, weights_in}
-use Rattle.score_command.specs.Texts.{ending_by}
+use Rattle.score_command.specs.Texts.{status_by}
 use Rattle.score_command.specs.Weighed.{IsScoreOf}
 use Rattle.score_command.specs.Weights.{weight_refusal}
 use Rattle.score_command.specs.declared.preparing.Prepared.{Prepared}
 
 module _ (told : Option Files) (unit path : List ℕ) (threshold : ℕ) (stored : StoredTests) where
   -- each ending behind a score is an answer
-  answered : (ending : Ending) → (score_laws unit path threshold stored).may_end ending → IsTrue (is_answer ending)
-  answered ending (inl done) = subst (λ e. IsTrue (is_answer e)) (sym done) refl
-  answered ending (inr above) = subst (λ e. IsTrue (is_answer e)) (sym above) refl
+  answered : (status : ExitStatus) → (score_laws unit path threshold stored).may_end status → IsTrue (is_answer status)
+  answered status (inl done) = subst (λ e. IsTrue (is_answer e)) (sym done) refl
+  answered status (inr above) = subst (λ e. IsTrue (is_answer e)) (sym above) refl
 
   pub together : GoTogether (laws_over told (score_laws unit path threshold stored))
   together = go_together (score_laws unit path threshold stored) told answered
 
 -- a score ends as done, or is above the threshold
 one_of_two : (above : Bool) (score : Score) (threshold : ℕ) → nat_lt threshold score.exposure ≡ above
-    → (ending_by score threshold ≡ Done) ⊎ (ending_by score threshold ≡ AboveThreshold)
+    → (status_by score threshold ≡ Done) ⊎ (status_by score threshold ≡ AboveThreshold)
 one_of_two true score threshold is = inr cc
 one_of_two false score threshold is = inl cc
 
 module _ (told : Option Files) (unit path : List ℕ) (threshold : ℕ) (stored : StoredTests) where
   -- something is refused before anything is weighed
-  pub stops_before_weighing : (stop : Stop)
+  pub stops_before_weighing : (stop : CommandError)
       → IfSome told (λ files. Prepares (IsPrepared files unit path) (read_refusals files unit path) (Err stop))
-      → IsAdmitted (laws_over told (score_laws unit path threshold stored)) ending_of scored_text (Err stop)
-  stops_before_weighing stop said = stop_is_admitted (score_laws unit path threshold stored) ending_of scored_text
+      → IsAdmitted (laws_over told (score_laws unit path threshold stored)) status_of scored_text (Err stop)
+  stops_before_weighing stop said = stop_is_admitted (score_laws unit path threshold stored) status_of scored_text
       (λ (prepared : Prepared). Unit {0}) told stop (refused told said)
     where
       refused : (told : Option Files)
@@ -74,11 +74,11 @@ module _ (told : Option Files) (unit path : List ℕ) (threshold : ℕ) (stored 
         prepared.policy are))
 
     -- the policy weighs nothing
-    pub stops_at_weights : (P : Score → Type 0) (stop : Stop)
+    pub stops_at_weights : (P : Score → Type 0) (stop : CommandError)
         → IfSome told (λ files. Prepares (IsPrepared files unit path) (read_refusals files unit path) (Ok prepared))
         → Prepares P (weight_refusal path (counted_weight stored.id_of facts.tests stored.tests prepared.policy) ∷ []) (Err stop)
-        → IsAdmitted (laws_over told (score_laws unit path threshold stored)) ending_of scored_text (Err stop)
-    stops_at_weights P stop is said = stop_is_admitted (score_laws unit path threshold stored) ending_of scored_text P told stop
+        → IsAdmitted (laws_over told (score_laws unit path threshold stored)) status_of scored_text (Err stop)
+    stops_at_weights P stop is said = stop_is_admitted (score_laws unit path threshold stored) status_of scored_text P told stop
         (refused told is)
       where
         refused : (told : Option Files)
@@ -94,17 +94,17 @@ module _ (told : Option Files) (unit path : List ℕ) (threshold : ℕ) (stored 
         (λ files. Prepares (IsPrepared files unit path) (read_refusals files unit path) (Ok prepared))
         → Prepares (IsScoreOf stored facts prepared.policy)
         (weight_refusal path (counted_weight stored.id_of facts.tests stored.tests prepared.policy) ∷ []) (Ok score)
-        → IsAdmitted (laws_over told (score_laws unit path threshold stored)) ending_of scored_text
+        → IsAdmitted (laws_over told (score_laws unit path threshold stored)) status_of scored_text
         (Ok (record { score = score; threshold = threshold }))
     ready score can is weighed =
-        ready_is_admitted (score_laws unit path threshold stored) ending_of scored_text told
+        ready_is_admitted (score_laws unit path threshold stored) status_of scored_text told
         (record { score = score; threshold = threshold })
         (one_of_two (nat_lt threshold score.exposure) score threshold refl) (prints_it told is)
       where
         prints_it : (told : Option Files)
             → IfSome told (λ files. Prepares (IsPrepared files unit path) (read_refusals files unit path) (Ok prepared))
             → IfSome told (λ files. AcceptsFiles (score_laws unit path threshold stored) files × PrintsScore files unit path threshold
-            stored (ending_of (record { score = score; threshold = threshold }))
+            stored (status_of (record { score = score; threshold = threshold }))
             (scored_text (record { score = score; threshold = threshold })))
         prints_it None is = tt
         prints_it (Some files) is = (
@@ -121,6 +121,6 @@ module _ (told : Option Files) (unit path : List ℕ) (threshold : ℕ) (stored 
             score = score;
             is_score = weighed.1;
             is_its_text = refl;
-            is_its_ending = refl;
+            is_its_status = refl;
           },
         )

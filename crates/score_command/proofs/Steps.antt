@@ -3,9 +3,9 @@ use Rattle.std.proofs.Common.{◌≡◌, ◌∙◌, ℕ, Option, Some, None, Lis
 use Rattle.std.specs.Prelude.{IfSome}
 use Rattle.std.specs.Option.{option_map}
 use Rattle.unit_inputs.specs.host_io.Files.{Files}
-use Rattle.unit_inputs.specs.command_answers.Stops.{IsAnswer, Prepares, first_refusal}
-use Rattle.unit_inputs.specs.declared.command_answers.stop.Stop.{Stop}
-use Rattle.unit_inputs.specs.declared.command_answers.stop.Stop.TheVariants as stop
+use Rattle.unit_inputs.specs.command_answers.CommandErrors.{IsAnswer, Prepares, first_refusal}
+use Rattle.unit_inputs.specs.declared.command_answers.error.CommandError.{CommandError}
+use Rattle.unit_inputs.specs.declared.command_answers.error.CommandError.TheVariants as stop
 use Rattle.unit_inputs.proofs.Refusing.{passes, stops, stops_as}
 use Rattle.unit_inputs.specs.exec_settings.Refusals.{refusal_of}
 use Rattle.unit_inputs.specs.exec_settings.declared.errors.SettingsError.{SettingsError}
@@ -24,7 +24,7 @@ use Rattle.score_command.specs.Prepared.{CanBeWeighed, IsPrepared}
 use Rattle.score_command.specs.Refusals.{read_refusals, refusals_behind}
 
 -- an input is refused
-pub stops_at_inputs : (P : UnitInputs → Type 0) (told : Option Files) (unit path : List ℕ) (stop : Stop)
+pub stops_at_inputs : (P : UnitInputs → Type 0) (told : Option Files) (unit path : List ℕ) (stop : CommandError)
     → IfSome told (λ files. Prepares P (input_refusals files unit) (Err stop))
     → IfSome told (λ files. Prepares (IsPrepared files unit path) (read_refusals files unit path) (Err stop))
 stops_at_inputs P told unit path stop said =
@@ -41,7 +41,7 @@ module _ (files : Files) (unit path : List ℕ) (inputs : UnitInputs) (read : Ar
   behind_policy policy is = behind_inputs ∙ passes (policy_in files path) policy (refusals_of unit (inputs_view inputs)) is
 
 -- the policy is refused
-pub stops_at_policy : (told now : Option Files) (unit path : List ℕ) (inputs : UnitInputs) (stop : Stop) → now ≡ told
+pub stops_at_policy : (told now : Option Files) (unit path : List ℕ) (inputs : UnitInputs) (stop : CommandError) → now ≡ told
     → IfSome told (λ files. AreRead files unit inputs)
     → IfSome now (λ files. IsAnswer {T = List PolicyTest} (λ policy. policy) (Err stop) (policy_in files path))
     → IfSome told (λ files. Prepares (IsPrepared files unit path) (read_refusals files unit path) (Err stop))
@@ -65,7 +65,7 @@ policy_is (Some files) now path policy same said =
     subst (λ own. IfSome own (λ files. IsAnswer (λ (policy : List PolicyTest). policy) (Ok policy) (policy_in files path))) same said
 
 -- what stops rests on no value
-as_prepared : {T U : Type 0} (Q : U → Type 0) (refusals : List (Option (List ℕ))) (P : T → Type 0) (why : Stop)
+as_prepared : {T U : Type 0} (Q : U → Type 0) (refusals : List (Option (List ℕ))) (P : T → Type 0) (why : CommandError)
     → Prepares P refusals (Err why) → Prepares Q refusals (Err why)
 as_prepared Q refusals P (stop.Refused line) said = said
 as_prepared Q refusals P stop.ReadFault said = tt
@@ -73,7 +73,7 @@ as_prepared Q refusals P stop.Memory said = tt
 
 -- a setting is refused
 pub stops_at_settings : (P : SettledUnit → Type 0) (told : Option Files) (unit path : List ℕ) (inputs : UnitInputs)
-    (policy : List PolicyTest) (why : Stop)
+    (policy : List PolicyTest) (why : CommandError)
     → IfSome told (λ files. AreRead files unit inputs) → IsPolicyOf told path policy
     → Prepares P (refusals_of unit (inputs_view inputs)) (Err why)
     → IfSome told (λ files. Prepares (IsPrepared files unit path) (read_refusals files unit path) (Err why))

@@ -7,7 +7,7 @@ use Rattle.report_text.specs.exposure_score.declared.policy_file.error.PolicyErr
 use Rattle.report_text.specs.exposure_score.declared.policy_file.error.PolicyError.TheVariants.{NotJson, Field, TooMany, Memory}
 use Rattle.report_text.specs.exposure_score.declared.policy_file.policy.PolicyTest.{PolicyTest}
 use Rattle.unit_inputs.specs.command_answers.Refusals.{refused_line}
-use Rattle.unit_inputs.specs.command_answers.Stops.{and_then, or_line}
+use Rattle.unit_inputs.specs.command_answers.CommandErrors.{and_then, or_line}
 use Rattle.unit_inputs.specs.FileRefusals.{bytes_in}
 
 -- why a policy is refused; if memory runs out, there is no line

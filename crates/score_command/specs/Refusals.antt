@@ -5,7 +5,7 @@ use Rattle.report_text.specs.call_table.Table.{Table}
 use Rattle.report_text.specs.exposure_score.declared.policy_file.policy.PolicyTest.{PolicyTest}
 use Rattle.report_text.specs.exposure_score.StoredTests.{StoredTests}
 use Rattle.report_text.specs.exposure_score.policy_weights.Weights.{weight_of}
-use Rattle.unit_inputs.specs.command_answers.Stops.{refusal_in}
+use Rattle.unit_inputs.specs.command_answers.CommandErrors.{refusal_in}
 use Rattle.unit_inputs.specs.Inputs.{Inputs, input_refusals, inputs_of}
 use Rattle.unit_inputs.specs.Settled.{refusals_by, refusals_of}
 use Rattle.score_command.specs.Policies.{policy_in}

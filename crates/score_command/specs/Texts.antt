@@ -1,7 +1,7 @@
 -- The text of a score, and how a run ends after it.
 use Rattle.std.specs.Prelude.{ℕ, nat_lt, cond, List, ◌++◌, flat_map}
-use Rattle.unit_inputs.specs.declared.command_answers.ending.Ending.{Ending}
-use Rattle.unit_inputs.specs.declared.command_answers.ending.Ending.TheVariants.{Done, AboveThreshold}
+use Rattle.unit_inputs.specs.declared.command_answers.exit_status.ExitStatus.{ExitStatus}
+use Rattle.unit_inputs.specs.declared.command_answers.exit_status.ExitStatus.TheVariants.{Done, AboveThreshold}
 use Rattle.report_text.specs.exposure_score.declared.rows.Score.{Score}
 use Rattle.report_text.specs.Scores.{exposure_line, score_line}
 
@@ -10,5 +10,5 @@ abbrev pub score_text : Score → ℕ → List ℕ
 score_text score threshold = flat_map score_line score.rows ++ exposure_line score.exposure threshold
 
 -- the exposure is above the threshold, or not
-abbrev pub ending_by : Score → ℕ → Ending
-ending_by score threshold = cond (nat_lt threshold score.exposure) AboveThreshold Done
+abbrev pub status_by : Score → ℕ → ExitStatus
+status_by score threshold = cond (nat_lt threshold score.exposure) AboveThreshold Done

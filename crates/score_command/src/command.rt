@@ -6,7 +6,7 @@ ghost use Rattle.report_text.specs.exposure_score.service_facts.Facts.{AreFacts}
 ghost use Rattle.unit_inputs.specs.Asking.{AsksInOrder, asks_with_file};
 ghost use Rattle.unit_inputs.specs.ReadsFor.{ReadsFor};
 ghost use Rattle.score_command.specs.Prepared.{CanBeWeighed, inputs_in};
-ghost use Rattle.score_command.specs.Prints.{ending_of, score_laws, scored_text};
+ghost use Rattle.score_command.specs.Prints.{status_of, score_laws, scored_text};
 
 use crate::preparing::{Prepared, read_all};
 use crate::ready::Scored;
@@ -14,7 +14,7 @@ use crate::weighing::weigh;
 use host_io::Shelf;
 use report_text::{CustomTest, Facts, Stored, facts};
 use std::alloc::{AllocError, Global};
-use unit_inputs::command_answers::Stop;
+use unit_inputs::command_answers::CommandError;
 
 // What is known of the settings that are prepared.
 fn facts_of(alloc: Global, prepared: &Prepared) -> Result<Facts, AllocError>
@@ -43,8 +43,8 @@ pub fn prepare<S: Shelf>(
     policy: &str,
     threshold: u32,
     tests: &[CustomTest],
-) -> Result<Scored, Stop>
-    ensures prepares { IsAdmitted (laws_over (S.told shelf.old) (score_laws unit.now policy.now threshold (⟦<CustomTest as Stored>⟧.stored tests.now))) ending_of scored_text result }
+) -> Result<Scored, CommandError>
+    ensures prepares { IsAdmitted (laws_over (S.told shelf.old) (score_laws unit.now policy.now threshold (⟦<CustomTest as Stored>⟧.stored tests.now))) status_of scored_text result }
     ensures asks_in_order { AsksInOrder S.asks (S.told shelf.old) (λ files. asks_with_file files unit.now policy.now) shelf.old shelf.new (course result) }
     ensures reads_for_the_unit { ReadsFor S.told S.faults unit.now shelf.old shelf.new result }
 {

@@ -23,7 +23,7 @@ pub use report_text::{
     resolve, score, weighs, writable_paths,
 };
 pub use unit_inputs::command_answers::{
-    Ending, Ready as UnitInputsReady, Stop, put_line, refuse, refused_line,
+    CommandError, ExitStatus, Ready as UnitInputsReady, put_line, refuse, refused_line,
 };
 pub use unit_inputs::{
     CallTable, NameError, Settings, SettingsError, SiteTable, UnitName, push_word, read_site,

@@ -1,14 +1,14 @@
 //! The policy, with the lines of its refusals.
 ghost use Rattle.std.specs.Prelude.{◌≡◌, ◌∷◌, [], IfOk, IfSome, IsErrOf};
-ghost use Rattle.unit_inputs.specs.host_io.Calls.{Went};
+ghost use Rattle.unit_inputs.specs.host_io.Calls.{AsksExactly};
 ghost use Rattle.unit_inputs.specs.command_answers.Asking.{course, input_file};
-ghost use Rattle.unit_inputs.specs.command_answers.Stops.{HasReadCause, IsAnswer};
+ghost use Rattle.unit_inputs.specs.command_answers.CommandErrors.{HasReadCause, IsAnswer};
 ghost use Rattle.score_command.specs.Policies.{policy_cause, policy_in, policy_line, policy_said};
 
 use host_io::Shelf;
 use report_text::{Policy, PolicyError, TestId, read_policy as read_bytes};
 use std::alloc::{AllocError, Global};
-use unit_inputs::command_answers::{Stop, refuse, refused_line};
+use unit_inputs::command_answers::{CommandError, refuse, refused_line};
 use unit_inputs::{push_word, read_input};
 
 // Names the member that is not a test.
@@ -42,21 +42,25 @@ fn policy_line(alloc: Global, path: &str, error: &PolicyError) -> Result<Vec<u8>
 
 // The policy that some bytes are.
 #[tactic(auto, unfolding(crate::specs::Policies::policy_said))]
-fn policy_of_bytes(alloc: Global, path: &str, bytes: &[u8]) -> Result<Policy, Stop>
+fn policy_of_bytes(alloc: Global, path: &str, bytes: &[u8]) -> Result<Policy, CommandError>
     ensures says { IsAnswer (λ policy. policy) result (policy_said path.now bytes.now) }
-    ensures reads_nothing { IsErrOf result Stop.ReadFault → ⊥ }
+    ensures reads_nothing { IsErrOf result CommandError.ReadFault → ⊥ }
 {
     match read_bytes(alloc, bytes) {
         Ok(policy) => Ok(policy),
-        Err(PolicyError::Memory) => Err(Stop::Memory),
+        Err(PolicyError::Memory) => Err(CommandError::Memory),
         Err(error) => Err(refuse(policy_line(alloc, path, &error))),
     }
 }
 
 /// The policy of a path, or the line of its first refusal.
-pub fn read_policy<S: Shelf>(alloc: Global, shelf: &mut S, path: &str) -> Result<Policy, Stop>
+pub fn read_policy<S: Shelf>(
+    alloc: Global,
+    shelf: &mut S,
+    path: &str,
+) -> Result<Policy, CommandError>
     ensures reads_the_policy { IfSome (S.told shelf.old) (λ files. IsAnswer (λ policy. policy) result (policy_in files path.now)) }
-    ensures asks_for_it { Went S.asks shelf.old shelf.new (input_file path.now ∷ []) (course result) }
+    ensures asks_for_it { AsksExactly S.asks shelf.old shelf.new (input_file path.now ∷ []) (course result) }
     ensures map_stays { S.told shelf.new ≡ S.told shelf.old }
     ensures fault_rose { HasReadCause (S.faults shelf.old) (S.faults shelf.new) result }
 {

@@ -1,7 +1,7 @@
 //! What `score` reads, and what it takes from that.
 ghost use Rattle.std.specs.Prelude.{IfOk, IfSome};
 ghost use Rattle.unit_inputs.specs.command_answers.Asking.{course};
-ghost use Rattle.unit_inputs.specs.command_answers.Stops.{Prepares};
+ghost use Rattle.unit_inputs.specs.command_answers.CommandErrors.{Prepares};
 ghost use Rattle.unit_inputs.specs.Asking.{AsksInOrder, asks_with_file};
 ghost use Rattle.unit_inputs.specs.ReadsFor.{ReadsFor};
 ghost use Rattle.score_command.specs.Prepared.{CanBeWeighed, IsPrepared};
@@ -11,7 +11,7 @@ use crate::policies::read_policy;
 use host_io::Shelf;
 use report_text::{Policy, accepted_units_write_few_paths};
 use std::alloc::Global;
-use unit_inputs::command_answers::Stop;
+use unit_inputs::command_answers::CommandError;
 use unit_inputs::{SettledUnit, read_inputs, settle};
 
 /// All that a score is made from.
@@ -29,7 +29,7 @@ pub fn read_all<S: Shelf>(
     shelf: &mut S,
     unit: &str,
     policy: &str,
-) -> Result<Prepared, Stop>
+) -> Result<Prepared, CommandError>
     ensures can_be_weighed { IfOk result CanBeWeighed }
     ensures prepares { IfSome (S.told shelf.old) (λ files. Prepares (IsPrepared files unit.now policy.now) (read_refusals files unit.now policy.now) result) }
     ensures asks_in_order { AsksInOrder S.asks (S.told shelf.old) (λ files. asks_with_file files unit.now policy.now) shelf.old shelf.new (course result) }

@@ -1,12 +1,12 @@
 //! A score, ready to be printed.
 ghost use Rattle.std.specs.Prelude.{◌≡◌};
-ghost use Rattle.score_command.specs.Texts.{ending_by};
+ghost use Rattle.score_command.specs.Texts.{status_by};
 
 use crate::printing::print_score;
 use host_io::{Sink, SinkError};
 use report_text::Score;
 use std::alloc::Global;
-use unit_inputs::command_answers::{Ending, Ready};
+use unit_inputs::command_answers::{ExitStatus, Ready};
 
 /// The score of a unit, and the threshold that its exposure is held against.
 #[derive(Drop)]
@@ -18,25 +18,25 @@ pub struct Scored {
 }
 
 // How a run ends after a score.
-fn ending_by(score: &Score, threshold: u32) -> Ending
-    ensures { result ≡ ending_by score.now threshold }
+fn status_by(score: &Score, threshold: u32) -> ExitStatus
+    ensures { result ≡ status_by score.now threshold }
 {
     if score.exposure > threshold {
-        Ending::AboveThreshold
+        ExitStatus::AboveThreshold
     } else {
-        Ending::Done
+        ExitStatus::Done
     }
 }
 
 impl Ready for Scored {
-    ghost use Rattle.score_command.specs.Prints.{ending_of, scored_text};
+    ghost use Rattle.score_command.specs.Prints.{status_of, scored_text};
 
     ghost text = { scored_text };
 
-    ghost ending = { ending_of };
+    ghost status = { status_of };
 
-    fn ending(&self) -> Ending {
-        ending_by(&self.score, self.threshold)
+    fn status(&self) -> ExitStatus {
+        status_by(&self.score, self.threshold)
     }
 
     fn print<K: Sink>(&mut self, alloc: Global, out: &mut K) -> Result<(), SinkError> {

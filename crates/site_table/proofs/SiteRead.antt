@@ -1,5 +1,5 @@
 -- A site, part by part.
-use Rattle.std.proofs.Common.{◌≡◌, ◌≢◌, ℕ, Bool, true, false, cond, List, [], ◌∷◌, ◌++◌, map, Some, None, Result, Ok, Err, refl, sym, ap}
+use Rattle.std.proofs.Common.{◌≡◌, ◌≢◌, ℕ, Bool, true, false, cond, List, [], ◌∷◌, ◌++◌, map, Option, Some, None, Result, Ok, Err, refl, sym, ap}
 use Rattle.std.proofs.Common.{◌∙◌, subst, append-nil}
 use Rattle.std.specs.Prelude.{codes, unwrap_or, IfOk, IfErr}
 use Rattle.std.specs.Str.{IsUtf8, is_utf8}
@@ -19,25 +19,28 @@ use Rattle.site_table.specs.Reading.{rows_in, users_in, groups_in, row_faults, u
 use Rattle.site_table.specs.Reading.{top_faults, faults_of, site_in, unless_fault, site_of, site_of_tree, IsUnlessMemory}
 use Rattle.site_table.specs.Rows.{row_of}
 use Rattle.site_table.specs.Table.{Site, IsSite}
+use Rattle.site_table.specs.Versions.{systemd_at}
+use Rattle.unit_names.specs.declared.version.Version.{Version}
 use Rattle.site_table.proofs.Answering.{accepted, stops_first}
 use Rattle.site_table.proofs.SiteHolds.{site_holds}
 
 -- nothing is wrong at the top, and the site is not too large
-pub record IsBegun (site : Data) (uid spaces : ℕ) : Type 0 where
+pub record IsBegun (site : Data) (uid spaces : ℕ) (systemd : Option Version) : Type 0 where
   pub top : (top_faults site ≡ []) × (id_at (codes "dynamic_uid") site ≡ Some uid) × (spaces_at site ≡ Some spaces)
+      × (systemd_at site ≡ Some systemd)
   pub size : is_too_large site ≡ false
 
-begun_faults : (site : Data) (uid spaces : ℕ) → IsBegun site uid spaces → top_faults site ++ size_faults site ≡ []
-begun_faults site uid spaces begun = ap (λ faults. faults ++ size_faults site) begun.top.0 ∙ ap (λ b. cond b (TooMany ∷ []) []) begun.size
+begun_faults : (site : Data) (uid spaces : ℕ) (systemd : Option Version) → IsBegun site uid spaces systemd → top_faults site ++ size_faults site ≡ []
+begun_faults site uid spaces systemd begun = ap (λ faults. faults ++ size_faults site) begun.top.0 ∙ ap (λ b. cond b (TooMany ∷ []) []) begun.size
 
-module _ (site : Data) (uid spaces : ℕ) (rows : List Row) (begun : IsBegun site uid spaces) (rows_read : unless_fault (row_faults (rows_in site)) (rows_in_order (with_fixed (map row_of (rows_in site)))) ≡ Ok rows) where
+module _ (site : Data) (uid spaces : ℕ) (systemd : Option Version) (rows : List Row) (begun : IsBegun site uid spaces systemd) (rows_read : unless_fault (row_faults (rows_in site)) (rows_in_order (with_fixed (map row_of (rows_in site)))) ≡ Ok rows) where
   no_row : row_faults (rows_in site) ≡ []
   no_row = (accepted (row_faults (rows_in site)) (rows_in_order (with_fixed (map row_of (rows_in site)))) rows rows_read).0
 
   after_rows : faults_of site ≡ user_faults (users_in site) ++ group_faults (groups_in site)
   after_rows =
       ap (λ faults. ((faults ++ row_faults (rows_in site)) ++ user_faults (users_in site)) ++ group_faults (groups_in site))
-      (begun_faults site uid spaces begun)
+      (begun_faults site uid spaces systemd begun)
       ∙ ap (λ faults. (faults ++ user_faults (users_in site)) ++ group_faults (groups_in site)) no_row
 
   -- a user with a fault, or no memory
@@ -69,7 +72,7 @@ module _ (site : Data) (uid spaces : ℕ) (rows : List Row) (begun : IsBegun sit
     -- the whole, without fault
     pub record IsRead (groups : List Group) : Type 0 where
       pub faultless : faults_of site ≡ []
-      pub says : site_in site ≡ record { dynamic_uid = uid; user_namespaces = spaces; rows = rows; users = users; groups = groups }
+      pub says : site_in site ≡ record { dynamic_uid = uid; user_namespaces = spaces; systemd = systemd; rows = rows; users = users; groups = groups }
 
     pub whole : (groups : List Group) → unless_fault (group_faults (groups_in site)) (map group_of (groups_in site)) ≡ Ok groups
         → IsRead groups
@@ -79,15 +82,16 @@ module _ (site : Data) (uid spaces : ℕ) (rows : List Row) (begun : IsBegun sit
         let groups_said = accepted (group_faults (groups_in site)) (map group_of (groups_in site)) groups groups_read in
         let uid_said : unwrap_or (id_at (codes "dynamic_uid") site) 0 ≡ uid = ap (λ id. unwrap_or id 0) begun.top.1 in
         let spaces_said : unwrap_or (spaces_at site) 0 ≡ spaces = ap (λ id. unwrap_or id 0) begun.top.2 in
+        let systemd_said : unwrap_or (systemd_at site) None ≡ systemd = ap (λ version. unwrap_or version None) begun.top.3 in
         let groups_are : map group_of (groups_in site) ≡ groups = groups_said.1 in
         record { faultless = after_users ∙ groups_said.0; says = cc }
 
     pub holds : (groups : List Group) → IsRead groups → IsSite
-        (record { dynamic_uid = uid; user_namespaces = spaces; rows = rows; users = users; groups = groups })
+        (record { dynamic_uid = uid; user_namespaces = spaces; systemd = systemd; rows = rows; users = users; groups = groups })
     holds groups read = subst IsSite read.says (site_holds site read.faultless)
 
     pub answered : (groups : List Group) → IsRead groups → unless_fault (faults_of site) (site_in site)
-        ≡ Ok (record { dynamic_uid = uid; user_namespaces = spaces; rows = rows; users = users; groups = groups })
+        ≡ Ok (record { dynamic_uid = uid; user_namespaces = spaces; systemd = systemd; rows = rows; users = users; groups = groups })
     answered groups read = ap (λ faults. unless_fault faults (site_in site)) read.faultless ∙ ap Ok read.says
 
 -- ---- from the bytes

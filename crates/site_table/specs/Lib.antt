@@ -1,6 +1,7 @@
 pub mod Keys
 pub mod Kinds
 pub mod Ids
+pub mod Versions
 pub mod Caps
 pub mod Paths
 pub mod Rows

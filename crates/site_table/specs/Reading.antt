@@ -17,6 +17,8 @@ use Rattle.site_table.specs.Rows.{cause_of, row_of}
 use Rattle.site_table.specs.Owners.{has_doubled_name, is_wrong, user_of, group_of}
 use Rattle.site_table.specs.Order.{with_fixed, rows_in_order}
 use Rattle.site_table.specs.Table.{Site}
+use Rattle.site_table.specs.Versions.{systemd_at}
+use Rattle.unit_names.specs.declared.version.Version.{Version}
 
 -- the listed rows, users and groups
 abbrev pub rows_in : Data → List Data
@@ -46,9 +48,10 @@ user_faults users = owner_faults (is_wrong UserKind) BadUser users
 abbrev pub group_faults : List Data → List SiteError
 group_faults groups = owner_faults (is_wrong GroupKind) BadGroup groups
 
--- what is wrong at the top: the keys, the dynamic uid, or the number of user namespaces
+-- what is wrong at the top: the keys, the dynamic uid, the number of user namespaces, or the version of systemd
 abbrev pub top_faults : Data → List SiteError
-top_faults site = cond ((has_keys top_keys site && is_some (id_at (codes "dynamic_uid") site)) && is_some (spaces_at site)) [] (Top ∷ [])
+top_faults site = cond (((has_keys top_keys site && is_some (id_at (codes "dynamic_uid") site)) && is_some (spaces_at site))
+    && is_some (systemd_at site)) [] (Top ∷ [])
 
 -- more rows, users or groups than a site may have
 abbrev pub is_too_large : Data → Bool
@@ -67,6 +70,7 @@ abbrev pub site_in : Data → Site
 site_in site = record {
   dynamic_uid = unwrap_or (id_at (codes "dynamic_uid") site) 0;
   user_namespaces = unwrap_or (spaces_at site) 0;
+  systemd = unwrap_or (systemd_at site) None;
   rows = rows_in_order (with_fixed (map row_of (rows_in site)));
   users = map user_of (users_in site);
   groups = map group_of (groups_in site);
@@ -77,9 +81,10 @@ abbrev pub unless_fault : {T : Type 0} → List SiteError → T → Result T Sit
 unless_fault [] answer = Ok answer
 unless_fault (fault ∷ faults) answer = Err fault
 
--- the dynamic uid and the number of user namespaces, where nothing is wrong at the top
-abbrev pub SaysTop : Data → Option (ℕ × ℕ) → Type 0
+-- the dynamic uid, the number of user namespaces and the version, where nothing is wrong at the top
+abbrev pub SaysTop : Data → Option (ℕ × ℕ × Option Version) → Type 0
 SaysTop site (Some said) = (top_faults site ≡ []) × (id_at (codes "dynamic_uid") site ≡ Some said.0) × (spaces_at site ≡ Some said.1)
+    × (systemd_at site ≡ Some said.2)
 SaysTop site None = top_faults site ≡ Top ∷ []
 
 -- the tree that `toml` reads from UTF-8

@@ -14,16 +14,19 @@ use Rattle.site_table.specs.declared.accounts.User.{User}
 use Rattle.site_table.specs.declared.accounts.Group.{Group}
 use Rattle.site_table.specs.Ids.{greatest_id, most_spaces}
 use Rattle.site_table.specs.Paths.{parent_of, root}
+use Rattle.unit_names.specs.declared.version.Version.{Version}
 
 pub record Site : Type 0 where
   pub dynamic_uid : ℕ
   pub user_namespaces : ℕ
+  pub systemd : Option Version
   pub rows : List Row
   pub users : List User
   pub groups : List Group
 
-abbrev pub site_with : ℕ → ℕ → List Row → List User → List Group → Site
-site_with uid spaces rows users groups = record { dynamic_uid = uid; user_namespaces = spaces; rows = rows; users = users; groups = groups }
+abbrev pub site_with : ℕ → ℕ → Option Version → List Row → List User → List Group → Site
+site_with uid spaces systemd rows users groups =
+    record { dynamic_uid = uid; user_namespaces = spaces; systemd = systemd; rows = rows; users = users; groups = groups }
 
 -- the row of a path
 abbrev pub row_at : List Row → Path → Option Row

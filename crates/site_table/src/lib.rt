@@ -26,6 +26,7 @@ mod rows;
 mod seen;
 mod table;
 mod texts;
+mod versions;
 
 pub use accounts::{Group, User};
 pub use cap_sets::CapSet;
@@ -35,3 +36,4 @@ pub use reader::read_site;
 pub use row::Row;
 pub use table::SiteTable;
 pub use texts::{Ids, Name};
+pub use unit_names::Version;

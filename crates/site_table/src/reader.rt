@@ -11,9 +11,11 @@ use crate::keys::TOP_KEYS;
 use crate::owners::{read_groups, read_users};
 use crate::rows::read_rows;
 use crate::table::SiteTable;
+use crate::versions::systemd_at;
 use std::alloc::Global;
 use toml::Value;
 use toml_shapes::{elements_at, has_keys};
+use unit_names::Version;
 
 /// The most rows that a site may list.
 const MOST_ROWS: usize = 2048;
@@ -22,8 +24,8 @@ const MOST_USERS: usize = 512;
 /// The most groups that it may list.
 const MOST_GROUPS: usize = 512;
 
-// the dynamic uid and how many user namespaces may be made, where the top keys are right
-fn read_top(site: &Value) -> Option<(u32, u32)>
+// the dynamic uid, how many user namespaces may be made, and the version of systemd, where the top keys are right
+fn read_top(site: &Value) -> Option<(u32, u32, Option<Version>)>
     ensures { SaysTop (view site.now) result }
 {
     if !has_keys(&TOP_KEYS, site) {
@@ -31,7 +33,8 @@ fn read_top(site: &Value) -> Option<(u32, u32)>
     }
     let uid = id_at(site, "dynamic_uid")?;
     let spaces = spaces_at(site)?;
-    Some((uid, spaces))
+    let systemd = systemd_at(site)?;
+    Some((uid, spaces, systemd))
 }
 
 // whether there are more rows, users or groups than a site may have
@@ -48,7 +51,7 @@ fn read_tree(alloc: Global, site: &Value) -> Result<SiteTable, SiteError>
     ensures { IsUnlessMemory (λ table. table) result
         (unless_fault (faults_of (view site.now)) (site_in (view site.now))) }
 {
-    let Some((dynamic_uid, user_namespaces)) = read_top(site) else {
+    let Some((dynamic_uid, user_namespaces, systemd)) = read_top(site) else {
         return Err(SiteError::Top);
     };
     if is_too_large(site) {
@@ -57,7 +60,7 @@ fn read_tree(alloc: Global, site: &Value) -> Result<SiteTable, SiteError>
     let rows = read_rows(alloc, elements_at(site, "row"))?;
     let users = read_users(alloc, elements_at(site, "user"))?;
     let groups = read_groups(alloc, elements_at(site, "group"))?;
-    Ok(SiteTable::new(dynamic_uid, user_namespaces, rows, users, groups))
+    Ok(SiteTable::new(dynamic_uid, user_namespaces, systemd, rows, users, groups))
 }
 
 // what the bytes of a site say
@@ -78,8 +81,8 @@ fn read_bytes(alloc: Global, bytes: &[u8]) -> Result<SiteTable, SiteError>
 
 /// Reads the description of a site.
 ///
-/// The top keys are `dynamic_uid`, a number, `user_namespaces`, a number from 0 to 64 that may be missing, and the
-/// arrays of tables `row`, `user` and `group`, each of which may be missing. Their tables have these keys:
+/// The top keys are `dynamic_uid`, a number, `user_namespaces`, a number from 0 to 64, `systemd`, which is 252 or 257, and
+/// the arrays of tables `row`, `user` and `group`. All but the first may be missing. The tables have these keys:
 /// - A row has a `path` and a `kind`, which is `dir`, `file` or `exe`. An exe may have `setuid` and `setgid`, its
 ///   owner's uid and its group's gid. It may also have `caps`, a list of names of capabilities, with a boolean
 ///   `effective`.

@@ -1,6 +1,6 @@
 //! The type of a site, and what is found in it.
 //!
-//! A contract sees a site as its dynamic uid and the lists of its rows, users and groups.
+//! A contract sees a site as its numbers, its version of systemd, and the lists of its rows, users and groups.
 
 ghost use Rattle.std.specs.Prelude.{◌≡◌, ◌++◌, ◌<◌, length, slice_get, Some, option_copied, option_map, true};
 ghost use Rattle.abs_path.specs.Paths.{tail_of, parts_of};
@@ -13,6 +13,7 @@ use crate::row::Row;
 use abs_path::AbsPath;
 use name_table::NameTable;
 use std::marker::Model;
+use unit_names::Version;
 
 /// The files, users and groups of a site.
 ///
@@ -23,6 +24,7 @@ use std::marker::Model;
 pub struct SiteTable {
     dynamic_uid: u32,
     user_namespaces: u32,
+    systemd: Option<Version>,
     rows: Vec<Row>,
     users: NameTable<User>,
     groups: NameTable<Group>,
@@ -34,10 +36,10 @@ impl Model for SiteTable {
     ghost Value = { Site };
 
     ghost view = { λ site.
-        site_with site.dynamic_uid site.user_namespaces site.rows.items site.users site.groups };
+        site_with site.dynamic_uid site.user_namespaces site.systemd site.rows.items site.users site.groups };
 
     ghost invariant = { λ site.
-        IsSite (site_with site.dynamic_uid site.user_namespaces site.rows.items site.users site.groups) };
+        IsSite (site_with site.dynamic_uid site.user_namespaces site.systemd site.rows.items site.users site.groups) };
 }
 
 impl SiteTable {
@@ -45,16 +47,18 @@ impl SiteTable {
     pub(crate) fn new(
         dynamic_uid: u32,
         user_namespaces: u32,
+        systemd: Option<Version>,
         rows: Vec<Row>,
         users: NameTable<User>,
         groups: NameTable<Group>,
     ) -> SiteTable
-        requires { IsSite (site_with dynamic_uid user_namespaces rows.items users groups) }
-        ensures { result ≡ site_with dynamic_uid user_namespaces rows.items users groups }
+        requires { IsSite (site_with dynamic_uid user_namespaces systemd rows.items users groups) }
+        ensures { result ≡ site_with dynamic_uid user_namespaces systemd rows.items users groups }
     {
         SiteTable {
             dynamic_uid,
             user_namespaces,
+            systemd,
             rows,
             users,
             groups,
@@ -75,6 +79,14 @@ impl SiteTable {
         ensures holds_of_each_site { IsSite self.now }
     {
         self.user_namespaces
+    }
+
+    /// The version of systemd by whose rules units are read here; none if the site does not say one.
+    pub fn systemd(&self) -> Option<Version>
+        ensures systemd { result ≡ self.now.systemd }
+        ensures holds_of_each_site { IsSite self.now }
+    {
+        self.systemd
     }
 
     /// Returns the number of rows, `/` and `/proc` among them.

@@ -5,13 +5,13 @@ use Rattle.asked_service.specs.kernel_laws.Questions.{questions}
 use Rattle.std.specs.Prelude.{Contains, IfSome, IsTrue}
 use Rattle.asked_service.specs.host_io.Files.{Files}
 use Rattle.asked_service.specs.call_table.Table.{Table}
-use Rattle.asked_service.specs.unit_inputs.command_answers.Endings.{is_answer, is_whole}
+use Rattle.asked_service.specs.unit_inputs.command_answers.ExitStatuses.{is_answer, is_whole}
 use Rattle.asked_service.specs.unit_inputs.command_answers.Laws.{GoTogether, IsAdmitted}
-use Rattle.asked_service.specs.unit_inputs.command_answers.Stops.{IsAnswer, Prepares}
-use Rattle.asked_service.specs.unit_inputs.declared.command_answers.ending.Ending.{Ending}
-use Rattle.asked_service.specs.unit_inputs.declared.command_answers.ending.Ending.TheVariants.{Refused}
-use Rattle.asked_service.specs.unit_inputs.declared.command_answers.stop.Stop.{Stop}
-use Rattle.asked_service.specs.unit_inputs.declared.command_answers.stop.Stop.TheVariants as stop
+use Rattle.asked_service.specs.unit_inputs.command_answers.CommandErrors.{IsAnswer, Prepares}
+use Rattle.asked_service.specs.unit_inputs.declared.command_answers.exit_status.ExitStatus.{ExitStatus}
+use Rattle.asked_service.specs.unit_inputs.declared.command_answers.exit_status.ExitStatus.TheVariants.{Refused}
+use Rattle.asked_service.specs.unit_inputs.declared.command_answers.error.CommandError.{CommandError}
+use Rattle.asked_service.specs.unit_inputs.declared.command_answers.error.CommandError.TheVariants as stop
 use Rattle.asked_service.specs.unit_inputs.command_answers.Said.{IsSaid}
 use Rattle.asked_service.proofs.OfUnitInputs.Said.{said_as}
 use Rattle.asked_service.specs.dropin_merge.declared.resolved.Resolved.{Resolved}
@@ -24,7 +24,7 @@ use Rattle.asked_service.specs.unit_inputs.Inputs.{input_refusals, inputs_view}
 use Rattle.asked_service.specs.unit_inputs.declared.inputs.UnitInputs.{UnitInputs}
 use Rattle.asked_service.proofs.OfUnitInputs.Steps.{AreRead}
 use Rattle.tighten_command.specs.KeepFiles.{IsKeepIn, IsKeepOf, no_file, of_file}
-use Rattle.asked_service.specs.unit_inputs.command_answers.ReadyTexts.{ending_of, text_of}
+use Rattle.asked_service.specs.unit_inputs.command_answers.ReadyTexts.{status_of, text_of}
 use Rattle.tighten_command.specs.Prints.{Admits, MayEndUntold, an_input, refuses, tells, the_keep, tighten_laws}
 use Rattle.tighten_command.specs.Telling.{IsTold, TellsTight, denies, no_launch, no_plan, no_settings, refuses_wish, tightened}
 use Rattle.asked_service.specs.unit_inputs.declared.command_answers.ready_text.ReadyText.{ReadyText}
@@ -32,7 +32,7 @@ use Rattle.asked_service.specs.unit_inputs.declared.command_answers.ready_text.R
 -- ---- the file of what is to be kept
 
 pub no_bytes : {T V : Type 0} (see : T → List ℕ) (view : V → List Question) (told : Option Files) (table : Table) (site : Site)
-    (path : List ℕ) (why : Stop) → IfSome told (λ files. IsAnswer see (Err why) (bytes_in files path))
+    (path : List ℕ) (why : CommandError) → IfSome told (λ files. IsAnswer see (Err why) (bytes_in files path))
     → IfSome told (λ files. IsSaid view (IsKeepIn files table site path) (Err why))
 no_bytes see view None table site path why said = tt
 no_bytes see view (Some files) table site path (stop.Refused line) said = no_file line.items said
@@ -41,7 +41,7 @@ no_bytes see view (Some files) table site path stop.Memory said = tt
 
 -- or they say what is to be kept, or not
 pub some_bytes : {V : Type 0} (view : V → List Question) (told : Option Files) (table : Table) (site : Site) (path bytes : List ℕ)
-    (result : Result V Stop) → IfSome told (λ files. bytes_in files path ≡ Ok bytes)
+    (result : Result V CommandError) → IfSome told (λ files. bytes_in files path ≡ Ok bytes)
     → IsSaid view (IsKeepOf table site path bytes) result → IfSome told (λ files. IsSaid view (IsKeepIn files table site path) result)
 some_bytes view None table site path bytes result are said = tt
 some_bytes view (Some files) table site path bytes result are said =
@@ -50,7 +50,7 @@ some_bytes view (Some files) table site path bytes result are said =
 -- ---- the laws
 module _ (unit : List ℕ) (tried : Tried) where
   -- what is told of a unit is told whole, and ends in one of three ways
-  told_may : (ending : Ending) (text : List ℕ) → TellsTight unit tried ending text → MayEndUntold ending
+  told_may : (status : ExitStatus) (text : List ℕ) → TellsTight unit tried status text → MayEndUntold status
   told_may _ _ (tightened tight is) = inr (inl refl)
   told_may _ _ (no_settings error is) = inl refl
   told_may _ _ (no_plan error is) = inl refl
@@ -58,41 +58,41 @@ module _ (unit : List ℕ) (tried : Tried) where
   told_may _ _ (denies number is) = inl refl
   told_may _ _ (refuses_wish number is) = inl refl
 
-untold_whole : (ending : Ending) → MayEndUntold ending → IsTrue (is_whole ending)
-untold_whole ending (inl refused) = subst (λ own. IsTrue (is_whole own)) (sym refused) refl
-untold_whole ending (inr (inl done)) = subst (λ own. IsTrue (is_whole own)) (sym done) refl
-untold_whole ending (inr (inr launch)) = subst (λ own. IsTrue (is_whole own)) (sym launch) refl
+untold_whole : (status : ExitStatus) → MayEndUntold status → IsTrue (is_whole status)
+untold_whole status (inl refused) = subst (λ own. IsTrue (is_whole own)) (sym refused) refl
+untold_whole status (inr (inl done)) = subst (λ own. IsTrue (is_whole own)) (sym done) refl
+untold_whole status (inr (inr launch)) = subst (λ own. IsTrue (is_whole own)) (sym launch) refl
 
 -- an ending that is no refusal is an answer
-unrefused : (ending : Ending) → MayEndUntold ending → (ending ≡ Refused → ⊥) → IsTrue (is_answer ending)
-unrefused ending (inl refused) not = absurd (not refused)
-unrefused ending (inr (inl done)) not = subst (λ own. IsTrue (is_answer own)) (sym done) refl
-unrefused ending (inr (inr launch)) not = subst (λ own. IsTrue (is_answer own)) (sym launch) refl
+unrefused : (status : ExitStatus) → MayEndUntold status → (status ≡ Refused → ⊥) → IsTrue (is_answer status)
+unrefused status (inl refused) not = absurd (not refused)
+unrefused status (inr (inl done)) not = subst (λ own. IsTrue (is_answer own)) (sym done) refl
+unrefused status (inr (inr launch)) not = subst (λ own. IsTrue (is_answer own)) (sym launch) refl
 
 module _ (unit path : List ℕ) (wishes : Wishes) where
-  admitted_may : (files : Files) (ending : Ending) (text : List ℕ) → Admits files unit path wishes ending text → MayEndUntold ending
+  admitted_may : (files : Files) (status : ExitStatus) (text : List ℕ) → Admits files unit path wishes status text → MayEndUntold status
   admitted_may files _ _ (refuses line is) = inl refl
-  admitted_may files _ _ (tells inputs keep are is ending text told) =
-      told_may unit (tried_with inputs.unit inputs.calls inputs.site keep wishes) ending text told
+  admitted_may files _ _ (tells inputs keep are is status text told) =
+      told_may unit (tried_with inputs.unit inputs.calls inputs.site keep wishes) status text told
 
   pub together : (told : Option Files) → GoTogether (tighten_laws told unit path wishes)
   together None = record {
-    ends = λ ending text admitted. admitted;
-    whole = λ ending may. untold_whole ending may;
-    answers = λ accepts ending may. absurd accepts;
+    ends = λ status text admitted. admitted;
+    whole = λ status may. untold_whole status may;
+    answers = λ accepts status may. absurd accepts;
   }
   together (Some files) = record {
-    ends = λ ending text admitted. (text, admitted);
-    whole = λ ending may. untold_whole ending (admitted_may files ending may.0 may.1);
-    answers = λ accepts ending may. unrefused ending (admitted_may files ending may.0 may.1)
+    ends = λ status text admitted. (text, admitted);
+    whole = λ status may. untold_whole status (admitted_may files status may.0 may.1);
+    answers = λ accepts status may. unrefused status (admitted_may files status may.0 may.1)
         (λ refused. accepts may.0 (subst (λ own. Admits files unit path wishes own may.0) refused may.1));
   }
 
 module _ (unit path : List ℕ) (wishes : Wishes) where
   -- an input is refused
-  pub stops_at_inputs : (P : Files → UnitInputs → Type 0) (told : Option Files) (why : Stop)
+  pub stops_at_inputs : (P : Files → UnitInputs → Type 0) (told : Option Files) (why : CommandError)
       → IfSome told (λ files. Prepares (P files) (input_refusals files unit) (Err why))
-      → IsAdmitted (tighten_laws told unit path wishes) ending_of text_of (Err why)
+      → IsAdmitted (tighten_laws told unit path wishes) status_of text_of (Err why)
   stops_at_inputs P None (stop.Refused line) said = inl refl
   stops_at_inputs P (Some files) (stop.Refused line) said = refuses line.items (an_input line.items said)
   stops_at_inputs P told stop.ReadFault said = tt
@@ -104,9 +104,9 @@ module _ (unit path : List ℕ) (wishes : Wishes) where
   refused_keep files inputs line read is = refuses line (the_keep line (inputs_view inputs) read.1 is)
 
   pub stops_at_keep : {V : Type 0} (view : V → List Question) (told now : Option Files) (inputs : UnitInputs) (table : Table)
-      (site : Site) (why : Stop) → now ≡ told → table ≡ (inputs_view inputs).calls → site ≡ (inputs_view inputs).site
+      (site : Site) (why : CommandError) → now ≡ told → table ≡ (inputs_view inputs).calls → site ≡ (inputs_view inputs).site
       → IfSome told (λ files. AreRead files unit inputs) → IfSome now (λ files. IsSaid view (IsKeepIn files table site path) (Err why))
-      → IsAdmitted (tighten_laws told unit path wishes) ending_of text_of (Err why)
+      → IsAdmitted (tighten_laws told unit path wishes) status_of text_of (Err why)
   stops_at_keep view None now inputs table site (stop.Refused line) same calls_are site_is read said = inl refl
   stops_at_keep view (Some files) now inputs table site (stop.Refused line) same calls_are site_is read said =
       refused_keep files inputs line.items read
@@ -130,25 +130,25 @@ module _ (unit path : List ℕ) (wishes : Wishes) where
     abbrev own_tried : Tried
     own_tried = tried_with (inputs_view inputs).unit (inputs_view inputs).calls (inputs_view inputs).site (view value) wishes
 
-    admits : (own : Option Files) → told ≡ own → (ending : Ending) (text : List ℕ) → TellsTight unit own_tried ending text
-        → (tighten_laws own unit path wishes).admits ending text
-    admits None e ending text is = told_may unit own_tried ending text is
-    admits (Some files) e ending text is = tells (inputs_view inputs) (view value)
-        (subst (λ own. IfSome own (λ files. AreRead files unit inputs)) e read).1 (keep_is files e) ending text is
+    admits : (own : Option Files) → told ≡ own → (status : ExitStatus) (text : List ℕ) → TellsTight unit own_tried status text
+        → (tighten_laws own unit path wishes).admits status text
+    admits None e status text is = told_may unit own_tried status text is
+    admits (Some files) e status text is = tells (inputs_view inputs) (view value)
+        (subst (λ own. IfSome own (λ files. AreRead files unit inputs)) e read).1 (keep_is files e) status text is
 
-    answered : (result : Result ReadyText Stop) → IsTold (TellsTight unit own_tried) result
-        → IsAdmitted (tighten_laws told unit path wishes) ending_of text_of result
-    answered (Ok hardening) is = admits told refl hardening.ending hardening.text.items is
+    answered : (result : Result ReadyText CommandError) → IsTold (TellsTight unit own_tried) result
+        → IsAdmitted (tighten_laws told unit path wishes) status_of text_of result
+    answered (Ok hardening) is = admits told refl hardening.status hardening.text.items is
     answered (Err (stop.Refused line)) is = admits told refl Refused line.items is
     answered (Err stop.ReadFault) is = tt
     answered (Err stop.Memory) is = tt
 
     -- also where its parts are lent
-    pub answered_as : (own : Resolved) (lent_table : Table) (lent_site : Site) (keep : List Question) (result : Result ReadyText Stop)
+    pub answered_as : (own : Resolved) (lent_table : Table) (lent_site : Site) (keep : List Question) (result : Result ReadyText CommandError)
         → own ≡ (inputs_view inputs).unit → lent_table ≡ (inputs_view inputs).calls → lent_site ≡ (inputs_view inputs).site
         → keep ≡ view value
         → IsTold (TellsTight unit (tried_with own lent_table lent_site keep wishes)) result
-        → IsAdmitted (tighten_laws told unit path wishes) ending_of text_of result
+        → IsAdmitted (tighten_laws told unit path wishes) status_of text_of result
     answered_as own lent_table lent_site keep result one two three four is =
         answered result
         (subst (λ these. IsTold (TellsTight unit

@@ -1,10 +1,10 @@
 -- What a step of preparing tells.
 use Rattle.std.proofs.Common.{◌≡◌, ℕ, List, Result, Ok, Err, sym, subst}
 use Rattle.std.specs.Prelude.{IsErrOf}
-use Rattle.asked_service.specs.unit_inputs.declared.command_answers.ending.Ending.{Ending}
-use Rattle.asked_service.specs.unit_inputs.declared.command_answers.ending.Ending.TheVariants.{Done, LaunchRefused, Refused}
-use Rattle.asked_service.specs.unit_inputs.declared.command_answers.stop.Stop.{Stop}
-use Rattle.asked_service.specs.unit_inputs.declared.command_answers.stop.Stop.TheVariants as stop
+use Rattle.asked_service.specs.unit_inputs.declared.command_answers.exit_status.ExitStatus.{ExitStatus}
+use Rattle.asked_service.specs.unit_inputs.declared.command_answers.exit_status.ExitStatus.TheVariants.{Done, LaunchRefused, Refused}
+use Rattle.asked_service.specs.unit_inputs.declared.command_answers.error.CommandError.{CommandError}
+use Rattle.asked_service.specs.unit_inputs.declared.command_answers.error.CommandError.TheVariants as stop
 use Rattle.tighten_command.specs.tightening.Tight.{IsTight, Tightens}
 use Rattle.tighten_command.specs.tightening.Tried.{Tried}
 use Rattle.tighten_command.specs.declared.tightening.tight.Tight.{Tight}
@@ -14,38 +14,38 @@ use Rattle.tighten_command.specs.Lines.{tight_text}
 use Rattle.tighten_command.specs.Telling.{IsTold, TellsError, TellsTight, denies, no_launch, no_plan, no_settings, refuses_wish, tightened}
 use Rattle.asked_service.specs.unit_inputs.declared.command_answers.ready_text.ReadyText.{ReadyText}
 
-module _ (P : Ending → List ℕ → Type 0) where
+module _ (P : ExitStatus → List ℕ → Type 0) where
   -- what is told by one relation is told by another
-  pub told_as : (Q : Ending → List ℕ → Type 0) → ((ending : Ending) (text : List ℕ) → P ending text → Q ending text)
-      → (result : Result ReadyText Stop) → IsTold P result → IsTold Q result
-  told_as Q as_other (Ok hardening) told = as_other hardening.ending hardening.text.items told
+  pub told_as : (Q : ExitStatus → List ℕ → Type 0) → ((status : ExitStatus) (text : List ℕ) → P status text → Q status text)
+      → (result : Result ReadyText CommandError) → IsTold P result → IsTold Q result
+  told_as Q as_other (Ok hardening) told = as_other hardening.status hardening.text.items told
   told_as Q as_other (Err (stop.Refused line)) told = as_other Refused line.items told
   told_as Q as_other (Err stop.ReadFault) told = absurd told
   told_as Q as_other (Err stop.Memory) told = tt
 
   -- nothing is read for it
-  pub told_reads_nothing : (result : Result ReadyText Stop) → IsTold P result → IsErrOf result stop.ReadFault → ⊥
+  pub told_reads_nothing : (result : Result ReadyText CommandError) → IsTold P result → IsErrOf result stop.ReadFault → ⊥
   told_reads_nothing (Ok hardening) told is = cc
   told_reads_nothing (Err (stop.Refused line)) told is = cc
   told_reads_nothing (Err stop.ReadFault) told is = told
   told_reads_nothing (Err stop.Memory) told is = cc
 
 -- this ending and this text
-as_told : (P : Ending → List ℕ → Type 0) (own ending : Ending) (line text : List ℕ) → (ending ≡ own) × (text ≡ line) → P own line
-    → P ending text
-as_told P own ending line text is holds = subst (λ one. P one text) (sym is.0) (subst (P own) (sym is.1) holds)
+as_told : (P : ExitStatus → List ℕ → Type 0) (own status : ExitStatus) (line text : List ℕ) → (status ≡ own) × (text ≡ line) → P own line
+    → P status text
+as_told P own status line text is holds = subst (λ one. P one text) (sym is.0) (subst (P own) (sym is.1) holds)
 
 module _ (unit : List ℕ) (tried : Tried) where
-  pub tells_tight : (tight : Tight) → IsTight tried tight → (ending : Ending) (text : List ℕ)
-      → (ending ≡ Done) × (text ≡ tight_text tight) → TellsTight unit tried ending text
-  tells_tight tight is ending text told = as_told (TellsTight unit tried) Done ending _ text told (tightened tight is)
+  pub tells_tight : (tight : Tight) → IsTight tried tight → (status : ExitStatus) (text : List ℕ)
+      → (status ≡ Done) × (text ≡ tight_text tight) → TellsTight unit tried status text
+  tells_tight tight is status text told = as_told (TellsTight unit tried) Done status _ text told (tightened tight is)
 
-  pub tells_error : (error : TightenError) → Tightens tried (Err error) → (ending : Ending) (text : List ℕ)
-      → TellsError unit error ending text → TellsTight unit tried ending text
-  tells_error (error.Settings error) is ending text told = as_told (TellsTight unit tried) Refused ending _ text told (no_settings error is)
-  tells_error (error.Plan error) is ending text told = as_told (TellsTight unit tried) Refused ending _ text told (no_plan error is)
-  tells_error (error.Launch refusal) is ending text told = as_told (TellsTight unit tried) LaunchRefused ending _ text told
+  pub tells_error : (error : TightenError) → Tightens tried (Err error) → (status : ExitStatus) (text : List ℕ)
+      → TellsError unit error status text → TellsTight unit tried status text
+  tells_error (error.Settings error) is status text told = as_told (TellsTight unit tried) Refused status _ text told (no_settings error is)
+  tells_error (error.Plan error) is status text told = as_told (TellsTight unit tried) Refused status _ text told (no_plan error is)
+  tells_error (error.Launch refusal) is status text told = as_told (TellsTight unit tried) LaunchRefused status _ text told
       (no_launch refusal is)
-  tells_error (error.Keep number) is ending text told = as_told (TellsTight unit tried) Refused ending _ text told (denies number is)
-  tells_error (error.Wish number) is ending text told = as_told (TellsTight unit tried) Refused ending _ text told (refuses_wish number is)
-  tells_error error.Memory is ending text told = absurd told
+  tells_error (error.Keep number) is status text told = as_told (TellsTight unit tried) Refused status _ text told (denies number is)
+  tells_error (error.Wish number) is status text told = as_told (TellsTight unit tried) Refused status _ text told (refuses_wish number is)
+  tells_error error.Memory is status text told = absurd told

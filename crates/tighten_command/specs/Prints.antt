@@ -2,9 +2,9 @@
 use Rattle.std.specs.Prelude.{◌≡◌, ◌⊎◌, ℕ, IsSome, List, Option, Some, None, Ok, Err}
 use Rattle.asked_service.specs.host_io.Files.{Files}
 use Rattle.asked_service.specs.unit_inputs.command_answers.Laws.{Laws}
-use Rattle.asked_service.specs.unit_inputs.command_answers.Stops.{first_refusal}
-use Rattle.asked_service.specs.unit_inputs.declared.command_answers.ending.Ending.{Ending}
-use Rattle.asked_service.specs.unit_inputs.declared.command_answers.ending.Ending.TheVariants.{Done, LaunchRefused, Refused}
+use Rattle.asked_service.specs.unit_inputs.command_answers.CommandErrors.{first_refusal}
+use Rattle.asked_service.specs.unit_inputs.declared.command_answers.exit_status.ExitStatus.{ExitStatus}
+use Rattle.asked_service.specs.unit_inputs.declared.command_answers.exit_status.ExitStatus.TheVariants.{Done, LaunchRefused, Refused}
 use Rattle.asked_service.specs.kernel_laws.declared.question_types.question.Question.{Question}
 use Rattle.tighten_command.specs.tightening.Tried.{tried_with}
 use Rattle.tighten_command.specs.tightening.Wishes.{Wishes}
@@ -20,25 +20,25 @@ pub data RefusesBefore (files : Files) (unit path : List ℕ) : List ℕ → Typ
       → IsKeepIn files inputs.calls inputs.site path (Err line) → RefusesBefore files unit path line
 
 -- the run prints the line of the refusal, or the text for the unit, with these questions to be kept
-pub data Admits (files : Files) (unit path : List ℕ) (wishes : Wishes) : Ending → List ℕ → Type 0 where
+pub data Admits (files : Files) (unit path : List ℕ) (wishes : Wishes) : ExitStatus → List ℕ → Type 0 where
   refuses : (line : List ℕ) → RefusesBefore files unit path line → Admits files unit path wishes Refused line
   tells : (inputs : Inputs) (keep : List Question) → inputs_of files unit ≡ Some inputs
       → IsKeepIn files inputs.calls inputs.site path (Ok keep)
-      → (ending : Ending) (text : List ℕ) → TellsTight unit (tried_with inputs.unit inputs.calls inputs.site keep wishes) ending text
-      → Admits files unit path wishes ending text
+      → (status : ExitStatus) (text : List ℕ) → TellsTight unit (tried_with inputs.unit inputs.calls inputs.site keep wishes) status text
+      → Admits files unit path wishes status text
 
 -- where the files are not told, only the endings are known
-abbrev pub MayEndUntold : Ending → Type 0
-MayEndUntold ending = (ending ≡ Refused) ⊎ ((ending ≡ Done) ⊎ (ending ≡ LaunchRefused))
+abbrev pub MayEndUntold : ExitStatus → Type 0
+MayEndUntold status = (status ≡ Refused) ⊎ ((status ≡ Done) ⊎ (status ≡ LaunchRefused))
 
-abbrev pub admits_over : Option Files → List ℕ → List ℕ → Wishes → Ending → List ℕ → Type 0
-admits_over None unit path wishes ending text = MayEndUntold ending
-admits_over (Some files) unit path wishes ending text = Admits files unit path wishes ending text
+abbrev pub admits_over : Option Files → List ℕ → List ℕ → Wishes → ExitStatus → List ℕ → Type 0
+admits_over None unit path wishes status text = MayEndUntold status
+admits_over (Some files) unit path wishes status text = Admits files unit path wishes status text
 
 -- a run may end like this if and only if a text with this ending is admitted
-abbrev pub may_end_over : Option Files → List ℕ → List ℕ → Wishes → Ending → Type 0
-may_end_over None unit path wishes ending = MayEndUntold ending
-may_end_over (Some files) unit path wishes ending = (text : List ℕ) × Admits files unit path wishes ending text
+abbrev pub may_end_over : Option Files → List ℕ → List ℕ → Wishes → ExitStatus → Type 0
+may_end_over None unit path wishes status = MayEndUntold status
+may_end_over (Some files) unit path wishes status = (text : List ℕ) × Admits files unit path wishes status text
 
 -- nothing is refused, whatever a wish may answer
 abbrev pub accepts_over : Option Files → List ℕ → List ℕ → Wishes → Type 0

@@ -1,9 +1,9 @@
 -- The text for a unit that is tightened, and for one that is not. If memory runs out, there is no text.
 use Rattle.std.specs.Prelude.{◌≡◌, ℕ, List, Result, Ok, Err}
-use Rattle.asked_service.specs.unit_inputs.declared.command_answers.ending.Ending.{Ending}
-use Rattle.asked_service.specs.unit_inputs.declared.command_answers.ending.Ending.TheVariants.{Done, LaunchRefused, Refused}
-use Rattle.asked_service.specs.unit_inputs.declared.command_answers.stop.Stop.{Stop}
-use Rattle.asked_service.specs.unit_inputs.declared.command_answers.stop.Stop.TheVariants as stop
+use Rattle.asked_service.specs.unit_inputs.declared.command_answers.exit_status.ExitStatus.{ExitStatus}
+use Rattle.asked_service.specs.unit_inputs.declared.command_answers.exit_status.ExitStatus.TheVariants.{Done, LaunchRefused, Refused}
+use Rattle.asked_service.specs.unit_inputs.declared.command_answers.error.CommandError.{CommandError}
+use Rattle.asked_service.specs.unit_inputs.declared.command_answers.error.CommandError.TheVariants as stop
 use Rattle.asked_service.specs.exec_settings.declared.errors.SettingsError.{SettingsError}
 use Rattle.asked_service.specs.launched_units.Launching.{IsNotLaunched}
 use Rattle.asked_service.specs.declared.launched_units.refusal.UnitRefusal.TheVariants as refusal
@@ -23,7 +23,7 @@ use Rattle.asked_service.specs.unit_inputs.declared.command_answers.ready_text.R
 -- The unit is tightened, and the text lists the items that can be added. Or nothing is added, because the unit itself has no
 -- settings, no plan or no launch (a refused launch has a status of its own). Or nothing is added, because the unit itself
 -- denies a question that is to be kept, or does not grant a wish.
-pub data TellsTight (unit : List ℕ) (tried : Tried) : Ending → List ℕ → Type 0 where
+pub data TellsTight (unit : List ℕ) (tried : Tried) : ExitStatus → List ℕ → Type 0 where
   tightened : (tight : Tight) → IsTight tried tight → TellsTight unit tried Done (tight_text tight)
   no_settings : (error : SettingsError) → IsNotLaunched tried.unit tried.table tried.site (refusal.Settings error)
       → TellsTight unit tried Refused (settings_line unit error)
@@ -35,17 +35,17 @@ pub data TellsTight (unit : List ℕ) (tried : Tried) : Ending → List ℕ → 
   refuses_wish : (number : ℕ) → RefusesWish tried number → TellsTight unit tried Refused (wish_line unit number)
 
 -- the text of the reason why nothing is added
-abbrev pub TellsError : List ℕ → TightenError → Ending → List ℕ → Type 0
-TellsError unit (Settings error) ending text = (ending ≡ Refused) × (text ≡ settings_line unit error)
-TellsError unit (Plan error) ending text = (ending ≡ Refused) × (text ≡ error_line unit error)
-TellsError unit (Launch refused) ending text = (ending ≡ LaunchRefused) × (text ≡ refusal_line refused)
-TellsError unit (Keep number) ending text = (ending ≡ Refused) × (text ≡ keep_line unit number)
-TellsError unit (Wish number) ending text = (ending ≡ Refused) × (text ≡ wish_line unit number)
-TellsError unit Memory ending text = ⊥
+abbrev pub TellsError : List ℕ → TightenError → ExitStatus → List ℕ → Type 0
+TellsError unit (Settings error) status text = (status ≡ Refused) × (text ≡ settings_line unit error)
+TellsError unit (Plan error) status text = (status ≡ Refused) × (text ≡ error_line unit error)
+TellsError unit (Launch refused) status text = (status ≡ LaunchRefused) × (text ≡ refusal_line refused)
+TellsError unit (Keep number) status text = (status ≡ Refused) × (text ≡ keep_line unit number)
+TellsError unit (Wish number) status text = (status ≡ Refused) × (text ≡ wish_line unit number)
+TellsError unit Memory status text = ⊥
 
 -- what is ready, or the line of the refusal, is such, unless memory ran out
-abbrev pub IsTold : (Ending → List ℕ → Type 0) → Result ReadyText Stop → Type 0
-IsTold P (Ok hardening) = P hardening.ending hardening.text.items
+abbrev pub IsTold : (ExitStatus → List ℕ → Type 0) → Result ReadyText CommandError → Type 0
+IsTold P (Ok hardening) = P hardening.status hardening.text.items
 IsTold P (Err (stop.Refused line)) = P Refused line.items
 IsTold P (Err stop.ReadFault) = ⊥
 IsTold P (Err stop.Memory) = Unit {0}

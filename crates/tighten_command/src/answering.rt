@@ -6,40 +6,40 @@ ghost use Rattle.tighten_command.specs.tightening.Tried.{tried_with};
 ghost use Rattle.tighten_command.specs.Telling.{IsTold, TellsError, TellsTight};
 ghost use Rattle.tighten_command.specs.Lines.{tight_text};
 ghost use Rattle.asked_service.specs.unit_launch.Refusals.{refusal_line};
-ghost use Rattle.asked_service.specs.unit_inputs.declared.command_answers.ending.Ending.TheVariants.{Done, LaunchRefused};
+ghost use Rattle.asked_service.specs.unit_inputs.declared.command_answers.exit_status.ExitStatus.TheVariants.{Done, LaunchRefused};
 
 use crate::lines::{keep_line, tight_text, wish_line};
 use crate::tightening::{StoredWish, Tight, TightenError, Wished, tighten};
 use asked_service::unit_launch::{LaunchRefusal, refusal_line};
 use asked_service::{
-    CallTable, Ending, Question, ReadyText, Resolved, SiteTable, Stop, plan_line, refuse,
-    settings_line,
+    CallTable, CommandError, ExitStatus, Question, ReadyText, Resolved, SiteTable, plan_line,
+    refuse, settings_line,
 };
 use std::alloc::Global;
 
 // What can be added.
-fn tell_tight(alloc: Global, tight: &Tight) -> Result<ReadyText, Stop>
+fn tell_tight(alloc: Global, tight: &Tight) -> Result<ReadyText, CommandError>
     requires are_items { All (λ item. (1 ≤ item) × (item ≤ 17)) tight.now.items }
-    ensures { IsTold (λ ending text. (ending ≡ Done) × (text ≡ tight_text tight.now)) result }
+    ensures { IsTold (λ status text. (status ≡ Done) × (text ≡ tight_text tight.now)) result }
 {
     Ok(ReadyText {
         text: tight_text(alloc, tight)?,
-        ending: Ending::Done,
+        status: ExitStatus::Done,
     })
 }
 
 // The line of a launch that is refused.
-fn tell_refused(alloc: Global, refusal: &LaunchRefusal) -> Result<ReadyText, Stop>
-    ensures { IsTold (λ ending text. (ending ≡ LaunchRefused) × (text ≡ refusal_line refusal.now)) result }
+fn tell_refused(alloc: Global, refusal: &LaunchRefusal) -> Result<ReadyText, CommandError>
+    ensures { IsTold (λ status text. (status ≡ LaunchRefused) × (text ≡ refusal_line refusal.now)) result }
 {
     Ok(ReadyText {
         text: refusal_line(alloc, refusal)?,
-        ending: Ending::LaunchRefused,
+        status: ExitStatus::LaunchRefused,
     })
 }
 
 // The text of the reason why nothing can be added.
-fn tell_error(alloc: Global, name: &str, error: TightenError) -> Result<ReadyText, Stop>
+fn tell_error(alloc: Global, name: &str, error: TightenError) -> Result<ReadyText, CommandError>
     ensures { IsTold (TellsError name.now error) result }
 {
     match error {
@@ -48,7 +48,7 @@ fn tell_error(alloc: Global, name: &str, error: TightenError) -> Result<ReadyTex
         TightenError::Launch(refusal) => tell_refused(alloc, &refusal),
         TightenError::Keep(number) => Err(refuse(keep_line(alloc, name, number))),
         TightenError::Wish(number) => Err(refuse(wish_line(alloc, name, number))),
-        TightenError::Memory => Err(Stop::Memory),
+        TightenError::Memory => Err(CommandError::Memory),
     }
 }
 
@@ -62,10 +62,10 @@ pub fn answer(
     site: &SiteTable,
     keep: &[Question],
     wishes: &[StoredWish],
-) -> Result<ReadyText, Stop>
+) -> Result<ReadyText, CommandError>
     requires listed { All (λ question. Contains (questions calls.now site.now) question) keep.now }
     ensures answers { IsTold (TellsTight name.now (tried_with unit.now calls.now site.now keep.now (⟦<StoredWish as Wished>⟧.wished wishes.now))) result }
-    ensures reads_nothing { IsErrOf result Stop.ReadFault → ⊥ }
+    ensures reads_nothing { IsErrOf result CommandError.ReadFault → ⊥ }
 {
     match tighten(alloc, unit, calls, site, keep, wishes) {
         Ok(tight) => tell_tight(alloc, &tight),

@@ -3,13 +3,13 @@ ghost use Rattle.asked_service.specs.unit_inputs.command_answers.Asking.{course}
 ghost use Rattle.asked_service.specs.unit_inputs.command_answers.Laws.{IsAdmitted};
 ghost use Rattle.asked_service.specs.unit_inputs.Asking.{AsksInOrder, asks_with_file};
 ghost use Rattle.asked_service.specs.unit_inputs.ReadsFor.{ReadsFor};
-ghost use Rattle.asked_service.specs.unit_inputs.command_answers.ReadyTexts.{ending_of, text_of};
+ghost use Rattle.asked_service.specs.unit_inputs.command_answers.ReadyTexts.{status_of, text_of};
 ghost use Rattle.tighten_command.specs.Prints.{tighten_laws};
 
 use crate::answering::answer;
 use crate::keep_file::read_keep;
 use crate::tightening::{StoredWish, Wished};
-use asked_service::{ReadyText, Stop, read_inputs};
+use asked_service::{CommandError, ReadyText, read_inputs};
 use host_io::Shelf;
 use std::alloc::Global;
 
@@ -23,8 +23,8 @@ pub fn prepare<S: Shelf>(
     unit: &str,
     path: &str,
     wishes: &[StoredWish],
-) -> Result<ReadyText, Stop>
-    ensures prepares { IsAdmitted (tighten_laws (S.told shelf.old) unit.now path.now (⟦<StoredWish as Wished>⟧.wished wishes.now)) ending_of text_of result }
+) -> Result<ReadyText, CommandError>
+    ensures prepares { IsAdmitted (tighten_laws (S.told shelf.old) unit.now path.now (⟦<StoredWish as Wished>⟧.wished wishes.now)) status_of text_of result }
     ensures asks_in_order { AsksInOrder S.asks (S.told shelf.old) (λ files. asks_with_file files unit.now path.now) shelf.old shelf.new (course result) }
     ensures reads_for_the_unit { ReadsFor S.told S.faults unit.now shelf.old shelf.new result }
 {

@@ -1,16 +1,16 @@
 //! The file of the questions that are to be kept, with the lines of its refusals.
 ghost use Rattle.std.specs.Prelude.{◌≡◌, ◌∷◌, [], Contains, IfOk, IfSome, IsErrOf};
 ghost use Rattle.std.specs.List.{All};
-ghost use Rattle.asked_service.specs.host_io.Calls.{Went};
+ghost use Rattle.asked_service.specs.host_io.Calls.{AsksExactly};
 ghost use Rattle.asked_service.specs.unit_inputs.command_answers.Asking.{course, input_file};
-ghost use Rattle.asked_service.specs.unit_inputs.command_answers.Stops.{HasReadCause};
+ghost use Rattle.asked_service.specs.unit_inputs.command_answers.CommandErrors.{HasReadCause};
 ghost use Rattle.asked_service.specs.unit_inputs.command_answers.Said.{IsSaid};
 ghost use Rattle.asked_service.specs.kernel_laws.Questions.{questions};
 ghost use Rattle.tighten_command.specs.KeepFiles.{IsKeepIn, IsKeepOf, keep_cause, keep_line};
 
 use crate::keeping::{KeepError, read_questions};
 use crate::tightening::Questions;
-use asked_service::{CallTable, SiteTable, Stop, read_input, refuse, refused_line};
+use asked_service::{CallTable, CommandError, SiteTable, read_input, refuse, refused_line};
 use host_io::Shelf;
 use std::alloc::{AllocError, Global};
 
@@ -41,14 +41,14 @@ fn keep_of_bytes(
     bytes: &[u8],
     calls: &CallTable,
     site: &SiteTable,
-) -> Result<Questions, Stop>
+) -> Result<Questions, CommandError>
     ensures says { IsSaid (λ keep. keep) (IsKeepOf calls.now site.now path.now bytes.now) result }
     ensures listed { IfOk result (All (λ question. Contains (questions calls.now site.now) question)) }
-    ensures reads_nothing { IsErrOf result Stop.ReadFault → ⊥ }
+    ensures reads_nothing { IsErrOf result CommandError.ReadFault → ⊥ }
 {
     match read_questions(alloc, bytes, calls, site) {
         Ok(keep) => Ok(keep),
-        Err(KeepError::Memory) => Err(Stop::Memory),
+        Err(KeepError::Memory) => Err(CommandError::Memory),
         Err(error) => Err(refuse(keep_line(alloc, path, error))),
     }
 }
@@ -62,10 +62,10 @@ pub fn read_keep<S: Shelf>(
     path: &str,
     calls: &CallTable,
     site: &SiteTable,
-) -> Result<Questions, Stop>
+) -> Result<Questions, CommandError>
     ensures reads_what_is_kept { IfSome (S.told shelf.old) (λ files. IsSaid (λ keep. keep) (IsKeepIn files calls.now site.now path.now) result) }
     ensures listed { IfOk result (All (λ question. Contains (questions calls.now site.now) question)) }
-    ensures asks_for_it { Went S.asks shelf.old shelf.new (input_file path.now ∷ []) (course result) }
+    ensures asks_for_it { AsksExactly S.asks shelf.old shelf.new (input_file path.now ∷ []) (course result) }
     ensures map_stays { S.told shelf.new ≡ S.told shelf.old }
     ensures fault_rose { HasReadCause (S.faults shelf.old) (S.faults shelf.new) result }
 {

@@ -4,21 +4,21 @@ use Rattle.std.specs.Prelude.{IsTrue}
 use Rattle.derive_command.specs.host_io.Calls.{ShelfCall, Whole}
 use Rattle.derive_command.specs.host_io.Files.{Files}
 use Rattle.derive_command.specs.unit_inputs.command_answers.Asking.{course_of_run}
-use Rattle.derive_command.specs.unit_inputs.command_answers.Endings.{is_whole}
+use Rattle.derive_command.specs.unit_inputs.command_answers.ExitStatuses.{is_whole}
 use Rattle.derive_command.specs.unit_inputs.command_answers.Printing.{Finishes, Output}
-use Rattle.derive_command.specs.unit_inputs.declared.command_answers.ending.Ending.{Ending}
+use Rattle.derive_command.specs.unit_inputs.declared.command_answers.exit_status.ExitStatus.{ExitStatus}
 use Rattle.derive_command.specs.unit_inputs.Asking.{AsksInOrder}
 use Rattle.derive_command.proofs.OfUnitInputs.Ended.{order_printed}
 use Rattle.derive_command.proofs.OfUnitInputs.Ordering.{asked_so}
-use Rattle.top_call.specs.Texts.{ending_of, text_of}
+use Rattle.top_call.specs.Texts.{status_of, text_of}
 use Rattle.top_call.specs.declared.texts.Fixed.{Fixed}
 
 module _ {S : Type 0} (asks : S → ShelfCall → S → Type 0) (told : Option Files) where
   -- a text that is printed as it stands
-  pub asked_fixed : (a : S) (fixed : Fixed) (only : Ending) (ended : Ending) (output : Output) → IsTrue (is_whole only)
-      → fixed.ending ≡ only → Finishes {R = Fixed} ending_of text_of (Ok fixed) ended output
+  pub asked_fixed : (a : S) (fixed : Fixed) (only : ExitStatus) (ended : ExitStatus) (output : Output) → IsTrue (is_whole only)
+      → fixed.status ≡ only → Finishes {R = Fixed} status_of text_of (Ok fixed) ended output
       → AsksInOrder asks told (λ files. []) a a (course_of_run ended)
   asked_fixed a fixed only ended output whole ends finished =
-      order_printed asks told (λ files. []) a a (ending_of fixed) (text_of fixed) ended output
+      order_printed asks told (λ files. []) a a (status_of fixed) (text_of fixed) ended output
       (subst (λ own. IsTrue (is_whole own)) (sym ends) whole) finished
       (asked_so asks told [] a a Whole refl)

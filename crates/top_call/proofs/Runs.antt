@@ -5,11 +5,11 @@ use Rattle.derive_command.specs.host_io.Calls.{ShelfCall}
 use Rattle.derive_command.specs.host_io.Files.{Files}
 use Rattle.fleet_command.specs.exposure_score.StoredTests.{StoredTests}
 use Rattle.derive_command.specs.unit_inputs.command_answers.Asking.{course_of_run}
-use Rattle.derive_command.specs.unit_inputs.command_answers.Endings.{is_answer, is_whole}
+use Rattle.derive_command.specs.unit_inputs.command_answers.ExitStatuses.{is_answer, is_whole}
 use Rattle.derive_command.specs.unit_inputs.command_answers.Laws.{fixed_laws}
 use Rattle.derive_command.specs.unit_inputs.command_answers.Printing.{Finishes}
 use Rattle.derive_command.specs.unit_inputs.command_answers.Runs.{IsRun, Outside}
-use Rattle.derive_command.specs.unit_inputs.declared.command_answers.ending.Ending.{Ending}
+use Rattle.derive_command.specs.unit_inputs.declared.command_answers.exit_status.ExitStatus.{ExitStatus}
 use Rattle.derive_command.proofs.OfUnitInputs.FileCommands.{fixed_go_together}
 use Rattle.derive_command.proofs.OfUnitInputs.Refusing.{quiet}
 use Rattle.derive_command.proofs.OfUnitInputs.Runs.{ran}
@@ -18,21 +18,21 @@ use Rattle.derive_command.specs.unit_inputs.Asking.{AsksInOrder}
 use Rattle.top_call.specs.Asked.{Asked, asks_by, asks_of, laws_by, laws_of}
 use Rattle.top_call.specs.Promise.{DoesWhatIsAsked}
 use Rattle.top_call.specs.Requests.{Request, request_in}
-use Rattle.top_call.specs.Texts.{ending_of, text_of}
+use Rattle.top_call.specs.Texts.{status_of, text_of}
 use Rattle.top_call.specs.declared.texts.Fixed.{Fixed}
 
-pub ran_fixed : (fixed : Fixed) (only : Ending) (line : List ℕ) (accepted : Type 0) (outside : Outside) (ended : Ending)
-    → IsTrue (is_whole only) → (accepted → IsTrue (is_answer only)) → fixed.ending ≡ only → text_of fixed ≡ line
-    → outside.shelf_after ≡ outside.shelf_before → Finishes {R = Fixed} ending_of text_of (Ok fixed) ended outside.sink
+pub ran_fixed : (fixed : Fixed) (only : ExitStatus) (line : List ℕ) (accepted : Type 0) (outside : Outside) (ended : ExitStatus)
+    → IsTrue (is_whole only) → (accepted → IsTrue (is_answer only)) → fixed.status ≡ only → text_of fixed ≡ line
+    → outside.shelf_after ≡ outside.shelf_before → Finishes {R = Fixed} status_of text_of (Ok fixed) ended outside.sink
     → IsRun (fixed_laws only line accepted) ended outside
 ran_fixed fixed only line accepted outside ended whole answers ends is same finished =
-    ran (fixed_laws only line accepted) (fixed_go_together only line accepted whole answers) outside ending_of text_of (Ok fixed) ended
+    ran (fixed_laws only line accepted) (fixed_go_together only line accepted whole answers) outside status_of text_of (Ok fixed) ended
     (ends, is) (λ e. cc) (quiet outside.shelf_before outside.shelf_after (Ok fixed) same (λ e. cc)) finished
 
 -- What was done for a request was done for the words that ask for it, with the tests and wishes that are lent.
 module _ {S T W : Type 0} (asks : S → ShelfCall → S → Type 0) (told : Option Files) (stored : List T → StoredTests) (wished : List W → Wishes) (outside : Outside) (before after : S) where
   pub does_for_words : (request : Option Request) (words : List (List ℕ)) (lent tests : List T) (lent_wishes wishes : List W)
-      (ended status : Ending)
+      (ended status : ExitStatus)
       → request ≡ request_in words → lent ≡ tests → lent_wishes ≡ wishes → status ≡ ended
       → IsRun (laws_by request told (stored lent) (wished lent_wishes)) ended outside
       → AsksInOrder asks told (asks_by request (stored lent)) before after (course_of_run ended)
@@ -42,7 +42,7 @@ module _ {S T W : Type 0} (asks : S → ShelfCall → S → Type 0) (told : Opti
   does_for_words request words lent tests lent_wishes wishes ended status is lends lends_wishes same run in_order quiet =
       let asked : Asked = record { words = words; told = told; stored = stored tests; wishes = wished wishes } in
       let ran : IsRun (laws_of asked) status outside =
-      subst (λ ending. IsRun (laws_of asked) ending outside) (sym same)
+      subst (λ status. IsRun (laws_of asked) status outside) (sym same)
       (subst (λ these. IsRun (laws_by (request_in words) told (stored tests) (wished these)) ended outside) lends_wishes
       (subst (λ these. IsRun (laws_by (request_in words) told (stored these) (wished lent_wishes)) ended outside) lends
       (subst (λ own. IsRun (laws_by own told (stored lent) (wished lent_wishes)) ended outside) is run))) in
@@ -53,7 +53,7 @@ module _ {S T W : Type 0} (asks : S → ShelfCall → S → Type 0) (told : Opti
         faults_have_causes = ran.faults_have_causes;
         completes = ran.completes;
         reads_in_order =
-            subst (λ ending. AsksInOrder asks told (asks_of asked) before after (course_of_run ending)) (sym same)
+            subst (λ status. AsksInOrder asks told (asks_of asked) before after (course_of_run status)) (sym same)
             (subst (λ these. AsksInOrder asks told (asks_by (request_in words) (stored these)) before after (course_of_run ended)) lends
             (subst (λ own. AsksInOrder asks told (asks_by own (stored lent)) before after (course_of_run ended)) is in_order));
         reads_only_for_a_command =

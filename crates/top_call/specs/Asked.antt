@@ -5,8 +5,8 @@ use Rattle.derive_command.specs.host_io.Files.{Files}
 use Rattle.fleet_command.specs.exposure_score.StoredTests.{StoredTests}
 use Rattle.tighten_command.specs.tightening.Wishes.{Wishes}
 use Rattle.derive_command.specs.unit_inputs.command_answers.Laws.{Laws, fixed_laws, laws_over}
-use Rattle.derive_command.specs.unit_inputs.declared.command_answers.ending.Ending.{Ending}
-use Rattle.derive_command.specs.unit_inputs.declared.command_answers.ending.Ending.TheVariants.{Done, NoCommand}
+use Rattle.derive_command.specs.unit_inputs.declared.command_answers.exit_status.ExitStatus.{ExitStatus}
+use Rattle.derive_command.specs.unit_inputs.declared.command_answers.exit_status.ExitStatus.TheVariants.{Done, NoCommand}
 use Rattle.filter_command.specs.Prints.{filter_laws}
 use Rattle.derive_command.specs.plan_command.Prints.{plan_laws}
 use Rattle.effect_command.specs.judge_command.Prints.{judge_laws}
@@ -65,7 +65,7 @@ abbrev pub laws_of : Asked → Laws
 laws_of asked = laws_by (request_in asked.words) asked.told asked.stored asked.wishes
 
 -- the admitted texts, each with the ending after it
-abbrev pub Prints : Asked → Ending → List ℕ → Type 0
+abbrev pub Prints : Asked → ExitStatus → List ℕ → Type 0
 Prints asked = (laws_of asked).admits
 
 -- all that is asked is accepted

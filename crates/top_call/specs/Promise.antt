@@ -2,9 +2,9 @@
 use Rattle.std.specs.Prelude.{◌≡◌, IsTrue}
 use Rattle.derive_command.specs.host_io.Calls.{ShelfCall}
 use Rattle.derive_command.specs.unit_inputs.command_answers.Asking.{course_of_run}
-use Rattle.derive_command.specs.unit_inputs.command_answers.Endings.{is_whole}
+use Rattle.derive_command.specs.unit_inputs.command_answers.ExitStatuses.{is_whole}
 use Rattle.derive_command.specs.unit_inputs.command_answers.Runs.{Completes, EndsBy, HasFaultCause, Outside, WrotePrefix, WroteWhole}
-use Rattle.derive_command.specs.unit_inputs.declared.command_answers.ending.Ending.{Ending}
+use Rattle.derive_command.specs.unit_inputs.declared.command_answers.exit_status.ExitStatus.{ExitStatus}
 use Rattle.derive_command.specs.unit_inputs.Asking.{AsksInOrder}
 use Rattle.top_call.specs.Asked.{Accepts, Asked, Prints, ReadsFiles, asks_of, laws_of}
 
@@ -14,7 +14,7 @@ use Rattle.top_call.specs.Asked.{Accepts, Asked, Prints, ReadsFiles, asks_of, la
 -- stopped.
 -- The inputs decide how the run ends, no fault occurs without its cause, and accepted inputs without a fault are answered. The
 -- shelf receives the calls that the files require, in order, and none if the request reads no files.
-pub record DoesWhatIsAsked {S : Type 0} (asks : S → ShelfCall → S → Type 0) (asked : Asked) (outside : Outside) (before after : S) (status : Ending) : Type 0 where
+pub record DoesWhatIsAsked {S : Type 0} (asks : S → ShelfCall → S → Type 0) (asked : Asked) (outside : Outside) (before after : S) (status : ExitStatus) : Type 0 where
   pub prints_the_whole_text : IsTrue (is_whole status) → WroteWhole (Prints asked status) outside.sink
   pub prints_a_prefix : WrotePrefix (Prints asked) outside.sink
   pub ends_by_the_inputs : EndsBy (laws_of asked) status

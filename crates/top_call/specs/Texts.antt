@@ -1,6 +1,6 @@
 -- Fixed texts, each line ended by a line feed.
 use Rattle.std.specs.Prelude.{ℕ, List, [], ◌∷◌, ◌++◌, codes, flat_map}
-use Rattle.derive_command.specs.unit_inputs.declared.command_answers.ending.Ending.{Ending}
+use Rattle.derive_command.specs.unit_inputs.declared.command_answers.exit_status.ExitStatus.{ExitStatus}
 use Rattle.top_call.specs.declared.texts.Fixed.{Fixed}
 
 -- lines, each ended by a line feed
@@ -81,5 +81,5 @@ help_text = text_of_lines help_lines
 abbrev pub text_of : Fixed → List ℕ
 text_of fixed = fixed.text.now
 
-abbrev pub ending_of : Fixed → Ending
-ending_of fixed = fixed.ending
+abbrev pub status_of : Fixed → ExitStatus
+status_of fixed = fixed.status

@@ -15,7 +15,7 @@ mod texts;
 
 pub use check_command::{CallData, Program, run as bpf_code_run};
 pub use judge_command::{Question, Wish};
-pub use plan_command::Ending;
+pub use plan_command::ExitStatus;
 pub use replay_command::VerdictRow;
 pub use running::run;
 pub use score_command::{CustomTest, Facts, Stored, ambient_count, writable_paths};

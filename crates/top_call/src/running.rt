@@ -13,7 +13,7 @@ use crate::request::{Request, parse};
 use crate::status::Status;
 use crate::texts;
 use host_io::{Shelf, Sink};
-use plan_command::{Ending, finish};
+use plan_command::{ExitStatus, finish};
 use score_command::{CustomTest, Stored};
 use std::alloc::Global;
 use tighten_command::tightening::{StoredWish, Wished};
@@ -26,7 +26,7 @@ fn answer_request<S: Shelf, K: Sink>(
     out: &mut K,
     tests: &[CustomTest],
     wishes: &[StoredWish],
-) -> Ending
+) -> ExitStatus
     requires numbered { IsNumbered request }
     ensures runs { IsRun (laws_for (request_of request.entry) (S.told shelf.old) (⟦<CustomTest as Stored>⟧.stored tests.now) (⟦<StoredWish as Wished>⟧.wished wishes.now))
         result (around S.faults K.faults K.taken K.puts shelf.old shelf.new out.old out.new) }
@@ -93,7 +93,7 @@ fn answer<S: Shelf, K: Sink>(
     out: &mut K,
     tests: &[CustomTest],
     wishes: &[StoredWish],
-) -> Ending
+) -> ExitStatus
     requires numbered { IfSome request IsNumbered }
     ensures runs { IsRun (laws_by (option_map request_of request.entry) (S.told shelf.old) (⟦<CustomTest as Stored>⟧.stored tests.now) (⟦<StoredWish as Wished>⟧.wished wishes.now))
         result (around S.faults K.faults K.taken K.puts shelf.old shelf.new out.old out.new) }

@@ -1,8 +1,8 @@
 //! The number that the process ends with.
 ghost use Rattle.std.specs.Prelude.{◌≡◌};
-ghost use Rattle.derive_command.specs.unit_inputs.command_answers.Endings.{code_of};
+ghost use Rattle.derive_command.specs.unit_inputs.command_answers.ExitStatuses.{code_of};
 
-use plan_command::Ending;
+use plan_command::ExitStatus;
 use std::marker::Model;
 
 /// The status of a run:
@@ -22,40 +22,40 @@ pub struct Status {
 
 impl Model for Status {
     ghost use Rattle.std.specs.Prelude.{◌≡◌};
-    ghost use Rattle.derive_command.specs.unit_inputs.command_answers.Endings.{code_of};
-    ghost use Rattle.derive_command.specs.unit_inputs.declared.command_answers.ending.Ending.{Ending};
-    ghost use Rattle.top_call.specs.Statuses.{ending_of};
+    ghost use Rattle.derive_command.specs.unit_inputs.command_answers.ExitStatuses.{code_of};
+    ghost use Rattle.derive_command.specs.unit_inputs.declared.command_answers.exit_status.ExitStatus.{ExitStatus};
+    ghost use Rattle.top_call.specs.Statuses.{status_of};
 
-    ghost Value = { Ending };
+    ghost Value = { ExitStatus };
 
-    ghost view = { λ status. ending_of status.code };
+    ghost view = { λ status. status_of status.code };
 
-    ghost invariant = { λ status. code_of (ending_of status.code) ≡ status.code };
+    ghost invariant = { λ status. code_of (status_of status.code) ≡ status.code };
 
-    ghost inverse = { λ ending. record { code = code_of ending } };
+    ghost inverse = { λ status. record { code = code_of status } };
 }
 
-fn code(ending: Ending) -> u8
-    ensures { result ≡ code_of ending }
+fn code(status: ExitStatus) -> u8
+    ensures { result ≡ code_of status }
 {
-    match ending {
-        Ending::Done => 0,
-        Ending::AboveThreshold => 1,
-        Ending::NoCommand => 2,
-        Ending::Refused => 3,
-        Ending::ReadFault => 4,
-        Ending::WriteFault => 5,
-        Ending::OutOfMemory => 6,
-        Ending::LaunchRefused => 7,
-        Ending::Differs => 8,
+    match status {
+        ExitStatus::Done => 0,
+        ExitStatus::AboveThreshold => 1,
+        ExitStatus::NoCommand => 2,
+        ExitStatus::Refused => 3,
+        ExitStatus::ReadFault => 4,
+        ExitStatus::WriteFault => 5,
+        ExitStatus::OutOfMemory => 6,
+        ExitStatus::LaunchRefused => 7,
+        ExitStatus::Differs => 8,
     }
 }
 
 impl Status {
     /// The status of a run that ends so.
-    pub fn of(ending: Ending) -> Self
-        ensures is_the_ending { result ≡ ending }
+    pub fn of(status: ExitStatus) -> Self
+        ensures is_the_status { result ≡ status }
     {
-        Status { code: code(ending) }
+        Status { code: code(status) }
     }
 }

@@ -3,7 +3,7 @@ ghost use Rattle.std.specs.Prelude.{◌≡◌};
 ghost use Rattle.top_call.specs.Texts.{help_text, text_of, version_text, words_line};
 
 use host_io::{Sink, SinkError};
-use plan_command::{Ending, Ready, put_lines};
+use plan_command::{ExitStatus, Ready, put_lines};
 use std::alloc::Global;
 
 /// What the program is for, its words, the files that it reads, and its statuses.
@@ -73,19 +73,19 @@ const NO_COMMAND: &str = "refused words\n";
 /// A fixed text.
 #[derive(Drop)]
 pub struct Fixed {
-    ending: Ending,
+    status: ExitStatus,
     text: &'static str,
 }
 
 impl Ready for Fixed {
-    ghost use Rattle.top_call.specs.Texts.{ending_of, text_of};
+    ghost use Rattle.top_call.specs.Texts.{status_of, text_of};
 
     ghost text = { text_of };
 
-    ghost ending = { ending_of };
+    ghost status = { status_of };
 
-    fn ending(&self) -> Ending {
-        self.ending
+    fn status(&self) -> ExitStatus {
+        self.status
     }
 
     fn print<K: Sink>(&mut self, _alloc: Global, out: &mut K) -> Result<(), SinkError> {
@@ -96,10 +96,10 @@ impl Ready for Fixed {
 /// What the program is for, and its words.
 pub fn help() -> Fixed
     ensures text { text_of result ≡ help_text }
-    ensures ending { result.ending ≡ Ending.Done }
+    ensures status { result.status ≡ ExitStatus.Done }
 {
     Fixed {
-        ending: Ending::Done,
+        status: ExitStatus::Done,
         text: HELP,
     }
 }
@@ -107,10 +107,10 @@ pub fn help() -> Fixed
 /// The name and the version.
 pub fn version() -> Fixed
     ensures text { text_of result ≡ version_text }
-    ensures ending { result.ending ≡ Ending.Done }
+    ensures status { result.status ≡ ExitStatus.Done }
 {
     Fixed {
-        ending: Ending::Done,
+        status: ExitStatus::Done,
         text: VERSION,
     }
 }
@@ -118,10 +118,10 @@ pub fn version() -> Fixed
 /// The line of words that are no command.
 pub fn no_command() -> Fixed
     ensures text { text_of result ≡ words_line }
-    ensures ending { result.ending ≡ Ending.NoCommand }
+    ensures status { result.status ≡ ExitStatus.NoCommand }
 {
     Fixed {
-        ending: Ending::NoCommand,
+        status: ExitStatus::NoCommand,
         text: NO_COMMAND,
     }
 }

@@ -1,13 +1,14 @@
 -- Which calls the list of a drop-in allows.
 use Rattle.std.proofs.Common.{◌≡◌, ◌⊎◌, inl, inr, ℕ, zero, suc, ◌+◌, length, Bool, true, false, cond, Option, Some, None, List, [], ◌∷◌}
 use Rattle.std.proofs.Common.{◌++◌, codes, find, map, reverse, refl, ap, ◌∙◌, sym, arith}
-use Rattle.std.specs.Prelude.{not, ◌&&◌, ◌||◌, ◌==◌, is_some, slice_get, option_and_then}
+use Rattle.std.specs.Prelude.{not, ◌&&◌, ◌||◌, ◌==◌, is_some, slice_get, option_and_then, unwrap_or}
 use Rattle.std.specs.List.{AllByRecursion, cons_option, filter_map, list_all, list_any, position_or_len, before_first, after_first}
 use Rattle.std.specs.Option.{option_map_or}
 use Rattle.std.specs.Str.{bytes_eq}
 use Rattle.std.proofs.lemmas.Bool.{and_parts, le-ltb}
 use Rattle.std.proofs.lemmas.Bool.Decides.{nat_tests}
 use Rattle.std.proofs.lemmas.List.{append-nil}
+use Rattle.std.proofs.lemmas.List.Folds.{list_any-append}
 use Rattle.std.proofs.lemmas.List.Quantifiers.{position-Some}
 use Rattle.std.proofs.lemmas.List.Sorted.{IsPermutation-reverse, list_any-IsPermutation}
 use Rattle.std.proofs.lemmas.Option.{slice_get-get_or}
@@ -19,13 +20,15 @@ use Rattle.asked_service.specs.call_table.Lookups.{has_name, place_named}
 use Rattle.asked_service.specs.call_table.Names.{behind_at, is_name, is_name_byte}
 use Rattle.asked_service.specs.call_table.Table.{Table, every_call}
 use Rattle.asked_service.specs.call_table.declared.listed.CallLine.{CallLine}
-use Rattle.asked_service.specs.filter_settings.filter_rules.Calls.{call_action, if_adds, list_action, listed_action}
+use Rattle.asked_service.specs.filter_settings.filter_rules.Calls.{call_action, hidden_action, if_adds, is_unknown, list_action, listed_action}
 use Rattle.asked_service.specs.filter_settings.filter_rules.Covers.{covers, covers_by}
 use Rattle.asked_service.specs.filter_settings.declared.filter_rules.mentions.CallList.{CallList}
 use Rattle.asked_service.specs.filter_settings.declared.filter_rules.mentions.Mention.{Mention}
 use Rattle.asked_service.specs.filter_settings.declared.filter_rules.mentions.Mode.TheVariants.{Allow}
-use Rattle.asked_service.specs.filter_settings.CallWords.{is_known, is_known_by, mention_of, word_mention, word_of_sides}
+use Rattle.asked_service.specs.filter_settings.CallWords.{is_known, is_known_by, mention_of, suffix_of, word_mention, word_of_sides}
 use Rattle.asked_service.specs.unit_grammar.Kinds.{cut_at}
+use Rattle.asked_service.specs.unit_names.Versions.{is_257}
+use Rattle.asked_service.specs.unit_names.declared.version.Version.{Version}
 use Rattle.trace_profile.specs.Extended.{is_first_line, name_at}
 use Rattle.trace_profile.specs.Names.{without}
 use Rattle.trace_profile.proofs.TameBytes.{IsWord, are_names, of_name, word_of}
@@ -94,28 +97,37 @@ module _ (table : Table) where
     abbrev pub mention_for : List ℕ → Mention
     mention_for word = record { adds = true; name = word; action = None }
 
-    mentioned : (place : ℕ) → is_first_line table place ≡ true
-        → word_mention table Allow true (name_at table place) ≡ Some (mention_for (name_at table place))
-    mentioned place h =
+    mentioned : (systemd : Option Version) (place : ℕ) → is_first_line table place ≡ true
+        → word_mention systemd table Allow true (name_at table place) ≡ Some (mention_for (name_at table place))
+    mentioned systemd place h =
         let is = word_of (name_at table place) (name_is place h) in
-        ap (λ sides. mention_of table true (word_of_sides false (name_at table place) sides)) (no_colon (name_at table place) is.bytes)
+        ap (λ sides. mention_of table true (word_of_sides (suffix_of systemd Allow true) (name_at table place) sides)) (no_colon (name_at table place) is.bytes)
         ∙ ap (λ group. cond (is_known_by table (name_at table place) group) (Some (mention_for (name_at table place))) None)
         (no_group (name_at table place) is)
         ∙ ap (λ found. cond (is_some found) (Some (mention_for (name_at table place))) None) (first_place place h)
 
-    mentions_are : (names : List ℕ) → AreFirst names → filter_map (word_mention table Allow true) (map (name_at table) names)
-        ≡ map mention_for (map (name_at table) names)
-    mentions_are [] first = refl
-    mentions_are (place ∷ names) first =
-        ap (λ found. cons_option found (filter_map (word_mention table Allow true) (map (name_at table) names))) (mentioned place first.0)
-        ∙ ap (λ rest. mention_for (name_at table place) ∷ rest) (mentions_are names first.1)
+    mentions_are : (systemd : Option Version) (names : List ℕ) → AreFirst names
+        → filter_map (word_mention systemd table Allow true) (map (name_at table) names) ≡ map mention_for (map (name_at table) names)
+    mentions_are systemd [] first = refl
+    mentions_are systemd (place ∷ names) first =
+        ap (λ found. cons_option found (filter_map (word_mention systemd table Allow true) (map (name_at table) names)))
+        (mentioned systemd place first.0)
+        ∙ ap (λ rest. mention_for (name_at table place) ∷ rest) (mentions_are systemd names first.1)
 
     -- ---- what a list of such words decides
     abbrev pub default_word : List ℕ
     default_word = codes "@default"
 
-    abbrev pub said_list : List ℕ → CallList
-    said_list names = record { mode = Allow; mentions = mention_for default_word ∷ (filter_map (word_mention table Allow true) (default_word ∷ map (name_at table) names) ++ []) }
+    abbrev pub said_words : Option Version → List ℕ → List Mention
+    said_words systemd names = mention_for default_word ∷
+        (filter_map (word_mention systemd table Allow true) (default_word ∷ map (name_at table) names) ++ [])
+
+    -- systemd 257 adds a word for write(2)
+    abbrev pub write_words : Option Version → List Mention
+    write_words systemd = cond (is_257 systemd) (mention_for (codes "write") ∷ []) []
+
+    abbrev pub said_list : Option Version → List ℕ → CallList
+    said_list systemd names = record { mode = Allow; mentions = said_words systemd names ++ write_words systemd; hides_unknown = is_257 systemd }
 
     -- the name is among those of some places, and the name is let through
     abbrev pub is_among : List ℕ → List ℕ → Bool
@@ -124,13 +136,25 @@ module _ (table : Table) where
     abbrev pub is_let_through : List ℕ → List ℕ → Bool
     is_let_through names name = covers table default_word name || is_among names name
 
-    module _ (default : Action) (p : Mention → Bool) where
-      found_action : (mentions : List Mention) → list_any (λ mention. not mention.adds) mentions ≡ false
-          → option_map_or (listed_action Allow default) (option_and_then if_adds (find p mentions)) default
-          ≡ cond (list_any p mentions) Allowed default
-      found_action [] adds = refl
-      found_action (mention ∷ mentions) adds = by (p mention)
-          (found_action mentions (or_off (not mention.adds) (list_any (λ mention. not mention.adds) mentions) adds).1)
+    -- or by the word that the version adds
+    abbrev pub is_added : Option Version → List ℕ → Bool
+    is_added systemd name = is_257 systemd && covers table (codes "write") name
+
+    -- what is done to any other name
+    abbrev pub rest_in : Option Version → Action → List ℕ → Action
+    rest_in systemd default name = hidden_action (is_257 systemd && is_unknown table name) Allow default
+
+    -- no word that allows what it covers
+    abbrev is_odd : Mention → Bool
+    is_odd mention = not mention.adds || is_some mention.action
+
+    module _ (default rest : Action) (p : Mention → Bool) where
+      found_action : (mentions : List Mention) → list_any is_odd mentions ≡ false
+          → option_map_or (listed_action Allow default) (option_and_then if_adds (find p mentions)) rest
+          ≡ cond (list_any p mentions) Allowed rest
+      found_action [] plain = refl
+      found_action (mention ∷ mentions) plain = by (p mention)
+          (found_action mentions (or_off (is_odd mention) (list_any is_odd mentions) plain).1)
         where
           or_off : (a b : Bool) → (a || b) ≡ false → (a ≡ false) × (b ≡ false)
           or_off true b e = cc
@@ -140,17 +164,38 @@ module _ (table : Table) where
           on true e = refl
           on false e = cc
 
-          by : (b : Bool) → option_map_or (listed_action Allow default) (option_and_then if_adds (find p mentions)) default
-              ≡ cond (list_any p mentions) Allowed default
-              → option_map_or (listed_action Allow default) (option_and_then if_adds (cond b (Some mention) (find p mentions))) default
-              ≡ cond (b || list_any p mentions) Allowed default
-          by true rest = ap (λ adds. option_map_or (listed_action Allow default) (cond adds (Some mention) None) default)
-              (on mention.adds (or_off (not mention.adds) (list_any (λ mention. not mention.adds) mentions) adds).0)
-          by false rest = rest
+          without_action : (o : Option Action) → is_some o ≡ false → unwrap_or o Allowed ≡ Allowed
+          without_action None e = refl
+          without_action (Some action) e = cc
 
-      all_add : (words : List (List ℕ)) → list_any (λ mention. not mention.adds) (map mention_for words) ≡ false
-      all_add [] = refl
-      all_add (word ∷ words) = all_add words
+          by : (b : Bool) → option_map_or (listed_action Allow default) (option_and_then if_adds (find p mentions)) rest
+              ≡ cond (list_any p mentions) Allowed rest
+              → option_map_or (listed_action Allow default) (option_and_then if_adds (cond b (Some mention) (find p mentions))) rest
+              ≡ cond (b || list_any p mentions) Allowed rest
+          by true tail =
+              let parts = or_off (not mention.adds) (is_some mention.action) (or_off (is_odd mention) (list_any is_odd mentions) plain).0 in
+              ap (λ adds. option_map_or (listed_action Allow default) (cond adds (Some mention) None) rest) (on mention.adds parts.0)
+              ∙ without_action mention.action parts.1
+          by false tail = tail
+
+    none_odd : (words : List (List ℕ)) → list_any is_odd (map mention_for words) ≡ false
+    none_odd [] = refl
+    none_odd (word ∷ words) = none_odd words
+
+    -- the word that the version adds
+    write_plain : (later : Bool) → list_any is_odd (cond later (mention_for (codes "write") ∷ []) []) ≡ false
+    write_plain true = refl
+    write_plain false = refl
+
+    write_found : (later : Bool) (name : List ℕ)
+        → list_any (λ (mention : Mention). covers table mention.name name) (cond later (mention_for (codes "write") ∷ []) [])
+        ≡ (later && covers table (codes "write") name)
+    write_found true name = or_none (covers table (codes "write") name)
+      where
+        or_none : (b : Bool) → (b || false) ≡ b
+        or_none true = refl
+        or_none false = refl
+    write_found false name = refl
 
     covers_word : (place : ℕ) (name : List ℕ) → is_first_line table place ≡ true
         → covers table (name_at table place) name ≡ bytes_eq (name_at table place) name
@@ -166,7 +211,7 @@ module _ (table : Table) where
         (covers_word place name first.0)
         ∙ ap (λ b. bytes_eq (name_at table place) name || b) (covered names name first.1)
 
-    module _ (names : List ℕ) (first : AreFirst names) (default : Action) (name : List ℕ) where
+    module _ (systemd : Option Version) (names : List ℕ) (first : AreFirst names) (default : Action) (name : List ℕ) where
       abbrev own : List Mention
       own = map mention_for (map (name_at table) names)
 
@@ -174,41 +219,49 @@ module _ (table : Table) where
       twice true b = refl
       twice false b = refl
 
-      action_by : (b : Bool) → list_action table default name (record { mode = Allow; mentions = mention_for default_word ∷ (cons_option (cond b (Some (mention_for default_word)) None) own ++ []) }) ≡ cond (is_let_through names name) Allowed default
+      abbrev words_by : Bool → List Mention
+      words_by b = mention_for default_word ∷ (cons_option (cond b (Some (mention_for default_word)) None) own ++ [])
+
+      abbrev list_by : List Mention → CallList
+      list_by mentions = record { mode = Allow; mentions = mentions ++ write_words systemd; hides_unknown = is_257 systemd }
+
+      odd_by : (b : Bool) → list_any is_odd (words_by b) ≡ false
+      odd_by true = ap (list_any is_odd) (append-nil own) ∙ none_odd (map (name_at table) names)
+      odd_by false = ap (list_any is_odd) (append-nil own) ∙ none_odd (map (name_at table) names)
+
+      any_by : (b : Bool) → list_any (λ (mention : Mention). covers table mention.name name) (words_by b) ≡ is_let_through names name
+      any_by true =
+          ap (λ mentions. covers table default_word name ||
+          (covers table default_word name || list_any (λ (mention : Mention). covers table mention.name name) mentions))
+          (append-nil own)
+          ∙ twice (covers table default_word name) (list_any (λ (mention : Mention). covers table mention.name name) own)
+          ∙ ap (λ b. covers table default_word name || b) (covered names name first)
+      any_by false =
+          ap (λ mentions. covers table default_word name || list_any (λ (mention : Mention). covers table mention.name name) mentions)
+          (append-nil own)
+          ∙ ap (λ b. covers table default_word name || b) (covered names name first)
+
+      action_by : (b : Bool) → list_action table default name (list_by (words_by b))
+          ≡ cond (is_let_through names name || is_added systemd name) Allowed (rest_in systemd default name)
       action_by b =
-          let mentions = mention_for default_word ∷ (cons_option (cond b (Some (mention_for default_word)) None) own ++ []) in
+          let mentions = words_by b ++ write_words systemd in
           let p : Mention → Bool = λ mention. covers table mention.name name in
           let turned = IsPermutation-reverse mentions in
-          let adds : list_any (λ (mention : Mention). not mention.adds) mentions ≡ false = adds_by b in
-          found_action default p (reverse mentions)
-          (sym (list_any-IsPermutation (λ (mention : Mention). not mention.adds) mentions (reverse mentions) turned) ∙ adds)
-          ∙ ap (λ t. cond t Allowed default) (sym (list_any-IsPermutation p mentions (reverse mentions) turned) ∙ any_by b)
-        where
-          adds_by : (b : Bool) → list_any (λ (mention : Mention). not mention.adds)
-              (mention_for default_word ∷ (cons_option (cond b (Some (mention_for default_word)) None) own ++ [])) ≡ false
-          adds_by true = ap (list_any (λ (mention : Mention). not mention.adds)) (append-nil own)
-              ∙ all_add default (λ mention. true) (map (name_at table) names)
-          adds_by false = ap (list_any (λ (mention : Mention). not mention.adds)) (append-nil own)
-              ∙ all_add default (λ mention. true) (map (name_at table) names)
-
-          any_by : (b : Bool) → list_any (λ (mention : Mention). covers table mention.name name)
-              (mention_for default_word ∷ (cons_option (cond b (Some (mention_for default_word)) None) own ++ []))
-              ≡ is_let_through names name
-          any_by true =
-              ap (λ mentions. covers table default_word name ||
-              (covers table default_word name || list_any (λ (mention : Mention). covers table mention.name name) mentions))
-              (append-nil own)
-              ∙ twice (covers table default_word name) (list_any (λ (mention : Mention). covers table mention.name name) own)
-              ∙ ap (λ b. covers table default_word name || b) (covered names name first)
-          any_by false =
-              ap (λ mentions. covers table default_word name || list_any (λ (mention : Mention). covers table mention.name name) mentions)
-              (append-nil own)
-              ∙ ap (λ b. covers table default_word name || b) (covered names name first)
+          let plain : list_any is_odd mentions ≡ false =
+          list_any-append is_odd (words_by b) (write_words systemd) ∙ ap (λ t. t || list_any is_odd (write_words systemd)) (odd_by b) ∙ write_plain (is_257 systemd) in
+          let any : list_any p mentions ≡ (is_let_through names name || is_added systemd name) =
+          list_any-append p (words_by b) (write_words systemd) ∙ ap (λ t. t || list_any p (write_words systemd)) (any_by b) ∙ ap (λ t. is_let_through names name || t) (write_found (is_257 systemd) name) in
+          found_action default (rest_in systemd default name) p (reverse mentions)
+          (sym (list_any-IsPermutation is_odd mentions (reverse mentions) turned) ∙ plain)
+          ∙ ap (λ t. cond t Allowed (rest_in systemd default name))
+          (sym (list_any-IsPermutation p mentions (reverse mentions) turned) ∙ any)
 
       -- what is done to a call of the name
-      pub action_is : call_action table (Some (said_list names)) default name ≡ cond (is_let_through names name) Allowed default
+      pub action_is : call_action table (Some (said_list systemd names)) default name
+          ≡ cond (is_let_through names name || is_added systemd name) Allowed (rest_in systemd default name)
       action_is =
-          ap (λ rest. list_action table default name (record { mode = Allow; mentions = mention_for default_word ∷ (cons_option (word_mention table Allow true default_word) rest ++ []) })) (mentions_are names first)
+          ap (λ rest. list_action table default name (list_by (mention_for default_word ∷ (cons_option (word_mention systemd table Allow true default_word) rest ++ []))))
+          (mentions_are systemd names first)
           ∙ action_by (is_known table default_word)
 
     -- ---- a name less

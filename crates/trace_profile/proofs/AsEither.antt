@@ -26,18 +26,20 @@ use Rattle.asked_service.specs.filter_settings.declared.filter_rules.mentions.Me
 use Rattle.asked_service.specs.filter_settings.declared.filter_rules.mentions.Mode.TheVariants.{Allow}
 use Rattle.asked_service.specs.filter_settings.declared.filter_rules.names.FilterName.{FilterName}
 use Rattle.asked_service.specs.filter_settings.declared.filter_rules.names.FilterName.TheVariants.{Families, MemoryDenyWriteExecute}
-use Rattle.asked_service.specs.filter_settings.declared.filter_rules.names.FilterName.TheVariants.{Realtime, Suid, Namespaces, Hostname}
+use Rattle.asked_service.specs.filter_settings.declared.filter_rules.names.FilterName.TheVariants.{Realtime, Suid, Namespaces, Tunables, Hostname}
 use Rattle.asked_service.specs.filter_settings.declared.filter_rules.names.FilterName.TheVariants.{Modules, Logs, Clock, Devices}
 use Rattle.asked_service.specs.filter_settings.declared.filter_rules.names.FilterName.TheVariants.{Personality, Calls, Archs}
 use Rattle.asked_service.specs.filter_settings.declared.filter_rules.settings.FilterSettings.{FilterSettings}
 use Rattle.asked_service.specs.launcher.Matching.{AreMatching}
+use Rattle.asked_service.specs.unit_names.Versions.{is_257}
+use Rattle.asked_service.specs.unit_names.declared.version.Version.{Version}
 use Rattle.asked_service.proofs.OfLauncher.TwoAbis.{IsThere, archs_differ, filters_there}
 use Rattle.trace_profile.specs.allow_laws.Either.{AnswerSame, AnswersAsEither}
 use Rattle.trace_profile.proofs.SameButCalls.{with_calls}
 
 -- a list that allows what these words cover
-abbrev pub allowing : List Mention → CallList
-allowing mentions = record { mode = Allow; mentions = mentions }
+abbrev pub allowing : Option Version → List Mention → CallList
+allowing systemd mentions = record { mode = Allow; mentions = mentions; hides_unknown = is_257 systemd }
 
 filter_agree : {X : Type 0} (p q : X → Bool) → ((x : X) → p x ≡ q x) → (xs : List X) → filter p xs ≡ filter q xs
 filter_agree p q h [] = refl
@@ -46,10 +48,10 @@ filter_agree p q h (x ∷ xs) = ap (λ b. cond b (x ∷ filter p xs) (filter p x
 
 module _ (table : Table) (base : FilterSettings) where
   abbrev pub with_list : List Mention → FilterSettings
-  with_list mentions = with_calls base (Some (allowing mentions))
+  with_list mentions = with_calls base (Some (allowing base.systemd mentions))
 
   abbrev pub gives : List Mention → List ℕ → Action
-  gives mentions name = call_action table (Some (allowing mentions)) base.default_action name
+  gives mentions name = call_action table (Some (allowing base.systemd mentions)) base.default_action name
 
   module _ (one other : List Mention) where
     on_same : (filter : FilterName) → is_on (with_list one) filter ≡ is_on (with_list other) filter
@@ -58,6 +60,7 @@ module _ (table : Table) (base : FilterSettings) where
     on_same Realtime = refl
     on_same Suid = refl
     on_same Namespaces = refl
+    on_same Tunables = refl
     on_same Hostname = refl
     on_same Modules = refl
     on_same Logs = refl
@@ -78,6 +81,7 @@ module _ (table : Table) (base : FilterSettings) where
     unnamed_same Realtime = refl
     unnamed_same Suid = refl
     unnamed_same Namespaces = refl
+    unnamed_same Tunables = refl
     unnamed_same Hostname = refl
     unnamed_same Modules = refl
     unnamed_same Logs = refl
@@ -94,6 +98,7 @@ module _ (table : Table) (base : FilterSettings) where
     named_same name input same Realtime = refl
     named_same name input same Suid = refl
     named_same name input same Namespaces = refl
+    named_same name input same Tunables = refl
     named_same name input same Hostname = refl
     named_same name input same Modules = refl
     named_same name input same Logs = refl

@@ -18,22 +18,27 @@ use Rattle.asked_service.specs.exec_settings.Dynamic.{unit_filters}
 use Rattle.asked_service.specs.exec_settings.Profile.{asked_by, asks as asks_of, is_asked}
 use Rattle.asked_service.specs.filter_settings.CallLists.{call_list, unit_call_list}
 use Rattle.asked_service.specs.filter_settings.Lines.{in_force}
+use Rattle.asked_service.specs.filter_settings.declared.filter_rules.mentions.Mention.{Mention}
+use Rattle.asked_service.specs.filter_settings.declared.filter_rules.mentions.Mode.TheVariants.{Allow}
+use Rattle.asked_service.specs.unit_names.declared.version.Version.{Version}
+use Rattle.asked_service.specs.unit_names.declared.version.Version.TheVariants.{V252, V257}
 use Rattle.asked_service.specs.mount_settings.Assigned.{assigned_by}
 use Rattle.asked_service.specs.unit_grammar.Before.{last_of}
 use Rattle.asked_service.specs.unit_grammar.declared.unit.Assignment.{Assignment}
 use Rattle.asked_service.specs.unit_grammar.declared.unit.UnitText.{UnitText}
 use Rattle.asked_service.specs.unit_names.Expansion.{expansion, longest_value}
 use Rattle.asked_service.specs.unit_names.Names.{Name}
+use Rattle.asked_service.specs.unit_names.declared.version.Version.{Version}
 use Rattle.asked_service.proofs.OfDropinMerge.OneMore.{after_last-push}
 use Rattle.asked_service.specs.dropin_merge.unit_values.Assignments.{service_assignments, service_from, service_in}
 use Rattle.asked_service.specs.dropin_merge.unit_values.Listed.{is_reset, listed, unit_listed}
-use Rattle.asked_service.specs.dropin_merge.unit_values.Values.{expanded_at, given_by, values_of}
+use Rattle.asked_service.specs.dropin_merge.unit_values.Values.{expanded_at, given_by, values_of, written_by, written_values}
 use Rattle.asked_service.specs.dropin_merge.declared.unit_values.lines.Line.{Line}
 use Rattle.asked_service.specs.dropin_merge.declared.unit_values.listed.Listed.{Listed}
 use Rattle.asked_service.specs.dropin_merge.declared.unit_values.value.Place.{Place}
 use Rattle.asked_service.specs.launched_units.Longer.{says, unless_refused}
 use Rattle.trace_profile.specs.Extended.{drop_in_text, extended, is_first_line, name_at}
-use Rattle.trace_profile.proofs.AllowedNames.{names_are, said_list}
+use Rattle.trace_profile.proofs.AllowedNames.{names_are, said_list, said_words}
 use Rattle.trace_profile.proofs.DropInText.{allows, reset, unit_is, value}
 use Rattle.trace_profile.proofs.ListedWords.{expanded, line_is}
 use Rattle.trace_profile.proofs.SameButCalls.{AddsCallsAlone, filters, is_other, with_calls}
@@ -58,9 +63,9 @@ added number (first ∷ files) file =
 nonzero : (n : ℕ) → (suc n == 0) ≡ false
 nonzero n = grind (arith, nat_tests)
 
-nothing_expands : (name : Name) → expansion name [] ≡ Some []
+nothing_expands : (systemd : Option Version) (name : Name) → expansion systemd name [] ≡ Some []
 unfolding is_utf8 chars encode
-nothing_expands name = refl
+nothing_expands systemd name = refl
 
 pub tails_are : (table : Table) (names : List ℕ) → flat_map (λ place. 32 ∷ name_at table place) names ≡ tail_of (map (name_at table) names)
 tails_are table [] = refl
@@ -98,16 +103,27 @@ module _ (unit : Resolved) (table : Table) (named : list_all (λ (line : CallLin
   assigned = more.is ∙ ap (λ (text : UnitText). service_from 0 unit.files ++ service_in more.place text.assignments) says_so
 
   module _ (key : List ℕ) (other : is_other key) where
-    no_value : filter_map (given_by unit.name key) two ≡ []
+    no_value : filter_map (given_by unit.systemd unit.name key) two ≡ []
     unfolding two
     no_value =
-        ap (λ b. cons_option (cond b (expanded_at unit.name (place_of 2, reset words are_words)) None)
-        (cons_option (cond b (expanded_at unit.name (place_of 3, allows words are_words)) None) [])) other
+        ap (λ b. cons_option (cond b (expanded_at unit.systemd unit.name (place_of 2, reset words are_words)) None)
+        (cons_option (cond b (expanded_at unit.systemd unit.name (place_of 3, allows words are_words)) None) [])) other
 
     other_values : values_of (extended unit table names) key ≡ values_of unit key
     other_values =
-        ap (filter_map (given_by unit.name key)) assigned ∙ filter_map-append (given_by unit.name key) (service_assignments unit) two
+        ap (filter_map (given_by unit.systemd unit.name key)) assigned ∙ filter_map-append (given_by unit.systemd unit.name key) (service_assignments unit) two
         ∙ ap (λ rest. values_of unit key ++ rest) no_value ∙ append-nil (values_of unit key)
+
+    none_written : filter_map (written_by key) two ≡ []
+    unfolding two
+    none_written =
+        ap (λ b. cons_option (cond b (Some (record { place = place_of 2; text = [] })) None)
+        (cons_option (cond b (Some (record { place = place_of 3; text = value words are_words })) None) [])) other
+
+    other_written : written_values (extended unit table names) key ≡ written_values unit key
+    other_written =
+        ap (filter_map (written_by key)) assigned ∙ filter_map-append (written_by key) (service_assignments unit) two
+        ∙ ap (λ rest. written_values unit key ++ rest) none_written ∙ append-nil (written_values unit key)
 
     abbrev asks : Place × Assignment → Option Bool
     asks one = asked_by key one.1
@@ -124,16 +140,17 @@ module _ (unit : Resolved) (table : Table) (named : list_all (λ (line : CallLin
         ∙ ap (λ rest. filter_map asks (service_assignments unit) ++ rest) unasked
         ∙ append-nil (filter_map asks (service_assignments unit)))
 
-  no_path : filter_map (assigned_by unit.name) two ≡ []
+  no_path : filter_map (assigned_by unit.systemd unit.name) two ≡ []
   unfolding two
   no_path = refl
 
   pub adds_calls : AddsCallsAlone unit files
   adds_calls = record {
     values = other_values;
-    paths = ap (filter_map (assigned_by unit.name)) assigned ∙ filter_map-append (assigned_by unit.name) (service_assignments unit) two
-        ∙ ap (λ rest. filter_map (assigned_by unit.name) (service_assignments unit) ++ rest) no_path
-        ∙ append-nil (filter_map (assigned_by unit.name) (service_assignments unit));
+    written = other_written;
+    paths = ap (filter_map (assigned_by unit.systemd unit.name)) assigned ∙ filter_map-append (assigned_by unit.systemd unit.name) (service_assignments unit) two
+        ∙ ap (λ rest. filter_map (assigned_by unit.systemd unit.name) (service_assignments unit) ++ rest) no_path
+        ∙ append-nil (filter_map (assigned_by unit.systemd unit.name) (service_assignments unit));
     asked = other_asked;
   }
 
@@ -147,13 +164,13 @@ module _ (unit : Resolved) (table : Table) (named : list_all (λ (line : CallLin
     filled : Listed
     filled = record { value = record { place = place_of 3; text = value words are_words }; line = record { is_inverted = false; words = codes "@default" ∷ words } }
 
-    two_values : filter_map (given_by unit.name key) two ≡ empty.value ∷ filled.value ∷ []
+    two_values : filter_map (given_by unit.systemd unit.name key) two ≡ empty.value ∷ filled.value ∷ []
     unfolding two empty filled
     two_values =
         ap (λ (found : Option (List ℕ)). cons_option (option_map (λ text. record { place = place_of 2; text = text }) found)
-        (cons_option (given_by unit.name key (place_of 3, allows words are_words)) [])) (nothing_expands unit.name)
+        (cons_option (given_by unit.systemd unit.name key (place_of 3, allows words are_words)) [])) (nothing_expands unit.systemd unit.name)
         ∙ ap (λ (found : Option (List ℕ)). record { place = place_of 2; text = [] } ∷ cons_option
-        (option_map (λ text. record { place = place_of 3; text = text }) found) []) (expanded words are_words unit.name short)
+        (option_map (λ text. record { place = place_of 3; text = text }) found) []) (expanded words are_words unit.systemd unit.name short)
 
     two_lines : filter_map listed (empty.value ∷ filled.value ∷ []) ≡ empty ∷ filled ∷ []
     unfolding empty filled
@@ -163,8 +180,8 @@ module _ (unit : Resolved) (table : Table) (named : list_all (λ (line : CallLin
     lines : unit_listed (extended unit table names) key ≡ unit_listed unit key ++ empty ∷ filled ∷ []
     unfolding unit_listed
     lines =
-        ap (λ assignments. filter_map listed (filter_map (given_by unit.name key) assignments)) assigned
-        ∙ ap (filter_map listed) (filter_map-append (given_by unit.name key) (service_assignments unit) two
+        ap (λ assignments. filter_map listed (filter_map (given_by unit.systemd unit.name key) assignments)) assigned
+        ∙ ap (filter_map listed) (filter_map-append (given_by unit.systemd unit.name key) (service_assignments unit) two
         ∙ ap (λ rest. values_of unit key ++ rest) two_values)
         ∙ filter_map-append listed (values_of unit key) (empty.value ∷ filled.value ∷ [])
         ∙ ap (λ rest. filter_map listed (values_of unit key) ++ rest) two_lines
@@ -186,11 +203,18 @@ module _ (unit : Resolved) (table : Table) (named : list_all (λ (line : CallLin
         ∙ ap (λ rest. rest ++ filled ∷ []) (after_last-push is_reset (unit_listed unit key) empty
         ∙ ap (λ b. cond b [] (after_last is_reset (unit_listed unit key) ++ empty ∷ [])) resets)
 
-    calls_are : unit_call_list (extended unit table names) table key ≡ Some (said_list table named names)
+    calls_are : unit_call_list (extended unit table names) table key ≡ Some (said_list table named unit.systemd names)
     unfolding unit_call_list filled
-    calls_are = ap (call_list table) last_line
+    calls_are = ap (call_list unit.systemd table) last_line ∙ by unit.systemd
+      where
+        by : (systemd : Option Version) → call_list systemd table (filled ∷ []) ≡ Some (said_list table named systemd names)
+        by None = ap (λ (mentions : List Mention). Some (record { mode = Allow; mentions = mentions; hides_unknown = false }))
+            (sym (append-nil (said_words table named None names)))
+        by (Some V252) = ap (λ (mentions : List Mention). Some (record { mode = Allow; mentions = mentions; hides_unknown = false }))
+            (sym (append-nil (said_words table named (Some V252) names)))
+        by (Some V257) = refl
 
     -- what the filters of the unit are
     pub filters_are : unit_filters (extended unit table names) table
-        ≡ with_calls (unit_filters unit table) (Some (said_list table named names))
+        ≡ with_calls (unit_filters unit table) (Some (said_list table named unit.systemd names))
     filters_are = filters unit files adds_calls table ∙ ap (with_calls (unit_filters unit table)) calls_are

@@ -23,8 +23,8 @@ use Rattle.asked_service.specs.kern_mounts.Split.{Table}
 use Rattle.asked_service.specs.kernel_model.declared.kernel_calls.call.Call.{Call}
 use Rattle.asked_service.specs.kernel_model.declared.kernel_calls.payload.Payload.TheVariants.{OnePath, Code}
 use Rattle.asked_service.specs.kernel_model.declared.kernel_calls.rule.Rule.{Rule}
-use Rattle.asked_service.specs.kernel_model.kernel_calls.Doing as d
-use Rattle.asked_service.specs.kernel_model.kernel_calls.Doing.{Asked, Does, asked_of, asked_by}
+use Rattle.asked_service.specs.kernel_model.kernel_calls.Operation as d
+use Rattle.asked_service.specs.kernel_model.kernel_calls.Operation.{Asked, Does, asked_of, asked_by}
 use Rattle.asked_service.specs.kernel_model.Effects as f
 use Rattle.asked_service.specs.kernel_model.Effects.{Effect, push_effect}
 use Rattle.asked_service.specs.kernel_model.Runs.{IsDone}
@@ -170,9 +170,9 @@ module _ (table : calls.Table) (site : Site) (whole : IsWhole table) (arch : Has
       asks : asked_of table call ≡ Does (d.Execve program)
       asks = ap (λ (o : Option Rule). asked_by o call) calls'.execve
 
-      other_doing : (operation flags : ℕ) (bytes : List ℕ) → ◌≡◌ {A = Asked} (Does (d.Execve program))
-          (Does (d.Seccomp operation flags bytes)) → ⊥
-      other_doing operation flags bytes e = cc
+      other_operation : (op flags : ℕ) (bytes : List ℕ) → ◌≡◌ {A = Asked} (Does (d.Execve program))
+          (Does (d.Seccomp op flags bytes)) → ⊥
+      other_operation op flags bytes e = cc
 
       stepped : (stack : List (List Insn)) → step (with_stack stack) call ≡ lifted stack (own_step stack (with_stack []) call)
       stepped stack = ap (λ (v : World). step v call) (sym (ap (λ (s : List (List Insn)). with_stack s) (append_none stack)))
@@ -190,7 +190,7 @@ module _ (table : calls.Table) (site : Site) (whole : IsWhole table) (arch : Has
           → Leads (with_stack one) (left []) last → Leads (with_stack other) (left []) last'
           → Ends [] (with_stack both) last last' both one other
       executed both one other last last' like l m =
-          let nothing : (operation flags : ℕ) (bytes : List ℕ) → asked_of table call ≡ Does (d.Seccomp operation flags bytes) → ⊥ = λ operation flags bytes e. other_doing operation flags bytes (sym asks ∙ e) in
+          let nothing : (op flags : ℕ) (bytes : List ℕ) → asked_of table call ≡ Does (d.Seccomp op flags bytes) → ⊥ = λ op flags bytes e. other_operation op flags bytes (sym asks ∙ e) in
           let did : IsDone (own_step one (with_stack []) call).0 = subst (λ (out : Reply × World). IsDone out.0) (stepped one) l.0 in
           let does : IsDone (own_step other (with_stack []) call).0 = subst (λ (out : Reply × World). IsDone out.0) (stepped other) m.0 in
           let same = both_done one other (with_stack []) call nothing did does in

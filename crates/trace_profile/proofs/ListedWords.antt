@@ -15,9 +15,11 @@ use Rattle.asked_service.specs.text_forms.Grammar.{EndsWord, IsPart, LaysOut, Pa
 use Rattle.asked_service.specs.text_forms.Grammar.{white, word}
 use Rattle.asked_service.specs.text_forms.Words.{words_of}
 use Rattle.asked_service.proofs.OfTextForms.Layouts.{split_as_laid}
-use Rattle.asked_service.specs.unit_names.Expansion.{Piece, literal, expansion, if_short, if_text, longest_value, pieces_meaning, pieces_of}
-use Rattle.asked_service.specs.unit_names.Expansion.{onto_pieces}
+use Rattle.asked_service.specs.unit_names.Expansion.{Piece, literal, last_percent, expansion, if_short, if_text, longest_value}
+use Rattle.asked_service.specs.unit_names.Expansion.{onto_pieces, pieces_meaning, pieces_of}
 use Rattle.asked_service.specs.unit_names.Names.{Name}
+use Rattle.asked_service.specs.unit_names.Versions.{is_known}
+use Rattle.asked_service.specs.unit_names.declared.version.Version.{Version}
 use Rattle.asked_service.specs.dropin_merge.unit_values.Lines.{line_of, words_if}
 use Rattle.trace_profile.proofs.TameBytes.{are_names, each_too, is_tame, of_name, of_tame, tail_of, tame_of_names, tame_tail, tame_utf8}
 use Rattle.trace_profile.proofs.TameBytes.{unset, word_of}
@@ -26,12 +28,15 @@ use Rattle.trace_profile.proofs.TameBytes.{unset, word_of}
 no_percent : (byte : ℕ) → is_tame byte ≡ true → not (byte == 37) ≡ true
 no_percent byte h = ap not (of_tame byte h).no_percent
 
-pieces : (bytes : List ℕ) → list_all (λ byte. not (byte == 37)) bytes ≡ true → pieces_of bytes ≡ Some (map literal bytes)
-pieces [] h = refl
-pieces (byte ∷ []) h = ap (λ b. cond b None (Some (literal byte ∷ []))) (unset (byte == 37) (and_parts (not (byte == 37)) true h).0)
-pieces (byte ∷ next ∷ bytes) h =
+pieces : (systemd : Option Version) (bytes : List ℕ) → list_all (λ byte. not (byte == 37)) bytes ≡ true
+    → pieces_of systemd bytes ≡ Some (map literal bytes)
+pieces systemd [] h = refl
+pieces systemd (byte ∷ []) h =
+    ap (λ b. cond b (cond (is_known systemd) (Some (last_percent ∷ [])) None) (Some (literal byte ∷ [])))
+    (unset (byte == 37) (and_parts (not (byte == 37)) true h).0)
+pieces systemd (byte ∷ next ∷ bytes) h =
     let both = and_parts (not (byte == 37)) (list_all (λ byte. not (byte == 37)) (next ∷ bytes)) h in
-    let rest = pieces (next ∷ bytes) both.1 in
+    let rest = pieces systemd (next ∷ bytes) both.1 in
     cond_off (byte == 37) _ _ (unset (byte == 37) both.0) ∙ ap (onto_pieces (Some (literal byte))) rest
   where
     cond_off : (b : Bool) (x y : Option (List Piece)) → b ≡ false → cond b x y ≡ y
@@ -58,11 +63,11 @@ module _ (words : List (List ℕ)) (named : are_names words ≡ true) where
       (IsUtf8-from_is_utf8 (tail_of words) (tame_utf8 (tail_of words) tame)))
 
   -- a value that is short enough stands for itself
-  pub expanded : (name : Name) → length value ≤ longest_value → expansion name value ≡ Some value
-  expanded name short =
+  pub expanded : (systemd : Option Version) (name : Name) → length value ≤ longest_value → expansion systemd name value ≡ Some value
+  expanded systemd name short =
       let few : nat_le (length value) longest_value ≡ true = grind (arith, nat_tests) in
       ap (λ found. option_and_then if_text (option_and_then if_short (option_and_then (pieces_meaning name) found)))
-      (pieces value (each_too is_tame (λ byte. not (byte == 37)) no_percent (tail_of words) tame))
+      (pieces systemd value (each_too is_tame (λ byte. not (byte == 37)) no_percent (tail_of words) tame))
       ∙ ap (λ found. option_and_then if_text (option_and_then if_short found)) (meaning name value)
       ∙ ap (λ b. option_and_then if_text (cond b (Some value) None)) few
       ∙ ap (λ b. cond b (Some value) None) value_utf8

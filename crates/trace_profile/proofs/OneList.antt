@@ -10,18 +10,18 @@ use Rattle.asked_service.specs.bpf_code.Reading.{bytes_of}
 use Rattle.asked_service.specs.bpf_code.declared.machine.Insn.{Insn}
 use Rattle.asked_service.specs.call_table.Facts.{IsWhole}
 use Rattle.asked_service.specs.call_table.Table as calls
-use Rattle.asked_service.specs.cred_settings.Ambient.{ambient_of}
-use Rattle.asked_service.specs.cred_settings.Identities.{identity_of}
-use Rattle.asked_service.specs.cred_settings.NewPrivileges.{is_in_effect}
+use Rattle.asked_service.specs.cred_settings.NewPrivileges.{is_in_effect_in}
 use Rattle.asked_service.specs.cred_settings.declared.accounts.Identity.{Identity}
 use Rattle.asked_service.specs.cred_settings.declared.error.IdentityError.{IdentityError}
 use Rattle.asked_service.specs.dropin_merge.declared.resolved.Resolved.{Resolved}
 use Rattle.asked_service.specs.exec_settings.AreSettings.{AreSettings, HasWantedRules}
-use Rattle.asked_service.specs.exec_settings.Dynamic.{is_dynamic, sets_new_privileges, unit_filters}
+use Rattle.asked_service.specs.exec_settings.Dynamic.{sets_new_privileges, unit_filters}
+use Rattle.asked_service.specs.exec_settings.RunsAs.{unit_identity}
 use Rattle.asked_service.specs.exec_settings.Groups.{missing_group}
 use Rattle.asked_service.specs.exec_settings.Mounts.{paths_refusal, unit_mentions}
 use Rattle.asked_service.specs.exec_settings.Refusals.{command_refusal, first_reason, group_refusal, identity_refusal, refusal_of}
-use Rattle.asked_service.specs.exec_settings.Settings.{has_filter, unit_bounding, unit_new_privileges, unit_program}
+use Rattle.asked_service.specs.exec_settings.Filtered.{counts_as_filter, has_filter}
+use Rattle.asked_service.specs.exec_settings.Settings.{unit_ambient, unit_bounding, unit_new_privileges, unit_program}
 use Rattle.asked_service.specs.exec_settings.declared.errors.SettingsError.TheVariants.{MissingGroup}
 use Rattle.asked_service.specs.exec_settings.declared.service.Settings.{Settings}
 use Rattle.asked_service.specs.filter_settings.filter_rules.Covers.{covers}
@@ -42,7 +42,7 @@ use Rattle.asked_service.specs.declared.launched_units.refusal.UnitRefusal.{Unit
 use Rattle.asked_service.specs.declared.launched_units.refusal.UnitRefusal.TheVariants.{Memory, Settings as InSettings, Plan, Launch}
 use Rattle.asked_service.specs.launcher.Alike.{HasWordArchs, above}
 use Rattle.asked_service.specs.launcher.Answers.{codes_of, given_bytes, launch_with, wanted_of}
-use Rattle.asked_service.specs.launcher.Launch.{Ending, Launched, Wanted, launch}
+use Rattle.asked_service.specs.launcher.Launch.{LaunchOutcome, Launched, Wanted, launch}
 use Rattle.asked_service.specs.launcher.Launches.{AreRead}
 use Rattle.asked_service.specs.launcher.LaunchesAlike.{AreInstalled}
 use Rattle.asked_service.specs.launcher.Matching.{AreMatching}
@@ -71,7 +71,7 @@ use Rattle.trace_profile.specs.Names.{AreNames, without}
 use Rattle.trace_profile.specs.Only.{LeastIsOnlyOne}
 use Rattle.trace_profile.specs.PlainNames.{HasPlainNames, IsBesideDefault}
 use Rattle.trace_profile.specs.Scripts.{first_seccomp}
-use Rattle.trace_profile.proofs.AllowedNames.{action_is, as_either, as_with_it, is_let_through, said_list}
+use Rattle.trace_profile.proofs.AllowedNames.{action_is, as_either, as_with_it, is_added, is_let_through, rest_in, said_list}
 use Rattle.trace_profile.proofs.AsEither.{HasPrograms, gives, installed_same, programs_either, same_long, with_list}
 use Rattle.trace_profile.proofs.ExtendedUnit.{adds_calls, filters_are, tails_are}
 use Rattle.trace_profile.proofs.Lists.{every_are_names, some_are_names}
@@ -92,44 +92,51 @@ module _ (unit : Resolved) (table : calls.Table) (site : Site) (sound : IsSite s
     longer = extended unit table names
 
     mentions : List Mention
-    mentions = (said_list table plain.plain names).mentions
+    mentions = (said_list table plain.plain unit.systemd names).mentions
 
     filters : unit_filters longer table ≡ with_list table base mentions
-    unfolding base mentions
+    unfolding base mentions unit_filters
     filters = filters_are unit table plain.plain names first
         (subst (λ (tail : List ℕ). length (codes "@default" ++ tail) ≤ 1048576) (tails_are table names) (plain.short names are))
 
-    program : unit_program longer ≡ unit_program unit
-    program = but.program unit _ (adds_calls unit table plain.plain names first)
+    program : unit_program longer site ≡ unit_program unit site
+    program = but.program unit _ (adds_calls unit table plain.plain names first) site
 
-    identity : identity_of longer site (is_dynamic longer) ≡ identity_of unit site (is_dynamic unit)
+    identity : unit_identity longer site ≡ unit_identity unit site
     identity = but.runs_as unit _ (adds_calls unit table plain.plain names first) site
 
     bounding : unit_bounding longer table ≡ unit_bounding unit table
     bounding = but.bounding unit _ (adds_calls unit table plain.plain names first) table
 
-    ambient : ambient_of longer ≡ ambient_of unit
-    ambient = but.ambient unit _ (adds_calls unit table plain.plain names first)
+    ambient : unit_ambient longer table ≡ unit_ambient unit table
+    ambient = but.ambient unit _ (adds_calls unit table plain.plain names first) table
 
     paths : unit_mentions longer site ≡ unit_mentions unit site
     paths = but.mentions unit _ (adds_calls unit table plain.plain names first) site
 
     privileges : (uid : ℕ) → unit_new_privileges longer table uid
-        ≡ is_in_effect (sets_new_privileges unit) (has_filter (with_list table base mentions) table) uid (ambient_of unit)
+        ≡ is_in_effect_in unit.systemd (sets_new_privileges unit) (has_filter (with_list table base mentions) table)
+        (has_filter (with_list table base mentions) table || counts_as_filter unit) uid (unit_ambient unit table)
     privileges uid =
-        ap (λ on. is_in_effect on (has_filter (unit_filters longer table) table) uid (ambient_of longer))
+        ap (λ on. is_in_effect_in unit.systemd on (has_filter (unit_filters longer table) table)
+        (has_filter (unit_filters longer table) table || counts_as_filter longer) uid (unit_ambient longer table))
         (but.sets unit _ (adds_calls unit table plain.plain names first))
-        ∙ ap (λ settings. is_in_effect (sets_new_privileges unit) (has_filter settings table) uid (ambient_of longer)) filters
-        ∙ ap (is_in_effect (sets_new_privileges unit) (has_filter (with_list table base mentions) table) uid) ambient
+        ∙ ap (λ settings. is_in_effect_in unit.systemd (sets_new_privileges unit) (has_filter settings table)
+        (has_filter settings table || counts_as_filter longer) uid (unit_ambient longer table)) filters
+        ∙ ap (λ on. is_in_effect_in unit.systemd (sets_new_privileges unit) (has_filter (with_list table base mentions) table)
+        (has_filter (with_list table base mentions) table || on) uid (unit_ambient longer table))
+        (but.counted unit _ (adds_calls unit table plain.plain names first))
+        ∙ ap (is_in_effect_in unit.systemd (sets_new_privileges unit) (has_filter (with_list table base mentions) table)
+        (has_filter (with_list table base mentions) table || counts_as_filter unit) uid) ambient
 
     refused : refusal_of longer table site
-        ≡ first_reason (command_refusal unit ∷ identity_refusal unit site ∷ option_map MissingGroup
+        ≡ first_reason (command_refusal unit site ∷ identity_refusal unit site ∷ option_map MissingGroup
         (missing_group table (with_list table base mentions)) ∷ paths_refusal unit ∷ [])
     unfolding group_refusal
     refused =
         but.refused unit _ (adds_calls unit table plain.plain names first) table site
         ∙ ap (λ settings. first_reason
-        (command_refusal unit ∷ identity_refusal unit site ∷ option_map MissingGroup
+        (command_refusal unit site ∷ identity_refusal unit site ∷ option_map MissingGroup
         (missing_group table settings) ∷ paths_refusal unit ∷ [])) filters
 
     -- programs that match the filters of its settings
@@ -164,7 +171,7 @@ module _ (unit : Resolved) (table : calls.Table) (site : Site) (sound : IsSite s
     same_refusal =
         refused names are
         ∙ ap (λ found. first_reason
-        (command_refusal unit ∷ identity_refusal unit site ∷ option_map MissingGroup found ∷ paths_refusal unit ∷ []))
+        (command_refusal unit site ∷ identity_refusal unit site ∷ option_map MissingGroup found ∷ paths_refusal unit ∷ []))
         (missing_same (mentions names are) (mentions others are_too))
         ∙ sym (refused others are_too)
 
@@ -175,7 +182,8 @@ module _ (unit : Resolved) (table : calls.Table) (site : Site) (sound : IsSite s
         ≡ unit_new_privileges (extended unit table others) table uid
     same_privileges uid =
         privileges names are uid
-        ∙ ap (λ (places : List Place). is_in_effect (sets_new_privileges unit) (not (length places == 0)) uid (ambient_of unit))
+        ∙ ap (λ (places : List Place). is_in_effect_in unit.systemd (sets_new_privileges unit) (not (length places == 0))
+        (not (length places == 0) || counts_as_filter unit) uid (unit_ambient unit table))
         (installed_same table base (mentions names are) (mentions others are_too))
         ∙ sym (privileges others are_too uid)
 
@@ -246,11 +254,11 @@ module _ (unit : Resolved) (table : calls.Table) (site : Site) (sound : IsSite s
     gives_by : (one : List ℕ) (are_one : AreNames table one) (name : List ℕ)
         → is_let_through table plain.plain third name ≡ is_let_through table plain.plain one name
         → gives table base (mentions third are_third) name ≡ gives table base (mentions one are_one) name
-    unfolding mentions
+    unfolding base mentions unit_filters
     gives_by one are_one name e =
-        action_is table plain.plain third (first third are_third) base.default_action name
-        ∙ ap (λ b. cond b Allowed base.default_action) e
-        ∙ sym (action_is table plain.plain one (first one are_one) base.default_action name)
+        action_is table plain.plain unit.systemd third (first third are_third) base.default_action name
+        ∙ ap (λ b. cond (b || is_added table plain.plain unit.systemd name) Allowed (rest_in table plain.plain unit.systemd base.default_action name)) e
+        ∙ sym (action_is table plain.plain unit.systemd one (first one are_one) base.default_action name)
 
     pivot_gives : (name : List ℕ) → (gives table base (mentions third are_third) name ≡ gives table base (mentions names are) name) ⊎
         (gives table base (mentions third are_third) name ≡ gives table base (mentions others are_too) name)
@@ -328,9 +336,9 @@ module _ (unit : Resolved) (table : calls.Table) (site : Site) (sound : IsSite s
         ap (λ (world : World). replies world script) (ended own.world goes.last own.steps goes.steps (sym l.launches.ends ∙ goes.ends))
         ∙ goes.replies_so same
 
-    launched_only : (last : World) (steps : ℕ) (ending : Ending) (x : Ending) → x ≡ Launched last steps → x ≡ ending
-        → Launched last steps ≡ ending
-    launched_only last steps ending x e d = sym e ∙ d
+    launched_only : (last : World) (steps : ℕ) (outcome : LaunchOutcome) (x : LaunchOutcome) → x ≡ Launched last steps → x ≡ outcome
+        → Launched last steps ≡ outcome
+    launched_only last steps outcome x e d = sym e ∙ d
 
     refused_launch : (settings : Settings) (mounts : Table) → AreSettings (extended unit table third) table site settings
         → Plans (host_of site) (unit_mentions (extended unit table third) site) (Ok mounts) → (why : LaunchRefusal)

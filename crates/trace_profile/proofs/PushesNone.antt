@@ -17,9 +17,9 @@ use Rattle.asked_service.proofs.OfCallTable.Places.{any_nowhere, or_false}
 use Rattle.asked_service.specs.call_table.Lookups.{numbered}
 use Rattle.asked_service.specs.call_table.Table.{Table, calls_in}
 use Rattle.asked_service.specs.call_table.declared.listed.CallLine.{CallLine}
-use Rattle.asked_service.specs.kernel_model.kernel_calls.Doing as d
-use Rattle.asked_service.specs.kernel_model.kernel_calls.Doing.{Asked, Does, Doing, Lacking, Misformed, asked_by, asked_if, asked_of, bare}
-use Rattle.asked_service.specs.kernel_model.kernel_calls.Doing.{by_code, by_family, by_ids, by_path, by_paths, by_sets, known_doing}
+use Rattle.asked_service.specs.kernel_model.kernel_calls.Operation as d
+use Rattle.asked_service.specs.kernel_model.kernel_calls.Operation.{Asked, Does, Operation, Lacking, Misformed, asked_by, asked_if, asked_of, bare}
+use Rattle.asked_service.specs.kernel_model.kernel_calls.Operation.{by_code, by_family, by_ids, by_path, by_paths, by_sets, known_operation}
 use Rattle.asked_service.specs.kernel_model.kernel_calls.Rules.{rule_by, rule_of}
 use Rattle.asked_service.specs.kernel_model.kernel_calls.Words.{low_word}
 use Rattle.asked_service.specs.kernel_model.declared.kernel_calls.call.Call.{Call}
@@ -30,43 +30,43 @@ use Rattle.trace_profile.specs.allow_laws.Either.{PushNone, PushesNone}
 use Rattle.trace_profile.specs.Scripts.{first_seccomp, is_seccomp}
 
 -- what a call does pushes a program
-abbrev pushing : Doing → Bool
-pushing (d.Seccomp operation flags bytes) = true
-pushing doing = false
+abbrev pushing : Operation → Bool
+pushing (d.Seccomp op flags bytes) = true
+pushing operation = false
 
 abbrev pushes : Asked → Bool
 pushes Lacking = false
 pushes Misformed = false
-pushes (Does doing) = pushing doing
+pushes (Does operation) = pushing operation
 
-bare_off : (doing : Doing) → pushing doing ≡ false → (payload : Payload) → pushes (asked_if (bare doing payload)) ≡ false
-bare_off doing off Nothing = off
-bare_off doing off (OnePath path) = refl
-bare_off doing off (TwoPaths source target) = refl
-bare_off doing off (Sets p e i) = refl
-bare_off doing off (Ids ids) = refl
-bare_off doing off (Family family) = refl
-bare_off doing off (Code bytes) = refl
+bare_off : (operation : Operation) → pushing operation ≡ false → (payload : Payload) → pushes (asked_if (bare operation payload)) ≡ false
+bare_off operation off Nothing = off
+bare_off operation off (OnePath path) = refl
+bare_off operation off (TwoPaths source target) = refl
+bare_off operation off (Sets p e i) = refl
+bare_off operation off (Ids ids) = refl
+bare_off operation off (Family family) = refl
+bare_off operation off (Code bytes) = refl
 
-path_off : (doing : Path → Doing) → ((path : Path) → pushing (doing path) ≡ false) → (payload : Payload)
-    → pushes (asked_if (by_path doing payload)) ≡ false
-path_off doing off Nothing = refl
-path_off doing off (OnePath path) = off path
-path_off doing off (TwoPaths source target) = refl
-path_off doing off (Sets p e i) = refl
-path_off doing off (Ids ids) = refl
-path_off doing off (Family family) = refl
-path_off doing off (Code bytes) = refl
+path_off : (operation : Path → Operation) → ((path : Path) → pushing (operation path) ≡ false) → (payload : Payload)
+    → pushes (asked_if (by_path operation payload)) ≡ false
+path_off operation off Nothing = refl
+path_off operation off (OnePath path) = off path
+path_off operation off (TwoPaths source target) = refl
+path_off operation off (Sets p e i) = refl
+path_off operation off (Ids ids) = refl
+path_off operation off (Family family) = refl
+path_off operation off (Code bytes) = refl
 
-paths_off : (doing : Path → Path → Doing) → ((one other : Path) → pushing (doing one other) ≡ false) → (payload : Payload)
-    → pushes (asked_if (by_paths doing payload)) ≡ false
-paths_off doing off Nothing = refl
-paths_off doing off (OnePath path) = refl
-paths_off doing off (TwoPaths source target) = off source target
-paths_off doing off (Sets p e i) = refl
-paths_off doing off (Ids ids) = refl
-paths_off doing off (Family family) = refl
-paths_off doing off (Code bytes) = refl
+paths_off : (operation : Path → Path → Operation) → ((one other : Path) → pushing (operation one other) ≡ false) → (payload : Payload)
+    → pushes (asked_if (by_paths operation payload)) ≡ false
+paths_off operation off Nothing = refl
+paths_off operation off (OnePath path) = refl
+paths_off operation off (TwoPaths source target) = off source target
+paths_off operation off (Sets p e i) = refl
+paths_off operation off (Ids ids) = refl
+paths_off operation off (Family family) = refl
+paths_off operation off (Code bytes) = refl
 
 sets_off : (payload : Payload) → pushes (asked_if (by_sets d.Capset payload)) ≡ false
 sets_off Nothing = refl
@@ -86,14 +86,14 @@ ids_off (Ids ids) = refl
 ids_off (Family family) = refl
 ids_off (Code bytes) = refl
 
-family_off : (operation : ℕ) (payload : Payload) → pushes (asked_if (by_family (d.Socketcall operation) payload)) ≡ false
-family_off operation Nothing = refl
-family_off operation (OnePath path) = refl
-family_off operation (TwoPaths source target) = refl
-family_off operation (Sets p e i) = refl
-family_off operation (Ids ids) = refl
-family_off operation (Family family) = refl
-family_off operation (Code bytes) = refl
+family_off : (op : ℕ) (payload : Payload) → pushes (asked_if (by_family (d.Socketcall op) payload)) ≡ false
+family_off op Nothing = refl
+family_off op (OnePath path) = refl
+family_off op (TwoPaths source target) = refl
+family_off op (Sets p e i) = refl
+family_off op (Ids ids) = refl
+family_off op (Family family) = refl
+family_off op (Code bytes) = refl
 
 -- a known call of this rule may push a program
 abbrev is_push : CallRule → Bool
@@ -101,7 +101,7 @@ is_push known.Seccomp = true
 is_push other = false
 
 known_off : (own : CallRule) (args : List ℕ) (payload : Payload) → is_push own ≡ false
-    → pushes (asked_if (known_doing own args payload)) ≡ false
+    → pushes (asked_if (known_operation own args payload)) ≡ false
 known_off known.See args payload off = path_off d.See (λ path. refl) payload
 known_off (known.Open flags) args payload off = path_off (d.Open (low_word args (place_of flags))) (λ path. refl) payload
 known_off known.Create args payload off = path_off d.Create (λ path. refl) payload
@@ -193,7 +193,7 @@ line_off call None e = refl
 line_off call (Some line) e = rule_off line.name line.cap call e (known_call line.name) refl
 
 call_off : (table : Table) (call : Call) → is_seccomp table call ≡ false → PushesNone table call
-call_off table call off operation flags bytes asks =
+call_off table call off op flags bytes asks =
     let e = sym (ap pushes asks) ∙ line_off call (numbered call.nr (calls_in table call.abi)) off in
     cc
 

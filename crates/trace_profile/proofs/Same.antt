@@ -10,8 +10,8 @@ use Rattle.asked_service.specs.bpf_code.Meaning.{IsCallData}
 use Rattle.asked_service.specs.bpf_code.Stack.{answer_of, answers_of, decision_by, deciding, decision_on}
 use Rattle.asked_service.specs.call_table.Table.{Abi, abi_at}
 use Rattle.asked_service.specs.kernel_model.declared.kernel_calls.call.Call.{Call}
-use Rattle.asked_service.specs.kernel_model.kernel_calls.Doing as d
-use Rattle.asked_service.specs.kernel_model.kernel_calls.Doing.{Doing, Asked, Lacking, Misformed, Does, asked_of}
+use Rattle.asked_service.specs.kernel_model.kernel_calls.Operation as d
+use Rattle.asked_service.specs.kernel_model.kernel_calls.Operation.{Operation, Asked, Lacking, Misformed, Does, asked_of}
 use Rattle.asked_service.specs.kernel_model.Effects as f
 use Rattle.asked_service.specs.kernel_model.Effects.{Effect, effect_of}
 use Rattle.asked_service.specs.kernel_model.Runs.{IsDone}
@@ -85,8 +85,8 @@ shape_answered : (programs : List (List Insn)) (world : World) (pid : ℕ) (proc
     → Shape world (own_answered programs world pid process asked)
 shape_answered programs world pid process Lacking = refused _
 shape_answered programs world pid process Misformed = refused _
-shape_answered programs world pid process (Does doing) = shape_applied world pid process
-    (effect_of (host_of world) (caller_over programs world process) doing)
+shape_answered programs world pid process (Does operation) = shape_applied world pid process
+    (effect_of (host_of world) (caller_over programs world process) operation)
 
 same_errno : (world : World) (out : Reply × World) → Shape world out → (errno : ℕ) → out.0 ≡ w.Refused errno
     → out ≡ (w.Refused errno, world)
@@ -119,44 +119,44 @@ same_decision input one other same = ap (λ (ns : List ℕ). decision_by (decidi
 
 module _ (one other : List (List Insn)) (world : World) (call : Call) (nothing : PushesNone world.calls call) where
   module _ (process : Process) where
-    doing_same : (doing : Doing) → asked_of world.calls call ≡ Does doing
-        → applied world call.pid process (effect_of (host_of world) (caller_over one world process) doing)
-        ≡ applied world call.pid process (effect_of (host_of world) (caller_over other world process) doing)
-    doing_same (d.See path) asks = refl
-    doing_same (d.Open flags path) asks = refl
-    doing_same (d.Create path) asks = refl
-    doing_same (d.Truncate path) asks = refl
-    doing_same (d.Execve path) asks = refl
-    doing_same (d.SetMode mode) asks = refl
-    doing_same (d.Map protection) asks = refl
-    doing_same (d.Protect protection) asks = refl
-    doing_same (d.Attach flags) asks = refl
-    doing_same (d.Schedule policy) asks = refl
-    doing_same (d.Personality domain) asks = refl
-    doing_same (d.Socket family) asks = refl
-    doing_same (d.Socketcall operation family) asks = refl
-    doing_same d.Enter asks = refl
-    doing_same d.Fork asks = refl
-    doing_same (d.Clone flags) asks = refl
-    doing_same (d.Unshare flags) asks = refl
-    doing_same d.Exit asks = refl
-    doing_same (d.Mount source target flags) asks = refl
-    doing_same (d.Umount path flags) asks = refl
-    doing_same (d.Setuid id) asks = refl
-    doing_same (d.Setgid id) asks = refl
-    doing_same (d.Setresuid r e s) asks = refl
-    doing_same (d.Setresgid r e s) asks = refl
-    doing_same (d.Setgroups ids) asks = refl
-    doing_same (d.Capset p e i) asks = refl
-    doing_same (d.Prctl option value third) asks = refl
-    doing_same (d.Seccomp operation flags bytes) asks = absurd (nothing operation flags bytes asks)
-    doing_same (d.Plain cap) asks = refl
+    operation_same : (operation : Operation) → asked_of world.calls call ≡ Does operation
+        → applied world call.pid process (effect_of (host_of world) (caller_over one world process) operation)
+        ≡ applied world call.pid process (effect_of (host_of world) (caller_over other world process) operation)
+    operation_same (d.See path) asks = refl
+    operation_same (d.Open flags path) asks = refl
+    operation_same (d.Create path) asks = refl
+    operation_same (d.Truncate path) asks = refl
+    operation_same (d.Execve path) asks = refl
+    operation_same (d.SetMode mode) asks = refl
+    operation_same (d.Map protection) asks = refl
+    operation_same (d.Protect protection) asks = refl
+    operation_same (d.Attach flags) asks = refl
+    operation_same (d.Schedule policy) asks = refl
+    operation_same (d.Personality domain) asks = refl
+    operation_same (d.Socket family) asks = refl
+    operation_same (d.Socketcall op family) asks = refl
+    operation_same d.Enter asks = refl
+    operation_same d.Fork asks = refl
+    operation_same (d.Clone flags) asks = refl
+    operation_same (d.Unshare flags) asks = refl
+    operation_same d.Exit asks = refl
+    operation_same (d.Mount source target flags) asks = refl
+    operation_same (d.Umount path flags) asks = refl
+    operation_same (d.Setuid id) asks = refl
+    operation_same (d.Setgid id) asks = refl
+    operation_same (d.Setresuid r e s) asks = refl
+    operation_same (d.Setresgid r e s) asks = refl
+    operation_same (d.Setgroups ids) asks = refl
+    operation_same (d.Capset p e i) asks = refl
+    operation_same (d.Prctl option value third) asks = refl
+    operation_same (d.Seccomp op flags bytes) asks = absurd (nothing op flags bytes asks)
+    operation_same (d.Plain cap) asks = refl
 
     asked_same : (asked : Asked) → asked_of world.calls call ≡ asked
         → own_answered one world call.pid process asked ≡ own_answered other world call.pid process asked
     asked_same Lacking asks = refl
     asked_same Misformed asks = refl
-    asked_same (Does doing) asks = doing_same doing asks
+    asked_same (Does operation) asks = operation_same operation asks
 
     -- one decision gives one outcome
     pub by_decision : (c : Decision) → own_decided one world call process c ≡ own_decided other world call process c

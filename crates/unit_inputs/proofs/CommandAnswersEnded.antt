@@ -5,17 +5,17 @@ use Rattle.exec_settings.specs.host_io.Calls.{Course, Whole, Faulted, Cut}
 use Rattle.exec_settings.specs.host_io.declared.writing.SinkError.{SinkError}
 use Rattle.exec_settings.specs.host_io.declared.writing.SinkError.TheVariants as sink
 use Rattle.unit_inputs.specs.command_answers.Asking.{course, course_of_run}
-use Rattle.unit_inputs.specs.command_answers.Endings.{is_whole}
+use Rattle.unit_inputs.specs.command_answers.ExitStatuses.{is_whole}
 use Rattle.unit_inputs.specs.command_answers.Laws.{GoTogether, IsAdmitted, Laws}
-use Rattle.unit_inputs.specs.command_answers.Printing.{Finishes, FinishesStop, Output, PrintsText, ending_of_put}
-use Rattle.unit_inputs.specs.declared.command_answers.ending.Ending.{Ending}
-use Rattle.unit_inputs.specs.declared.command_answers.ending.Ending.TheVariants.{Done, AboveThreshold, NoCommand, Refused, ReadFault}
-use Rattle.unit_inputs.specs.declared.command_answers.ending.Ending.TheVariants.{WriteFault, OutOfMemory, LaunchRefused, Differs}
-use Rattle.unit_inputs.specs.declared.command_answers.stop.Stop.{Stop}
-use Rattle.unit_inputs.specs.declared.command_answers.stop.Stop.TheVariants as stop
+use Rattle.unit_inputs.specs.command_answers.Printing.{Finishes, FinishesError, Output, PrintsText, status_of_put}
+use Rattle.unit_inputs.specs.declared.command_answers.exit_status.ExitStatus.{ExitStatus}
+use Rattle.unit_inputs.specs.declared.command_answers.exit_status.ExitStatus.TheVariants.{Done, AboveThreshold, NoCommand, Refused, ReadFault}
+use Rattle.unit_inputs.specs.declared.command_answers.exit_status.ExitStatus.TheVariants.{WriteFault, OutOfMemory, LaunchRefused, Differs}
+use Rattle.unit_inputs.specs.declared.command_answers.error.CommandError.{CommandError}
+use Rattle.unit_inputs.specs.declared.command_answers.error.CommandError.TheVariants as stop
 
 -- behind a whole text all was read
-pub whole_read : (ending : Ending) → IsTrue (is_whole ending) → course_of_run ending ≡ Whole
+pub whole_read : (status : ExitStatus) → IsTrue (is_whole status) → course_of_run status ≡ Whole
 whole_read Done whole = refl
 whole_read AboveThreshold whole = refl
 whole_read NoCommand whole = refl
@@ -29,27 +29,27 @@ whole_read Differs whole = refl
 -- of what holds where all was read, and then where memory ran out
 module _ (C : Course → Type 0) (cut : C Whole → C Cut) where
   -- by how the text was put
-  pub put_so : (ending : Ending) (put : Result (Unit {0}) SinkError) → IsTrue (is_whole ending) → C Whole
-      → C (course_of_run (ending_of_put put ending))
-  put_so ending (Ok u) whole held = subst C (sym (whole_read ending whole)) held
-  put_so ending (Err sink.Failed) whole held = held
-  put_so ending (Err sink.Memory) whole held = cut held
+  pub put_so : (status : ExitStatus) (put : Result (Unit {0}) SinkError) → IsTrue (is_whole status) → C Whole
+      → C (course_of_run (status_of_put put status))
+  put_so status (Ok u) whole held = subst C (sym (whole_read status whole)) held
+  put_so status (Err sink.Failed) whole held = held
+  put_so status (Err sink.Memory) whole held = cut held
 
-  pub printed_so : (ending : Ending) (text : List ℕ) (ended : Ending) (output : Output) → IsTrue (is_whole ending)
-      → PrintsText ending text ended output → C Whole → C (course_of_run ended)
-  printed_so ending text ended output whole printed held = subst (λ e. C (course_of_run e)) (sym printed.ends)
-      (put_so ending printed.put whole held)
+  pub printed_so : (status : ExitStatus) (text : List ℕ) (ended : ExitStatus) (output : Output) → IsTrue (is_whole status)
+      → PrintsText status text ended output → C Whole → C (course_of_run ended)
+  printed_so status text ended output whole printed held = subst (λ e. C (course_of_run e)) (sym printed.ends)
+      (put_so status printed.put whole held)
 
   -- by what stopped
-  pub stopped_so : (T : Type 0) (why : Stop) (ended : Ending) (output : Output) → FinishesStop why ended output
+  pub stopped_so : (T : Type 0) (why : CommandError) (ended : ExitStatus) (output : Output) → FinishesError why ended output
       → C (course {T = T} (Err why)) → C (course_of_run ended)
   stopped_so T (stop.Refused line) ended output finished held = printed_so Refused line.items ended output refl finished held
   stopped_so T stop.ReadFault ended output finished held = subst (λ e. C (course_of_run e)) (sym finished.0) held
   stopped_so T stop.Memory ended output finished held = subst (λ e. C (course_of_run e)) (sym finished.0) held
 
   -- by what was prepared
-  pub ended_so : (laws : Laws) (together : GoTogether laws) {R : Type 0} (behind : R → Ending) (text : R → List ℕ)
-      (prepared : Result R Stop) (ended : Ending) (output : Output)
+  pub ended_so : (laws : Laws) (together : GoTogether laws) {R : Type 0} (behind : R → ExitStatus) (text : R → List ℕ)
+      (prepared : Result R CommandError) (ended : ExitStatus) (output : Output)
       → IsAdmitted laws behind text prepared → Finishes behind text prepared ended output → C (course prepared) → C (course_of_run ended)
   ended_so laws together behind text (Ok ready) ended output admitted finished held =
       printed_so (behind ready) (text ready) ended output

@@ -3,18 +3,18 @@ use Rattle.std.proofs.Common.{◌≡◌, ℕ, List, Option, Some, None, Ok, Err,
 use Rattle.std.specs.Prelude.{IfSome, IsTrue}
 use Rattle.std.specs.Result.{IsErrAnd}
 use Rattle.exec_settings.specs.host_io.Files.{Files}
-use Rattle.unit_inputs.specs.command_answers.Endings.{is_answer, is_whole}
+use Rattle.unit_inputs.specs.command_answers.ExitStatuses.{is_answer, is_whole}
 use Rattle.unit_inputs.specs.command_answers.Laws.{AcceptsFiles, Admits, FileLaws, GoTogether, IsAdmitted, MayEnd, fixed_laws, laws_over}
 use Rattle.unit_inputs.specs.command_answers.Laws.{prints, refuses}
-use Rattle.unit_inputs.specs.command_answers.Stops.{Prepares}
-use Rattle.unit_inputs.specs.declared.command_answers.ending.Ending.{Ending}
-use Rattle.unit_inputs.specs.declared.command_answers.ending.Ending.TheVariants.{Done, AboveThreshold, NoCommand, Refused, ReadFault}
-use Rattle.unit_inputs.specs.declared.command_answers.ending.Ending.TheVariants.{WriteFault, OutOfMemory, LaunchRefused, Differs}
-use Rattle.unit_inputs.specs.declared.command_answers.stop.Stop.{Stop}
-use Rattle.unit_inputs.specs.declared.command_answers.stop.Stop.TheVariants as stop
+use Rattle.unit_inputs.specs.command_answers.CommandErrors.{Prepares}
+use Rattle.unit_inputs.specs.declared.command_answers.exit_status.ExitStatus.{ExitStatus}
+use Rattle.unit_inputs.specs.declared.command_answers.exit_status.ExitStatus.TheVariants.{Done, AboveThreshold, NoCommand, Refused, ReadFault}
+use Rattle.unit_inputs.specs.declared.command_answers.exit_status.ExitStatus.TheVariants.{WriteFault, OutOfMemory, LaunchRefused, Differs}
+use Rattle.unit_inputs.specs.declared.command_answers.error.CommandError.{CommandError}
+use Rattle.unit_inputs.specs.declared.command_answers.error.CommandError.TheVariants as stop
 
 -- an answer is a whole text
-pub answer_is_whole : (ending : Ending) → IsTrue (is_answer ending) → IsTrue (is_whole ending)
+pub answer_is_whole : (status : ExitStatus) → IsTrue (is_answer status) → IsTrue (is_whole status)
 answer_is_whole Done answer = refl
 answer_is_whole AboveThreshold answer = refl
 answer_is_whole NoCommand answer = refl
@@ -25,19 +25,19 @@ answer_is_whole OutOfMemory answer = cc
 answer_is_whole LaunchRefused answer = refl
 answer_is_whole Differs answer = refl
 
-refused_is_whole : (ending : Ending) → ending ≡ Refused → IsTrue (is_whole ending)
-refused_is_whole ending e = subst (λ k. IsTrue (is_whole k)) (sym e) refl
+refused_is_whole : (status : ExitStatus) → status ≡ Refused → IsTrue (is_whole status)
+refused_is_whole status e = subst (λ k. IsTrue (is_whole k)) (sym e) refl
 
 -- what holds of an error holds of a result that passes it on
-pub at_stop : {R : Type 0} (P : Result R Stop → Type 0) (result : Result R Stop) (stop : Stop) → IsErrAnd result (λ error. error ≡ stop)
+pub at_stop : {R : Type 0} (P : Result R CommandError → Type 0) (result : Result R CommandError) (stop : CommandError) → IsErrAnd result (λ error. error ≡ stop)
     → P (Err stop) → P result
 at_stop P (Ok ready) stop is holds = absurd is
 at_stop P (Err error) stop is holds = subst (λ one. P (Err one)) (sym is) holds
 
 module _ (laws : FileLaws) where
-  module _ {R : Type 0} (behind : R → Ending) (text : R → List ℕ) where
+  module _ {R : Type 0} (behind : R → ExitStatus) (text : R → List ℕ) where
     -- a stop is admitted by its line
-    pub stop_is_admitted : {T : Type 0} (P : T → Type 0) (told : Option Files) (stop : Stop)
+    pub stop_is_admitted : {T : Type 0} (P : T → Type 0) (told : Option Files) (stop : CommandError)
         → IfSome told (λ files. Prepares P (laws.refusals files) (Err stop)) → IsAdmitted (laws_over told laws) behind text (Err stop)
     stop_is_admitted P None (stop.Refused line) said = inl refl
     stop_is_admitted P (Some files) (stop.Refused line) said = refuses line.items said
@@ -51,43 +51,43 @@ module _ (laws : FileLaws) where
     ready_is_admitted None ready may said = inr may
     ready_is_admitted (Some files) ready may said = prints (behind ready) (text ready) said.0 may said.1
 
-  ends : (files : Files) (ending : Ending) (text : List ℕ) → Admits laws files ending text → MayEnd laws files ending
+  ends : (files : Files) (status : ExitStatus) (text : List ℕ) → Admits laws files status text → MayEnd laws files status
   ends files _ _ (refuses line is) = inl (refl, λ accepts. (let same : None ≡ Some line = sym accepts ∙ is in cc))
-  ends files _ _ (prints ending text accepts may printed) = inr (accepts, may)
+  ends files _ _ (prints status text accepts may printed) = inr (accepts, may)
 
-  whole : (files : Files) (ending : Ending) → ((ending : Ending) → laws.may_end ending → IsTrue (is_answer ending))
-      → MayEnd laws files ending → IsTrue (is_whole ending)
-  whole files ending answers (inl refused) = refused_is_whole ending refused.0
-  whole files ending answers (inr printed) = answer_is_whole ending (answers ending printed.1)
+  whole : (files : Files) (status : ExitStatus) → ((status : ExitStatus) → laws.may_end status → IsTrue (is_answer status))
+      → MayEnd laws files status → IsTrue (is_whole status)
+  whole files status answers (inl refused) = refused_is_whole status refused.0
+  whole files status answers (inr printed) = answer_is_whole status (answers status printed.1)
 
-  answered : (files : Files) (ending : Ending) → ((ending : Ending) → laws.may_end ending → IsTrue (is_answer ending))
-      → AcceptsFiles laws files → MayEnd laws files ending → IsTrue (is_answer ending)
-  answered files ending answers accepts (inl refused) = absurd (refused.1 accepts)
-  answered files ending answers accepts (inr printed) = answers ending printed.1
+  answered : (files : Files) (status : ExitStatus) → ((status : ExitStatus) → laws.may_end status → IsTrue (is_answer status))
+      → AcceptsFiles laws files → MayEnd laws files status → IsTrue (is_answer status)
+  answered files status answers accepts (inl refused) = absurd (refused.1 accepts)
+  answered files status answers accepts (inr printed) = answers status printed.1
 
   -- the laws go together where each ending behind what is asked is an answer
-  pub go_together : (told : Option Files) → ((ending : Ending) → laws.may_end ending → IsTrue (is_answer ending))
+  pub go_together : (told : Option Files) → ((status : ExitStatus) → laws.may_end status → IsTrue (is_answer status))
       → GoTogether (laws_over told laws)
   go_together None answers = record {
-    ends = λ ending text admitted. admitted;
-    whole = λ ending may. elim may [
-      | inl refused ↦ refused_is_whole ending refused
-      | inr printed ↦ answer_is_whole ending
-          (answers ending printed)
+    ends = λ status text admitted. admitted;
+    whole = λ status may. elim may [
+      | inl refused ↦ refused_is_whole status refused
+      | inr printed ↦ answer_is_whole status
+          (answers status printed)
     ];
-    answers = λ accepts ending may. absurd accepts;
+    answers = λ accepts status may. absurd accepts;
   }
   go_together (Some files) answers = record {
-    ends = λ ending text admitted. ends files ending text admitted;
-    whole = λ ending may. whole files ending answers may;
-    answers = λ accepts ending may. answered files ending answers accepts may;
+    ends = λ status text admitted. ends files status text admitted;
+    whole = λ status may. whole files status answers may;
+    answers = λ accepts status may. answered files status answers accepts may;
   }
 
 -- a command with one text
-pub fixed_go_together : (only : Ending) (line : List ℕ) (accepted : Type 0) → IsTrue (is_whole only)
+pub fixed_go_together : (only : ExitStatus) (line : List ℕ) (accepted : Type 0) → IsTrue (is_whole only)
     → (accepted → IsTrue (is_answer only)) → GoTogether (fixed_laws only line accepted)
 fixed_go_together only line accepted is_so answers = record {
-  ends = λ ending text admitted. admitted.0;
-  whole = λ ending e. subst (λ k. IsTrue (is_whole k)) (sym e) is_so;
-  answers = λ accepts ending e. subst (λ k. IsTrue (is_answer k)) (sym e) (answers accepts);
+  ends = λ status text admitted. admitted.0;
+  whole = λ status e. subst (λ k. IsTrue (is_whole k)) (sym e) is_so;
+  answers = λ accepts status e. subst (λ k. IsTrue (is_answer k)) (sym e) (answers accepts);
 }

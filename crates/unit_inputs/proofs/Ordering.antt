@@ -2,16 +2,16 @@
 use Rattle.std.proofs.Common.{◌≡◌, ℕ, Box, Global, List, [], ◌∷◌, ◌++◌, Option, Some, None, Result, Ok, Err, refl}
 use Rattle.std.specs.Prelude.{IfSome, IsErrOf}
 use Rattle.std.specs.Result.{IsErrAnd}
-use Rattle.exec_settings.specs.host_io.Calls.{Ask, ShelfCall, Course, Whole, Cut, Went, unless_refused}
+use Rattle.exec_settings.specs.host_io.Calls.{Ask, ShelfCall, Course, Whole, Cut, AsksExactly, unless_refused}
 use Rattle.exec_settings.specs.host_io.Files.{Files}
 use Rattle.exec_settings.proofs.OfHostIo.Calling.{all_told, told_cut}
 use Rattle.exec_settings.specs.call_table.Table.{Table}
 use Rattle.exec_settings.specs.dropin_merge.Asking.{resolve_asks}
 use Rattle.exec_settings.specs.dropin_merge.declared.resolved.Resolved.{Resolved}
 use Rattle.unit_inputs.specs.command_answers.Asking.{course, input_file, unless_told}
-use Rattle.unit_inputs.specs.command_answers.Stops.{IsAnswer, Prepares, first_refusal}
-use Rattle.unit_inputs.specs.declared.command_answers.stop.Stop.{Stop}
-use Rattle.unit_inputs.specs.declared.command_answers.stop.Stop.TheVariants.{ReadFault}
+use Rattle.unit_inputs.specs.command_answers.CommandErrors.{IsAnswer, Prepares, first_refusal}
+use Rattle.unit_inputs.specs.declared.command_answers.error.CommandError.{CommandError}
+use Rattle.unit_inputs.specs.declared.command_answers.error.CommandError.TheVariants.{ReadFault}
 use Rattle.unit_inputs.proofs.Asking.{answer_behind, answer_stops, prepared_behind, prepared_stops, told_quiet, told_quiet_stopped}
 use Rattle.unit_inputs.proofs.Asking.{told_stopped}
 use Rattle.unit_inputs.specs.Asking.{AsksInOrder, asks_with_file, input_asks, site_asks, table_asks}
@@ -22,22 +22,22 @@ use Rattle.unit_inputs.specs.declared.inputs.UnitInputs.{UnitInputs}
 
 -- whatever the files are
 pub asked_so : {S : Type 0} (asks : S → ShelfCall → S → Type 0) (told : Option Files) (wanted : List Ask) (a b : S) (how : Course)
-    → Went asks a b wanted how → AsksInOrder asks told (λ files. wanted) a b how
-asked_so asks told wanted a b how made = record { by_the_files = all_told (λ files. Went asks a b wanted how) told (λ files. made) }
+    → AsksExactly asks a b wanted how → AsksInOrder asks told (λ files. wanted) a b how
+asked_so asks told wanted a b how made = record { by_the_files = all_told (λ files. AsksExactly asks a b wanted how) told (λ files. made) }
 
 module _ {S : Type 0} (asks : S → ShelfCall → S → Type 0) (told : Option Files) (wanted : Files → List Ask) (a b : S) where
   -- what reads nothing leaves what was read
-  pub order_quiet : {T : Type 0} (result : Result T Stop) → (IsErrOf result ReadFault → ⊥) → AsksInOrder asks told wanted a b Whole
+  pub order_quiet : {T : Type 0} (result : Result T CommandError) → (IsErrOf result ReadFault → ⊥) → AsksInOrder asks told wanted a b Whole
       → AsksInOrder asks told wanted a b (course result)
   order_quiet result quiet made = record { by_the_files = told_quiet asks a b told wanted result quiet made.by_the_files }
 
   -- what stops is passed on
-  pub order_stopped : (T : Type 0) {U : Type 0} (result : Result U Stop) (why : Stop) → IsErrAnd result (λ error. error ≡ why)
+  pub order_stopped : (T : Type 0) {U : Type 0} (result : Result U CommandError) (why : CommandError) → IsErrAnd result (λ error. error ≡ why)
       → AsksInOrder asks told wanted a b (course {T = T} (Err why)) → AsksInOrder asks told wanted a b (course result)
   order_stopped T result why is made = record { by_the_files = told_stopped asks a b T told wanted result why is made.by_the_files }
 
   -- and so is a stop of what reads nothing
-  pub order_quiet_stopped : (T : Type 0) {U : Type 0} (result : Result U Stop) (why : Stop) → IsErrAnd result (λ error. error ≡ why)
+  pub order_quiet_stopped : (T : Type 0) {U : Type 0} (result : Result U CommandError) (why : CommandError) → IsErrAnd result (λ error. error ≡ why)
       → (IsErrOf {T = T} (Err why) ReadFault → ⊥) → AsksInOrder asks told wanted a b Whole
       → AsksInOrder asks told wanted a b (course result)
   order_quiet_stopped T result why is quiet made =
@@ -59,7 +59,7 @@ module _ {S : Type 0} (asks : S → ShelfCall → S → Type 0) (told : Option F
               second.by_the_files;
         }
 
-    pub order_stops : (why : Stop) → IfSome told (λ files. Prepares (P files) (refusals files) (Err why))
+    pub order_stops : (why : CommandError) → IfSome told (λ files. Prepares (P files) (refusals files) (Err why))
         → AsksInOrder asks told wanted a b (course {T = T} (Err why))
         → AsksInOrder asks told (λ files. wanted files ++ unless_told (first_refusal (refusals files)) (more files)) a b
         (course {T = T} (Err why))
@@ -77,7 +77,7 @@ module _ {S : Type 0} (asks : S → ShelfCall → S → Type 0) (told : Option F
               second.by_the_files;
         }
 
-    pub order_refused : (why : Stop) → IfSome told (λ files. IsAnswer see (Err why) (answer files))
+    pub order_refused : (why : CommandError) → IfSome told (λ files. IsAnswer see (Err why) (answer files))
         → AsksInOrder asks told wanted a b (course {T = T} (Err why))
         → AsksInOrder asks told (λ files. wanted files ++ unless_refused (answer files) (more files)) a b (course {T = T} (Err why))
     order_refused why is made = record { by_the_files = answer_stops asks a b see told wanted more answer why is made.by_the_files }
@@ -85,7 +85,7 @@ module _ {S : Type 0} (asks : S → ShelfCall → S → Type 0) (told : Option F
 module _ {S : Type 0} (asks : S → ShelfCall → S → Type 0) (told : Option Files) (unit : List ℕ) where
   -- the inputs, one behind the other
   module _ (a b : S) where
-    pub stops_at_unit : (why : Stop)
+    pub stops_at_unit : (why : CommandError)
         → IfSome told (λ files. IsAnswer {T = Box Resolved Global} (λ own. own.value) (Err why) (unit_in files unit))
         → AsksInOrder asks told (λ files. resolve_asks files unit) a b (course {T = Box Resolved Global} (Err why))
         → AsksInOrder asks told (λ files. input_asks files unit) a b (course {T = Box Resolved Global} (Err why))
@@ -104,9 +104,9 @@ module _ {S : Type 0} (asks : S → ShelfCall → S → Type 0) (told : Option F
         c between own how same said first second
 
   module _ (b c : S) where
-    pub stops_at_table : (why : Stop)
+    pub stops_at_table : (why : CommandError)
         → IfSome told (λ files. IsAnswer {T = Box Table Global} (λ own. own.value) (Err why) (calls_in files))
-        → Went asks b c table_asks (course {T = Box Table Global} (Err why))
+        → AsksExactly asks b c table_asks (course {T = Box Table Global} (Err why))
         → AsksInOrder asks told (λ files. table_asks ++ unless_refused (calls_in files) site_asks) b c
         (course {T = Box Table Global} (Err why))
     stops_at_table why said made =
@@ -114,7 +114,7 @@ module _ {S : Type 0} (asks : S → ShelfCall → S → Type 0) (told : Option F
         (asked_so asks told table_asks b c (course {T = Box Table Global} (Err why)) made)
 
     pub behind_table : (d : S) (between : Option Files) (own : Box Table Global) (how : Course) → between ≡ told
-        → IfSome told (λ files. calls_in files ≡ Ok own.value) → Went asks b c table_asks Whole → Went asks c d site_asks how
+        → IfSome told (λ files. calls_in files ≡ Ok own.value) → AsksExactly asks b c table_asks Whole → AsksExactly asks c d site_asks how
         → AsksInOrder asks told (λ files. table_asks ++ unless_refused (calls_in files) site_asks) b d how
     behind_table d between own how same said first second =
         order_answered asks told (λ files. table_asks) b c (λ (own : Box Table Global). own.value) calls_in
@@ -123,7 +123,7 @@ module _ {S : Type 0} (asks : S → ShelfCall → S → Type 0) (told : Option F
 
   module _ (path : List ℕ) (a b : S) where
     -- an input is refused, and the file behind them is not read
-    pub stops_before_file : {U : Type 0} (result : Result U Stop) (why : Stop) → IsErrAnd result (λ error. error ≡ why)
+    pub stops_before_file : {U : Type 0} (result : Result U CommandError) (why : CommandError) → IsErrAnd result (λ error. error ≡ why)
         → IfSome told (λ files. Prepares (λ inputs. inputs_of files unit ≡ Some (inputs_view inputs)) (input_refusals files unit) (Err why))
         → AsksInOrder asks told (λ files. input_asks files unit) a b (course {T = UnitInputs} (Err why))
         → AsksInOrder asks told (λ files. asks_with_file files unit path) a b (course result)
@@ -135,7 +135,7 @@ module _ {S : Type 0} (asks : S → ShelfCall → S → Type 0) (told : Option F
     -- none is, and it is
     pub with_file : (c : S) (between : Option Files) (inputs : UnitInputs) (how : Course) → between ≡ told
         → IfSome told (λ files. (first_refusal (input_refusals files unit) ≡ None) × (inputs_of files unit ≡ Some (inputs_view inputs)))
-        → AsksInOrder asks told (λ files. input_asks files unit) a b Whole → Went asks b c (input_file path ∷ []) how
+        → AsksInOrder asks told (λ files. input_asks files unit) a b Whole → AsksExactly asks b c (input_file path ∷ []) how
         → AsksInOrder asks told (λ files. asks_with_file files unit path) a c how
     with_file c between inputs how same said first second =
         order_behind asks told (λ files. input_asks files unit) a b (λ files inputs. inputs_of files unit ≡ Some (inputs_view inputs))
@@ -143,10 +143,10 @@ module _ {S : Type 0} (asks : S → ShelfCall → S → Type 0) (told : Option F
         c between inputs how same said first (asked_so asks between (input_file path ∷ []) b c how second)
 
     -- it is refused, or a read failed, or memory ran out
-    pub stops_at_file : (T : Type 0) {U : Type 0} (c : S) (between : Option Files) (inputs : UnitInputs) (result : Result U Stop)
-        (why : Stop) → IsErrAnd result (λ error. error ≡ why) → between ≡ told
+    pub stops_at_file : (T : Type 0) {U : Type 0} (c : S) (between : Option Files) (inputs : UnitInputs) (result : Result U CommandError)
+        (why : CommandError) → IsErrAnd result (λ error. error ≡ why) → between ≡ told
         → IfSome told (λ files. (first_refusal (input_refusals files unit) ≡ None) × (inputs_of files unit ≡ Some (inputs_view inputs)))
-        → AsksInOrder asks told (λ files. input_asks files unit) a b Whole → Went asks b c (input_file path ∷ []) (course {T = T} (Err why))
+        → AsksInOrder asks told (λ files. input_asks files unit) a b Whole → AsksExactly asks b c (input_file path ∷ []) (course {T = T} (Err why))
         → AsksInOrder asks told (λ files. asks_with_file files unit path) a c (course result)
     stops_at_file T c between inputs result why is same said first second =
         order_stopped asks told (λ files. asks_with_file files unit path) a c T result why is

@@ -3,9 +3,9 @@ use Rattle.std.proofs.Common.{◌≡◌, ◌∙◌, ℕ, List, Option, Some, Non
 use Rattle.std.specs.Prelude.{IsErrOf, IsSome}
 use Rattle.std.specs.Result.{IsErrAnd}
 use Rattle.exec_settings.specs.host_io.Files.{Files}
-use Rattle.unit_inputs.specs.command_answers.Stops.{HasReadCause}
-use Rattle.unit_inputs.specs.declared.command_answers.stop.Stop.{Stop}
-use Rattle.unit_inputs.specs.declared.command_answers.stop.Stop.TheVariants.{ReadFault}
+use Rattle.unit_inputs.specs.command_answers.CommandErrors.{HasReadCause}
+use Rattle.unit_inputs.specs.declared.command_answers.error.CommandError.{CommandError}
+use Rattle.unit_inputs.specs.declared.command_answers.error.CommandError.TheVariants.{ReadFault}
 use Rattle.unit_inputs.proofs.FileCommands.{at_stop}
 use Rattle.unit_inputs.proofs.Refusing.{quiet}
 use Rattle.exec_settings.specs.unit_names.Cutting.{name_of}
@@ -13,7 +13,7 @@ use Rattle.unit_inputs.specs.ReadsFor.{ReadsFor}
 
 module _ {S T : Type 0} (told : S → Option Files) (faults : S → ℕ) (unit : List ℕ) (before now : S) (value : T) (reads : ReadsFor told faults unit before now (Ok value)) where
   -- whatever they answer
-  pub read_then : {U : Type 0} (result : Result U Stop) → (IsErrOf result ReadFault → ⊥) → ReadsFor told faults unit before now result
+  pub read_then : {U : Type 0} (result : Result U CommandError) → (IsErrOf result ReadFault → ⊥) → ReadsFor told faults unit before now result
   read_then result nothing = record {
     reads_for_a_name = λ e. absurd (nothing e);
     unread_without_a_name = reads.unread_without_a_name;
@@ -22,7 +22,7 @@ module _ {S T : Type 0} (told : S → Option Files) (faults : S → ℕ) (unit :
   }
 
   -- and where what stops them is passed on
-  pub read_then_stopped : {U V : Type 0} (result : Result V Stop) (why : Stop) → IsErrAnd result (λ error. error ≡ why)
+  pub read_then_stopped : {U V : Type 0} (result : Result V CommandError) (why : CommandError) → IsErrAnd result (λ error. error ≡ why)
       → (IsErrOf {T = U} (Err why) ReadFault → ⊥) → ReadsFor told faults unit before now result
   read_then_stopped result why is nothing = at_stop (ReadsFor told faults unit before now) result why is (read_then (Err why) (λ e. (let same : why ≡ ReadFault = cc in nothing (ap Err same))))
 
@@ -33,7 +33,7 @@ named (Some own) name is = refl
 
 -- behind a file that was read for a unit with a name
 module _ {S T U : Type 0} (told : S → Option Files) (faults : S → ℕ) (unit : List ℕ) (before mid now : S) (value : T) (more : U) (reads : ReadsFor told faults unit before mid (Ok value)) (name : IsSome (name_of unit)) (stays : told now ≡ told mid) (cause : HasReadCause (faults mid) (faults now) (Ok more)) where
-  pub read_behind : {V : Type 0} (result : Result V Stop) → (IsErrOf result ReadFault → ⊥) → ReadsFor told faults unit before now result
+  pub read_behind : {V : Type 0} (result : Result V CommandError) → (IsErrOf result ReadFault → ⊥) → ReadsFor told faults unit before now result
   read_behind result nothing = record {
     reads_for_a_name = λ e. absurd (nothing e);
     unread_without_a_name = λ none. absurd (none name);

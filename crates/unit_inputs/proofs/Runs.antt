@@ -4,42 +4,42 @@ use Rattle.std.specs.Prelude.{IsTrue, IsErrOf}
 use Rattle.exec_settings.specs.host_io.Causes.{Rose}
 use Rattle.exec_settings.specs.host_io.declared.writing.SinkError.{SinkError}
 use Rattle.exec_settings.specs.host_io.declared.writing.SinkError.TheVariants as sink
-use Rattle.unit_inputs.specs.command_answers.Endings.{is_whole}
+use Rattle.unit_inputs.specs.command_answers.ExitStatuses.{is_whole}
 use Rattle.unit_inputs.specs.command_answers.Laws.{GoTogether, IsAdmitted, Laws}
-use Rattle.unit_inputs.specs.command_answers.Printing.{Finishes, HasWriteCause, IsUntouched, PrintsText, PutsText, ending_of_put}
+use Rattle.unit_inputs.specs.command_answers.Printing.{Finishes, HasWriteCause, IsUntouched, PrintsText, PutsText, status_of_put}
 use Rattle.unit_inputs.specs.command_answers.Runs.{IsRun, Outside, WrotePrefix}
-use Rattle.unit_inputs.specs.command_answers.Stops.{HasReadCause}
-use Rattle.unit_inputs.specs.declared.command_answers.ending.Ending.{Ending}
-use Rattle.unit_inputs.specs.declared.command_answers.ending.Ending.TheVariants.{Refused, ReadFault, WriteFault, OutOfMemory}
-use Rattle.unit_inputs.specs.declared.command_answers.stop.Stop.{Stop}
-use Rattle.unit_inputs.specs.declared.command_answers.stop.Stop.TheVariants as stop
+use Rattle.unit_inputs.specs.command_answers.CommandErrors.{HasReadCause}
+use Rattle.unit_inputs.specs.declared.command_answers.exit_status.ExitStatus.{ExitStatus}
+use Rattle.unit_inputs.specs.declared.command_answers.exit_status.ExitStatus.TheVariants.{Refused, ReadFault, WriteFault, OutOfMemory}
+use Rattle.unit_inputs.specs.declared.command_answers.error.CommandError.{CommandError}
+use Rattle.unit_inputs.specs.declared.command_answers.error.CommandError.TheVariants as stop
 
 -- an ending that is whole is no fault
-not_whole : (ending : Ending) (kind : Ending) → IsTrue (is_whole ending) → ending ≡ kind → IsTrue (is_whole kind)
-not_whole ending kind whole e = subst (λ k. IsTrue (is_whole k)) e whole
+not_whole : (status : ExitStatus) (kind : ExitStatus) → IsTrue (is_whole status) → status ≡ kind → IsTrue (is_whole kind)
+not_whole status kind whole e = subst (λ k. IsTrue (is_whole k)) e whole
 
 module _ (laws : Laws) (together : GoTogether laws) (outside : Outside) where
   -- a whole text that is admitted
-  ran_whole : (ending : Ending) (text : List ℕ) → laws.admits ending text
+  ran_whole : (status : ExitStatus) (text : List ℕ) → laws.admits status text
       → PutsText outside.sink.taken outside.sink.puts outside.sink.before outside.sink.after text (Ok tt)
-      → outside.shelf_after ≡ outside.shelf_before → outside.sink.faults outside.sink.after ≡ outside.sink.faults outside.sink.before → IsRun laws ending outside
-  ran_whole ending text admitted puts shelf put =
-      let ends = together.ends ending text admitted in
-      let whole = together.whole ending ends in
+      → outside.shelf_after ≡ outside.shelf_before → outside.sink.faults outside.sink.after ≡ outside.sink.faults outside.sink.before → IsRun laws status outside
+  ran_whole status text admitted puts shelf put =
+      let ends = together.ends status text admitted in
+      let whole = together.whole status ends in
       record {
         prints_the_whole_text = λ w. (text, admitted, puts);
-        prints_a_prefix = inr (ending, text, Ok tt, admitted, puts);
-        ends_by_the_inputs = record { whole = λ w. ends; failed_read = λ e. (let f = not_whole ending ReadFault whole e in cc) };
+        prints_a_prefix = inr (status, text, Ok tt, admitted, puts);
+        ends_by_the_inputs = record { whole = λ w. ends; failed_read = λ e. (let f = not_whole status ReadFault whole e in cc) };
         faults_have_causes = record {
           shelf_later = omega (arith, shelf);
           sink_later = omega (arith, put);
-          read_fault = λ e. (let f = not_whole ending ReadFault whole e in cc);
-          nothing_written = λ e. (let f = not_whole ending ReadFault whole e in cc);
-          write_fault = λ e. (let f = not_whole ending WriteFault whole e in cc);
+          read_fault = λ e. (let f = not_whole status ReadFault whole e in cc);
+          nothing_written = λ e. (let f = not_whole status ReadFault whole e in cc);
+          write_fault = λ e. (let f = not_whole status WriteFault whole e in cc);
           shelf_grew = λ lt. absurd (omega (arith, shelf, lt));
           sink_grew = λ lt. absurd (omega (arith, put, lt));
         };
-        completes = λ accepted shelf_fault sink_fault. inl (together.answers accepted ending ends);
+        completes = λ accepted shelf_fault sink_fault. inl (together.answers accepted status ends);
       }
 
   -- a write that failed
@@ -102,24 +102,24 @@ module _ (laws : Laws) (together : GoTogether laws) (outside : Outside) where
   }
 
   -- by how the text was put
-  ran_by_put : (ending : Ending) (text : List ℕ) (put : Result (Unit {0}) SinkError) → laws.admits ending text
+  ran_by_put : (status : ExitStatus) (text : List ℕ) (put : Result (Unit {0}) SinkError) → laws.admits status text
       → PutsText outside.sink.taken outside.sink.puts outside.sink.before outside.sink.after text put → outside.shelf_after ≡ outside.shelf_before
       → HasWriteCause (outside.sink.faults outside.sink.before) (outside.sink.faults outside.sink.after) put
-      → IsRun laws (ending_of_put put ending) outside
-  ran_by_put ending text (Ok u) admitted takes shelf cause = ran_whole ending text admitted takes shelf cause.no_other_fault
-  ran_by_put ending text (Err sink.Failed) admitted takes shelf cause =
-      ran_cut (inr (ending, text, Err sink.Failed, admitted, takes)) shelf cause.later (cause.failed refl)
-  ran_by_put ending text (Err sink.Memory) admitted takes shelf cause =
-      ran_out (inr (ending, text, Err sink.Memory, admitted, takes)) shelf (cause.no_other_fault (λ e. cc))
+      → IsRun laws (status_of_put put status) outside
+  ran_by_put status text (Ok u) admitted takes shelf cause = ran_whole status text admitted takes shelf cause.no_other_fault
+  ran_by_put status text (Err sink.Failed) admitted takes shelf cause =
+      ran_cut (inr (status, text, Err sink.Failed, admitted, takes)) shelf cause.later (cause.failed refl)
+  ran_by_put status text (Err sink.Memory) admitted takes shelf cause =
+      ran_out (inr (status, text, Err sink.Memory, admitted, takes)) shelf (cause.no_other_fault (λ e. cc))
 
-  ran_text : (ending : Ending) (text : List ℕ) (ended : Ending) → laws.admits ending text → PrintsText ending text ended outside.sink
+  ran_text : (status : ExitStatus) (text : List ℕ) (ended : ExitStatus) → laws.admits status text → PrintsText status text ended outside.sink
       → outside.shelf_after ≡ outside.shelf_before → IsRun laws ended outside
-  ran_text ending text ended admitted printed shelf =
+  ran_text status text ended admitted printed shelf =
       subst (λ e. IsRun laws e outside) (sym printed.ends)
-      (ran_by_put ending text printed.put admitted printed.puts_the_text shelf printed.cause)
+      (ran_by_put status text printed.put admitted printed.puts_the_text shelf printed.cause)
 
   -- a command that is prepared and then finished runs by its laws
-  pub ran : {R : Type 0} (behind : R → Ending) (text : R → List ℕ) (prepared : Result R Stop) (ended : Ending)
+  pub ran : {R : Type 0} (behind : R → ExitStatus) (text : R → List ℕ) (prepared : Result R CommandError) (ended : ExitStatus)
       → IsAdmitted laws behind text prepared → (IsErrOf prepared stop.ReadFault → laws.reads)
       → HasReadCause outside.shelf_before outside.shelf_after prepared → Finishes behind text prepared ended outside.sink
       → IsRun laws ended outside

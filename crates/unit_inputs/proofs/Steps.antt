@@ -2,9 +2,9 @@
 use Rattle.std.proofs.Common.{◌≡◌, ℕ, Option, Some, None, List, ◌++◌, Result, Ok, Err, sym, ap, ◌∙◌}
 use Rattle.std.specs.Prelude.{IfSome}
 use Rattle.exec_settings.specs.host_io.Files.{Files}
-use Rattle.unit_inputs.specs.command_answers.Stops.{Prepares, first_refusal}
-use Rattle.unit_inputs.specs.declared.command_answers.stop.Stop.{Stop}
-use Rattle.unit_inputs.specs.declared.command_answers.stop.Stop.TheVariants as stop
+use Rattle.unit_inputs.specs.command_answers.CommandErrors.{Prepares, first_refusal}
+use Rattle.unit_inputs.specs.declared.command_answers.error.CommandError.{CommandError}
+use Rattle.unit_inputs.specs.declared.command_answers.error.CommandError.TheVariants as stop
 use Rattle.unit_inputs.proofs.Refusing.{behind_none, stops_before}
 use Rattle.unit_inputs.specs.Inputs.{Inputs, input_refusals, inputs_of, inputs_view}
 use Rattle.unit_inputs.specs.declared.inputs.UnitInputs.{UnitInputs}
@@ -24,7 +24,7 @@ refusals_with files unit some more inputs none is =
     ∙ ap (λ found. first_refusal (refusals_by more found)) is
 
 -- inputs that are read, and then their settings
-pub settled : (told : Option Files) (unit : List ℕ) (inputs : UnitInputs) (result : Result SettledUnit Stop)
+pub settled : (told : Option Files) (unit : List ℕ) (inputs : UnitInputs) (result : Result SettledUnit CommandError)
     → IfSome told (λ files. AreRead files unit inputs) → Prepares
     (λ one. (one.inputs ≡ inputs) × AreSettled (inputs_view inputs) one.settings.value) (refusals_of unit (inputs_view inputs)) result
     → IfSome told (λ files. Prepares (λ one. inputs_of files unit ≡ Some (inputs_view one.inputs)) (unit_refusals files unit) result)
@@ -37,7 +37,7 @@ settled (Some files) unit inputs (Err stop.Memory) read settles = tt
 
 -- an input is refused, whatever may be refused behind them
 pub stops_at_inputs : {U : Type 0} (P : Files → UnitInputs → Type 0) (Q : Files → U → Type 0) (told : Option Files) (unit : List ℕ)
-    (more : Files → List (Option (List ℕ))) (why : Stop)
+    (more : Files → List (Option (List ℕ))) (why : CommandError)
     → IfSome told (λ files. Prepares (P files) (input_refusals files unit) (Err why))
     → IfSome told (λ files. Prepares (Q files) (input_refusals files unit ++ more files) (Err why))
 stops_at_inputs P Q None unit more why said = tt

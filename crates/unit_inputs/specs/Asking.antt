@@ -1,11 +1,11 @@
 -- The calls by which the inputs of a command on a unit are read, in their order. Each answer is judged before the next call.
 use Rattle.std.specs.Prelude.{ℕ, List, [], ◌∷◌, ◌++◌, IfSome, Option}
-use Rattle.exec_settings.specs.host_io.Calls.{Ask, ShelfCall, Course, Went, unless_refused}
+use Rattle.exec_settings.specs.host_io.Calls.{Ask, ShelfCall, Course, AsksExactly, unless_refused}
 use Rattle.exec_settings.specs.host_io.Files.{Files}
 use Rattle.exec_settings.specs.dropin_merge.Asking.{resolve_asks}
 use Rattle.unit_inputs.specs.command_answers.Asking.{input_file, unless_told}
 use Rattle.unit_inputs.specs.command_answers.ReadFiles.{table_path}
-use Rattle.unit_inputs.specs.command_answers.Stops.{first_refusal}
+use Rattle.unit_inputs.specs.command_answers.CommandErrors.{first_refusal}
 use Rattle.unit_inputs.specs.CallsRefusals.{calls_in}
 use Rattle.unit_inputs.specs.Inputs.{input_refusals}
 use Rattle.unit_inputs.specs.SiteRefusals.{site_path}
@@ -14,7 +14,7 @@ use Rattle.unit_inputs.specs.UnitRefusals.{unit_in}
 -- From one state of the shelf to another exactly the calls were made that the files want, in this order, as far as reading went;
 -- where the shelf tells its files.
 pub record AsksInOrder {S : Type 0} (asks : S → ShelfCall → S → Type 0) (told : Option Files) (wanted : Files → List Ask) (before now : S) (how : Course) : Type 0 where
-  pub by_the_files : IfSome told (λ files. Went asks before now (wanted files) how)
+  pub by_the_files : IfSome told (λ files. AsksExactly asks before now (wanted files) how)
 
 -- calls.txt alone, and site.toml alone
 abbrev pub table_asks : List Ask

@@ -12,7 +12,7 @@ use Rattle.exec_settings.specs.call_table.declared.causes.CallsError.TheVariants
 use Rattle.unit_inputs.specs.command_answers.ReadFiles.{table_path}
 use Rattle.unit_inputs.specs.command_answers.Refusals.{refused_line}
 use Rattle.unit_inputs.specs.FileRefusals.{bytes_in}
-use Rattle.unit_inputs.specs.command_answers.Stops.{and_then, or_line}
+use Rattle.unit_inputs.specs.command_answers.CommandErrors.{and_then, or_line}
 
 -- the first faulty line, from 1, and why
 abbrev pub line_cause : ℕ → CallsCause → List ℕ

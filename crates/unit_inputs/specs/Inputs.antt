@@ -2,9 +2,10 @@
 use Rattle.std.specs.Prelude.{ℕ, List, [], ◌∷◌, Option, Some, None, Result, Ok, Err}
 use Rattle.exec_settings.specs.host_io.Files.{Files}
 use Rattle.exec_settings.specs.call_table.Table.{Table}
+use Rattle.exec_settings.specs.dropin_merge.Changed.{read_by}
 use Rattle.exec_settings.specs.dropin_merge.declared.resolved.Resolved.{Resolved}
 use Rattle.exec_settings.specs.site_table.Table.{Site}
-use Rattle.unit_inputs.specs.command_answers.Stops.{refusal_in}
+use Rattle.unit_inputs.specs.command_answers.CommandErrors.{refusal_in}
 use Rattle.unit_inputs.specs.declared.inputs.UnitInputs.{UnitInputs}
 use Rattle.unit_inputs.specs.CallsRefusals.{calls_in}
 use Rattle.unit_inputs.specs.SiteRefusals.{site_in}
@@ -23,9 +24,9 @@ pub record Inputs : Type 0 where
 abbrev pub inputs_view : UnitInputs → Inputs
 inputs_view inputs = record { unit = inputs.unit.value; calls = inputs.calls.value; site = inputs.site.value }
 
--- all three, where none is refused
+-- all three, where none is refused. The unit is read by the systemd that the site says
 abbrev pub all_three : Result Resolved (List ℕ) → Result Table (List ℕ) → Result Site (List ℕ) → Option Inputs
-all_three (Ok unit) (Ok calls) (Ok site) = Some (record { unit = unit; calls = calls; site = site })
+all_three (Ok unit) (Ok calls) (Ok site) = Some (record { unit = read_by site.systemd unit; calls = calls; site = site })
 all_three (Err line) calls site = None
 all_three (Ok unit) (Err line) site = None
 all_three (Ok unit) (Ok calls) (Err line) = None

@@ -10,7 +10,7 @@ use Rattle.exec_settings.specs.site_table.declared.error.SiteError.{SiteError}
 use Rattle.exec_settings.specs.site_table.declared.error.SiteError.TheVariants.{NotToml, Top, TooMany, Row, User, Group, Memory}
 use Rattle.unit_inputs.specs.command_answers.Refusals.{refused_line}
 use Rattle.unit_inputs.specs.FileRefusals.{bytes_in}
-use Rattle.unit_inputs.specs.command_answers.Stops.{and_then, or_line}
+use Rattle.unit_inputs.specs.command_answers.CommandErrors.{and_then, or_line}
 
 abbrev pub site_path : List ℕ
 site_path = codes "site.toml"

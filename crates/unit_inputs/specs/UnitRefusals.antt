@@ -10,9 +10,9 @@ use Rattle.exec_settings.specs.dropin_merge.declared.errors.ResolveError.TheVari
 use Rattle.exec_settings.specs.dropin_merge.declared.errors.ResolveError.TheVariants.{ReadFault, Memory}
 use Rattle.exec_settings.specs.dropin_merge.declared.resolved.Resolved.{Resolved}
 use Rattle.unit_inputs.specs.command_answers.Refusals.{refused_line}
-use Rattle.unit_inputs.specs.command_answers.Stops.{or_line}
-use Rattle.unit_inputs.specs.declared.command_answers.stop.Stop.{Stop}
-use Rattle.unit_inputs.specs.declared.command_answers.stop.Stop.TheVariants as stop
+use Rattle.unit_inputs.specs.command_answers.CommandErrors.{or_line}
+use Rattle.unit_inputs.specs.declared.command_answers.error.CommandError.{CommandError}
+use Rattle.unit_inputs.specs.declared.command_answers.error.CommandError.TheVariants as stop
 use Rattle.exec_settings.specs.unit_names.Cutting.{name_of}
 
 -- why the text of a file is refused
@@ -38,7 +38,7 @@ abbrev pub unit_in : Files → List ℕ → Result Resolved (List ℕ)
 unit_in files unit = or_line (unit_line unit) (resolved_of files unit)
 
 -- a text is a name, or it is told to be none
-abbrev pub HasNameOrTells : List ℕ → Result (Unit {0}) Stop → Type 0
+abbrev pub HasNameOrTells : List ℕ → Result (Unit {0}) CommandError → Type 0
 HasNameOrTells unit (Ok u) = IsSome (name_of unit)
 HasNameOrTells unit (Err (stop.Refused line)) = (name_of unit ≡ None) × (line.items ≡ refused_line unit (codes "bad-name"))
 HasNameOrTells unit (Err stop.ReadFault) = ⊥

@@ -1,5 +1,5 @@
 pub mod Asking
-pub mod Endings
+pub mod ExitStatuses
 pub mod Laws
 pub mod Lines
 pub mod Printing
@@ -7,5 +7,5 @@ pub mod ReadFiles
 pub mod ReadyTexts
 pub mod Refusals
 pub mod Runs
-pub mod Stops
+pub mod CommandErrors
 pub mod Said

@@ -1,12 +1,12 @@
 // The table of system calls, with the lines of its refusals.
 ghost use Rattle.std.specs.Prelude.{◌≡◌, IfOk, IfSome, IsErrOf};
-ghost use Rattle.exec_settings.specs.host_io.Calls.{Went};
+ghost use Rattle.exec_settings.specs.host_io.Calls.{AsksExactly};
 ghost use Rattle.unit_inputs.specs.command_answers.Asking.{course};
-ghost use Rattle.unit_inputs.specs.command_answers.Stops.{HasReadCause, IsAnswer};
+ghost use Rattle.unit_inputs.specs.command_answers.CommandErrors.{HasReadCause, IsAnswer};
 ghost use Rattle.unit_inputs.specs.Asking.{table_asks};
 ghost use Rattle.unit_inputs.specs.CallsRefusals.{calls_cause, calls_in, calls_line, calls_said, line_cause, no_call};
 
-use crate::command_answers::{Stop, TABLE_PATH, boxed, refuse, refused_line};
+use crate::command_answers::{CommandError, TABLE_PATH, boxed, refuse, refused_line};
 use crate::files::read_input;
 use exec_settings::{CallTable, CallsCause, CallsError, push_word, read_calls};
 use host_io::Shelf;
@@ -51,21 +51,21 @@ fn calls_line(alloc: Global, error: &CallsError) -> Result<Vec<u8>, AllocError>
 }
 
 // The table that the bytes of calls.txt give.
-fn table_of_bytes(alloc: Global, bytes: &[u8]) -> Result<Box<CallTable>, Stop>
+fn table_of_bytes(alloc: Global, bytes: &[u8]) -> Result<Box<CallTable>, CommandError>
     ensures says { IsAnswer (λ table. table.value) result (calls_said bytes.now) }
-    ensures reads_nothing { IsErrOf result Stop.ReadFault → ⊥ }
+    ensures reads_nothing { IsErrOf result CommandError.ReadFault → ⊥ }
 {
     match read_calls(alloc, bytes) {
         Ok(table) => boxed(alloc, table),
-        Err(CallsError::Memory) => Err(Stop::Memory),
+        Err(CallsError::Memory) => Err(CommandError::Memory),
         Err(error) => Err(refuse(calls_line(alloc, &error))),
     }
 }
 
 /// The table of calls.txt.
-pub fn read_table<S: Shelf>(alloc: Global, shelf: &mut S) -> Result<Box<CallTable>, Stop>
+pub fn read_table<S: Shelf>(alloc: Global, shelf: &mut S) -> Result<Box<CallTable>, CommandError>
     ensures reads_the_table { IfSome (S.told shelf.old) (λ files. IsAnswer (λ table. table.value) result (calls_in files)) }
-    ensures asks_for_it { Went S.asks shelf.old shelf.new table_asks (course result) }
+    ensures asks_for_it { AsksExactly S.asks shelf.old shelf.new table_asks (course result) }
     ensures map_stays { S.told shelf.new ≡ S.told shelf.old }
     ensures fault_rose { HasReadCause (S.faults shelf.old) (S.faults shelf.new) result }
 {

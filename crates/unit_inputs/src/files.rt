@@ -1,18 +1,22 @@
 // The bytes of a file that has to be there.
 ghost use Rattle.std.specs.Prelude.{◌≡◌, ◌∷◌, [], IfSome};
-ghost use Rattle.exec_settings.specs.host_io.Calls.{Went};
+ghost use Rattle.exec_settings.specs.host_io.Calls.{AsksExactly};
 ghost use Rattle.unit_inputs.specs.command_answers.Asking.{course, input_file};
-ghost use Rattle.unit_inputs.specs.command_answers.Stops.{HasReadCause, IsAnswer};
+ghost use Rattle.unit_inputs.specs.command_answers.CommandErrors.{HasReadCause, IsAnswer};
 ghost use Rattle.unit_inputs.specs.FileRefusals.{bytes_in};
 
-use crate::command_answers::{FileRead, Stop, read_file, refuse, refused_line};
+use crate::command_answers::{CommandError, FileRead, read_file, refuse, refused_line};
 use host_io::Shelf;
 use std::alloc::Global;
 
 /// The bytes of a file, which is refused where it is missing or has more than 1 MiB.
-pub fn read_input<S: Shelf>(alloc: Global, shelf: &mut S, path: &str) -> Result<Vec<u8>, Stop>
+pub fn read_input<S: Shelf>(
+    alloc: Global,
+    shelf: &mut S,
+    path: &str,
+) -> Result<Vec<u8>, CommandError>
     ensures reads_the_file { IfSome (S.told shelf.old) (λ files. IsAnswer (λ bytes. bytes.items) result (bytes_in files path.now)) }
-    ensures asks_for_it { Went S.asks shelf.old shelf.new (input_file path.now ∷ []) (course result) }
+    ensures asks_for_it { AsksExactly S.asks shelf.old shelf.new (input_file path.now ∷ []) (course result) }
     ensures map_stays { S.told shelf.new ≡ S.told shelf.old }
     ensures fault_rose { HasReadCause (S.faults shelf.old) (S.faults shelf.new) result }
 {

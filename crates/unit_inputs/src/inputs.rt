@@ -1,14 +1,14 @@
 // The inputs of a command on a unit.
 ghost use Rattle.std.specs.Prelude.{◌≡◌, IfOk, IfSome, Some};
 ghost use Rattle.unit_inputs.specs.command_answers.Asking.{course};
-ghost use Rattle.unit_inputs.specs.command_answers.Stops.{Prepares};
+ghost use Rattle.unit_inputs.specs.command_answers.CommandErrors.{Prepares};
 ghost use Rattle.exec_settings.specs.unit_names.Cutting.{name_of};
 ghost use Rattle.unit_inputs.specs.Asking.{AsksInOrder, input_asks};
 ghost use Rattle.unit_inputs.specs.ReadsFor.{ReadsFor};
 ghost use Rattle.unit_inputs.specs.Inputs.{input_refusals, inputs_of, inputs_view};
 
 use crate::calls::read_table;
-use crate::command_answers::Stop;
+use crate::command_answers::CommandError;
 use crate::site::read_site;
 use crate::units::read_unit;
 use exec_settings::{CallTable, Resolved, SiteTable};
@@ -18,7 +18,7 @@ use std::alloc::Global;
 /// What a command on a unit reads.
 #[derive(Drop)]
 pub struct UnitInputs {
-    /// The unit with its files in force.
+    /// The unit with its files in force, as the systemd of the site reads it.
     pub unit: Box<Resolved>,
     /// The table of system calls, of calls.txt.
     pub calls: Box<CallTable>,
@@ -32,14 +32,19 @@ pub struct UnitInputs {
 /// order, up to the first that is refused. Each of the two tables is refused where it is missing
 /// or has more than 1 MiB, and then for what it says. A fault comes only where the shelf's count of faults rose, and
 /// only for the name of a service; without one nothing is read.
-pub fn read_inputs<S: Shelf>(alloc: Global, shelf: &mut S, unit: &str) -> Result<UnitInputs, Stop>
+pub fn read_inputs<S: Shelf>(
+    alloc: Global,
+    shelf: &mut S,
+    unit: &str,
+) -> Result<UnitInputs, CommandError>
     ensures reads_by_the_files { IfSome (S.told shelf.old) (λ files. Prepares (λ inputs. inputs_of files unit.now ≡ Some (inputs_view inputs)) (input_refusals files unit.now) result) }
     ensures names_the_unit { IfOk result (λ inputs. name_of unit.now ≡ Some inputs.unit.value.name) }
     ensures asks_in_order { AsksInOrder S.asks (S.told shelf.old) (λ files. input_asks files unit.now) shelf.old shelf.new (course result) }
     ensures reads_for_the_unit { ReadsFor S.told S.faults unit.now shelf.old shelf.new result }
 {
-    let unit = read_unit(alloc, shelf, unit)?;
+    let mut unit = read_unit(alloc, shelf, unit)?;
     let calls = read_table(alloc, shelf)?;
     let site = read_site(alloc, shelf)?;
+    unit.read_by(site.systemd());
     Ok(UnitInputs { unit, calls, site })
 }

@@ -1,13 +1,13 @@
 //! The inputs of a unit with its settings.
 ghost use Rattle.std.specs.Prelude.{◌≡◌, IfOk, IfSome, IsErrOf, Some};
 ghost use Rattle.unit_inputs.specs.command_answers.Asking.{course};
-ghost use Rattle.unit_inputs.specs.command_answers.Stops.{Prepares};
+ghost use Rattle.unit_inputs.specs.command_answers.CommandErrors.{Prepares};
 ghost use Rattle.unit_inputs.specs.Inputs.{inputs_of, inputs_view};
 ghost use Rattle.unit_inputs.specs.Asking.{AsksInOrder, input_asks};
 ghost use Rattle.unit_inputs.specs.ReadsFor.{ReadsFor};
 ghost use Rattle.unit_inputs.specs.Settled.{AreSettled, refusals_of, unit_refusals};
 
-use crate::command_answers::{Stop, boxed, refuse};
+use crate::command_answers::{CommandError, boxed, refuse};
 use crate::inputs::{UnitInputs, read_inputs};
 use crate::refusals::settings_line;
 use exec_settings::{Settings, SettingsError, settings};
@@ -24,22 +24,26 @@ pub struct SettledUnit {
 }
 
 // The settings of a unit, or the first that is refused.
-fn settings_in(alloc: Global, unit: &str, inputs: &UnitInputs) -> Result<Box<Settings>, Stop>
+fn settings_in(
+    alloc: Global,
+    unit: &str,
+    inputs: &UnitInputs,
+) -> Result<Box<Settings>, CommandError>
     ensures settles { Prepares (λ settings. AreSettled (inputs_view inputs.now) settings.value) (refusals_of unit.now (inputs_view inputs.now)) result }
-    ensures reads_nothing { IsErrOf result Stop.ReadFault → ⊥ }
+    ensures reads_nothing { IsErrOf result CommandError.ReadFault → ⊥ }
 {
     match settings(alloc, &inputs.unit, &inputs.calls, &inputs.site) {
         Ok(settings) => boxed(alloc, settings),
-        Err(SettingsError::Memory) => Err(Stop::Memory),
+        Err(SettingsError::Memory) => Err(CommandError::Memory),
         Err(error) => Err(refuse(settings_line(alloc, unit, &error))),
     }
 }
 
 /// The settings of the unit of this name, whose inputs are read already, or the line of the first setting that is refused
 /// (`exec_settings`). Nothing is read for them.
-pub fn settle(alloc: Global, unit: &str, inputs: UnitInputs) -> Result<SettledUnit, Stop>
+pub fn settle(alloc: Global, unit: &str, inputs: UnitInputs) -> Result<SettledUnit, CommandError>
     ensures settles { Prepares (λ one. (one.inputs ≡ inputs) × AreSettled (inputs_view inputs) one.settings.value) (refusals_of unit.now (inputs_view inputs)) result }
-    ensures reads_nothing { IsErrOf result Stop.ReadFault → ⊥ }
+    ensures reads_nothing { IsErrOf result CommandError.ReadFault → ⊥ }
 {
     let settings = settings_in(alloc, unit, &inputs)?;
     Ok(SettledUnit { inputs, settings })
@@ -49,7 +53,11 @@ pub fn settle(alloc: Global, unit: &str, inputs: UnitInputs) -> Result<SettledUn
 ///
 /// The first that is refused decides: an input (`read_inputs`), then a setting. A fault comes only where the shelf's count
 /// of faults rose, and only for the name of a service; without one nothing is read.
-pub fn settle_unit<S: Shelf>(alloc: Global, shelf: &mut S, unit: &str) -> Result<SettledUnit, Stop>
+pub fn settle_unit<S: Shelf>(
+    alloc: Global,
+    shelf: &mut S,
+    unit: &str,
+) -> Result<SettledUnit, CommandError>
     ensures settles_by_the_files { IfSome (S.told shelf.old) (λ files. Prepares (λ one. inputs_of files unit.now ≡ Some (inputs_view one.inputs)) (unit_refusals files unit.now) result) }
     ensures has_settings { IfOk result (λ one. AreSettled (inputs_view one.inputs) one.settings.value) }
     ensures asks_in_order { AsksInOrder S.asks (S.told shelf.old) (λ files. input_asks files unit.now) shelf.old shelf.new (course result) }

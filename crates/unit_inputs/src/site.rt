@@ -1,12 +1,12 @@
 // The site, with the lines of its refusals.
 ghost use Rattle.std.specs.Prelude.{◌≡◌, IfOk, IfSome, IsErrOf};
-ghost use Rattle.exec_settings.specs.host_io.Calls.{Went};
+ghost use Rattle.exec_settings.specs.host_io.Calls.{AsksExactly};
 ghost use Rattle.unit_inputs.specs.command_answers.Asking.{course};
-ghost use Rattle.unit_inputs.specs.command_answers.Stops.{HasReadCause, IsAnswer};
+ghost use Rattle.unit_inputs.specs.command_answers.CommandErrors.{HasReadCause, IsAnswer};
 ghost use Rattle.unit_inputs.specs.Asking.{site_asks};
 ghost use Rattle.unit_inputs.specs.SiteRefusals.{cause_word, row_cause, site_cause, site_in, site_line, site_said};
 
-use crate::command_answers::{Stop, boxed, refuse, refused_line};
+use crate::command_answers::{CommandError, boxed, refuse, refused_line};
 use crate::files::read_input;
 use exec_settings::{RowCause, SiteError, SiteTable, read_site as read_bytes};
 use host_io::Shelf;
@@ -64,21 +64,21 @@ fn site_line(alloc: Global, error: SiteError) -> Result<Vec<u8>, AllocError>
 
 // The site that the bytes of site.toml describe.
 #[tactic(auto, unfolding(crate::specs::SiteRefusals::site_said))]
-fn site_of_bytes(alloc: Global, bytes: &[u8]) -> Result<Box<SiteTable>, Stop>
+fn site_of_bytes(alloc: Global, bytes: &[u8]) -> Result<Box<SiteTable>, CommandError>
     ensures says { IsAnswer (λ site. site.value) result (site_said bytes.now) }
-    ensures reads_nothing { IsErrOf result Stop.ReadFault → ⊥ }
+    ensures reads_nothing { IsErrOf result CommandError.ReadFault → ⊥ }
 {
     match read_bytes(alloc, bytes) {
         Ok(site) => boxed(alloc, site),
-        Err(SiteError::Memory) => Err(Stop::Memory),
+        Err(SiteError::Memory) => Err(CommandError::Memory),
         Err(error) => Err(refuse(site_line(alloc, error))),
     }
 }
 
 /// The site of site.toml.
-pub fn read_site<S: Shelf>(alloc: Global, shelf: &mut S) -> Result<Box<SiteTable>, Stop>
+pub fn read_site<S: Shelf>(alloc: Global, shelf: &mut S) -> Result<Box<SiteTable>, CommandError>
     ensures reads_the_site { IfSome (S.told shelf.old) (λ files. IsAnswer (λ site. site.value) result (site_in files)) }
-    ensures asks_for_it { Went S.asks shelf.old shelf.new site_asks (course result) }
+    ensures asks_for_it { AsksExactly S.asks shelf.old shelf.new site_asks (course result) }
     ensures map_stays { S.told shelf.new ≡ S.told shelf.old }
     ensures fault_rose { HasReadCause (S.faults shelf.old) (S.faults shelf.new) result }
 {

@@ -3,13 +3,13 @@ ghost use Rattle.std.specs.Prelude.{◌≡◌, IfOk, IfSome, Some};
 ghost use Rattle.exec_settings.specs.dropin_merge.Asking.{resolve_asks};
 ghost use Rattle.unit_inputs.specs.command_answers.Asking.{course};
 ghost use Rattle.unit_inputs.specs.command_answers.Refusals.{refused_line};
-ghost use Rattle.unit_inputs.specs.command_answers.Stops.{HasReadCause, IsAnswer};
+ghost use Rattle.unit_inputs.specs.command_answers.CommandErrors.{HasReadCause, IsAnswer};
 ghost use Rattle.exec_settings.specs.unit_names.Cutting.{name_of};
 ghost use Rattle.unit_inputs.specs.Asking.{AsksInOrder};
 ghost use Rattle.unit_inputs.specs.ReadsFor.{ReadsFor};
 ghost use Rattle.unit_inputs.specs.UnitRefusals.{HasNameOrTells, text_cause, unit_in, unit_line};
 
-use crate::command_answers::{Stop, boxed, refuse, refused_line};
+use crate::command_answers::{CommandError, boxed, refuse, refused_line};
 use exec_settings::{NameError, ResolveError, Resolved, UnitError, UnitName, resolve};
 use host_io::Shelf;
 use std::alloc::{AllocError, Global};
@@ -50,18 +50,22 @@ pub fn unit_line(alloc: Global, unit: &str, refusal: &ResolveError) -> Result<Ve
 }
 
 // Whether the text is the name of a service, which no file has to be read for.
-fn check_name(alloc: Global, unit: &str) -> Result<(), Stop>
+fn check_name(alloc: Global, unit: &str) -> Result<(), CommandError>
     ensures has_a_name_or_tells { HasNameOrTells unit.now result }
 {
     match UnitName::read(alloc, unit) {
         Ok(_) => Ok(()),
         Err(NameError::BadName) => Err(refuse(refused_line(alloc, unit, b"bad-name"))),
-        Err(NameError::Memory) => Err(Stop::Memory),
+        Err(NameError::Memory) => Err(CommandError::Memory),
     }
 }
 
 // The unit of a name, with its files in force.
-fn read_files<S: Shelf>(alloc: Global, shelf: &mut S, unit: &str) -> Result<Box<Resolved>, Stop>
+fn read_files<S: Shelf>(
+    alloc: Global,
+    shelf: &mut S,
+    unit: &str,
+) -> Result<Box<Resolved>, CommandError>
     ensures resolves_by_the_files { IfSome (S.told shelf.old) (λ files. IsAnswer (λ resolved. resolved.value) result (unit_in files unit.now)) }
     ensures names_the_unit { IfOk result (λ resolved. name_of unit.now ≡ Some resolved.value.name) }
     ensures asks_in_order { AsksInOrder S.asks (S.told shelf.old) (λ files. resolve_asks files unit.now) shelf.old shelf.new (course result) }
@@ -70,14 +74,18 @@ fn read_files<S: Shelf>(alloc: Global, shelf: &mut S, unit: &str) -> Result<Box<
 {
     match resolve(alloc, shelf, unit) {
         Ok(resolved) => boxed(alloc, resolved),
-        Err(ResolveError::ReadFault) => Err(Stop::ReadFault),
-        Err(ResolveError::Memory) => Err(Stop::Memory),
+        Err(ResolveError::ReadFault) => Err(CommandError::ReadFault),
+        Err(ResolveError::Memory) => Err(CommandError::Memory),
         Err(refusal) => Err(refuse(unit_line(alloc, unit, &refusal))),
     }
 }
 
 /// The unit of a name, with its files in force. A text that is no name is refused without a read.
-pub fn read_unit<S: Shelf>(alloc: Global, shelf: &mut S, unit: &str) -> Result<Box<Resolved>, Stop>
+pub fn read_unit<S: Shelf>(
+    alloc: Global,
+    shelf: &mut S,
+    unit: &str,
+) -> Result<Box<Resolved>, CommandError>
     ensures resolves_by_the_files { IfSome (S.told shelf.old) (λ files. IsAnswer (λ resolved. resolved.value) result (unit_in files unit.now)) }
     ensures names_the_unit { IfOk result (λ resolved. name_of unit.now ≡ Some resolved.value.name) }
     ensures asks_in_order { AsksInOrder S.asks (S.told shelf.old) (λ files. resolve_asks files unit.now) shelf.old shelf.new (course result) }

@@ -1,36 +1,56 @@
 -- A value with its specifiers expanded (systemd.unit(5), Specifiers).
-use Rattle.std.specs.Prelude.{◌≡◌, ◌≤◌, ℕ, ◌==◌, nat_le, not, Bool, true, cond, Option, Some, None, List, [], ◌∷◌, length, flat_map}
+use Rattle.std.specs.Prelude.{◌≡◌, ◌≤◌, ℕ, ◌==◌, ◌&&◌, nat_le, not, Bool, true, false, cond, is_some, Option, Some, None, List, [], ◌∷◌}
+use Rattle.std.specs.Prelude.{length, flat_map}
 use Rattle.std.specs.Option.{option_map, option_and_then}
-use Rattle.std.specs.List.{list_all}
 use Rattle.std.specs.Str.{is_utf8}
 use Rattle.std.specs.Fmt.{option_append}
 use Rattle.unit_names.specs.Names.{Name}
-use Rattle.unit_names.specs.Specifiers.{percent, spelling, meaning, specifier_at}
+use Rattle.unit_names.specs.Specifiers.{percent, spelling, meaning, letter_of, specifier_at, is_kept}
+use Rattle.unit_names.specs.Versions.{is_known}
 use Rattle.unit_names.specs.declared.specifier.Specifier.{Specifier}
+use Rattle.unit_names.specs.declared.version.Version.{Version}
 
 -- the most bytes of an expanded value: systemd's limit of a line, 1 MiB (LONG_LINE_MAX)
 abbrev pub longest_value : ℕ
 longest_value = 1048576
 
--- a piece of a value: a specifier, or a byte other than `%`
+-- a piece of a value: a specifier, a byte other than `%`, a `%` with a character that makes no specifier, or a `%` at the end
 pub data Piece : Type 0 where
   specified : (specifier : Specifier) → Piece
   literal : (byte : ℕ) → Piece
+  kept : (letter : ℕ) → Piece
+  last_percent : Piece
 
--- a byte that is a piece of its own is no `%`
-abbrev pub is_piece : Piece → Bool
-is_piece (specified specifier) = true
-is_piece (literal byte) = not (byte == percent)
+-- a `%` at the end stays where the systemd is known
+abbrev pub is_last : Option Version → List Piece → Bool
+is_last systemd [] = is_known systemd
+is_last systemd (piece ∷ pieces) = false
+
+-- whether it is a piece before these: a specifier that the unit has, a byte that is no `%`; a `%` makes no specifier where systemd
+-- is known alone
+abbrev pub is_piece : Option Version → Piece → List Piece → Bool
+is_piece systemd (specified specifier) pieces = is_some (specifier_at systemd (letter_of specifier))
+is_piece systemd (literal byte) pieces = not (byte == percent)
+is_piece systemd (kept letter) pieces = is_kept systemd letter
+is_piece systemd last_percent pieces = is_last systemd pieces
+
+abbrev pub are_pieces : Option Version → List Piece → Bool
+are_pieces systemd [] = true
+are_pieces systemd (piece ∷ pieces) = is_piece systemd piece pieces && are_pieces systemd pieces
 
 -- how a piece is written
 abbrev pub piece_text : Piece → List ℕ
 piece_text (specified specifier) = spelling specifier
 piece_text (literal byte) = byte ∷ []
+piece_text (kept letter) = percent ∷ letter ∷ []
+piece_text last_percent = percent ∷ []
 
--- what a piece stands for
+-- what a piece stands for: one that is no specifier stands for itself
 abbrev pub piece_meaning : Name → Piece → Option (List ℕ)
 piece_meaning name (specified specifier) = meaning name specifier
 piece_meaning name (literal byte) = Some (byte ∷ [])
+piece_meaning name (kept letter) = Some (percent ∷ letter ∷ [])
+piece_meaning name last_percent = Some (percent ∷ [])
 
 -- what the pieces stand for, one after the other, or nothing where one of them stands for nothing
 abbrev pub pieces_meaning : Name → List Piece → Option (List ℕ)
@@ -38,9 +58,9 @@ pieces_meaning name [] = Some []
 pieces_meaning name (piece ∷ pieces) = option_append (piece_meaning name piece) (pieces_meaning name pieces)
 
 -- the value consists of pieces, each stands for something, and together they stand for this text, which is UTF-8 and not too long
-pub record Expands (name : Name) (value text : List ℕ) : Type 0 where
+pub record Expands (systemd : Option Version) (name : Name) (value text : List ℕ) : Type 0 where
   pub pieces : List Piece
-  pub well_formed : list_all is_piece pieces ≡ true
+  pub well_formed : are_pieces systemd pieces ≡ true
   pub spelled : value ≡ flat_map piece_text pieces
   pub meant : pieces_meaning name pieces ≡ Some text
   pub is_text : is_utf8 text ≡ true
@@ -51,12 +71,33 @@ abbrev pub onto_pieces : Option Piece → Option (List Piece) → Option (List P
 onto_pieces None pieces = None
 onto_pieces (Some piece) pieces = option_map (λ others. piece ∷ others) pieces
 
--- the pieces of a value, or nothing where a `%` stands last or before a character that makes no specifier
-abbrev pub pieces_of : List ℕ → Option (List Piece)
-pieces_of [] = Some []
-pieces_of (byte ∷ []) = cond (byte == percent) None (Some (literal byte ∷ []))
-pieces_of (byte ∷ next ∷ value) = cond (byte == percent) (onto_pieces (option_map specified (specifier_at next)) (pieces_of value))
-    (onto_pieces (Some (literal byte)) (pieces_of (next ∷ value)))
+-- the piece of a `%` and the character after it, which is None if it is no specifier
+abbrev pub letter_piece : Option Version → ℕ → Option Specifier → Option Piece
+letter_piece systemd letter (Some specifier) = Some (specified specifier)
+letter_piece systemd letter None = cond (is_kept systemd letter) (Some (kept letter)) None
+
+-- the piece that a `%` is with the character after it
+abbrev pub percent_piece : Option Version → ℕ → Option Piece
+percent_piece systemd letter = letter_piece systemd letter (specifier_at systemd letter)
+
+-- what these stand for
+abbrev pub letter_meaning : Option Version → Name → ℕ → Option (List ℕ)
+letter_meaning systemd name letter = option_and_then (piece_meaning name) (percent_piece systemd letter)
+
+-- what a `%` at the end stands for
+abbrev pub last_meaning : Option Version → Option (List ℕ)
+last_meaning systemd = cond (is_known systemd) (Some (percent ∷ [])) None
+
+-- the pieces of a last byte
+abbrev pub last_pieces : Option Version → ℕ → Option (List Piece)
+last_pieces systemd byte = cond (byte == percent) (cond (is_known systemd) (Some (last_percent ∷ [])) None) (Some (literal byte ∷ []))
+
+-- the pieces of a value, or nothing where a `%` and the character after it, or its end, are none
+abbrev pub pieces_of : Option Version → List ℕ → Option (List Piece)
+pieces_of systemd [] = Some []
+pieces_of systemd (byte ∷ []) = last_pieces systemd byte
+pieces_of systemd (byte ∷ next ∷ value) = cond (byte == percent) (onto_pieces (percent_piece systemd next) (pieces_of systemd value))
+    (onto_pieces (Some (literal byte)) (pieces_of systemd (next ∷ value)))
 
 -- the bytes, where they are not too many
 abbrev pub if_short : List ℕ → Option (List ℕ)
@@ -67,13 +108,13 @@ abbrev pub if_text : List ℕ → Option (List ℕ)
 if_text bytes = cond (is_utf8 bytes) (Some bytes) None
 
 -- what the pieces of a value stand for
-abbrev pub expanded_bytes : Name → List ℕ → Option (List ℕ)
-expanded_bytes name value = option_and_then (pieces_meaning name) (pieces_of value)
+abbrev pub expanded_bytes : Option Version → Name → List ℕ → Option (List ℕ)
+expanded_bytes systemd name value = option_and_then (pieces_meaning name) (pieces_of systemd value)
 
 -- the same, where it is not too long
-abbrev pub short_bytes : Name → List ℕ → Option (List ℕ)
-short_bytes name value = option_and_then if_short (expanded_bytes name value)
+abbrev pub short_bytes : Option Version → Name → List ℕ → Option (List ℕ)
+short_bytes systemd name value = option_and_then if_short (expanded_bytes systemd name value)
 
 -- the expanded value, or nothing where it cannot be expanded
-abbrev pub expansion : Name → List ℕ → Option (List ℕ)
-expansion name value = option_and_then if_text (short_bytes name value)
+abbrev pub expansion : Option Version → Name → List ℕ → Option (List ℕ)
+expansion systemd name value = option_and_then if_text (short_bytes systemd name value)

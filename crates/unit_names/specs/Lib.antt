@@ -6,3 +6,4 @@ pub mod Names
 pub mod Specifiers
 pub mod Taking
 pub mod Unescaping
+pub mod Versions

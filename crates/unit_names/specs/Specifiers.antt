@@ -1,13 +1,18 @@
 -- The specifiers that may stand in a value (systemd.unit(5), Specifiers).
-use Rattle.std.specs.Prelude.{ℕ, ◌==◌, Bool, true, false, cond, Option, Some, unwrap_or, List, [], ◌∷◌, slice_index, find, codes}
-use Rattle.std.specs.List.{after_last}
+use Rattle.std.specs.Prelude.{ℕ, ◌==◌, ◌&&◌, not, Bool, true, false, cond, is_some, Option, Some, None, unwrap_or, List, [], ◌∷◌, ◌++◌}
+use Rattle.std.specs.Prelude.{slice_index, find, codes}
+use Rattle.std.specs.List.{after_last, list_any}
+use Rattle.std.specs.Option.{option_map}
 use Rattle.unit_names.specs.Names.{Name, stem_of, text_of}
-use Rattle.unit_names.specs.Unescaping.{dash, unescaped}
+use Rattle.unit_names.specs.Unescaping.{dash, slash, unescaped}
+use Rattle.unit_names.specs.Versions.{is_known}
+use Rattle.unit_names.specs.declared.version.Version.{Version}
 use Rattle.unit_names.specs.declared.specifier.Specifier.{Specifier}
 use Rattle.unit_names.specs.declared.specifier.Specifier.TheVariants.{Percent, WholeName, Stem, Prefix, Instance, LastPart, PrefixUnescaped}
 use Rattle.unit_names.specs.declared.specifier.Specifier.TheVariants.{InstanceUnescaped, LastPartUnescaped, RuntimeFolder, StateFolder}
 use Rattle.unit_names.specs.declared.specifier.Specifier.TheVariants.{CacheFolder, LogFolder, ConfigFolder, TemporaryFolder}
-use Rattle.unit_names.specs.declared.specifier.Specifier.TheVariants.{LastingTemporaryFolder, UserName, UserNumber, HomeFolder}
+use Rattle.unit_names.specs.declared.specifier.Specifier.TheVariants.{LastingTemporaryFolder, UserName, UserNumber, HomeFolder, NamedPath}
+use Rattle.unit_names.specs.declared.specifier.Specifier.TheVariants.{GroupName, GroupNumber, Shell}
 
 -- `%`
 abbrev pub percent : ℕ
@@ -34,6 +39,10 @@ spelling LastingTemporaryFolder = percent ∷ codes "V"
 spelling UserName = percent ∷ codes "u"
 spelling UserNumber = percent ∷ codes "U"
 spelling HomeFolder = percent ∷ codes "h"
+spelling NamedPath = percent ∷ codes "f"
+spelling GroupName = percent ∷ codes "g"
+spelling GroupNumber = percent ∷ codes "G"
+spelling Shell = percent ∷ codes "s"
 
 -- the prefix after its last dash, or all of it
 abbrev pub last_part : List ℕ → List ℕ
@@ -64,6 +73,10 @@ specified_text name LastingTemporaryFolder = codes "/var/tmp"
 specified_text name UserName = codes "root"
 specified_text name UserNumber = codes "0"
 specified_text name HomeFolder = codes "/root"
+specified_text name NamedPath = unwrap_or name.instance name.prefix
+specified_text name GroupName = codes "root"
+specified_text name GroupNumber = codes "0"
+specified_text name Shell = codes "/bin/sh"
 
 -- whether it stands for an unescaped text
 abbrev pub unescapes : Specifier → Bool
@@ -72,21 +85,59 @@ unescapes InstanceUnescaped = true
 unescapes LastPartUnescaped = true
 unescapes specifier = false
 
+-- whether it stands for a path: a slash and an unescaped text
+abbrev pub is_path : Specifier → Bool
+is_path NamedPath = true
+is_path specifier = false
+
+-- a text without the slashes at its front
+abbrev pub behind_slashes : List ℕ → List ℕ
+behind_slashes [] = []
+behind_slashes (byte ∷ text) = cond (byte == slash) (behind_slashes text) (byte ∷ text)
+
+-- the path of a text: one slash in place of those at its front
+abbrev pub rooted : List ℕ → List ℕ
+rooted text = slash ∷ behind_slashes text
+
+-- what a specifier that is no path stands for, or nothing where the text cannot be unescaped
+abbrev pub plain_meaning : Name → Specifier → Option (List ℕ)
+plain_meaning name specifier =
+    cond (unescapes specifier) (unescaped (specified_text name specifier)) (Some (specified_text name specifier))
+
 -- what it stands for, or nothing where the text cannot be unescaped
 abbrev pub meaning : Name → Specifier → Option (List ℕ)
-meaning name specifier = cond (unescapes specifier) (unescaped (specified_text name specifier)) (Some (specified_text name specifier))
+meaning name specifier =
+    cond (is_path specifier) (option_map rooted (unescaped (specified_text name specifier))) (plain_meaning name specifier)
 
--- all of them
-abbrev pub specifiers : List Specifier
-specifiers =
+-- those of each unit
+abbrev pub base_specifiers : List Specifier
+base_specifiers =
     Percent ∷ WholeName ∷ Stem ∷ Prefix ∷ Instance ∷ LastPart ∷ PrefixUnescaped ∷ InstanceUnescaped ∷ LastPartUnescaped ∷ RuntimeFolder ∷
     StateFolder ∷ CacheFolder ∷ LogFolder ∷ ConfigFolder ∷ TemporaryFolder ∷ LastingTemporaryFolder ∷ UserName ∷ UserNumber ∷
     HomeFolder ∷ []
+
+-- those that a unit of a known systemd has besides
+abbrev pub further_specifiers : List Specifier
+further_specifiers = NamedPath ∷ GroupName ∷ GroupNumber ∷ Shell ∷ []
+
+-- all of a unit's
+abbrev pub specifiers : Option Version → List Specifier
+specifiers None = base_specifiers
+specifiers (Some version) = base_specifiers ++ further_specifiers
 
 -- the character after the `%`
 abbrev pub letter_of : Specifier → ℕ
 letter_of specifier = slice_index (spelling specifier) 1
 
 -- the specifier with this letter, if there is one
-abbrev pub specifier_at : ℕ → Option Specifier
-specifier_at letter = find (λ specifier. letter_of specifier == letter) specifiers
+abbrev pub specifier_at : Option Version → ℕ → Option Specifier
+specifier_at systemd letter = find (λ specifier. letter_of specifier == letter) (specifiers systemd)
+
+-- the letters of specifiers for what the running machine, its system and the unit's own files say
+abbrev pub host_letters : List ℕ
+host_letters = codes "aAbBcdDHlmMoqrRvwWyY"
+
+-- a character that makes no specifier stays as it is written, with its `%`: systemd looks a letter up in its table
+abbrev pub is_kept : Option Version → ℕ → Bool
+is_kept systemd letter =
+    (is_known systemd && not (list_any (λ host. letter == host) host_letters)) && not (is_some (specifier_at systemd letter))

@@ -7,6 +7,7 @@ use Rattle.unit_names.specs.Unescaping.{unescaped, onto}
 use Rattle.unit_names.specs.Expansion.{expanded_bytes}
 use Rattle.unit_names.specs.declared.expansion.ExpandError.{ExpandError}
 use Rattle.unit_names.specs.declared.expansion.ExpandError.TheVariants.{Specifier as Refused, Memory}
+use Rattle.unit_names.specs.declared.version.Version.{Version}
 use denote.Ref.{Bor}
 
 -- the first piece of an escaped text: its byte, and the text after it
@@ -23,12 +24,12 @@ AddsMeaning old meant (Err Refused) new = meant ≡ None
 AddsMeaning old meant (Err Memory) new = Unit {0}
 
 -- what the first piece of a value puts after some bytes, and the value after the piece
-abbrev pub TakesPiece : Name → List ℕ → List ℕ → Result (Bor (List ℕ)) ExpandError → List ℕ → Type 0
-TakesPiece name value old (Ok rest) new =
-    (option_append (Some old) (expanded_bytes name value) ≡ option_append (Some new) (expanded_bytes name rest.now)) ×
+abbrev pub TakesPiece : Option Version → Name → List ℕ → List ℕ → Result (Bor (List ℕ)) ExpandError → List ℕ → Type 0
+TakesPiece systemd name value old (Ok rest) new =
+    (option_append (Some old) (expanded_bytes systemd name value) ≡ option_append (Some new) (expanded_bytes systemd name rest.now)) ×
     (length rest.now < length value)
-TakesPiece name value old (Err Refused) new = expanded_bytes name value ≡ None
-TakesPiece name value old (Err Memory) new = Unit {0}
+TakesPiece systemd name value old (Err Refused) new = expanded_bytes systemd name value ≡ None
+TakesPiece systemd name value old (Err Memory) new = Unit {0}
 
 -- the bytes that are given
 abbrev pub GivesBytes : Option (List ℕ) → Result (Vec ℕ Global) ExpandError → Type 0

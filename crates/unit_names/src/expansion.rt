@@ -3,14 +3,17 @@
 // The pieces of a value are taken one by one; `specifier` gives the text of each.
 ghost use Rattle.std.specs.Prelude.{◌≡◌, ◌∷◌, IfOk, Some, None};
 ghost use Rattle.std.specs.String.{string_bytes};
-ghost use Rattle.unit_names.specs.Specifiers.{percent, meaning};
+ghost use Rattle.std.specs.Option.{option_map};
+ghost use Rattle.unit_names.specs.Specifiers.{percent, meaning, plain_meaning, behind_slashes, rooted, specifier_at, is_kept};
+ghost use Rattle.unit_names.specs.Unescaping.{unescaped};
 ghost use Rattle.unit_names.specs.Taking.{AddsMeaning, TakesPiece, GivesBytes, GivesText};
-ghost use Rattle.unit_names.specs.Expansion.{expansion, short_bytes, if_text};
+ghost use Rattle.unit_names.specs.Expansion.{expansion, short_bytes, if_text, letter_meaning, last_meaning};
 ghost use Rattle.unit_names.specs.declared.expansion.ExpandError.TheVariants.{Specifier as NotExpanded, Memory};
 
 use crate::name::UnitName;
-use crate::specifier::Specifier;
+use crate::specifier::{Specifier, is_kept};
 use crate::unescape::push_unescaped;
+use crate::version::Version;
 use std::alloc::{AllocError, Global};
 use thiserror::Error;
 
@@ -37,8 +40,30 @@ impl From<AllocError> for ExpandError {
     }
 }
 
+// Returns the text without the slashes at its front.
+fn behind_slashes(text: &[u8]) -> &[u8]
+    ensures { result.now ≡ behind_slashes text.now }
+{
+    let mut rest = text;
+    while let [b'/', more @ ..] = rest {
+        rest = more;
+    }
+    rest
+}
+
+// Appends the path that an escaped text stands for.
+fn push_path(alloc: Global, bytes: &mut Vec<u8>, text: &[u8]) -> Result<(), ExpandError>
+    ensures { AddsMeaning bytes.old.items (option_map rooted (unescaped text.now)) result bytes.new.items }
+{
+    let mut path = Vec::new(alloc);
+    push_unescaped(&mut path, text)?;
+    bytes.extend_from_slice(b"/")?;
+    Ok(bytes.extend_from_slice(behind_slashes(path.as_slice()))?)
+}
+
 // Appends what a specifier stands for to the bytes.
 fn push_meaning(
+    alloc: Global,
     bytes: &mut Vec<u8>,
     name: &UnitName,
     specifier: Specifier,
@@ -46,38 +71,77 @@ fn push_meaning(
     ensures { AddsMeaning bytes.old.items (meaning name.now specifier) result bytes.new.items }
 {
     let text = specifier.text(name).as_bytes();
-    if specifier.unescapes() {
+    if specifier.is_path() {
+        push_path(alloc, bytes, text)
+    } else if specifier.unescapes() {
         push_unescaped(bytes, text)
     } else {
         Ok(bytes.extend_from_slice(text)?)
     }
 }
 
-// Appends what a specifier stands for to the bytes, and gives the text after its letter.
-fn push_specifier<'a>(
+// Appends what a `%` and the character after it stand for to the bytes.
+fn push_letter(
+    alloc: Global,
     bytes: &mut Vec<u8>,
+    systemd: Option<Version>,
+    name: &UnitName,
+    letter: u8,
+) -> Result<(), ExpandError>
+    ensures { AddsMeaning bytes.old.items (letter_meaning systemd name.now letter) result bytes.new.items }
+{
+    match Specifier::with_letter(systemd, letter) {
+        Some(specifier) => push_meaning(alloc, bytes, name, specifier),
+        None if is_kept(systemd, letter) => Ok(bytes.extend_from_slice(&[b'%', letter])?),
+        None => Err(ExpandError::Specifier),
+    }
+}
+
+// Appends a `%` at the end of a value, which stays where the systemd is known.
+fn push_last_percent(bytes: &mut Vec<u8>, systemd: Option<Version>) -> Result<(), ExpandError>
+    ensures { AddsMeaning bytes.old.items (last_meaning systemd) result bytes.new.items }
+{
+    if systemd.is_none() {
+        return Err(ExpandError::Specifier);
+    }
+    Ok(bytes.extend_from_slice(b"%")?)
+}
+
+// Appends what a `%` and the character after it stand for to the bytes, and gives the text after that character.
+fn push_specifier<'a>(
+    alloc: Global,
+    bytes: &mut Vec<u8>,
+    systemd: Option<Version>,
     name: &UnitName,
     behind: &'a [u8],
 ) -> Result<&'a [u8], ExpandError>
-    ensures { TakesPiece name.now (percent ∷ behind.now) bytes.old.items result bytes.new.items }
+    ensures { TakesPiece systemd name.now (percent ∷ behind.now) bytes.old.items result bytes.new.items }
 {
-    let (letter, rest) = behind.split_first().ok_or(ExpandError::Specifier)?;
-    let specifier = Specifier::with_letter(*letter).ok_or(ExpandError::Specifier)?;
-    push_meaning(bytes, name, specifier)?;
-    Ok(rest)
+    match behind.split_first() {
+        Some((letter, rest)) => {
+            push_letter(alloc, bytes, systemd, name, *letter)?;
+            Ok(rest)
+        }
+        None => {
+            push_last_percent(bytes, systemd)?;
+            Ok(behind)
+        }
+    }
 }
 
 // Appends what a piece stands for to the bytes, and gives the text after the piece.
 fn push_piece<'a>(
+    alloc: Global,
     bytes: &mut Vec<u8>,
+    systemd: Option<Version>,
     name: &UnitName,
     first: u8,
     behind: &'a [u8],
 ) -> Result<&'a [u8], ExpandError>
-    ensures { TakesPiece name.now (first ∷ behind.now) bytes.old.items result bytes.new.items }
+    ensures { TakesPiece systemd name.now (first ∷ behind.now) bytes.old.items result bytes.new.items }
 {
     if first == b'%' {
-        push_specifier(bytes, name, behind)
+        push_specifier(alloc, bytes, systemd, name, behind)
     } else {
         bytes.extend_from_slice(&[first])?;
         Ok(behind)
@@ -85,13 +149,18 @@ fn push_piece<'a>(
 }
 
 // The bytes of an expanded value, which is given up as soon as they are too many.
-fn expanded_bytes(alloc: Global, name: &UnitName, value: &[u8]) -> Result<Vec<u8>, ExpandError>
-    ensures { GivesBytes (short_bytes name.now value.now) result }
+fn expanded_bytes(
+    alloc: Global,
+    systemd: Option<Version>,
+    name: &UnitName,
+    value: &[u8],
+) -> Result<Vec<u8>, ExpandError>
+    ensures { GivesBytes (short_bytes systemd name.now value.now) result }
 {
     let mut bytes = Vec::new(alloc);
     let mut rest = value;
     while let Some((first, behind)) = rest.split_first() {
-        rest = push_piece(&mut bytes, name, *first, behind)?;
+        rest = push_piece(alloc, &mut bytes, systemd, name, *first, behind)?;
         if bytes.len() > LONGEST_VALUE {
             return Err(ExpandError::Specifier);
         }
@@ -110,22 +179,33 @@ fn text_of(bytes: Vec<u8>) -> Result<String, ExpandError>
 }
 
 // The expanded value.
-fn expanded(alloc: Global, name: &UnitName, value: &str) -> Result<String, ExpandError>
-    ensures { GivesText (expansion name.now value.now) result }
+fn expanded(
+    alloc: Global,
+    systemd: Option<Version>,
+    name: &UnitName,
+    value: &str,
+) -> Result<String, ExpandError>
+    ensures { GivesText (expansion systemd name.now value.now) result }
 {
-    let bytes = expanded_bytes(alloc, name, value.as_bytes())?;
+    let bytes = expanded_bytes(alloc, systemd, name, value.as_bytes())?;
     text_of(bytes)
 }
 
-/// Expands the specifiers of a value. `Specifier` comes exactly if that cannot be done.
+/// Expands the specifiers of a value as this systemd does. `Specifier` comes exactly if that cannot be done.
 ///
 /// The specifiers are `%%`, `%n`, `%N`, `%p`, `%i`, `%j`, `%P`, `%I`, `%J`, `%t`, `%S`, `%C`, `%L`, `%E`, `%T`, `%V`,
-/// `%u`, `%U` and `%h` (systemd.unit(5), Specifiers). A `%` that makes none of them is refused, and so is an
-/// unescaped text whose `\x` lacks its two digits. A result is refused if it is not UTF-8 or has more than 1,048,576
-/// bytes, the longest line that systemd reads.
-pub fn expand(alloc: Global, name: &UnitName, value: &str) -> Result<String, ExpandError>
-    ensures expands_the_value { IfOk result (λ text. expansion name.now value.now ≡ Some (string_bytes text)) }
-    ensures refuses_the_value { result ≡ Err NotExpanded → expansion name.now value.now ≡ None }
+/// `%u`, `%U` and `%h`, and with a version `%f`, `%g`, `%G` and `%s` too (systemd.unit(5), Specifiers). With a version, a
+/// specifier for what the running machine says is refused, and any other `%` stays as it is written. Without one, a `%`
+/// that makes no specifier is refused. So is an unescaped text whose `\x` lacks its two digits. A result is refused if it
+/// is not UTF-8 or has more than 1,048,576 bytes, the longest line that systemd reads.
+pub fn expand(
+    alloc: Global,
+    systemd: Option<Version>,
+    name: &UnitName,
+    value: &str,
+) -> Result<String, ExpandError>
+    ensures expands_the_value { IfOk result (λ text. expansion systemd name.now value.now ≡ Some (string_bytes text)) }
+    ensures refuses_the_value { result ≡ Err NotExpanded → expansion systemd name.now value.now ≡ None }
 {
-    expanded(alloc, name, value)
+    expanded(alloc, systemd, name, value)
 }

@@ -1,9 +1,10 @@
 //! Laws of names, each the contract of a function that does nothing.
-ghost use Rattle.std.specs.Prelude.{◌≡◌, ◌↔◌, List, ℕ, Some};
+ghost use Rattle.std.specs.Prelude.{◌≡◌, ◌↔◌, List, ℕ, Option, Some};
 ghost use Rattle.unit_names.specs.Cutting.{name_of};
 ghost use Rattle.unit_names.specs.Expansion.{expansion, Expands};
 ghost use Rattle.unit_names.specs.Names.{Name, Names};
 ghost use Rattle.unit_names.specs.Unescaping.{unescaped, Unescapes};
+ghost use Rattle.unit_names.specs.declared.version.Version.{Version};
 
 /// Says what `UnitName::read` answers: the name that the text spells, if its parts are allowed.
 pub fn names_are_spelled()
@@ -13,6 +14,7 @@ pub fn names_are_spelled()
 /// Says what `expand` answers: the pieces of a value, and what they stand for together. So it is with the pieces of an escaped
 /// text, which some specifiers stand for.
 pub fn values_are_in_pieces()
-    ensures expanding_is_by_pieces { (name : Name) (value text : List ℕ) → (expansion name value ≡ Some text) ↔ Expands name value text }
+    ensures expanding_is_by_pieces { (systemd : Option Version) (name : Name) (value text : List ℕ) →
+        (expansion systemd name value ≡ Some text) ↔ Expands systemd name value text }
     ensures unescaping_is_by_pieces { (text plain : List ℕ) → (unescaped text ≡ Some plain) ↔ Unescapes text plain }
 {}

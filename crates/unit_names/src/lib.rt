@@ -1,4 +1,5 @@
-//! Reads names of services, lists the folders of their drop-ins, and expands the specifiers in their settings.
+//! Reads names of services, lists the folders of their drop-ins, and expands the specifiers in their settings. Says which
+//! versions of systemd there are.
 //!
 //! A name is read once, and then has its prefix and its instance (systemd.unit(5)). `dropin_merge` looks for the
 //! folders, and `unit_values` expands the values.
@@ -13,7 +14,9 @@ pub mod laws;
 mod name;
 mod specifier;
 mod unescape;
+mod version;
 
 pub use expansion::{ExpandError, expand};
 pub use folders::dropin_folders;
 pub use name::{NameError, UnitName};
+pub use version::Version;

@@ -2,9 +2,13 @@
 //
 // systemd.unit(5), Specifiers, has the table; `expand` puts the texts into a value.
 ghost use Rattle.std.specs.Prelude.{◌≡◌};
-ghost use Rattle.unit_names.specs.Specifiers.{specifier_at, specified_text, unescapes, instance_text, last_part};
+ghost use Rattle.unit_names.specs.Specifiers.{specifier_at, specified_text, unescapes, is_path, instance_text, last_part, is_kept};
 
 use crate::name::UnitName;
+use crate::version::Version;
+
+/// The letters of specifiers for what the running machine, its system and the files of the unit say.
+const HOST_LETTERS: &[u8] = b"aAbBcdDHlmMoqrRvwWyY";
 
 /// A specifier: `%` and a letter. The values are those of the system's manager, which runs as root.
 #[derive(Clone, Copy)]
@@ -47,12 +51,20 @@ pub enum Specifier {
     UserNumber,
     /// `%h`: the home of that user, `/root`.
     HomeFolder,
+    /// `%f`: a slash and the unescaped instance, or without an instance the unescaped prefix; slashes at its front are one.
+    NamedPath,
+    /// `%g`: the name of the group of the user of the manager, `root`.
+    GroupName,
+    /// `%G`: the number of that group, 0.
+    GroupNumber,
+    /// `%s`: the shell of that user, `/bin/sh`.
+    Shell,
 }
 
 impl Specifier {
-    /// The specifier with this letter, if there is one.
-    pub fn with_letter(letter: u8) -> Option<Specifier>
-        ensures by_letter { result ≡ specifier_at letter }
+    /// The specifier with this letter, if a unit of this systemd has one.
+    pub fn with_letter(systemd: Option<Version>, letter: u8) -> Option<Specifier>
+        ensures by_letter { result ≡ specifier_at systemd letter }
     {
         Some(match letter {
             b'%' => Specifier::Percent,
@@ -74,6 +86,10 @@ impl Specifier {
             b'u' => Specifier::UserName,
             b'U' => Specifier::UserNumber,
             b'h' => Specifier::HomeFolder,
+            b'f' if systemd.is_some() => Specifier::NamedPath,
+            b'g' if systemd.is_some() => Specifier::GroupName,
+            b'G' if systemd.is_some() => Specifier::GroupNumber,
+            b's' if systemd.is_some() => Specifier::Shell,
             _ => return None,
         })
     }
@@ -86,6 +102,13 @@ impl Specifier {
             self,
             Specifier::PrefixUnescaped | Specifier::InstanceUnescaped | Specifier::LastPartUnescaped
         )
+    }
+
+    /// Returns whether it stands for a path.
+    pub fn is_path(self) -> bool
+        ensures by_kind { result ≡ is_path self }
+    {
+        matches!(self, Specifier::NamedPath)
     }
 
     /// The text that it stands for, before it is unescaped.
@@ -109,8 +132,21 @@ impl Specifier {
             Specifier::UserName => "root",
             Specifier::UserNumber => "0",
             Specifier::HomeFolder => "/root",
+            Specifier::NamedPath => name.instance().unwrap_or(name.prefix()),
+            Specifier::GroupName => "root",
+            Specifier::GroupNumber => "0",
+            Specifier::Shell => "/bin/sh",
         }
     }
+}
+
+/// Returns whether a `%` and this character stay as they are written.
+pub fn is_kept(systemd: Option<Version>, letter: u8) -> bool
+    ensures makes_no_specifier { result ≡ is_kept systemd letter }
+{
+    systemd.is_some()
+        && !HOST_LETTERS.contains(&letter)
+        && Specifier::with_letter(systemd, letter).is_none()
 }
 
 // The instance, or nothing.

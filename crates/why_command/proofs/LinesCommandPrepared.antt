@@ -2,12 +2,12 @@
 use Rattle.std.proofs.Common.{◌≡◌, ◌∙◌, ℕ, List, Some, None, Option, Result, Ok, Err, ◌⊎◌, inl, inr, refl, sym, subst}
 use Rattle.std.specs.Prelude.{IfSome, IsTrue}
 use Rattle.judge_command.specs.host_io.Files.{Files}
-use Rattle.judge_command.specs.unit_inputs.command_answers.Endings.{is_answer}
+use Rattle.judge_command.specs.unit_inputs.command_answers.ExitStatuses.{is_answer}
 use Rattle.judge_command.specs.unit_inputs.command_answers.Laws.{AcceptsFiles, GoTogether, IsAdmitted, laws_over}
-use Rattle.judge_command.specs.unit_inputs.command_answers.Stops.{Prepares, first_refusal}
-use Rattle.judge_command.specs.unit_inputs.declared.command_answers.ending.Ending.{Ending}
-use Rattle.judge_command.specs.unit_inputs.declared.command_answers.ending.Ending.TheVariants.{Done, LaunchRefused}
-use Rattle.judge_command.specs.unit_inputs.declared.command_answers.stop.Stop.{Stop}
+use Rattle.judge_command.specs.unit_inputs.command_answers.CommandErrors.{Prepares, first_refusal}
+use Rattle.judge_command.specs.unit_inputs.declared.command_answers.exit_status.ExitStatus.{ExitStatus}
+use Rattle.judge_command.specs.unit_inputs.declared.command_answers.exit_status.ExitStatus.TheVariants.{Done, LaunchRefused}
+use Rattle.judge_command.specs.unit_inputs.declared.command_answers.error.CommandError.{CommandError}
 use Rattle.judge_command.proofs.OfUnitInputs.FileCommands.{go_together, ready_is_admitted, stop_is_admitted}
 use Rattle.judge_command.proofs.OfUnitInputs.Refusing.{stops_as}
 use Rattle.judge_command.specs.asked_service.started_units.Starting.{start_refusals}
@@ -18,31 +18,31 @@ use Rattle.judge_command.specs.asked_service.declared.unit_launch.launching.Unit
 use Rattle.judge_command.specs.unit_inputs.Settled.{refusals_by}
 use Rattle.judge_command.proofs.OfUnitInputs.Steps.{AreRead, refusals_with}
 use Rattle.judge_command.proofs.OfUnitInputs.Steps as steps
-use Rattle.judge_command.specs.unit_inputs.command_answers.ReadyTexts.{ending_of, text_of}
+use Rattle.judge_command.specs.unit_inputs.command_answers.ReadyTexts.{status_of, text_of}
 use Rattle.judge_command.specs.unit_inputs.declared.command_answers.ready_text.ReadyText.{ReadyText}
 use Rattle.why_command.specs.lines_command.Prints.{PrintsLines, TellsLaunch, TellsLines, lines_laws, lines_refusals}
 
 -- each ends as it may
-ends_so : (name : List ℕ) (inputs : Inputs) (launch : UnitLaunch) (ending : Ending) (text : List ℕ)
-    → TellsLaunch name inputs launch ending text → (ending ≡ Done) ⊎ (ending ≡ LaunchRefused)
-ends_so name inputs (Refused refusal) ending text tells = inr tells.0
-ends_so name inputs (Launched service) ending text tells = inl tells.0
+ends_so : (name : List ℕ) (inputs : Inputs) (launch : UnitLaunch) (status : ExitStatus) (text : List ℕ)
+    → TellsLaunch name inputs launch status text → (status ≡ Done) ⊎ (status ≡ LaunchRefused)
+ends_so name inputs (Refused refusal) status text tells = inr tells.0
+ends_so name inputs (Launched service) status text tells = inl tells.0
 
 module _ (told : Option Files) (unit : List ℕ) where
   -- each ending behind an answer is one
-  answered : (ending : Ending) → (lines_laws unit).may_end ending → IsTrue (is_answer ending)
-  answered ending (inl done) = subst (λ e. IsTrue (is_answer e)) (sym done) refl
-  answered ending (inr launch) = subst (λ e. IsTrue (is_answer e)) (sym launch) refl
+  answered : (status : ExitStatus) → (lines_laws unit).may_end status → IsTrue (is_answer status)
+  answered status (inl done) = subst (λ e. IsTrue (is_answer e)) (sym done) refl
+  answered status (inr launch) = subst (λ e. IsTrue (is_answer e)) (sym launch) refl
 
   pub together : GoTogether (laws_over told (lines_laws unit))
   together = go_together (lines_laws unit) told answered
 
 -- an input is refused
-pub stops_at_inputs : (P : Files → UnitInputs → Type 0) (told : Option Files) (unit : List ℕ) (stop : Stop)
+pub stops_at_inputs : (P : Files → UnitInputs → Type 0) (told : Option Files) (unit : List ℕ) (stop : CommandError)
     → IfSome told (λ files. Prepares (P files) (input_refusals files unit) (Err stop))
-    → IsAdmitted (laws_over told (lines_laws unit)) ending_of text_of (Err stop)
+    → IsAdmitted (laws_over told (lines_laws unit)) status_of text_of (Err stop)
 stops_at_inputs P told unit stop said =
-    stop_is_admitted (lines_laws unit) ending_of text_of (λ (made : ReadyText). Unit {0}) told stop
+    stop_is_admitted (lines_laws unit) status_of text_of (λ (made : ReadyText). Unit {0}) told stop
     (steps.stops_at_inputs P (λ files (made : ReadyText). Unit {0}) told unit
     (λ files. refusals_by (start_refusals unit) (inputs_of files unit)) stop said)
 
@@ -55,30 +55,30 @@ module _ (told : Option Files) (unit : List ℕ) (inputs : UnitInputs) (are : If
   behind_inputs files e = refusals_with files unit (input_refusals files unit) (start_refusals unit) (inputs_view inputs)
       (read_is files e).0 (read_is files e).1
 
-  admitted : (result : Result ReadyText Stop) → Prepares (λ made. TellsLines unit (inputs_view inputs) (ending_of made) (text_of made))
-      (start_refusals unit (inputs_view inputs)) result → IsAdmitted (laws_over told (lines_laws unit)) ending_of text_of result
-  admitted (Err why) answers = stop_is_admitted (lines_laws unit) ending_of text_of
-      (λ made. TellsLines unit (inputs_view inputs) (ending_of made) (text_of made)) told why (at told refl)
+  admitted : (result : Result ReadyText CommandError) → Prepares (λ made. TellsLines unit (inputs_view inputs) (status_of made) (text_of made))
+      (start_refusals unit (inputs_view inputs)) result → IsAdmitted (laws_over told (lines_laws unit)) status_of text_of result
+  admitted (Err why) answers = stop_is_admitted (lines_laws unit) status_of text_of
+      (λ made. TellsLines unit (inputs_view inputs) (status_of made) (text_of made)) told why (at told refl)
     where
       at : (own : Option Files) → told ≡ own
-          → IfSome own (λ files. Prepares (λ made. TellsLines unit (inputs_view inputs) (ending_of made) (text_of made))
+          → IfSome own (λ files. Prepares (λ made. TellsLines unit (inputs_view inputs) (status_of made) (text_of made))
           (lines_refusals files unit) (Err why))
       at None e = tt
       at (Some files) e =
-          stops_as (λ made. TellsLines unit (inputs_view inputs) (ending_of made) (text_of made)) why
+          stops_as (λ made. TellsLines unit (inputs_view inputs) (status_of made) (text_of made)) why
           (start_refusals unit (inputs_view inputs)) (lines_refusals files unit) (behind_inputs files e) answers
-  admitted (Ok made) answers = ready_is_admitted (lines_laws unit) ending_of text_of told made
-      (ends_so unit (inputs_view inputs) answers.1.launch (ending_of made) (text_of made) answers.1.tells) (printed told refl)
+  admitted (Ok made) answers = ready_is_admitted (lines_laws unit) status_of text_of told made
+      (ends_so unit (inputs_view inputs) answers.1.launch (status_of made) (text_of made) answers.1.tells) (printed told refl)
     where
       printed : (own : Option Files) → told ≡ own → IfSome own
-          (λ files. AcceptsFiles (lines_laws unit) files × PrintsLines files unit (ending_of made) (text_of made))
+          (λ files. AcceptsFiles (lines_laws unit) files × PrintsLines files unit (status_of made) (text_of made))
       printed None e = tt
       printed (Some files) e = (behind_inputs files e ∙ answers.0, record { inputs = inputs_view inputs; inputs_are = (read_is files e).1; tells = answers.1 })
 
   -- also where the inputs are lent
-  pub admitted_as : (own : Inputs) → own ≡ inputs_view inputs → (result : Result ReadyText Stop)
-      → Prepares (λ made. TellsLines unit own (ending_of made) (text_of made)) (start_refusals unit own) result
-      → IsAdmitted (laws_over told (lines_laws unit)) ending_of text_of result
+  pub admitted_as : (own : Inputs) → own ≡ inputs_view inputs → (result : Result ReadyText CommandError)
+      → Prepares (λ made. TellsLines unit own (status_of made) (text_of made)) (start_refusals unit own) result
+      → IsAdmitted (laws_over told (lines_laws unit)) status_of text_of result
   admitted_as own same result answers =
-      admitted result (subst (λ (these : Inputs). Prepares (λ made. TellsLines unit these (ending_of made) (text_of made))
+      admitted result (subst (λ (these : Inputs). Prepares (λ made. TellsLines unit these (status_of made) (text_of made))
       (start_refusals unit these) result) same answers)

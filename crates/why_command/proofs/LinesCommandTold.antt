@@ -1,9 +1,9 @@
 -- What is told of a launched service, and what is ready behind a launch.
 use Rattle.std.proofs.Common.{◌≡◌, ℕ, List, Result, Ok, Err, map, subst}
 use Rattle.std.specs.List.{All}
-use Rattle.judge_command.specs.unit_inputs.command_answers.Stops.{Prepares}
-use Rattle.judge_command.specs.unit_inputs.declared.command_answers.stop.Stop.{Stop}
-use Rattle.judge_command.specs.unit_inputs.declared.command_answers.stop.Stop.TheVariants as stop
+use Rattle.judge_command.specs.unit_inputs.command_answers.CommandErrors.{Prepares}
+use Rattle.judge_command.specs.unit_inputs.declared.command_answers.error.CommandError.{CommandError}
+use Rattle.judge_command.specs.unit_inputs.declared.command_answers.error.CommandError.TheVariants as stop
 use Rattle.judge_command.specs.launcher.declared.launched.Launched.{Launched as Service}
 use Rattle.why_command.specs.opening_lines.Opening.{IsAlone}
 use Rattle.why_command.specs.declared.opening_lines.each.LineAlone.{LineAlone}
@@ -11,7 +11,7 @@ use Rattle.judge_command.specs.asked_service.started_units.Starting.{StartsAs, s
 use Rattle.judge_command.specs.unit_inputs.Inputs.{Inputs}
 use Rattle.judge_command.specs.asked_service.declared.unit_launch.launching.UnitLaunch.{UnitLaunch}
 use Rattle.deciding_lines.specs.unit_lines.Lines.{lines_of}
-use Rattle.judge_command.specs.unit_inputs.command_answers.ReadyTexts.{IsReadyWith, ending_of, text_of}
+use Rattle.judge_command.specs.unit_inputs.command_answers.ReadyTexts.{IsReadyWith, status_of, text_of}
 use Rattle.judge_command.specs.unit_inputs.declared.command_answers.ready_text.ReadyText.{ReadyText}
 use Rattle.why_command.specs.lines_command.Lines.{lines_text}
 use Rattle.why_command.specs.lines_command.Prints.{TellsLaunch, TellsLines, TellsService}
@@ -29,15 +29,15 @@ module _ (name : List ℕ) (inputs : Inputs) where
 
   -- what is ready is the answer
   pub answers_launch : (launch : UnitLaunch) → Prepares (StartsAs inputs) (start_refusals name inputs) (Ok launch)
-      → (result : Result ReadyText Stop) → IsReadyWith (TellsLaunch name inputs launch) result
-      → Prepares (λ made. TellsLines name inputs (ending_of made) (text_of made)) (start_refusals name inputs) result
+      → (result : Result ReadyText CommandError) → IsReadyWith (TellsLaunch name inputs launch) result
+      → Prepares (λ made. TellsLines name inputs (status_of made) (text_of made)) (start_refusals name inputs) result
   answers_launch launch starts (Ok made) ready = (starts.0, record { launch = launch; starts = starts.1; tells = ready })
   answers_launch launch starts (Err (stop.Refused line)) ready = absurd ready
   answers_launch launch starts (Err stop.ReadFault) ready = absurd ready
   answers_launch launch starts (Err stop.Memory) ready = tt
 
-  pub answers_stop : (why : Stop) → Prepares {T = UnitLaunch} (StartsAs inputs) (start_refusals name inputs) (Err why)
-      → Prepares (λ (made : ReadyText). TellsLines name inputs (ending_of made) (text_of made)) (start_refusals name inputs) (Err why)
+  pub answers_stop : (why : CommandError) → Prepares {T = UnitLaunch} (StartsAs inputs) (start_refusals name inputs) (Err why)
+      → Prepares (λ (made : ReadyText). TellsLines name inputs (status_of made) (text_of made)) (start_refusals name inputs) (Err why)
   answers_stop (stop.Refused line) is = is
   answers_stop stop.ReadFault is = tt
   answers_stop stop.Memory is = tt

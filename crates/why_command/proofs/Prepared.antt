@@ -4,13 +4,13 @@ use Rattle.std.specs.declared.alloc.AllocError.{AllocError}
 use Rattle.std.specs.Prelude.{Contains, IfOk, IfSome, IsErrOf, IsTrue}
 use Rattle.judge_command.specs.host_io.Files.{Files}
 use Rattle.judge_command.specs.call_table.Table.{Table}
-use Rattle.judge_command.specs.unit_inputs.command_answers.Endings.{is_answer}
+use Rattle.judge_command.specs.unit_inputs.command_answers.ExitStatuses.{is_answer}
 use Rattle.judge_command.specs.unit_inputs.command_answers.Laws.{AcceptsFiles, GoTogether, IsAdmitted, laws_over}
-use Rattle.judge_command.specs.unit_inputs.command_answers.Stops.{IsAnswer, Prepares, first_refusal, stop_of}
-use Rattle.judge_command.specs.unit_inputs.declared.command_answers.ending.Ending.{Ending}
-use Rattle.judge_command.specs.unit_inputs.declared.command_answers.ending.Ending.TheVariants.{Done, LaunchRefused}
-use Rattle.judge_command.specs.unit_inputs.declared.command_answers.stop.Stop.{Stop}
-use Rattle.judge_command.specs.unit_inputs.declared.command_answers.stop.Stop.TheVariants as stop
+use Rattle.judge_command.specs.unit_inputs.command_answers.CommandErrors.{IsAnswer, Prepares, first_refusal, error_of_line}
+use Rattle.judge_command.specs.unit_inputs.declared.command_answers.exit_status.ExitStatus.{ExitStatus}
+use Rattle.judge_command.specs.unit_inputs.declared.command_answers.exit_status.ExitStatus.TheVariants.{Done, LaunchRefused}
+use Rattle.judge_command.specs.unit_inputs.declared.command_answers.error.CommandError.{CommandError}
+use Rattle.judge_command.specs.unit_inputs.declared.command_answers.error.CommandError.TheVariants as stop
 use Rattle.judge_command.proofs.OfUnitInputs.FileCommands.{go_together, ready_is_admitted, stop_is_admitted}
 use Rattle.judge_command.proofs.OfUnitInputs.Refusing.{passes, stops, stops_as}
 use Rattle.deciding_lines.specs.Tried.{Tried}
@@ -26,31 +26,31 @@ use Rattle.judge_command.specs.unit_inputs.Settled.{refusals_by}
 use Rattle.judge_command.proofs.OfUnitInputs.Steps as steps
 use Rattle.judge_command.proofs.OfUnitInputs.Steps.{AreRead, refusals_with}
 use Rattle.why_command.specs.Asking.{question_in, refused_question}
-use Rattle.judge_command.specs.unit_inputs.command_answers.ReadyTexts.{ending_of, text_of}
+use Rattle.judge_command.specs.unit_inputs.command_answers.ReadyTexts.{status_of, text_of}
 use Rattle.why_command.specs.Prints.{PrintsWhy, TellsLaunch, TellsWhy, refusals_behind, why_laws, why_refusals}
 use Rattle.judge_command.specs.unit_inputs.declared.command_answers.ready_text.ReadyText.{ReadyText}
 
 -- each ends as it may
-ends_so : (tried : Tried) (launch : UnitLaunch) (ending : Ending) (text : List ℕ) → TellsLaunch tried launch ending text
-    → (ending ≡ Done) ⊎ (ending ≡ LaunchRefused)
-ends_so tried (Refused refusal) ending text tells = inr tells.0
-ends_so tried (Launched service) ending text tells = inl tells.0
+ends_so : (tried : Tried) (launch : UnitLaunch) (status : ExitStatus) (text : List ℕ) → TellsLaunch tried launch status text
+    → (status ≡ Done) ⊎ (status ≡ LaunchRefused)
+ends_so tried (Refused refusal) status text tells = inr tells.0
+ends_so tried (Launched service) status text tells = inl tells.0
 
 module _ (told : Option Files) (unit : List ℕ) (words : List (List ℕ)) where
   -- each ending behind an answer is one
-  answered : (ending : Ending) → (why_laws unit words).may_end ending → IsTrue (is_answer ending)
-  answered ending (inl done) = subst (λ e. IsTrue (is_answer e)) (sym done) refl
-  answered ending (inr launch) = subst (λ e. IsTrue (is_answer e)) (sym launch) refl
+  answered : (status : ExitStatus) → (why_laws unit words).may_end status → IsTrue (is_answer status)
+  answered status (inl done) = subst (λ e. IsTrue (is_answer e)) (sym done) refl
+  answered status (inr launch) = subst (λ e. IsTrue (is_answer e)) (sym launch) refl
 
   pub together : GoTogether (laws_over told (why_laws unit words))
   together = go_together (why_laws unit words) told answered
 
 -- an input is refused
-pub stops_at_inputs : (P : Files → UnitInputs → Type 0) (told : Option Files) (unit : List ℕ) (words : List (List ℕ)) (stop : Stop)
+pub stops_at_inputs : (P : Files → UnitInputs → Type 0) (told : Option Files) (unit : List ℕ) (words : List (List ℕ)) (stop : CommandError)
     → IfSome told (λ files. Prepares (P files) (input_refusals files unit) (Err stop))
-    → IsAdmitted (laws_over told (why_laws unit words)) ending_of text_of (Err stop)
+    → IsAdmitted (laws_over told (why_laws unit words)) status_of text_of (Err stop)
 stops_at_inputs P told unit words stop said =
-    stop_is_admitted (why_laws unit words) ending_of text_of (λ (made : ReadyText). Unit {0}) told stop
+    stop_is_admitted (why_laws unit words) status_of text_of (λ (made : ReadyText). Unit {0}) told stop
     (steps.stops_at_inputs P (λ files (made : ReadyText). Unit {0}) told unit
     (λ files. refusals_by (refusals_behind unit words) (inputs_of files unit)) stop said)
 
@@ -64,19 +64,19 @@ module _ (told : Option Files) (unit : List ℕ) (words : List (List ℕ)) (inpu
       (read_is files e).0 (read_is files e).1
 
   -- what stops behind them is admitted
-  stops_behind : (P : ReadyText → Type 0) (some : List (Option (List ℕ))) (why : Stop)
+  stops_behind : (P : ReadyText → Type 0) (some : List (Option (List ℕ))) (why : CommandError)
       → first_refusal (refusals_behind unit words (inputs_view inputs)) ≡ first_refusal some → Prepares P some (Err why)
-      → IsAdmitted (laws_over told (why_laws unit words)) ending_of text_of (Err why)
-  stops_behind P some why same is = stop_is_admitted (why_laws unit words) ending_of text_of P told why (at told refl)
+      → IsAdmitted (laws_over told (why_laws unit words)) status_of text_of (Err why)
+  stops_behind P some why same is = stop_is_admitted (why_laws unit words) status_of text_of P told why (at told refl)
     where
       at : (own : Option Files) → told ≡ own → IfSome own (λ files. Prepares P (why_refusals files unit words) (Err why))
       at None e = tt
       at (Some files) e = stops_as P why some (why_refusals files unit words) (behind_inputs files e ∙ same) is
 
   -- the words are no question
-  pub stops_at_question : (calls : Table) (site : Site) (why : Stop) → calls ≡ (inputs_view inputs).calls → site ≡ (inputs_view inputs).site
+  pub stops_at_question : (calls : Table) (site : Site) (why : CommandError) → calls ≡ (inputs_view inputs).calls → site ≡ (inputs_view inputs).site
       → IsAnswer (λ (question : Question). question) (Err why) (question_in calls site words)
-      → IsAdmitted (laws_over told (why_laws unit words)) ending_of text_of (Err why)
+      → IsAdmitted (laws_over told (why_laws unit words)) status_of text_of (Err why)
   stops_at_question calls site why one two is =
       stops_behind (λ made. Unit {0}) (refusals_behind unit words (inputs_view inputs)) why refl
       (stops (λ (question : Question). question) (λ (made : ReadyText). Unit {0})
@@ -94,15 +94,15 @@ module _ (told : Option Files) (unit : List ℕ) (words : List (List ℕ)) (inpu
     behind_question = passes (question_in (inputs_view inputs).calls (inputs_view inputs).site words) question
         (start_refusals unit (inputs_view inputs)) question_is
 
-    admitted : (result : Result ReadyText Stop) → Prepares (λ made. TellsWhy tried (ending_of made) (text_of made))
-        (start_refusals unit (inputs_view inputs)) result → IsAdmitted (laws_over told (why_laws unit words)) ending_of text_of result
-    admitted (Err why) answers = stops_behind (λ made. TellsWhy tried (ending_of made) (text_of made))
+    admitted : (result : Result ReadyText CommandError) → Prepares (λ made. TellsWhy tried (status_of made) (text_of made))
+        (start_refusals unit (inputs_view inputs)) result → IsAdmitted (laws_over told (why_laws unit words)) status_of text_of result
+    admitted (Err why) answers = stops_behind (λ made. TellsWhy tried (status_of made) (text_of made))
         (start_refusals unit (inputs_view inputs)) why behind_question answers
-    admitted (Ok made) answers = ready_is_admitted (why_laws unit words) ending_of text_of told made
-        (ends_so tried answers.1.launch (ending_of made) (text_of made) answers.1.tells) (printed told refl)
+    admitted (Ok made) answers = ready_is_admitted (why_laws unit words) status_of text_of told made
+        (ends_so tried answers.1.launch (status_of made) (text_of made) answers.1.tells) (printed told refl)
       where
         printed : (own : Option Files) → told ≡ own → IfSome own
-            (λ files. AcceptsFiles (why_laws unit words) files × PrintsWhy files unit words (ending_of made) (text_of made))
+            (λ files. AcceptsFiles (why_laws unit words) files × PrintsWhy files unit words (status_of made) (text_of made))
         printed None e = tt
         printed (Some files) e = (
           behind_inputs files e ∙ behind_question ∙ answers.0,
@@ -118,26 +118,26 @@ module _ (told : Option Files) (unit : List ℕ) (words : List (List ℕ)) (inpu
   -- also where the inputs are lent
   pub admitted_as : (calls : Table) (site : Site) (question : Question) → calls ≡ (inputs_view inputs).calls
       → site ≡ (inputs_view inputs).site
-      → question_in calls site words ≡ Ok question → (own : Inputs) → own ≡ inputs_view inputs → (result : Result ReadyText Stop)
-      → Prepares (λ made. TellsWhy (record { name = unit; inputs = own; question = question }) (ending_of made) (text_of made))
+      → question_in calls site words ≡ Ok question → (own : Inputs) → own ≡ inputs_view inputs → (result : Result ReadyText CommandError)
+      → Prepares (λ made. TellsWhy (record { name = unit; inputs = own; question = question }) (status_of made) (text_of made))
       (start_refusals unit own) result
-      → IsAdmitted (laws_over told (why_laws unit words)) ending_of text_of result
+      → IsAdmitted (laws_over told (why_laws unit words)) status_of text_of result
   admitted_as calls site question one two is own same result answers =
       admitted question
       (subst (λ (these : Site). question_in (inputs_view inputs).calls these words ≡ Ok question) two
       (subst (λ (these : Table). question_in these site words ≡ Ok question) one is))
       result (subst (λ (these : Inputs). Prepares
-      (λ made. TellsWhy (record { name = unit; inputs = these; question = question }) (ending_of made) (text_of made))
+      (λ made. TellsWhy (record { name = unit; inputs = these; question = question }) (status_of made) (text_of made))
       (start_refusals unit these) result) same answers)
 
 -- a stop that reads nothing, whatever was wanted
-pub as_any : {A B : Type 0} (why : Stop) → (IsErrOf {T = A} (Err why) stop.ReadFault → ⊥) → IsErrOf {T = B} (Err why) stop.ReadFault → ⊥
+pub as_any : {A B : Type 0} (why : CommandError) → (IsErrOf {T = A} (Err why) stop.ReadFault → ⊥) → IsErrOf {T = B} (Err why) stop.ReadFault → ⊥
 as_any (stop.Refused line) nothing e = cc
 as_any stop.ReadFault nothing e = nothing refl
 as_any stop.Memory nothing e = cc
 
 -- the line of words that are no question
-pub refused_tells : (line : Result (Vec ℕ Global) AllocError) (told : Stop) → told ≡ stop_of line
+pub refused_tells : (line : Result (Vec ℕ Global) AllocError) (told : CommandError) → told ≡ error_of_line line
     → IfOk line (λ l. l.items ≡ refused_question) → (wanted : Result Question (List ℕ)) → wanted ≡ Err refused_question
     → IsAnswer (λ (question : Question). question) (Err told) wanted
 refused_tells (Ok line) told is holds wanted same = subst (λ one. IsAnswer (λ (question : Question). question) (Err one) wanted) (sym is)

@@ -7,10 +7,10 @@ use Rattle.judge_command.specs.asked_service.Rows.{IsSo}
 use Rattle.judge_command.specs.asked_service.declared.bounding.Bounded.{Bounded}
 use Rattle.judge_command.specs.call_table.Table as calls
 use Rattle.judge_command.specs.open_calls.chosen_calls.Makers.{AreMadeByService}
-use Rattle.judge_command.specs.unit_inputs.command_answers.Stops.{Prepares, first_refusal}
-use Rattle.judge_command.specs.unit_inputs.declared.command_answers.ending.Ending.{Ending}
-use Rattle.judge_command.specs.unit_inputs.declared.command_answers.stop.Stop.{Stop}
-use Rattle.judge_command.specs.unit_inputs.declared.command_answers.stop.Stop.TheVariants as stop
+use Rattle.judge_command.specs.unit_inputs.command_answers.CommandErrors.{Prepares, first_refusal}
+use Rattle.judge_command.specs.unit_inputs.declared.command_answers.exit_status.ExitStatus.{ExitStatus}
+use Rattle.judge_command.specs.unit_inputs.declared.command_answers.error.CommandError.{CommandError}
+use Rattle.judge_command.specs.unit_inputs.declared.command_answers.error.CommandError.TheVariants as stop
 use Rattle.deciding_lines.proofs.Asked.{listed, own_calls, own_site}
 use Rattle.deciding_lines.specs.Deciding.{IsReason}
 use Rattle.deciding_lines.specs.Tried.{Tried}
@@ -34,7 +34,7 @@ use Rattle.judge_command.specs.asked_service.declared.unit_launch.launching.Unit
 use Rattle.judge_command.specs.asked_service.declared.unit_launch.launching.UnitLaunch.TheVariants.{Launched}
 use Rattle.why_command.specs.Asking.{CanBeAsked}
 use Rattle.why_command.specs.Lines.{reason_text}
-use Rattle.judge_command.specs.unit_inputs.command_answers.ReadyTexts.{IsReadyWith, ending_of, text_of}
+use Rattle.judge_command.specs.unit_inputs.command_answers.ReadyTexts.{IsReadyWith, status_of, text_of}
 use Rattle.why_command.specs.Prints.{TellsLaunch, TellsService, TellsWhy, denied_by, open_by}
 use Rattle.judge_command.specs.unit_inputs.declared.command_answers.ready_text.ReadyText.{ReadyText}
 
@@ -119,16 +119,16 @@ told_of_it tried service bounded same result told = subst (λ (own : Service). I
 
 -- what is ready is the answer
 pub answers_launch : (tried : Tried) (launch : UnitLaunch) → Prepares (StartsAs tried.inputs) (start_refusals tried.name tried.inputs)
-    (Ok launch) → (result : Result ReadyText Stop) → IsReadyWith (TellsLaunch tried launch) result
-    → Prepares (λ made. TellsWhy tried (ending_of made) (text_of made)) (start_refusals tried.name tried.inputs) result
+    (Ok launch) → (result : Result ReadyText CommandError) → IsReadyWith (TellsLaunch tried launch) result
+    → Prepares (λ made. TellsWhy tried (status_of made) (text_of made)) (start_refusals tried.name tried.inputs) result
 answers_launch tried launch starts (Ok made) ready = (starts.0, record { launch = launch; starts = starts.1; tells = ready })
 answers_launch tried launch starts (Err (stop.Refused line)) ready = absurd ready
 answers_launch tried launch starts (Err stop.ReadFault) ready = absurd ready
 answers_launch tried launch starts (Err stop.Memory) ready = tt
 
-pub answers_stop : (tried : Tried) (why : Stop) → Prepares {T = UnitLaunch} (StartsAs tried.inputs)
+pub answers_stop : (tried : Tried) (why : CommandError) → Prepares {T = UnitLaunch} (StartsAs tried.inputs)
     (start_refusals tried.name tried.inputs) (Err why)
-    → Prepares (λ (made : ReadyText). TellsWhy tried (ending_of made) (text_of made)) (start_refusals tried.name tried.inputs) (Err why)
+    → Prepares (λ (made : ReadyText). TellsWhy tried (status_of made) (text_of made)) (start_refusals tried.name tried.inputs) (Err why)
 answers_stop tried (stop.Refused line) is = is
 answers_stop tried stop.ReadFault is = tt
 answers_stop tried stop.Memory is = tt

@@ -2,9 +2,9 @@
 use Rattle.std.specs.Prelude.{◌≡◌, ◌⊎◌, ◌++◌, ◌∷◌, ℕ, IsSome, List, Option, Some, Ok, flat_map}
 use Rattle.judge_command.specs.host_io.Files.{Files}
 use Rattle.judge_command.specs.unit_inputs.command_answers.Laws.{FileLaws}
-use Rattle.judge_command.specs.unit_inputs.command_answers.Stops.{refusal_in}
-use Rattle.judge_command.specs.unit_inputs.declared.command_answers.ending.Ending.{Ending}
-use Rattle.judge_command.specs.unit_inputs.declared.command_answers.ending.Ending.TheVariants.{Done, LaunchRefused}
+use Rattle.judge_command.specs.unit_inputs.command_answers.CommandErrors.{refusal_in}
+use Rattle.judge_command.specs.unit_inputs.declared.command_answers.exit_status.ExitStatus.{ExitStatus}
+use Rattle.judge_command.specs.unit_inputs.declared.command_answers.exit_status.ExitStatus.TheVariants.{Done, LaunchRefused}
 use Rattle.deciding_lines.specs.Deciding.{IsReason}
 use Rattle.deciding_lines.specs.Tried.{Tried}
 use Rattle.deciding_lines.specs.declared.reason.Reason.{Reason}
@@ -33,15 +33,15 @@ pub data TellsService (tried : Tried) (service : Service) (text : List ℕ) : Ty
       → TellsService tried service text
 
 -- or the launch is refused
-abbrev pub TellsLaunch : Tried → UnitLaunch → Ending → List ℕ → Type 0
-TellsLaunch tried (Refused refusal) ending text = (ending ≡ LaunchRefused) × (text ≡ refusal_line refusal)
-TellsLaunch tried (Launched service) ending text = (ending ≡ Done) × TellsService tried service text
+abbrev pub TellsLaunch : Tried → UnitLaunch → ExitStatus → List ℕ → Type 0
+TellsLaunch tried (Refused refusal) status text = (status ≡ LaunchRefused) × (text ≡ refusal_line refusal)
+TellsLaunch tried (Launched service) status text = (status ≡ Done) × TellsService tried service text
 
 -- the result of the unit's launch, and the text for it
-pub record TellsWhy (tried : Tried) (ending : Ending) (text : List ℕ) : Type 0 where
+pub record TellsWhy (tried : Tried) (status : ExitStatus) (text : List ℕ) : Type 0 where
   pub launch : UnitLaunch
   pub starts : StartsAs tried.inputs launch
-  pub tells : TellsLaunch tried launch ending text
+  pub tells : TellsLaunch tried launch status text
 
 -- the refusals after the inputs: the question, and the settings and paths of the unit
 abbrev pub refusals_behind : List ℕ → List (List ℕ) → Inputs → List (Option (List ℕ))
@@ -52,18 +52,18 @@ abbrev pub why_refusals : Files → List ℕ → List (List ℕ) → List (Optio
 why_refusals files unit words = input_refusals files unit ++ refusals_by (refusals_behind unit words) (inputs_of files unit)
 
 -- by the inputs of the unit, and the question that the words ask
-pub record PrintsWhy (files : Files) (unit : List ℕ) (words : List (List ℕ)) (ending : Ending) (text : List ℕ) : Type 0 where
+pub record PrintsWhy (files : Files) (unit : List ℕ) (words : List (List ℕ)) (status : ExitStatus) (text : List ℕ) : Type 0 where
   pub tried : Tried
   pub name_is : tried.name ≡ unit
   pub inputs_are : inputs_of files unit ≡ Some tried.inputs
   pub question_is : question_in tried.inputs.calls tried.inputs.site words ≡ Ok tried.question
-  pub tells : TellsWhy tried ending text
+  pub tells : TellsWhy tried status text
 
 -- the refusals in their order; if the launch is refused, the status is 7
 abbrev pub why_laws : List ℕ → List (List ℕ) → FileLaws
 why_laws unit words = record {
   refusals = λ files. why_refusals files unit words;
-  prints = λ files ending text. PrintsWhy files unit words ending text;
-  may_end = λ ending. (ending ≡ Done) ⊎ (ending ≡ LaunchRefused);
+  prints = λ files status text. PrintsWhy files unit words status text;
+  may_end = λ status. (status ≡ Done) ⊎ (status ≡ LaunchRefused);
   reads = IsSome (name_of unit);
 }

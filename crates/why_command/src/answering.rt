@@ -2,19 +2,19 @@
 ghost use Rattle.std.specs.Prelude.{◌≡◌, IfOk, IsErrOf, false, true};
 ghost use Rattle.judge_command.specs.asked_service.Asked.{is_open_by};
 ghost use Rattle.judge_command.specs.asked_service.Rows.{IsSo};
-ghost use Rattle.judge_command.specs.unit_inputs.command_answers.Stops.{Prepares};
+ghost use Rattle.judge_command.specs.unit_inputs.command_answers.CommandErrors.{Prepares};
 ghost use Rattle.deciding_lines.specs.Tried.{CanBeTried, tried_of};
 ghost use Rattle.judge_command.specs.asked_service.started_units.Starting.{StartsAs, start_refusals};
 ghost use Rattle.judge_command.specs.asked_service.declared.unit_launch.launching.UnitLaunch.TheVariants.{Launched as Started};
 ghost use Rattle.why_command.specs.Asking.{CanBeAsked};
-ghost use Rattle.judge_command.specs.unit_inputs.command_answers.ReadyTexts.{IsReadyWith, ending_of, text_of};
+ghost use Rattle.judge_command.specs.unit_inputs.command_answers.ReadyTexts.{IsReadyWith, status_of, text_of};
 ghost use Rattle.why_command.specs.Prints.{TellsLaunch, TellsService, TellsWhy};
 
 use crate::telling::denied_text;
 use deciding_lines::Trial;
 use judge_command::{
-    Bounded, Ending, Launched, ReadyText, Service, Stop, UnitLaunch, bound, calls, open_lines,
-    refusal_line, start,
+    Bounded, CommandError, ExitStatus, Launched, ReadyText, Service, UnitLaunch, bound, calls,
+    open_lines, refusal_line, start,
 };
 use std::alloc::{AllocError, Global};
 
@@ -76,7 +76,7 @@ fn tell_launch<'a>(
     alloc: Global,
     trial: &Trial<'a>,
     launch: UnitLaunch<'a>,
-) -> Result<ReadyText, Stop>
+) -> Result<ReadyText, CommandError>
     requires can_be_tried { CanBeTried trial.now }
     requires starts { StartsAs (tried_of trial.now).inputs launch }
     ensures { IsReadyWith (TellsLaunch (tried_of trial.now) launch.entry) result }
@@ -84,21 +84,21 @@ fn tell_launch<'a>(
     match launch {
         UnitLaunch::Launched(service) => Ok(ReadyText {
             text: tell_service(alloc, trial, service)?,
-            ending: Ending::Done,
+            status: ExitStatus::Done,
         }),
         UnitLaunch::Refused(refusal) => Ok(ReadyText {
             text: refusal_line(alloc, &refusal)?,
-            ending: Ending::LaunchRefused,
+            status: ExitStatus::LaunchRefused,
         }),
     }
 }
 
 /// Launches the unit, and makes the text of the answer: the question is open, with calls that reach it, or denied, with what
 /// denies it. Or finds the first refusal of the settings and paths of the unit.
-pub fn answer(alloc: Global, trial: &Trial<'_>) -> Result<ReadyText, Stop>
+pub fn answer(alloc: Global, trial: &Trial<'_>) -> Result<ReadyText, CommandError>
     requires can_be_tried { CanBeTried trial.now }
-    ensures answers { Prepares (λ made. TellsWhy (tried_of trial.now) (ending_of made) (text_of made)) (start_refusals trial.now.name.now (tried_of trial.now).inputs) result }
-    ensures reads_nothing { IsErrOf result Stop.ReadFault → ⊥ }
+    ensures answers { Prepares (λ made. TellsWhy (tried_of trial.now) (status_of made) (text_of made)) (start_refusals trial.now.name.now (tried_of trial.now).inputs) result }
+    ensures reads_nothing { IsErrOf result CommandError.ReadFault → ⊥ }
 {
     let launch = start(alloc, trial.name, trial.unit, trial.calls, trial.site)?;
     tell_launch(alloc, trial, launch)

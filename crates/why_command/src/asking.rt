@@ -1,10 +1,10 @@
 //! The question that the words ask.
 ghost use Rattle.std.specs.Prelude.{◌≡◌, ◌++◌, Contains, IfOk, IsErrOf, OnOk, flat_map, map};
-ghost use Rattle.judge_command.specs.unit_inputs.command_answers.Stops.{IsAnswer};
+ghost use Rattle.judge_command.specs.unit_inputs.command_answers.CommandErrors.{IsAnswer};
 ghost use Rattle.judge_command.specs.kernel_laws.Questions.{questions};
 ghost use Rattle.why_command.specs.Asking.{joined_words, question_in, refused_question, spaced};
 
-use judge_command::{CallTable, Question, SiteTable, Stop, refuse};
+use judge_command::{CallTable, CommandError, Question, SiteTable, refuse};
 use question_text::read_question;
 use std::alloc::{AllocError, Global};
 
@@ -59,10 +59,10 @@ pub fn asked_question(
     words: &[&str],
     calls: &CallTable,
     site: &SiteTable,
-) -> Result<Question, Stop>
+) -> Result<Question, CommandError>
     ensures asks { IsAnswer (λ question. question) result (question_in calls.now site.now (map (λ word. word.now) words.now)) }
     ensures listed { IfOk result (λ question. Contains (questions calls.now site.now) question) }
-    ensures reads_nothing { IsErrOf result Stop.ReadFault → ⊥ }
+    ensures reads_nothing { IsErrOf result CommandError.ReadFault → ⊥ }
 {
     let text = joined_words(alloc, words)?;
     match read_question(alloc, calls, site, &text)? {

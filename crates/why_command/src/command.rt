@@ -4,14 +4,14 @@ ghost use Rattle.judge_command.specs.unit_inputs.command_answers.Asking.{course}
 ghost use Rattle.judge_command.specs.unit_inputs.command_answers.Laws.{IsAdmitted, laws_over};
 ghost use Rattle.judge_command.specs.unit_inputs.Asking.{AsksInOrder, input_asks};
 ghost use Rattle.judge_command.specs.unit_inputs.ReadsFor.{ReadsFor};
-ghost use Rattle.judge_command.specs.unit_inputs.command_answers.ReadyTexts.{ending_of, text_of};
+ghost use Rattle.judge_command.specs.unit_inputs.command_answers.ReadyTexts.{status_of, text_of};
 ghost use Rattle.why_command.specs.Prints.{why_laws};
 
 use crate::answering::answer;
 use crate::asking::asked_question;
 use deciding_lines::Trial;
 use host_io::Shelf;
-use judge_command::{ReadyText, Stop, read_inputs};
+use judge_command::{CommandError, ReadyText, read_inputs};
 use std::alloc::Global;
 
 /// Prepares `why`, the name of a unit and the words of a question.
@@ -23,8 +23,8 @@ pub fn prepare<S: Shelf>(
     shelf: &mut S,
     unit: &str,
     words: &[&str],
-) -> Result<ReadyText, Stop>
-    ensures prepares { IsAdmitted (laws_over (S.told shelf.old) (why_laws unit.now (map (λ word. word.now) words.now))) ending_of text_of result }
+) -> Result<ReadyText, CommandError>
+    ensures prepares { IsAdmitted (laws_over (S.told shelf.old) (why_laws unit.now (map (λ word. word.now) words.now))) status_of text_of result }
     ensures asks_in_order { AsksInOrder S.asks (S.told shelf.old) (λ files. input_asks files unit.now) shelf.old shelf.new (course result) }
     ensures reads_for_the_unit { ReadsFor S.told S.faults unit.now shelf.old shelf.new result }
 {

@@ -18,6 +18,7 @@ from lentsheep.values import FleetRow
 BUILT = os.environ.get("LENTSHEEP_PROGRAM") or str(TOP / "crates/sandbox_cli/out/sandbox_cli")
 SCREEN = """\
 fleet       4 units, 1 refused; the least protected first
+profile     base, since the site has no key systemd
 
      100    a.service: denied 18, open 57
               it sets no key of a sandbox, and it can make namespaces (CAP_SYS_ADMIN is held)
@@ -79,7 +80,7 @@ class Runs(unittest.TestCase):
         self.assertEqual((0, "", ""), (found.returncode, found.stdout, found.stderr))
         self.assertEqual(["a.service.html", "c.service.html", "web.service.html"], sorted(os.listdir(f"{self.place}/all-units")))
         text = Path(self.place, "all.html").read_text("utf-8")
-        for part in ('<a href="all-units/a.service.html">a.service</a>', "denied 18, open 57", "<code>CapabilityBoundingSet= (closes 51)</code>",
+        for part in ("<header><h1>All units</h1><p>Judged by the base profile,", '<a href="all-units/a.service.html">a.service</a>', "denied 18, open 57", "<code>CapabilityBoundingSet= (closes 51)</code>",
                      "refused d.service masked"):  # fmt: skip
             self.assertIn(part, text)
         self.assertLess(text.index("a.service.html"), text.index("web.service.html"))

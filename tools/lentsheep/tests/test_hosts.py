@@ -1,5 +1,7 @@
 """Tests what a site says of its host: kinds of files, systemd and kernel; the tables that `--root` takes by it; and their groups."""
 import os
+import re
+import shutil
 import socket
 import subprocess
 import sys
@@ -11,9 +13,10 @@ TOP = Path(__file__).resolve().parents[3]
 sys.path.insert(0, str(TOP / "tools"))
 
 from lentsheep.host import read_host
-from lentsheep.table import read_groups, read_table
-from sites import machine, others
+from lentsheep.table import read_groups, read_table, table_for, version_of
+from sites import machine, others, places
 from sites.root import Root
+from sites.told import Told
 
 TABLES = TOP / "tables/x86-64"
 # By /proc/kallsyms: read is there, uselib is weak, and umount2 is called umount.
@@ -69,6 +72,22 @@ class Heads(Places):
         self.write("var/lib/dpkg/status", "Package: systemd\n\nPackage: libc6\nVersion: 2.36\n")
         self.assertEqual([], machine.heads(Root(self.top)))
 
+    def test_libraries_and_packages(self):
+        # the manager's own library precedes the shared one, and both the package; a version before its release is none
+        for files, package, wanted in [
+            (["usr/lib/systemd/libsystemd-core-257.13-1.so"], "", [257]), (["usr/lib64/systemd/libsystemd-shared-252.4.so"], "", [252]),
+            (["usr/lib/x86_64-linux-gnu/systemd/libsystemd-core-257.so", "lib/systemd/libsystemd-shared-252.so"], "252.1-1", [257]),
+            (["usr/lib/systemd/libsystemd-core-252.so", "usr/lib/x86_64-linux-gnu/systemd/libsystemd-core-257.so"], "", [252, 257]),
+            (["usr/lib/systemd/libsystemd-core-257~rc2.so"], "", []), ([], "257~rc2-3", []), ([], "1:255.4-1ubuntu8", [255]), ([], "", []),
+        ]:  # fmt: skip
+            with self.subTest(files=files, package=package):
+                shutil.rmtree(self.top)
+                for name in files:
+                    self.write(name)
+                if package:
+                    self.write("var/lib/dpkg/status", f"Package: systemd\nVersion: {package}\n\n")
+                self.assertEqual(wanted, machine.systemd_versions(Root(self.top)))
+
     def test_kernel(self):
         self.running()
         self.assertEqual(["kernel 6.1.0, which runs programs of i386"], machine.heads(Root(self.top)))
@@ -107,6 +126,108 @@ class Heads(Places):
             self.write("proc/sys/kernel/osrelease", f"{release}\n")
             self.site("--keep", kept)
             self.assertIn(f"\n# kernel {release}, which", Path(kept).read_text())
+
+
+class Key(Places):
+    """The key `systemd` of a site."""
+
+    def test_versions(self):
+        known = "without the key systemd, since only the rules of 252 and 257 are known"
+        for version, is_known, why in [
+            (252, True, ""), (257, True, ""), (251, False, known), (256, False, known), (2570, False, known),
+            (None, False, "without the key systemd, since the root does not show its version"),
+        ]:  # fmt: skip
+            with self.subTest(version):
+                shutil.rmtree(f"{self.top}/usr/lib/systemd")
+                self.write("usr/lib/systemd/system/web.service", UNIT)
+                if version:
+                    self.write(f"usr/lib/systemd/libsystemd-core-{version}.so")
+                text, told = self.site("--unit", "web.service", "--short")
+                top = [line for line in text.partition("\n[[")[0].split("\n") if not line.startswith("#")]
+                self.assertEqual([f"systemd = {version}"] * is_known, [line for line in top if line.startswith("systemd")])
+                self.assertEqual(f"systemd = {version}" if is_known else "dynamic_uid = 61184", top[0])
+                named = f"systemd {version}" if version else "/usr/lib/systemd"
+                line = f"{why}: 1 ({named})"
+                self.assertEqual([not is_known] * 2, [f"\n# {line}\n" in text, f"make-site: {line}\n" in told] if why else [False] * 2)
+                self.assertEqual(not is_known, "without the key" in told)
+
+    def test_several_versions(self):
+        for version in (252, 257):
+            self.write(f"usr/lib/systemd/libsystemd-core-{version}.so")
+        text, told = self.site()
+        self.assertNotIn("\nsystemd = ", text)
+        self.assertIn("make-site: without the key systemd, since the root has several versions: 2 (systemd 252, systemd 257)\n", told)
+        self.assertIsNone(read_host(text).systemd)
+
+    @unittest.skipUnless(shutil.which("systemctl"), "this machine has no systemd")
+    def test_this_machine(self):
+        said = subprocess.run(["systemctl", "--version"], capture_output=True, text=True, check=True).stdout
+        version = int(said.split()[1])
+        self.assertEqual(version if version in (252, 257) else None, machine.profile(Root("/"), Told()))
+
+
+class RowsOfTheKey(Places):
+    """Rows that a site with the key has besides, since the program reads more of the unit then."""
+
+    def rows(self, unit, *files):
+        """The paths of the rows, without the key and with it."""
+        for folder in ("opt", "usr", "var"):
+            shutil.rmtree(f"{self.top}/{folder}", ignore_errors=True)
+        self.write("usr/lib/systemd/system/web.service", unit)
+        for name in files:
+            self.write(name)
+            os.chmod(f"{self.top}/{name}", 0o755)
+        found = []
+        for version in (251, 252):
+            self.write(f"usr/lib/systemd/libsystemd-core-{version}.so")
+            text, _ = self.site("--unit", "web.service")
+            os.remove(f"{self.top}/usr/lib/systemd/libsystemd-core-{version}.so")
+            found.append(set(re.findall('^path = "(.*)"$', text, re.M)))
+        return found
+
+    def test_units(self):
+        for unit, files, wanted in [
+            # systemd looks for the program; the words behind it are not read
+            ("ExecStart=-web %y 'x\n", ["usr/bin/web", "usr/local/sbin/web", "opt/web"], {"/usr/bin/web", "/usr/local/sbin/web"}),
+            ("ExecStart=!!/opt/%N/web\n", ["opt/web/web"], set()),
+            ("ReadWriteDirectories=/opt/a\nReadOnlyDirectories=-/opt/b\nInaccessibleDirectories=/opt/c\n", ["opt/a", "opt/b", "opt/d"], {"/opt/a", "/opt/b"}),
+            ("ConfigurationDirectory=web web/x:y\n", [], {"/etc/web"}), ("StateDirectory=a:b\n", ["var/lib/b/x"], {"/var/lib/b"}),
+            # specifiers that only the key knows, and a letter of none
+            ("ReadWritePaths=/opt%f\n", ["opt/web"], {"/opt/web"}), ("ReadWritePaths=/opt/%g%G /opt/%z%\n", ["opt/root0", "opt/%z%"], {"/opt/root0", "/opt/%z%"}),
+            ("ReadWritePaths=/opt/%m\n", ["opt/%m"], set()),
+        ]:  # fmt: skip
+            with self.subTest(unit):
+                before, behind = self.rows(f"[Service]\n{unit}", *files)
+                # the folders of unpacked programs are rows of their own either way
+                folders = {"/usr/local", "/usr/local/sbin", "/usr/bin", "/opt"}
+                of_key = set(places.PROTECTED_BY_KEY) | {path for it in places.RUNNING_BY_KEY.values() for path in it.split()} | {"/proc/sys/kernel"}
+                self.assertEqual(wanted, behind - before - folders - of_key)
+                self.assertEqual(set(), before - behind)
+
+    def test_folders_of_dynamic_users(self):
+        # they are below `private`; of RuntimeDirectory= where they are kept, and those of ConfigurationDirectory= are not
+        keys = "StateDirectory=a\nCacheDirectory=b\nLogsDirectory=c\nRuntimeDirectory=d\nConfigurationDirectory=e\n"
+        private = {"/var/lib/private/a", "/var/cache/private/b", "/var/log/private/c"}
+        for lines, wanted in [
+            ("DynamicUser=yes\n", {*private, "/run/d", "/etc/e"}), ("DynamicUser=yes\nRuntimeDirectoryPreserve=restart\n", {*private, "/run/private/d", "/etc/e"}),
+            ("DynamicUser=yes\nRuntimeDirectoryPreserve=no\n", {*private, "/run/d", "/etc/e"}),
+            ("DynamicUser=yes\nDynamicUser=no\n", {"/var/lib/a", "/var/cache/b", "/var/log/c", "/run/d", "/etc/e"}),
+        ]:  # fmt: skip
+            with self.subTest(lines):
+                before, behind = self.rows(f"[Service]\n{lines}{keys}")
+                made = {path for path in behind if re.fullmatch("/(var/lib|var/cache|var/log|run|etc)(/private)?/[a-e]", path)}
+                self.assertEqual(wanted, made)
+                self.assertTrue({"/var/lib/a", "/var/cache/b", "/var/log/c", "/run/d"} <= before)
+
+    def test_what_protections_speak_of(self):
+        before, behind = self.rows(UNIT, "lib/modules/6.1/x", "sys/fs/selinux/x")
+        self.assertEqual(
+            {
+                "/lib/modules", "/proc/bus", "/proc/sys/kernel", "/proc/sys/kernel/hostname", "/proc/sys/kernel/domainname", "/sys/fs/bpf",
+                "/sys/fs/selinux", "/sys/kernel/debug", "/sys/kernel/tracing", "/dev/mqueue", "/dev/hugepages", "/run/credentials",
+            },
+            behind - before,
+        )  # fmt: skip
 
 
 class Kinds(unittest.TestCase):
@@ -154,34 +275,67 @@ class Others(Places):
 class Tables(Places):
     """The table that `--root` takes."""
 
-    def table(self):
-        """The table that a stand-in of the program is given."""
+    def ran(self, *words):
+        """The run of a stand-in of the program, which prints the table that it is given."""
         program = Path(self.place, "program")
         program.write_text("#!/bin/sh\nreadlink calls.txt\n")
         program.chmod(0o755)
         how = {**os.environ, "LENTSHEEP_PROGRAM": str(program), "XDG_CACHE_HOME": f"{self.place}/cache"}
-        words = [TOP / "sandbox", "--root", self.top, "plan", "web.service"]
-        found = subprocess.run(words, env=how, capture_output=True, text=True, check=True)
-        return os.path.relpath(found.stdout.strip(), TABLES)
+        return subprocess.run([TOP / "sandbox", "--root", self.top, *words, "plan", "web.service"], env=how, capture_output=True, text=True, check=True)
+
+    def table(self):
+        """The table that it is given."""
+        return os.path.relpath(self.ran().stdout.strip(), TABLES)
 
     def test_versions_and_abis(self):
+        # a root with the key is judged over both ABIs, whether or not it shows a kernel
         self.assertEqual("calls.txt", self.table())
-        self.write("usr/lib/systemd/libsystemd-core-252.so")
-        self.assertEqual("252/calls.txt", self.table())
+        for version in (252, 257):
+            self.write(f"usr/lib/systemd/libsystemd-core-{version}.so")
+            self.assertEqual(f"{version}/calls2.txt", self.table())
+            os.remove(f"{self.top}/usr/lib/systemd/libsystemd-core-{version}.so")
+        self.write("usr/lib/systemd/libsystemd-core-255.so")
+        self.assertEqual("calls.txt", self.table())
         self.running()
-        self.assertEqual("252/calls2.txt", self.table())
-        os.rename(f"{self.top}/usr/lib/systemd/libsystemd-core-252.so", f"{self.top}/usr/lib/systemd/libsystemd-core-257.so")
         self.assertEqual("calls2.txt", self.table())
+
+    def test_sites(self):
+        # with the key alone a site asks for the tables of its version; what make-site wrote before there was a key counts as it was
+        i386 = "# kernel 6.1, which runs programs of i386\n"
+        for site, wanted in [
+            ("systemd = 252\n", "252/calls2.txt"), ("# made\n# systemd 252\nsystemd=257 # x\n", "257/calls2.txt"), ("dynamic_uid = 1\n \"systemd\" = 0x101\n", "257/calls2.txt"),
+            ("# made\n# systemd 252\n", "252/calls.txt"), (f"# made\n# systemd 252\n{i386}", "252/calls2.txt"), (f"# made\n# systemd 257\n{i386}", "calls2.txt"),
+            ("", "calls.txt"), ("# systemd = 252\n", "calls.txt"), ("systemd = 256\n", "calls.txt"), ("systemd = \"252\"\n", "calls.txt"),
+            ("[[row]]\nsystemd = 252\n", "calls.txt"), ("row = [\n]\nsystemd = 252\n", "252/calls2.txt"),
+        ]:  # fmt: skip
+            self.assertEqual(wanted, table_for(site), site)
+
+    def test_a_table_of_another_version(self):
+        self.write("usr/lib/systemd/libsystemd-core-257.so")
+        for version, is_told in ((252, True), (257, False), (None, False)):
+            table = TABLES / str(version or "") / "calls.txt"
+            said = self.ran("--calls", table).stderr
+            line = f"sandbox: {table} has the groups of systemd 252, and the unit is judged by the rules of systemd 257\n"
+            self.assertEqual(is_told, line in said, said)
+            self.assertEqual(is_told, "groups of systemd" in said)
 
     def test_calls_of_the_tables(self):
         # the tables of a version have the calls of the others, and the groups of that version
         for name in ("calls.txt", "calls2.txt"):
-            lines, of_252 = ((TABLES / place / name).read_text().split("\n") for place in ("", "252"))
             kept = ("version", "abi", "call", "family")
-            self.assertEqual(*([line for line in it if line.startswith(kept)] for it in (lines, of_252)))
+            lines, *others = ((TABLES / place / name).read_text().split("\n") for place in ("", "252", "257"))
+            for other in others:
+                self.assertEqual(*([line for line in it if line.startswith(kept)] for it in (lines, other)))
+            # those without a version have the groups of 257
+            self.assertEqual(*(sorted(line for line in it if line.startswith("group")) for it in (lines, others[1])))
         for name, number in (("setxattrat", 463), ("getxattrat", 464), ("listxattrat", 465), ("removexattrat", 466)):
             self.assertEqual(2, (TABLES / "calls2.txt").read_text().count(f"call {name} {number}\n"))
         self.assertIn("call socket 359\n", (TABLES / "calls2.txt").read_text())
+
+    def test_versions_of_the_tables(self):
+        for place, wanted in (("", None), ("252", 252), ("257", 257)):
+            for name in ("calls.txt", "calls2.txt"):
+                self.assertEqual(wanted, version_of((TABLES / place / name).read_text()), f"{place}/{name}")
 
     def test_groups_of_versions(self):
         # by systemd-analyze syscall-filter of both: 257 has @sandbox in @default, and mseal(2); 252 has neither

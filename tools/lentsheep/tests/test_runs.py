@@ -184,6 +184,7 @@ PARTINGS = {
 }
 HARDENED = """\
 unit        web.service: denied 64, of which 17 hold only without what `partings` names, open 33
+profile     base, since the site has no key systemd
 launched    as uid 33 (web), gid 33, with no capabilities, no_new_privs on
 
 why open    each open answer needs one call and no privilege, or nothing
@@ -285,7 +286,7 @@ class Runs(unittest.TestCase):
             self.assertEqual([], missing, f"{unit}\n{text}")
             # the table counts answers, the first line has the summary
             sums = {line.split()[0]: line.split()[-1] for line in text.splitlines() if line.startswith(("denied ", "open "))}
-            head = " ".join(text.partition("launched")[0].split())
+            head = " ".join(text.partition("profile ")[0].split())
             self.assertRegex(head, rf": denied {sums['denied']},( of which \d+ holds? only without what `partings` names,)? open {sums['open']}$")
 
     def test_partings_of_packages(self):

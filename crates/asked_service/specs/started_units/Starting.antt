@@ -1,9 +1,9 @@
 -- The launch by which a unit starts, and the refusals before it: of its settings, and then of its paths.
 use Rattle.std.specs.Prelude.{◌≡◌, ℕ, List, ◌++◌, Option, Result, Ok, Err}
 use Rattle.judge.specs.call_table.Table as calls
-use Rattle.plan_command.specs.unit_inputs.command_answers.Stops.{first_refusal}
-use Rattle.plan_command.specs.unit_inputs.declared.command_answers.stop.Stop.{Stop}
-use Rattle.plan_command.specs.unit_inputs.declared.command_answers.stop.Stop.TheVariants as stop
+use Rattle.plan_command.specs.unit_inputs.command_answers.CommandErrors.{first_refusal}
+use Rattle.plan_command.specs.unit_inputs.declared.command_answers.error.CommandError.{CommandError}
+use Rattle.plan_command.specs.unit_inputs.declared.command_answers.error.CommandError.TheVariants as stop
 use Rattle.judge.specs.dropin_merge.declared.resolved.Resolved.{Resolved}
 use Rattle.judge.specs.exec_settings.Mounts.{unit_mentions}
 use Rattle.judge.specs.exec_settings.declared.service.Settings.{Settings}
@@ -43,14 +43,14 @@ abbrev pub first_start : List ℕ → Inputs → Option (List ℕ)
 first_start unit inputs = first_refusal (start_refusals unit inputs)
 
 -- a refusal with this line
-abbrev pub StopsWith : List ℕ → Result LaunchRefusal Stop → Type 0
+abbrev pub StopsWith : List ℕ → Result LaunchRefusal CommandError → Type 0
 StopsWith line (Ok refusal) = ⊥
 StopsWith line (Err (stop.Refused told)) = told.items ≡ line
 StopsWith line (Err stop.ReadFault) = ⊥
 StopsWith line (Err stop.Memory) = Unit {0}
 
 -- the launch that is refused, or the line of the setting or the path. An answer that memory ran out has no line
-abbrev pub TellsRefusal : List ℕ → UnitRefusal → Result LaunchRefusal Stop → Type 0
+abbrev pub TellsRefusal : List ℕ → UnitRefusal → Result LaunchRefusal CommandError → Type 0
 TellsRefusal name (InSettings error) result = StopsWith (settings_line name error) result
 TellsRefusal name (Plan error) result = StopsWith (error_line name error) result
 TellsRefusal name (Launch refusal) result = result ≡ Ok refusal

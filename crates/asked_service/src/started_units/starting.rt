@@ -1,23 +1,23 @@
 //! Launches a unit, or returns the line of the first of its settings and paths that is refused.
 ghost use Rattle.std.specs.Prelude.{IsErrOf};
-ghost use Rattle.plan_command.specs.unit_inputs.command_answers.Stops.{Prepares};
+ghost use Rattle.plan_command.specs.unit_inputs.command_answers.CommandErrors.{Prepares};
 ghost use Rattle.asked_service.specs.started_units.Starting.{StartsAs, TellsRefusal, given, start_refusals};
 
 use crate::launched_units::{UnitRefusal, launch_whole};
 use crate::unit_launch::{LaunchRefusal, UnitLaunch};
-use plan_command::{Stop, plan_line, refuse, settings_line};
+use plan_command::{CommandError, plan_line, refuse, settings_line};
 use report_text::{CallTable, Resolved, SiteTable};
 use std::alloc::Global;
 
 // The launch that is refused, or the line of the setting or the path that is.
-fn tell(alloc: Global, name: &str, refusal: UnitRefusal) -> Result<LaunchRefusal, Stop>
+fn tell(alloc: Global, name: &str, refusal: UnitRefusal) -> Result<LaunchRefusal, CommandError>
     ensures { TellsRefusal name.now refusal result }
 {
     match refusal {
         UnitRefusal::Settings(error) => Err(refuse(settings_line(alloc, name, &error))),
         UnitRefusal::Plan(error) => Err(refuse(plan_line(alloc, name, &error))),
         UnitRefusal::Launch(refused) => Ok(refused),
-        UnitRefusal::Memory => Err(Stop::Memory),
+        UnitRefusal::Memory => Err(CommandError::Memory),
     }
 }
 
@@ -28,9 +28,9 @@ pub fn start<'a>(
     unit: &Resolved,
     calls: &'a CallTable,
     site: &'a SiteTable,
-) -> Result<UnitLaunch<'a>, Stop>
+) -> Result<UnitLaunch<'a>, CommandError>
     ensures starts { Prepares (StartsAs (given unit.now calls.now site.now)) (start_refusals name.now (given unit.now calls.now site.now)) result }
-    ensures reads_nothing { IsErrOf result Stop.ReadFault → ⊥ }
+    ensures reads_nothing { IsErrOf result CommandError.ReadFault → ⊥ }
 {
     match launch_whole(alloc, unit, calls, site) {
         Ok(service) => Ok(UnitLaunch::Launched(service)),

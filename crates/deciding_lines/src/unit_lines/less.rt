@@ -6,17 +6,17 @@ ghost use Rattle.deciding_lines.specs.unit_lines.Lines.{is_in_force};
 ghost use Rattle.deciding_lines.specs.unit_lines.Without.{all_but, file_without, is_among, is_place, is_taken, kept_of, left_of, without};
 
 use asked_service::{
-    Assignment, Assignments, Place, Resolved, Text, UnitFile, UnitFiles, UnitText, is_judged,
+    Assignment, Assignments, Place, Resolved, Text, UnitFile, UnitFiles, UnitText, Version, is_read,
 };
 use std::alloc::{AllocError, Global};
 
 /// The section of a unit file that describes the service.
 const SECTION: &str = "Service";
 
-fn is_in_force(assignment: &Assignment) -> bool
-    ensures { result ≡ is_in_force assignment.now }
+fn is_in_force(systemd: Option<Version>, assignment: &Assignment) -> bool
+    ensures { result ≡ is_in_force systemd assignment.now }
 {
-    assignment.section.as_str() == SECTION && is_judged(assignment.key.as_str())
+    assignment.section.as_str() == SECTION && is_read(systemd, assignment.key.as_str())
 }
 
 fn is_place(one: Place, other: Place) -> bool
@@ -49,14 +49,19 @@ pub(crate) fn all_but(
 }
 
 // Whether an assignment of the file of this number is taken away.
-fn is_taken(places: &[Place], number: usize, assignment: &Assignment) -> bool
-    ensures { result ≡ is_taken places.now number assignment.now }
+fn is_taken(
+    systemd: Option<Version>,
+    places: &[Place],
+    number: usize,
+    assignment: &Assignment,
+) -> bool
+    ensures { result ≡ is_taken systemd places.now number assignment.now }
 {
     let place = Place {
         file: number,
         line: assignment.line,
     };
-    is_in_force(assignment) && is_among(places, place)
+    is_in_force(systemd, assignment) && is_among(places, place)
 }
 
 // The same assignment once more.
@@ -75,13 +80,14 @@ fn copied(alloc: Global, assignment: &Assignment) -> Result<Assignment, AllocErr
 fn keep_unless_taken(
     alloc: Global,
     kept: &mut Vec<Assignment>,
+    systemd: Option<Version>,
     places: &[Place],
     number: usize,
     assignment: &Assignment,
 ) -> Result<(), AllocError>
-    ensures { OnOk result (kept.new.items ≡ kept.old.items ++ kept_of places.now number assignment.now) }
+    ensures { OnOk result (kept.new.items ≡ kept.old.items ++ kept_of systemd places.now number assignment.now) }
 {
-    if !is_taken(places, number, assignment) {
+    if !is_taken(systemd, places, number, assignment) {
         kept.push(copied(alloc, assignment)?)?;
     }
     Ok(())
@@ -90,15 +96,16 @@ fn keep_unless_taken(
 // The assignments of the file of this number that are left.
 fn left_of(
     alloc: Global,
+    systemd: Option<Version>,
     places: &[Place],
     number: usize,
     assignments: &[Assignment],
 ) -> Result<Vec<Assignment>, AllocError>
-    ensures { IfOk result (λ left. left.items ≡ left_of places.now number assignments.now) }
+    ensures { IfOk result (λ left. left.items ≡ left_of systemd places.now number assignments.now) }
 {
     let mut kept = Vec::new(alloc);
     for assignment in assignments {
-        keep_unless_taken(alloc, &mut kept, places, number, assignment)?;
+        keep_unless_taken(alloc, &mut kept, systemd, places, number, assignment)?;
     }
     Ok(kept)
 }
@@ -106,13 +113,14 @@ fn left_of(
 // The file of this number without them.
 fn file_without(
     alloc: Global,
+    systemd: Option<Version>,
     places: &[Place],
     number: usize,
     file: &UnitFile,
 ) -> Result<UnitFile, AllocError>
-    ensures { IfOk result (λ less. less ≡ file_without places.now (number, file.now)) }
+    ensures { IfOk result (λ less. less ≡ file_without systemd places.now (number, file.now)) }
 {
-    let left = left_of(alloc, places, number, file.text.assignments.list())?;
+    let left = left_of(alloc, systemd, places, number, file.text.assignments.list())?;
     Ok(UnitFile {
         path: Text::new(alloc, file.path.as_str())?,
         text: UnitText {
@@ -125,14 +133,15 @@ fn file_without(
 // The files without them.
 fn files_without(
     alloc: Global,
+    systemd: Option<Version>,
     places: &[Place],
     files: &[UnitFile],
 ) -> Result<Vec<UnitFile>, AllocError>
-    ensures { IfOk result (λ less. less.items ≡ map (file_without places.now) (enumerate_from 0 files.now)) }
+    ensures { IfOk result (λ less. less.items ≡ map (file_without systemd places.now) (enumerate_from 0 files.now)) }
 {
     let mut less = Vec::new(alloc);
     for number in 0..files.len() {
-        less.push(file_without(alloc, places, number, &files[number])?)?;
+        less.push(file_without(alloc, systemd, places, number, &files[number])?)?;
     }
     Ok(less)
 }
@@ -145,6 +154,7 @@ pub fn without(alloc: Global, unit: &Resolved, places: &[Place]) -> Result<Resol
 {
     Ok(Resolved {
         name: unit.name.copy(alloc)?,
-        files: UnitFiles::new(files_without(alloc, places, unit.files.list())?),
+        files: UnitFiles::new(files_without(alloc, unit.systemd, places, unit.files.list())?),
+        systemd: unit.systemd,
     })
 }

@@ -4,19 +4,20 @@ ghost use Rattle.std.specs.List.{cons_option};
 ghost use Rattle.deciding_lines.specs.unit_lines.Lines.{line_at, lines_of};
 
 use crate::unit_lines::line::UnitLine;
-use asked_service::{Assignment, Place, Resolved, Text, is_judged, service_assignments};
+use asked_service::{Assignment, Place, Resolved, Text, Version, is_read, service_assignments};
 use std::alloc::{AllocError, Global};
 
 // Lists an assignment of the service, if its key is read.
 fn push_if_read(
     alloc: Global,
     lines: &mut Vec<UnitLine>,
+    systemd: Option<Version>,
     place: Place,
     assignment: &Assignment,
 ) -> Result<(), AllocError>
-    ensures { OnOk result (lines.new.items ≡ lines.old.items ++ cons_option (line_at (place, assignment.now)) []) }
+    ensures { OnOk result (lines.new.items ≡ lines.old.items ++ cons_option (line_at systemd (place, assignment.now)) []) }
 {
-    if is_judged(assignment.key.as_str()) {
+    if is_read(systemd, assignment.key.as_str()) {
         lines.push(UnitLine {
             place,
             key: Text::new(alloc, assignment.key.as_str())?,
@@ -33,7 +34,7 @@ pub fn lines(alloc: Global, unit: &Resolved) -> Result<Vec<UnitLine>, AllocError
 {
     let mut lines = Vec::new(alloc);
     for (place, assignment) in service_assignments(unit) {
-        push_if_read(alloc, &mut lines, place, assignment)?;
+        push_if_read(alloc, &mut lines, unit.systemd, place, assignment)?;
     }
     Ok(lines)
 }

@@ -7,6 +7,7 @@ use Rattle.unit_grammar.specs.declared.unit.Assignment.{Assignment}
 use Rattle.unit_grammar.specs.declared.notes.NoteCause.TheVariants.{Specifier}
 use Rattle.unit_names.specs.Expansion.{expansion}
 use Rattle.unit_names.specs.Names.{Name}
+use Rattle.unit_names.specs.declared.version.Version.{Version}
 use Rattle.dropin_merge.specs.declared.resolved.Resolved.{Resolved}
 use Rattle.dropin_merge.specs.declared.unit_values.value.Place.{Place}
 use Rattle.dropin_merge.specs.declared.unit_values.value.FileNote.{FileNote}
@@ -14,31 +15,39 @@ use Rattle.dropin_merge.specs.declared.unit_values.value.Value.{Value}
 use Rattle.dropin_merge.specs.unit_values.Assignments.{service_assignments}
 
 -- the expanded value of an assignment, if it can be expanded
-abbrev pub expanded_at : Name → Place × Assignment → Option Value
-expanded_at name one = option_map (λ text. record { place = one.0; text = text }) (expansion name one.1.value)
+abbrev pub expanded_at : Option Version → Name → Place × Assignment → Option Value
+expanded_at systemd name one = option_map (λ text. record { place = one.0; text = text }) (expansion systemd name one.1.value)
 
 -- the note on one that cannot
 abbrev pub noted_unless : Option (List ℕ) → Place → Option FileNote
 noted_unless None place = Some (record { place = place; cause = Specifier })
 noted_unless (Some text) place = None
 
-abbrev pub unexpanded_at : Name → Place × Assignment → Option FileNote
-unexpanded_at name one = noted_unless (expansion name one.1.value) one.0
+abbrev pub unexpanded_at : Option Version → Name → Place × Assignment → Option FileNote
+unexpanded_at systemd name one = noted_unless (expansion systemd name one.1.value) one.0
 
 -- what an assignment gives to the key, and what is noted of it
-abbrev pub given_by : Name → List ℕ → Place × Assignment → Option Value
-given_by name key one = cond (bytes_eq one.1.key key) (expanded_at name one) None
+abbrev pub given_by : Option Version → Name → List ℕ → Place × Assignment → Option Value
+given_by systemd name key one = cond (bytes_eq one.1.key key) (expanded_at systemd name one) None
 
-abbrev pub note_of : Name → List ℕ → Place × Assignment → Option FileNote
-note_of name key one = cond (bytes_eq one.1.key key) (unexpanded_at name one) None
+abbrev pub note_of : Option Version → Name → List ℕ → Place × Assignment → Option FileNote
+note_of systemd name key one = cond (bytes_eq one.1.key key) (unexpanded_at systemd name one) None
 
 -- the values of the key over all files, in the order of files and lines
 abbrev pub values_of : Resolved → List ℕ → List Value
-values_of unit key = filter_map (given_by unit.name key) (service_assignments unit)
+values_of unit key = filter_map (given_by unit.systemd unit.name key) (service_assignments unit)
 
 -- the notes on values of the key that cannot be expanded
 abbrev pub notes_of : Resolved → List ℕ → List FileNote
-notes_of unit key = filter_map (note_of unit.name key) (service_assignments unit)
+notes_of unit key = filter_map (note_of unit.systemd unit.name key) (service_assignments unit)
+
+-- what an assignment gives to the key, as it is written
+abbrev pub written_by : List ℕ → Place × Assignment → Option Value
+written_by key one = cond (bytes_eq one.1.key key) (Some (record { place = one.0; text = one.1.value })) None
+
+-- the values of the key as they are written, in the same order
+abbrev pub written_values : Resolved → List ℕ → List Value
+written_values unit key = filter_map (written_by key) (service_assignments unit)
 
 abbrev pub is_filled : Value → Bool
 is_filled value = not (length value.text == 0)

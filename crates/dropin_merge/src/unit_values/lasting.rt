@@ -60,7 +60,15 @@ pub fn last_of_key<T: KeyValue>(
     let mut notes = Vec::new(alloc);
     let mut unread = Vec::new(alloc);
     for (place, assignment) in service_assignments(unit) {
-        let value = given_value(alloc, &unit.name, key, place, assignment, &mut notes)?;
+        let value = given_value(
+            alloc,
+            unit.systemd,
+            &unit.name,
+            key,
+            place,
+            assignment,
+            &mut notes,
+        )?;
         last = next_read(last, value, &mut unread)?;
     }
     let said = Said {
@@ -90,7 +98,15 @@ pub fn last_text_of_key(alloc: Global, unit: &Resolved, key: &str) -> Result<Sai
     let mut last = Text::new(alloc, "")?;
     let mut notes = Vec::new(alloc);
     for (place, assignment) in service_assignments(unit) {
-        let value = given_value(alloc, &unit.name, key, place, assignment, &mut notes)?;
+        let value = given_value(
+            alloc,
+            unit.systemd,
+            &unit.name,
+            key,
+            place,
+            assignment,
+            &mut notes,
+        )?;
         last = next_text(last, value);
     }
     Ok(Said { what: last, notes })

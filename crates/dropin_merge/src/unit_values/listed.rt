@@ -80,7 +80,15 @@ pub fn lines_of_key(
     let mut notes = Vec::new(alloc);
     let mut unread = Vec::new(alloc);
     for (place, assignment) in service_assignments(unit) {
-        let value = given_value(alloc, &unit.name, key, place, assignment, &mut notes)?;
+        let value = given_value(
+            alloc,
+            unit.systemd,
+            &unit.name,
+            key,
+            place,
+            assignment,
+            &mut notes,
+        )?;
         add_listed(alloc, value, &mut all, &mut unread)?;
     }
     let said = Said {

@@ -8,20 +8,21 @@ use crate::unit_values::assignments::service_assignments;
 use crate::unit_values::value::{FileNote, Place, Said, Value};
 use std::alloc::{AllocError, Global};
 use unit_grammar::{Assignment, NoteCause, Text};
-use unit_names::{ExpandError, UnitName, expand};
+use unit_names::{ExpandError, UnitName, Version, expand};
 
 /// The expanded value of an assignment at this place. One that cannot be expanded is no value, and is noted.
 pub fn value_at(
     alloc: Global,
+    systemd: Option<Version>,
     name: &UnitName,
     place: Place,
     assignment: &Assignment,
 ) -> Result<Said<Option<Value>>, AllocError>
-    ensures expanded { IfOk result (λ said. said.what ≡ expanded_at name.now (place, assignment.now)) }
-    ensures notes_the_others { IfOk result (λ said. said.notes.items ≡ cons_option (unexpanded_at name.now (place, assignment.now)) []) }
+    ensures expanded { IfOk result (λ said. said.what ≡ expanded_at systemd name.now (place, assignment.now)) }
+    ensures notes_the_others { IfOk result (λ said. said.notes.items ≡ cons_option (unexpanded_at systemd name.now (place, assignment.now)) []) }
 {
     let mut notes = Vec::new(alloc);
-    let what = match expand(alloc, name, assignment.value.as_str()) {
+    let what = match expand(alloc, systemd, name, assignment.value.as_str()) {
         Ok(text) => Some(Value {
             place,
             text: Text::from(text),
@@ -41,23 +42,24 @@ pub fn value_at(
 // What an assignment gives to the key. A value that cannot be expanded is none, and is noted.
 pub(crate) fn given_value(
     alloc: Global,
+    systemd: Option<Version>,
     name: &UnitName,
     key: &str,
     place: Place,
     assignment: &Assignment,
     notes: &mut Vec<FileNote>,
 ) -> Result<Option<Value>, AllocError>
-    ensures given { IfOk result (λ value. value ≡ given_by name.now key.now (place, assignment.now)) }
-    ensures noted { OnOk result (notes.new.items ≡ notes.old.items ++ cons_option (note_of name.now key.now (place, assignment.now)) []) }
+    ensures given { IfOk result (λ value. value ≡ given_by systemd name.now key.now (place, assignment.now)) }
+    ensures noted { OnOk result (notes.new.items ≡ notes.old.items ++ cons_option (note_of systemd name.now key.now (place, assignment.now)) []) }
 {
     if assignment.key.as_str() != key {
         return Ok(None);
     }
-    value_at(alloc, name, place, assignment)?.noted_in(notes)
+    value_at(alloc, systemd, name, place, assignment)?.noted_in(notes)
 }
 
 // Puts what an assignment gives behind the values that are there.
-fn add_given(values: &mut Vec<Value>, value: Option<Value>) -> Result<(), AllocError>
+pub(crate) fn add_given(values: &mut Vec<Value>, value: Option<Value>) -> Result<(), AllocError>
     ensures { OnOk result (values.new.items ≡ values.old.items ++ cons_option value []) }
 {
     if let Some(value) = value {
@@ -79,7 +81,15 @@ pub fn values_of_key(
     let mut values = Vec::new(alloc);
     let mut notes = Vec::new(alloc);
     for (place, assignment) in service_assignments(unit) {
-        let value = given_value(alloc, &unit.name, key, place, assignment, &mut notes)?;
+        let value = given_value(
+            alloc,
+            unit.systemd,
+            &unit.name,
+            key,
+            place,
+            assignment,
+            &mut notes,
+        )?;
         add_given(&mut values, value)?;
     }
     Ok(Said {

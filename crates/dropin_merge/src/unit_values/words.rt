@@ -50,7 +50,15 @@ pub fn words_of_key(alloc: Global, unit: &Resolved, key: &str) -> Result<Said<Wo
     let mut notes = Vec::new(alloc);
     let mut unread = Vec::new(alloc);
     for (place, assignment) in service_assignments(unit) {
-        let value = given_value(alloc, &unit.name, key, place, assignment, &mut notes)?;
+        let value = given_value(
+            alloc,
+            unit.systemd,
+            &unit.name,
+            key,
+            place,
+            assignment,
+            &mut notes,
+        )?;
         words = next_words(alloc, words, value, &mut unread)?;
     }
     let said = Said {

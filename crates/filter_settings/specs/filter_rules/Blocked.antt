@@ -1,9 +1,13 @@
--- systemd.exec(5), ProtectHostname=, ProtectKernelModules=, ProtectKernelLogs=, ProtectClock= and PrivateDevices=:
+-- systemd.exec(5), ProtectKernelTunables=, ProtectHostname=, ProtectKernelModules=, ProtectKernelLogs=, ProtectClock= and PrivateDevices=:
 -- calls that are refused whatever their arguments are.
 use Rattle.std.specs.Prelude.{ℕ, Bool, List, [], ◌∷◌, codes}
 use Rattle.std.specs.List.{list_any}
 use Rattle.call_table.specs.Table.{Table}
 use Rattle.filter_settings.specs.filter_rules.Covers.{covers}
+
+-- ProtectKernelTunables=: sysctl(2)
+abbrev pub tunables_words : List (List ℕ)
+tunables_words = codes "_sysctl" ∷ []
 
 -- ProtectHostname=: sethostname(2) and setdomainname(2)
 abbrev pub hostname_words : List (List ℕ)

@@ -1,9 +1,12 @@
 -- systemd.exec(5), SystemCallFilter= and SystemCallErrorNumber=: which calls are listed, and what is done to them.
-use Rattle.std.specs.Prelude.{ℕ, Bool, true, false, if◌then◌else◌, Option, Some, None, List, find, reverse, unwrap_or, option_and_then}
+use Rattle.std.specs.Prelude.{ℕ, ◌&&◌, codes, Bool, true, false, not, is_some, if◌then◌else◌, Option, Some, None, List, find, reverse, unwrap_or, option_and_then}
+use Rattle.std.specs.List.{list_any}
 use Rattle.std.specs.Option.{option_map_or}
 use Rattle.call_rules.specs.declared.actions.Action.{Action}
 use Rattle.call_rules.specs.declared.actions.Action.TheVariants as action
-use Rattle.call_table.specs.Table.{Table}
+use Rattle.call_table.specs.Lookups.{group_named}
+use Rattle.call_table.specs.Table.{Table, every_call}
+use Rattle.dropin_merge.specs.linux_numbers.Errnos.{enosys}
 use Rattle.filter_settings.specs.declared.filter_rules.mentions.Mode.{Mode}
 use Rattle.filter_settings.specs.declared.filter_rules.mentions.Mode.TheVariants.{Allow, Deny}
 use Rattle.filter_settings.specs.declared.filter_rules.mentions.Mention.{Mention}
@@ -23,19 +26,43 @@ if_adds mention = if mention.adds then Some mention else None
 abbrev pub listed_by : Table → List Mention → List ℕ → Option Mention
 listed_by table mentions name = option_and_then if_adds (last_mention table mentions name)
 
--- what is listed is allowed, or gets the action of its word and without one the default action
+-- a word lists a call by its action; without one the call is allowed, or gets the default action
 abbrev pub listed_action : Mode → Action → Mention → Action
-listed_action Allow default mention = action.Allow
+listed_action Allow default mention = unwrap_or mention.action action.Allow
 listed_action Deny default mention = unwrap_or mention.action default
 
--- every other call, and every number without a name, gets the default action, or is allowed
+abbrev pub is_allowing : Mode → Bool
+is_allowing Allow = true
+is_allowing Deny = false
+
+-- some call of the table is on the list
+abbrev pub lists_a_call : Table → List Mention → Bool
+lists_a_call table mentions = list_any (λ call. is_some (listed_by table mentions call.name)) (every_call table)
+
+-- a list that denies, with no call on it
+abbrev pub denies_no_call : Table → CallList → Bool
+denies_no_call table list = if is_allowing list.mode then false else not (lists_a_call table list.mentions)
+
+-- every other call gets the default action, or is allowed
 abbrev pub unlisted_action : Mode → Action → Action
 unlisted_action Allow default = default
 unlisted_action Deny default = action.Allow
 
+-- the table has a group `@known` without the call: systemd does not know it
+abbrev pub is_unknown : Table → List ℕ → Bool
+is_unknown table name = is_some (group_named (codes "known") table.groups) && not (covers table (codes "@known") name)
+
+-- a list that hides what systemd does not know answers it as a call that the kernel lacks
+abbrev pub hidden_action : Bool → Mode → Action → Action
+hidden_action hides mode default = if hides then action.Errno enosys else unlisted_action mode default
+
+-- to a call of this name that is not listed
+abbrev pub rest_of : Table → Action → List ℕ → CallList → Action
+rest_of table default name list = hidden_action (list.hides_unknown && is_unknown table name) list.mode default
+
 abbrev pub list_action : Table → Action → List ℕ → CallList → Action
 list_action table default name list = option_map_or (listed_action list.mode default) (listed_by table list.mentions name)
-    (unlisted_action list.mode default)
+    (rest_of table default name list)
 
 -- to a call of this name; where the setting is not set, each call is allowed
 abbrev pub call_action : Table → Option CallList → Action → List ℕ → Action
@@ -43,7 +70,7 @@ call_action table calls default name = option_map_or (list_action table default 
 
 -- to a number without a name
 abbrev pub rest_action : Option CallList → Action → Action
-rest_action calls default = option_map_or (λ list. unlisted_action list.mode default) calls action.Allow
+rest_action calls default = option_map_or (λ list. hidden_action list.hides_unknown list.mode default) calls action.Allow
 
 -- the calls of a name are let through
 abbrev pub is_allowed : Action → Bool

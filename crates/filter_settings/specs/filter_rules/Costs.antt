@@ -9,7 +9,7 @@ use Rattle.filter_settings.specs.filter_rules.Choices.{whole}
 use Rattle.filter_settings.specs.declared.filter_rules.installed.Filter.{Filter}
 use Rattle.filter_settings.specs.declared.filter_rules.names.FilterName.{FilterName}
 use Rattle.filter_settings.specs.declared.filter_rules.names.FilterName.TheVariants.{Families, MemoryDenyWriteExecute, Realtime, Suid}
-use Rattle.filter_settings.specs.declared.filter_rules.names.FilterName.TheVariants.{Namespaces, Hostname, Modules, Logs, Clock, Devices}
+use Rattle.filter_settings.specs.declared.filter_rules.names.FilterName.TheVariants.{Namespaces, Tunables, Hostname, Modules, Logs, Clock, Devices}
 use Rattle.filter_settings.specs.declared.filter_rules.names.FilterName.TheVariants.{Personality, Calls, Archs}
 
 -- calls with a rule, cases over all of them, tests over all cases
@@ -26,8 +26,9 @@ abbrev pub most_costs : FilterName → Costs
 most_costs Families = costs 1 128 128
 most_costs MemoryDenyWriteExecute = costs 4 4 4
 most_costs Realtime = costs 1 3 3
-most_costs Suid = costs 10 20 40
-most_costs Namespaces = costs 3 24 24
+most_costs Suid = costs 12 24 48
+most_costs Namespaces = costs 4 32 32
+most_costs Tunables = costs 1 0 0
 most_costs Hostname = costs 2 0 0
 most_costs Modules = costs 512 0 0
 most_costs Logs = costs 1 0 0

@@ -1,5 +1,6 @@
 -- systemd.exec(5), RestrictAddressFamilies=: which address families socket(2) may be asked for.
-use Rattle.std.specs.Prelude.{ℕ, ◌==◌, ◌&&◌, not, Bool, false, Option, List, find, reverse, codes}
+use Rattle.std.specs.Prelude.{ℕ, ◌==◌, ◌&&◌, not, Bool, false, if◌then◌else◌, Option, List, find, reverse, codes}
+use Rattle.std.specs.List.{list_any}
 use Rattle.std.specs.Option.{option_map_or}
 use Rattle.std.specs.Str.{bytes_eq}
 use Rattle.call_rules.specs.bpf_code.declared.machine.CallData.{CallData}
@@ -7,7 +8,9 @@ use Rattle.filter_settings.specs.declared.filter_rules.mentions.Mode.{Mode}
 use Rattle.filter_settings.specs.declared.filter_rules.mentions.Mode.TheVariants.{Allow, Deny}
 use Rattle.filter_settings.specs.declared.filter_rules.mentions.FamilyMention.{FamilyMention}
 use Rattle.filter_settings.specs.declared.filter_rules.mentions.FamilyList.{FamilyList}
+use Rattle.call_table.specs.Table.{Table}
 use Rattle.filter_settings.specs.filter_rules.Actions.{low}
+use Rattle.filter_settings.specs.filter_rules.Calls.{is_allowing}
 
 -- the last word that mentions the family
 abbrev pub last_family : List FamilyMention → ℕ → Option FamilyMention
@@ -16,6 +19,11 @@ last_family mentions number = find (λ mention. mention.number == number) (rever
 -- it puts the family on the list, or takes it off
 abbrev pub is_listed_family : List FamilyMention → ℕ → Bool
 is_listed_family mentions number = option_map_or (λ mention. mention.adds) (last_family mentions number) false
+
+-- a list that denies, with no family of the table on it
+abbrev pub denies_no_family : Table → FamilyList → Bool
+denies_no_family table list =
+    if is_allowing list.mode then false else not (list_any (λ family. is_listed_family list.mentions family.number) table.families)
 
 -- a list that allows refuses every other family, whether the table has it or not; one that denies refuses those on it
 abbrev pub is_refused_by : Mode → Bool → Bool

@@ -4,13 +4,13 @@ use Rattle.std.specs.List.{flat_map}
 use Rattle.call_table.specs.Table.{Abi}
 use Rattle.filter_settings.specs.declared.filter_rules.names.FilterName.{FilterName}
 use Rattle.filter_settings.specs.declared.filter_rules.names.FilterName.TheVariants.{Families, MemoryDenyWriteExecute, Realtime, Suid}
-use Rattle.filter_settings.specs.declared.filter_rules.names.FilterName.TheVariants.{Namespaces, Hostname, Modules, Logs, Clock, Devices}
+use Rattle.filter_settings.specs.declared.filter_rules.names.FilterName.TheVariants.{Namespaces, Tunables, Hostname, Modules, Logs, Clock, Devices}
 use Rattle.filter_settings.specs.declared.filter_rules.names.FilterName.TheVariants.{Personality, Calls, Archs}
 
 -- those that each ABI has a program of
 abbrev pub all_filters : List FilterName
 all_filters =
-    Families ∷ MemoryDenyWriteExecute ∷ Realtime ∷ Suid ∷ Namespaces ∷ Hostname ∷ Modules ∷ Logs ∷ Clock ∷ Devices ∷
+    Families ∷ MemoryDenyWriteExecute ∷ Realtime ∷ Suid ∷ Namespaces ∷ Tunables ∷ Hostname ∷ Modules ∷ Logs ∷ Clock ∷ Devices ∷
     Personality ∷ Calls ∷ []
 
 -- the program of a filter for the ABI of a position
@@ -37,6 +37,7 @@ text_of = elim [
   | Realtime ↦ codes "realtime"
   | Suid ↦ codes "suid"
   | Namespaces ↦ codes "namespaces"
+  | Tunables ↦ codes "tunables"
   | Hostname ↦ codes "hostname"
   | Modules ↦ codes "modules"
   | Logs ↦ codes "logs"

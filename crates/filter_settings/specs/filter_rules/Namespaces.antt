@@ -3,11 +3,15 @@ use Rattle.std.specs.Prelude.{ℕ, ◌==◌, ◌&&◌, ◌||◌, not, if◌then�
 use Rattle.std.specs.Option.{option_map_or}
 use Rattle.std.specs.List.{list_any}
 use Rattle.std.specs.Str.{bytes_eq}
+use Rattle.dropin_merge.specs.unit_names.declared.version.Version.{Version}
+use Rattle.dropin_merge.specs.linux_numbers.Errnos.{eperm, enosys}
 use Rattle.call_rules.specs.bpf_code.declared.machine.CallData.{CallData}
+use Rattle.call_rules.specs.declared.actions.Action.{Action}
+use Rattle.call_rules.specs.declared.actions.Action.TheVariants.{Errno}
 use Rattle.filter_settings.specs.declared.filter_rules.namespace_types.NamespaceType.{NamespaceType}
 use Rattle.filter_settings.specs.declared.filter_rules.namespace_types.NamespaceTypes.{NamespaceTypes}
 use Rattle.filter_settings.specs.filter_rules.NamespaceTypes.{all_types, flag_of, permits}
-use Rattle.filter_settings.specs.filter_rules.Actions.{low, has_bits, is_one_of}
+use Rattle.filter_settings.specs.filter_rules.Actions.{unless_refused, low, has_bits, is_one_of}
 
 abbrev pub forbidden_types : NamespaceTypes → List NamespaceType
 forbidden_types types = filter (λ kind. not (permits types kind)) all_types
@@ -30,3 +34,18 @@ enters_any name input = bytes_eq name (codes "setns") && low input 1 == 0
 abbrev pub refuses_namespace : NamespaceTypes → List ℕ → CallData → Bool
 refuses_namespace types name input = enters_any name input || option_map_or (λ at. has_forbidden types (low input at))
     (types_argument name) false
+
+-- CLONE_NEWTIME of clone(2)
+abbrev pub clone_newtime : ℕ
+clone_newtime = 0x80
+
+-- with a version of systemd clone(2) may not make a time namespace (time_namespaces(7))
+abbrev pub makes_time : List ℕ → CallData → Bool
+makes_time name input = bytes_eq name (codes "clone") && has_bits (low input 0) clone_newtime
+
+-- and clone3(2), whose flags stand in memory, is answered as a call that the kernel lacks
+abbrev pub namespace_action : Option Version → NamespaceTypes → List ℕ → CallData → Action
+namespace_action None types name input = unless_refused eperm (refuses_namespace types name input)
+namespace_action (Some version) types name input =
+    if bytes_eq name (codes "clone3") then Errno enosys
+    else unless_refused eperm (refuses_namespace types name input || makes_time name input)

@@ -1,14 +1,17 @@
 -- RestrictNamespaces=: what the rules do to a call of a name.
-use Rattle.std.specs.Prelude.{ℕ, if◌then◌else◌, Option, List, [], ◌∷◌, ◌++◌, map, codes}
+use Rattle.std.specs.Prelude.{ℕ, if◌then◌else◌, Option, None, Some, List, [], ◌∷◌, ◌++◌, map, codes}
 use Rattle.std.specs.Option.{option_map}
 use Rattle.std.specs.Str.{bytes_eq}
+use Rattle.dropin_merge.specs.unit_names.declared.version.Version.{Version}
+use Rattle.dropin_merge.specs.linux_numbers.Errnos.{enosys}
 use Rattle.call_rules.specs.Tested.{Tested}
+use Rattle.call_rules.specs.declared.actions.Action.TheVariants.{Errno}
 use Rattle.filter_settings.specs.declared.filter_rules.choice.Choice.{Choice}
 use Rattle.filter_settings.specs.declared.filter_rules.namespace_types.NamespaceType.{NamespaceType}
 use Rattle.filter_settings.specs.declared.filter_rules.namespace_types.NamespaceTypes.{NamespaceTypes}
 use Rattle.filter_settings.specs.filter_rules.NamespaceTypes.{flag_of}
-use Rattle.filter_settings.specs.filter_rules.Namespaces.{forbidden_types, types_argument}
-use Rattle.filter_settings.specs.filter_rules.Choices.{bits, whole, refused_where}
+use Rattle.filter_settings.specs.filter_rules.Namespaces.{forbidden_types, types_argument, clone_newtime}
+use Rattle.filter_settings.specs.filter_rules.Choices.{always, bits, whole, refused_where}
 
 -- setns(2) of any type
 abbrev pub any_type_tests : List ℕ → List Tested
@@ -22,3 +25,14 @@ namespace_tests types name at = any_type_tests name ++ map (flag_test at) (forbi
 
 abbrev pub namespaces_choice : NamespaceTypes → List ℕ → Option Choice
 namespaces_choice types name = option_map (λ at. refused_where (namespace_tests types name at)) (types_argument name)
+
+-- clone(2) with a new time namespace
+abbrev pub time_tests : List ℕ → List Tested
+time_tests name = if bytes_eq name (codes "clone") then bits 0 clone_newtime ∷ [] else []
+
+-- with a version of systemd one more call has a rule, and clone(2) one more test
+abbrev pub namespaces_choice_in : Option Version → NamespaceTypes → List ℕ → Option Choice
+namespaces_choice_in None types name = namespaces_choice types name
+namespaces_choice_in (Some version) types name =
+    if bytes_eq name (codes "clone3") then Some (always (Errno enosys))
+    else option_map (λ at. refused_where (namespace_tests types name at ++ time_tests name)) (types_argument name)

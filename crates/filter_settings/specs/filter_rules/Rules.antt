@@ -12,15 +12,15 @@ use Rattle.filter_settings.specs.declared.filter_rules.choice.Choice.{Choice}
 use Rattle.filter_settings.specs.declared.filter_rules.settings.FilterSettings.{FilterSettings}
 use Rattle.filter_settings.specs.declared.filter_rules.names.FilterName.{FilterName}
 use Rattle.filter_settings.specs.declared.filter_rules.names.FilterName.TheVariants.{Families, MemoryDenyWriteExecute, Realtime, Suid}
-use Rattle.filter_settings.specs.declared.filter_rules.names.FilterName.TheVariants.{Namespaces, Hostname, Modules, Logs, Clock, Devices}
+use Rattle.filter_settings.specs.declared.filter_rules.names.FilterName.TheVariants.{Namespaces, Tunables, Hostname, Modules, Logs, Clock, Devices}
 use Rattle.filter_settings.specs.declared.filter_rules.names.FilterName.TheVariants.{Personality, Calls, Archs}
-use Rattle.filter_settings.specs.filter_rules.Blocked.{hostname_words, modules_words, logs_words, clock_words, devices_words}
+use Rattle.filter_settings.specs.filter_rules.Blocked.{tunables_words, hostname_words, modules_words, logs_words, clock_words, devices_words}
 use Rattle.filter_settings.specs.filter_rules.Choices.{rule_with}
 use Rattle.filter_settings.specs.filter_rules.FamiliesChoice.{families_choice}
 use Rattle.filter_settings.specs.filter_rules.MappingChoice.{mapping_choice}
 use Rattle.filter_settings.specs.filter_rules.RealtimeChoice.{realtime_choice}
-use Rattle.filter_settings.specs.filter_rules.SuidChoice.{suid_choice}
-use Rattle.filter_settings.specs.filter_rules.NamespacesChoice.{namespaces_choice}
+use Rattle.filter_settings.specs.filter_rules.SuidChoice.{suid_choice_in}
+use Rattle.filter_settings.specs.filter_rules.NamespacesChoice.{namespaces_choice_in}
 use Rattle.filter_settings.specs.filter_rules.BlockedChoice.{blocked_choice}
 use Rattle.filter_settings.specs.filter_rules.PersonalityChoice.{personality_choice}
 use Rattle.filter_settings.specs.filter_rules.CallsChoice.{calls_choice}
@@ -33,8 +33,9 @@ abbrev pub choice_of : FilterName → FilterSettings → Table → List ℕ → 
 choice_of Families settings table name = families_choice table settings.families name
 choice_of MemoryDenyWriteExecute settings table name = mapping_choice name
 choice_of Realtime settings table name = realtime_choice name
-choice_of Suid settings table name = suid_choice name
-choice_of Namespaces settings table name = namespaces_choice settings.namespaces name
+choice_of Suid settings table name = suid_choice_in settings.systemd name
+choice_of Namespaces settings table name = namespaces_choice_in settings.systemd settings.namespaces name
+choice_of Tunables settings table name = blocked_choice table tunables_words name
 choice_of Hostname settings table name = blocked_choice table hostname_words name
 choice_of Modules settings table name = blocked_choice table modules_words name
 choice_of Logs settings table name = blocked_choice table logs_words name

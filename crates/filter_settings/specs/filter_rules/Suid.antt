@@ -2,8 +2,12 @@
 use Rattle.std.specs.Prelude.{ℕ, ◌&&◌, ◌||◌, if◌then◌else◌, Bool, true, false, Option, Some, None, List, [], ◌∷◌, codes}
 use Rattle.std.specs.Option.{option_map_or}
 use Rattle.std.specs.Str.{bytes_eq}
+use Rattle.dropin_merge.specs.unit_names.declared.version.Version.{Version}
+use Rattle.dropin_merge.specs.linux_numbers.Errnos.{eperm, enosys}
 use Rattle.call_rules.specs.bpf_code.declared.machine.CallData.{CallData}
-use Rattle.filter_settings.specs.filter_rules.Actions.{low, has_bits, is_one_of}
+use Rattle.call_rules.specs.declared.actions.Action.{Action}
+use Rattle.call_rules.specs.declared.actions.Action.TheVariants.{Errno}
+use Rattle.filter_settings.specs.filter_rules.Actions.{unless_refused, low, has_bits, is_one_of}
 
 -- S_ISUID and S_ISGID of inode(7)
 abbrev pub set_user_id : ℕ
@@ -38,3 +42,14 @@ sets_id_bit mode = has_bits mode set_user_id || has_bits mode set_group_id
 -- a mode that counts has one of the two bits
 abbrev pub refuses_mode : List ℕ → CallData → Bool
 refuses_mode name input = option_map_or (λ at. has_mode name input && sets_id_bit (low input at)) (mode_argument name) false
+
+-- with a version of systemd fchmodat2(2) is looked at too: argument 2 is its mode
+abbrev pub refuses_later_mode : List ℕ → CallData → Bool
+refuses_later_mode name input = bytes_eq name (codes "fchmodat2") && sets_id_bit (low input 2)
+
+-- and openat2(2), whose mode stands in memory, is answered as a call that the kernel lacks
+abbrev pub suid_action : Option Version → List ℕ → CallData → Action
+suid_action None name input = unless_refused eperm (refuses_mode name input)
+suid_action (Some version) name input =
+    if bytes_eq name (codes "openat2") then Errno enosys
+    else unless_refused eperm (refuses_mode name input || refuses_later_mode name input)

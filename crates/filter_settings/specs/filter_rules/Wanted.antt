@@ -1,8 +1,9 @@
 -- What the settings say of every call: by the filter's name, by the names of the table and by the low 32 bits of
 -- the arguments.
-use Rattle.std.specs.Prelude.{ℕ, ◌==◌, not, if◌then◌else◌, Bool, List, Option, None, Some, is_some}
+use Rattle.std.specs.Prelude.{ℕ, ◌==◌, ◌&&◌, not, if◌then◌else◌, Bool, List, Option, None, Some, is_some}
 use Rattle.std.specs.Option.{option_map_or}
 use Rattle.std.specs.List.{list_all}
+use Rattle.dropin_merge.specs.unit_names.Versions.{is_known}
 use Rattle.call_rules.specs.bpf_code.declared.machine.CallData.{CallData}
 use Rattle.call_rules.specs.declared.actions.Action.{Action}
 use Rattle.call_rules.specs.declared.actions.Action.TheVariants.{KillProcess, Allow}
@@ -11,17 +12,18 @@ use Rattle.call_table.specs.Lookups.{numbered}
 use Rattle.filter_settings.specs.declared.filter_rules.settings.FilterSettings.{FilterSettings}
 use Rattle.filter_settings.specs.declared.filter_rules.names.FilterName.{FilterName}
 use Rattle.filter_settings.specs.declared.filter_rules.names.FilterName.TheVariants.{Families, MemoryDenyWriteExecute, Realtime, Suid}
-use Rattle.filter_settings.specs.declared.filter_rules.names.FilterName.TheVariants.{Namespaces, Hostname, Modules, Logs, Clock, Devices}
+use Rattle.filter_settings.specs.declared.filter_rules.names.FilterName.TheVariants.{Namespaces, Tunables, Hostname, Modules, Logs, Clock, Devices}
 use Rattle.filter_settings.specs.declared.filter_rules.names.FilterName.TheVariants.{Personality, Calls, Archs}
 use Rattle.dropin_merge.specs.linux_numbers.Errnos.{eperm, eafnosupport}
 use Rattle.filter_settings.specs.filter_rules.Actions.{unless_refused}
 use Rattle.filter_settings.specs.filter_rules.Families.{refuses_family}
 use Rattle.filter_settings.specs.filter_rules.Mapping.{refuses_mapping}
 use Rattle.filter_settings.specs.filter_rules.Realtime.{refuses_policy}
-use Rattle.filter_settings.specs.filter_rules.Suid.{refuses_mode}
-use Rattle.filter_settings.specs.filter_rules.Namespaces.{refuses_namespace}
+use Rattle.filter_settings.specs.filter_rules.Suid.{suid_action}
+use Rattle.filter_settings.specs.filter_rules.Namespaces.{namespace_action}
 use Rattle.filter_settings.specs.filter_rules.NamespaceTypes.{all_types, permits}
-use Rattle.filter_settings.specs.filter_rules.Blocked.{is_blocked, hostname_words, modules_words, logs_words, clock_words, devices_words}
+use Rattle.filter_settings.specs.filter_rules.Blocked.{is_blocked, tunables_words, hostname_words, modules_words, logs_words, clock_words}
+use Rattle.filter_settings.specs.filter_rules.Blocked.{devices_words}
 use Rattle.filter_settings.specs.filter_rules.Personality.{refuses_personality}
 use Rattle.filter_settings.specs.filter_rules.Calls.{call_action, rest_action}
 
@@ -32,6 +34,7 @@ is_on settings MemoryDenyWriteExecute = settings.memory_deny_write_execute
 is_on settings Realtime = settings.restrict_realtime
 is_on settings Suid = settings.restrict_suid_sgid
 is_on settings Namespaces = not (list_all (permits settings.namespaces) all_types)
+is_on settings Tunables = is_known settings.systemd && settings.protect_kernel_tunables
 is_on settings Hostname = settings.protect_hostname
 is_on settings Modules = settings.protect_kernel_modules
 is_on settings Logs = settings.protect_kernel_logs
@@ -46,8 +49,9 @@ abbrev pub named_action : FilterName → FilterSettings → Table → List ℕ �
 named_action Families settings table name input = unless_refused eafnosupport (refuses_family settings.families name input)
 named_action MemoryDenyWriteExecute settings table name input = unless_refused eperm (refuses_mapping name input)
 named_action Realtime settings table name input = unless_refused eperm (refuses_policy name input)
-named_action Suid settings table name input = unless_refused eperm (refuses_mode name input)
-named_action Namespaces settings table name input = unless_refused eperm (refuses_namespace settings.namespaces name input)
+named_action Suid settings table name input = suid_action settings.systemd name input
+named_action Namespaces settings table name input = namespace_action settings.systemd settings.namespaces name input
+named_action Tunables settings table name input = unless_refused eperm (is_blocked table tunables_words name)
 named_action Hostname settings table name input = unless_refused eperm (is_blocked table hostname_words name)
 named_action Modules settings table name input = unless_refused eperm (is_blocked table modules_words name)
 named_action Logs settings table name input = unless_refused eperm (is_blocked table logs_words name)
@@ -64,6 +68,7 @@ unnamed_action MemoryDenyWriteExecute settings = Allow
 unnamed_action Realtime settings = Allow
 unnamed_action Suid settings = Allow
 unnamed_action Namespaces settings = Allow
+unnamed_action Tunables settings = Allow
 unnamed_action Hostname settings = Allow
 unnamed_action Modules settings = Allow
 unnamed_action Logs settings = Allow

@@ -1,14 +1,16 @@
 //! SystemCallFilter= and SystemCallErrorNumber=: which calls are listed, and what is done to them.
-ghost use Rattle.std.specs.Prelude.{◌≡◌, ◌++◌, map, IfOk, IfSome, OnOk};
+ghost use Rattle.std.specs.Prelude.{◌≡◌, ◌++◌, map, is_some, IfOk, IfSome, OnOk};
+ghost use Rattle.std.specs.List.{list_any};
 ghost use Rattle.std.specs.Option.{option_copied};
-ghost use Rattle.filter_settings.specs.filter_rules.Calls.{last_mention, listed_by, unlisted_action, list_action, rest_action, allows_call};
-ghost use Rattle.filter_settings.specs.filter_rules.CallsChoice.{list_choice, calls_choice};
+ghost use Rattle.filter_settings.specs.filter_rules.Calls.{last_mention, listed_by, unlisted_action, hidden_action, is_unknown, rest_of, list_action, rest_action, allows_call, lists_a_call, denies_no_call};
+ghost use Rattle.filter_settings.specs.filter_rules.CallsChoice.{listed_choice, list_choice, calls_choice};
 ghost use Rattle.filter_settings.specs.filter_rules.Marks.{action_of, AreMarksOf};
 ghost use Rattle.call_table.specs.Table.{every_call};
+ghost use Rattle.call_rules.specs.declared.actions.Action.TheVariants.{KillProcess};
 
-use crate::filter_rules::choice::{Choice, always};
+use crate::filter_rules::choice::{Choice, NOT_THERE, always};
 use crate::filter_rules::covers::covers;
-use crate::filter_rules::marks::{Mark, call_marks, listed_action};
+use crate::filter_rules::marks::{Mark, call_marks, listed_action, marks_of};
 use crate::filter_rules::mentions::{CallList, Mention, Mode};
 use crate::filter_rules::settings::FilterSettings;
 use call_rules::Action;
@@ -41,14 +43,42 @@ fn unlisted_action(mode: Mode, default: Action) -> Action
     }
 }
 
-/// Returns what is done to every call that is not listed, and to every number without a name.
+fn hidden_action(hides: bool, mode: Mode, default: Action) -> Action
+    ensures { result ≡ hidden_action hides mode default }
+{
+    if hides {
+        NOT_THERE
+    } else {
+        unlisted_action(mode, default)
+    }
+}
+
+/// Returns what is done to every number without a name.
 pub fn rest_action(calls: &Option<CallList>, default: Action) -> Action
     ensures by_the_mode { result ≡ rest_action calls.now default }
 {
     match calls {
-        Some(list) => unlisted_action(list.mode, default),
+        Some(list) => hidden_action(list.hides_unknown, list.mode, default),
         None => Action::Allow,
     }
+}
+
+// Returns whether the table has a group `@known` without calls of this name.
+fn is_unknown(table: &CallTable, name: &str) -> bool
+    ensures { result ≡ is_unknown table.now name.now }
+{
+    table.members("known").is_some() && !covers(table, "@known", name)
+}
+
+// Returns what is done to calls of this name that are not listed.
+fn rest_of(table: &CallTable, default: Action, name: &str, list: &CallList) -> Action
+    ensures { result ≡ rest_of table.now default name.now list.now }
+{
+    hidden_action(
+        list.hides_unknown && is_unknown(table, name),
+        list.mode,
+        default,
+    )
 }
 
 fn list_action(table: &CallTable, default: Action, name: &str, list: &CallList) -> Action
@@ -56,7 +86,7 @@ fn list_action(table: &CallTable, default: Action, name: &str, list: &CallList) 
 {
     match listed_by(table, list.mentions.list(), name) {
         Some(mention) => listed_action(list.mode, default, mention),
-        None => unlisted_action(list.mode, default),
+        None => rest_of(table, default, name, list),
     }
 }
 
@@ -101,6 +131,47 @@ fn action_of(
     }
 }
 
+#[tactic(auto, using(crate::proofs::Marked::some_mapped))]
+fn is_listed(table: &CallTable, list: &CallList, marks: &[Mark], name: &str) -> bool
+    requires { AreMarksOf table.now KillProcess list.now marks.now }
+    ensures { result ≡ is_some (listed_by table.now list.now.mentions name.now) }
+{
+    action_of(table, list, Action::KillProcess, marks, name).is_some()
+}
+
+fn some_listed(table: &CallTable, list: &CallList, marks: &[Mark], calls: &[CallLine]) -> bool
+    requires { AreMarksOf table.now KillProcess list.now marks.now }
+    ensures { result ≡ list_any (λ call. is_some (listed_by table.now list.now.mentions call.name)) calls.now }
+{
+    for call in calls {
+        if is_listed(table, list, marks, call.name.as_str()) {
+            return true;
+        }
+    }
+    false
+}
+
+// Returns whether some call of the table is on the list.
+#[tactic(auto, using(crate::proofs::Marked::any_all))]
+fn lists_a_call(alloc: Global, table: &CallTable, list: &CallList) -> Result<bool, AllocError>
+    ensures { IfOk result (λ some. some ≡ lists_a_call table.now list.now.mentions) }
+{
+    let marks = marks_of(alloc, table, list, Action::KillProcess)?;
+    let native = some_listed(table, list, marks.as_slice(), table.calls());
+    let second = some_listed(table, list, marks.as_slice(), table.calls_in(1));
+    Ok(native || second)
+}
+
+/// Returns whether the list denies and no call of the table is on it.
+pub fn denies_no_call(alloc: Global, table: &CallTable, list: &CallList) -> Result<bool, AllocError>
+    ensures denies_nothing { IfOk result (λ idle. idle ≡ denies_no_call table.now list.now) }
+{
+    if list.mode == Mode::Allow {
+        return Ok(false);
+    }
+    Ok(!lists_a_call(alloc, table, list)?)
+}
+
 // Returns what is done to calls of this name.
 fn action_by_marks(
     table: &CallTable,
@@ -114,7 +185,7 @@ fn action_by_marks(
 {
     match action_of(table, list, default, marks, name) {
         Some(action) => action,
-        None => unlisted_action(list.mode, default),
+        None => rest_of(table, default, name, list),
     }
 }
 
@@ -175,6 +246,25 @@ pub fn allowed_calls(
     Ok(allowed)
 }
 
+// A rule for what is listed, and none for any other call.
+fn listed_choice(
+    alloc: Global,
+    table: &CallTable,
+    default: Action,
+    marks: &[Mark],
+    name: &str,
+    list: &CallList,
+) -> Option<Choice>
+    requires { AreMarksOf table.now default list.now marks.now }
+    ensures { result ≡ listed_choice table.now default name.now list.now }
+{
+    match action_of(table, list, default, marks, name) {
+        Some(action) => Some(always(alloc, action)),
+        None => None,
+    }
+}
+
+// A list that hides what systemd does not know has a rule for each call with a name.
 fn list_choice(
     alloc: Global,
     table: &CallTable,
@@ -186,13 +276,13 @@ fn list_choice(
     requires { AreMarksOf table.now default list.now marks.now }
     ensures { result ≡ list_choice table.now default name.now list.now }
 {
-    match action_of(table, list, default, marks, name) {
-        Some(action) => Some(always(alloc, action)),
-        None => None,
+    if !list.hides_unknown {
+        return listed_choice(alloc, table, default, marks, name, list);
     }
+    Some(always(alloc, action_by_marks(table, default, marks, name, list)))
 }
 
-/// Returns what is done to a call of this name, if it is listed.
+/// Returns what is done to a call of this name, if it has a rule.
 pub fn calls_choice(
     alloc: Global,
     table: &CallTable,

@@ -3,11 +3,14 @@ ghost use Rattle.std.specs.Prelude.{◌≡◌, ◌≤◌, None, map, IfOk};
 ghost use Rattle.filter_settings.specs.filter_rules.Choices.{bits, whole, always, refused_where, allowed_where, case_with, rule_with};
 
 use call_rules::{Action, CallRule, Case, Cases, Test, Tests};
-use dropin_merge::linux_numbers::errnos::EPERM;
+use dropin_merge::linux_numbers::errnos::{ENOSYS, EPERM};
 use std::alloc::{AllocError, Global};
 
 /// The call is not permitted (errno(3)).
 pub const NOT_PERMITTED: Action = Action::Errno(EPERM as u16);
+
+/// The call is answered as one that the kernel lacks (errno(3)).
+pub const NOT_THERE: Action = Action::Errno(ENOSYS as u16);
 
 /// One action where some test holds, and another for the rest.
 #[derive(Drop)]

@@ -1,7 +1,8 @@
 //! RestrictAddressFamilies=: which address families socket(2) may be asked for.
 ghost use Rattle.std.specs.Prelude.{◌≡◌, IfOk};
+ghost use Rattle.std.specs.List.{list_any};
 ghost use Rattle.std.specs.Option.{option_copied};
-ghost use Rattle.filter_settings.specs.filter_rules.Families.{last_family, is_listed_family, is_refused_by, permits_family};
+ghost use Rattle.filter_settings.specs.filter_rules.Families.{last_family, is_listed_family, is_refused_by, permits_family, denies_no_family};
 ghost use Rattle.filter_settings.specs.filter_rules.FamiliesChoice.{family_tests, family_choice, socket_choice, families_choice};
 
 use crate::filter_rules::choice::{Choice, whole};
@@ -28,6 +29,24 @@ fn is_listed(mentions: &[FamilyMention], number: u32) -> bool
     ensures { result ≡ is_listed_family mentions.now number }
 {
     last_family(mentions, number).is_some_and(|mention| mention.adds)
+}
+
+fn some_listed(mentions: &[FamilyMention], families: &[CallLine]) -> bool
+    ensures { result ≡ list_any (λ family. is_listed_family mentions.now family.number) families.now }
+{
+    families
+        .iter()
+        .any(|family| is_listed(mentions, family.number))
+}
+
+/// Returns whether the list denies and no family of the table is on it.
+pub fn denies_no_family(table: &CallTable, list: &FamilyList) -> bool
+    ensures denies_nothing { result ≡ denies_no_family table.now list.now }
+{
+    match list.mode {
+        Mode::Allow => false,
+        Mode::Deny => !some_listed(list.mentions.list(), table.families()),
+    }
 }
 
 fn is_refused_by(mode: Mode, is_listed: bool) -> bool

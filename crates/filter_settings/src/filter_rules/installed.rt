@@ -42,6 +42,7 @@ fn is_on(settings: &FilterSettings, filter: FilterName) -> bool
         FilterName::Realtime => settings.restrict_realtime,
         FilterName::Suid => settings.restrict_suid_sgid,
         FilterName::Namespaces => forbids_a_type(settings.namespaces),
+        FilterName::Tunables => settings.systemd.is_some() && settings.protect_kernel_tunables,
         FilterName::Hostname => settings.protect_hostname,
         FilterName::Modules => settings.protect_kernel_modules,
         FilterName::Logs => settings.protect_kernel_logs,

@@ -26,7 +26,7 @@ pub fn listed_action(mode: Mode, default: Action, mention: &Mention) -> Action
     ensures by_the_mode { result ≡ listed_action mode default mention.now }
 {
     match mode {
-        Mode::Allow => Action::Allow,
+        Mode::Allow => mention.action.unwrap_or(Action::Allow),
         Mode::Deny => mention.action.unwrap_or(default),
     }
 }
@@ -108,15 +108,15 @@ fn mark_words(
     }
 }
 
-// Marks the calls of a table by a list.
+/// Marks the calls of a table by a list.
 #[tactic(auto, using(crate::proofs::Marked::count_all, crate::proofs::Marked::none_marked))]
-fn marks_of(
+pub fn marks_of(
     alloc: Global,
     table: &CallTable,
     list: &CallList,
     default: Action,
 ) -> Result<Vec<Mark>, AllocError>
-    ensures { IfOk result (λ marks. AreMarksOf table.now default list.now marks.items) }
+    ensures by_the_words { IfOk result (λ marks. AreMarksOf table.now default list.now marks.items) }
 {
     let mut marks = vec![in alloc; None; table.calls().len() + table.calls_in(1).len()]?;
     mark_words(table, list.mode, default, list.mentions.list(), &mut marks);

@@ -21,7 +21,7 @@ pub struct Mention {
     pub adds: bool,
     /// The name of a call, or `@` and the name of a group.
     pub name: Text,
-    /// The action that the word's suffix asks for: only on an added word of a list that denies.
+    /// The action that the word's suffix asks for, only on a word that puts calls on the list.
     pub action: Option<Action>,
 }
 
@@ -33,6 +33,9 @@ pub type Mentions = ItemList<Mention>;
 pub struct CallList {
     pub mode: Mode,
     pub mentions: Mentions,
+    /// Whether calls that systemd does not know are answered as calls that the kernel lacks: those that `@known` lacks,
+    /// and numbers without a name.
+    pub hides_unknown: bool,
 }
 
 /// One word of a RestrictAddressFamilies= line that is in force.

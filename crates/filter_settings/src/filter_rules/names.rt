@@ -20,6 +20,8 @@ pub enum FilterName {
     Suid,
     /// RestrictNamespaces=
     Namespaces,
+    /// ProtectKernelTunables=
+    Tunables,
     /// ProtectHostname=
     Hostname,
     /// ProtectKernelModules=
@@ -49,6 +51,7 @@ impl FilterName {
             FilterName::Realtime => "realtime",
             FilterName::Suid => "suid",
             FilterName::Namespaces => "namespaces",
+            FilterName::Tunables => "tunables",
             FilterName::Hostname => "hostname",
             FilterName::Modules => "modules",
             FilterName::Logs => "logs",
@@ -69,7 +72,7 @@ pub struct FilterPlace {
 }
 
 // Each filter for the one ABI that there is.
-const FOR_ONE: [FilterPlace; 12] = [
+const FOR_ONE: [FilterPlace; 13] = [
     FilterPlace {
         name: FilterName::Families,
         abi: 0,
@@ -88,6 +91,10 @@ const FOR_ONE: [FilterPlace; 12] = [
     },
     FilterPlace {
         name: FilterName::Namespaces,
+        abi: 0,
+    },
+    FilterPlace {
+        name: FilterName::Tunables,
         abi: 0,
     },
     FilterPlace {
@@ -121,7 +128,7 @@ const FOR_ONE: [FilterPlace; 12] = [
 ];
 
 // The filter on a second ABI, and each filter for both.
-const FOR_TWO: [FilterPlace; 25] = [
+const FOR_TWO: [FilterPlace; 27] = [
     FilterPlace {
         name: FilterName::Archs,
         abi: 1,
@@ -164,6 +171,14 @@ const FOR_TWO: [FilterPlace; 25] = [
     },
     FilterPlace {
         name: FilterName::Namespaces,
+        abi: 1,
+    },
+    FilterPlace {
+        name: FilterName::Tunables,
+        abi: 0,
+    },
+    FilterPlace {
+        name: FilterName::Tunables,
         abi: 1,
     },
     FilterPlace {

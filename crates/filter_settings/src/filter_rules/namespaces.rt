@@ -1,15 +1,18 @@
 //! RestrictNamespaces=: which types of namespaces may be made and entered.
-ghost use Rattle.std.specs.Prelude.{◌≡◌, ◌≤◌, ◌++◌, map, filter, not, IfOk, IfSome, OnOk};
+ghost use Rattle.std.specs.Prelude.{◌≡◌, ◌≤◌, ◌++◌, map, filter, not, Some, IfOk, IfSome, OnOk};
 ghost use Rattle.std.specs.List.{list_all};
 ghost use Rattle.filter_settings.specs.filter_rules.NamespaceTypes.{all_types, permits};
 ghost use Rattle.filter_settings.specs.filter_rules.Namespaces.{types_argument};
-ghost use Rattle.filter_settings.specs.filter_rules.NamespacesChoice.{any_type_tests, flag_test, namespace_tests, namespaces_choice};
-ghost use Rattle.filter_settings.specs.filter_rules.Choices.{refused_where};
+ghost use Rattle.filter_settings.specs.filter_rules.NamespacesChoice.{any_type_tests, flag_test, namespace_tests, namespaces_choice, time_tests, namespaces_choice_in};
 
-use crate::filter_rules::choice::{Choice, bits, refused_where, whole};
+use crate::filter_rules::choice::{Choice, NOT_THERE, always, bits, refused_where, whole};
 use crate::filter_rules::namespace_types::{NamespaceType, NamespaceTypes, all_types};
 use call_rules::Test;
+use dropin_merge::Version;
 use std::alloc::{AllocError, Global};
+
+/// CLONE_NEWTIME, clone(2).
+const CLONE_NEWTIME: u32 = 0x80;
 
 fn permits_each(types: NamespaceTypes, kinds: &[NamespaceType]) -> bool
     ensures { result ≡ list_all (permits types) kinds.now }
@@ -65,30 +68,81 @@ fn add_flag_tests(
     Ok(())
 }
 
-fn refused_types(
+// The test that clone(2) makes a time namespace, where the call is clone(2).
+fn add_time_test(name: &str, tests: &mut Vec<Test>) -> Result<(), AllocError>
+    ensures { OnOk result (tests.new.items ≡ tests.old.items ++ time_tests name.now) }
+{
+    if name == "clone" {
+        tests.push(bits(0, CLONE_NEWTIME))?;
+    }
+    Ok(())
+}
+
+// The tests for the types that are not permitted.
+fn type_tests(
     alloc: Global,
     types: NamespaceTypes,
     name: &str,
     at: u8,
-) -> Result<Choice, AllocError>
+) -> Result<Vec<Test>, AllocError>
     requires { at ≤ 5 }
-    ensures { IfOk result (λ choice. choice ≡ refused_where (namespace_tests types name.now at)) }
+    ensures { IfOk result (λ tests. tests.items ≡ namespace_tests types name.now at) }
 {
     let mut tests = any_type_tests(alloc, name)?;
     add_flag_tests(types, all_types(), at, &mut tests)?;
-    refused_where(alloc, tests.as_slice())
+    Ok(tests)
 }
 
-/// Returns what is done to a call of this name, where it makes or enters namespaces.
-pub fn namespaces_choice(
+// Returns what is done to a call of this name, where it makes or enters namespaces.
+fn base_choice(
     alloc: Global,
     types: NamespaceTypes,
     name: &str,
 ) -> Result<Option<Choice>, AllocError>
-    ensures by_the_types { IfOk result (λ choice. choice ≡ namespaces_choice types name.now) }
+    ensures { IfOk result (λ choice. choice ≡ namespaces_choice types name.now) }
 {
     match types_argument(name) {
-        Some(at) => Ok(Some(refused_types(alloc, types, name, at)?)),
+        Some(at) => {
+            let tests = type_tests(alloc, types, name, at)?;
+            Ok(Some(refused_where(alloc, tests.as_slice())?))
+        }
         None => Ok(None),
+    }
+}
+
+// Returns what is done with a version of systemd. The flags of clone3(2) stand in memory, where no filter looks.
+fn later_choice(
+    alloc: Global,
+    version: Version,
+    types: NamespaceTypes,
+    name: &str,
+) -> Result<Option<Choice>, AllocError>
+    ensures { IfOk result (λ choice. choice ≡ namespaces_choice_in (Some version) types name.now) }
+{
+    if name == "clone3" {
+        return Ok(Some(always(alloc, NOT_THERE)));
+    }
+    match types_argument(name) {
+        Some(at) => {
+            let mut tests = type_tests(alloc, types, name, at)?;
+            add_time_test(name, &mut tests)?;
+            Ok(Some(refused_where(alloc, tests.as_slice())?))
+        }
+        None => Ok(None),
+    }
+}
+
+/// Returns what is done to a call of this name, where it can make or enter namespaces.
+pub fn namespaces_choice(
+    alloc: Global,
+    systemd: Option<Version>,
+    types: NamespaceTypes,
+    name: &str,
+) -> Result<Option<Choice>, AllocError>
+    ensures by_the_types { IfOk result (λ choice. choice ≡ namespaces_choice_in systemd types name.now) }
+{
+    match systemd {
+        None => base_choice(alloc, types, name),
+        Some(version) => later_choice(alloc, version, types, name),
     }
 }

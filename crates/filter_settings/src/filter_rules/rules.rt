@@ -40,8 +40,11 @@ fn choice_of(
         FilterName::Families => families_choice(alloc, table, &settings.families, name),
         FilterName::MemoryDenyWriteExecute => mapping_choice(alloc, name),
         FilterName::Realtime => realtime_choice(alloc, name),
-        FilterName::Suid => suid_choice(alloc, name),
-        FilterName::Namespaces => namespaces_choice(alloc, settings.namespaces, name),
+        FilterName::Suid => suid_choice(alloc, settings.systemd, name),
+        FilterName::Namespaces => {
+            namespaces_choice(alloc, settings.systemd, settings.namespaces, name)
+        }
+        FilterName::Tunables => Ok(blocked_choice(alloc, table, &["_sysctl"], name)),
         FilterName::Hostname => Ok(blocked_choice(
             alloc,
             table,

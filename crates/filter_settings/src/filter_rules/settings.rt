@@ -2,6 +2,7 @@
 use crate::filter_rules::mentions::{CallList, FamilyList};
 use crate::filter_rules::namespace_types::NamespaceTypes;
 use call_rules::Action;
+use dropin_merge::Version;
 
 /// What the settings of a unit come to, as far as filters go (systemd.exec(5)).
 #[derive(Drop)]
@@ -25,4 +26,8 @@ pub struct FilterSettings {
     pub private_devices: bool,
     /// SystemCallArchitectures= is set, and does not permit the second ABI.
     pub second_abi_refused: bool,
+    /// The systemd that makes the filters; without one they are those of the base profile.
+    pub systemd: Option<Version>,
+    /// ProtectKernelTunables=, which has a filter with a version of systemd alone.
+    pub protect_kernel_tunables: bool,
 }

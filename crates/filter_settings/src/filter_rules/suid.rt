@@ -1,10 +1,11 @@
 //! RestrictSUIDSGID=: no file may be given the set-user-ID or the set-group-ID bit.
-ghost use Rattle.std.specs.Prelude.{◌≡◌, ◌≤◌, IfOk, IfSome};
+ghost use Rattle.std.specs.Prelude.{◌≡◌, ◌≤◌, Some, IfOk, IfSome};
 ghost use Rattle.filter_settings.specs.filter_rules.Suid.{mode_argument};
-ghost use Rattle.filter_settings.specs.filter_rules.SuidChoice.{mode_test, mode_choice, suid_choice};
+ghost use Rattle.filter_settings.specs.filter_rules.SuidChoice.{mode_test, mode_choice, suid_choice, suid_choice_in};
 
-use crate::filter_rules::choice::{Choice, bits, refused_where};
+use crate::filter_rules::choice::{Choice, NOT_THERE, always, bits, refused_where};
 use call_rules::Test;
+use dropin_merge::Version;
 use std::alloc::{AllocError, Global};
 
 /// S_ISUID, inode(7).
@@ -48,12 +49,37 @@ fn mode_choice(alloc: Global, given: Option<Test>, at: u8) -> Result<Choice, All
     Ok(Choice { given, ..choice })
 }
 
-/// Returns what is done to a call of this name, where it has a mode.
-pub fn suid_choice(alloc: Global, name: &str) -> Result<Option<Choice>, AllocError>
-    ensures by_the_call { IfOk result (λ choice. choice ≡ suid_choice name.now) }
+// Returns what is done to a call of this name, where it has a mode.
+fn base_choice(alloc: Global, name: &str) -> Result<Option<Choice>, AllocError>
+    ensures { IfOk result (λ choice. choice ≡ suid_choice name.now) }
 {
     match mode_argument(name) {
         Some(at) => Ok(Some(mode_choice(alloc, mode_test(name), at)?)),
         None => Ok(None),
+    }
+}
+
+// Returns what is done with a version of systemd. The mode of openat2(2) stands in memory, where no filter looks.
+fn later_choice(alloc: Global, version: Version, name: &str) -> Result<Option<Choice>, AllocError>
+    ensures { IfOk result (λ choice. choice ≡ suid_choice_in (Some version) name.now) }
+{
+    match name {
+        "openat2" => Ok(Some(always(alloc, NOT_THERE))),
+        "fchmodat2" => Ok(Some(mode_choice(alloc, None, 2)?)),
+        _ => base_choice(alloc, name),
+    }
+}
+
+/// Returns what is done to a call of this name, where it can set a mode.
+pub fn suid_choice(
+    alloc: Global,
+    systemd: Option<Version>,
+    name: &str,
+) -> Result<Option<Choice>, AllocError>
+    ensures by_the_call { IfOk result (λ choice. choice ≡ suid_choice_in systemd name.now) }
+{
+    match systemd {
+        None => base_choice(alloc, name),
+        Some(version) => later_choice(alloc, version, name),
     }
 }

@@ -3,6 +3,7 @@ use Rattle.std.specs.Prelude.{◌≡◌, ℕ, List, Some, None, Result, Ok, Err}
 use Rattle.score_command.specs.host_io.Files.{Files}
 use Rattle.score_command.specs.unit_names.Names.{text_of}
 use Rattle.score_command.specs.dropin_merge.Resolving.{resolved_of}
+use Rattle.score_command.specs.dropin_merge.Changed.{read_by}
 use Rattle.score_command.specs.dropin_merge.declared.errors.ResolveError.{ResolveError}
 use Rattle.score_command.specs.dropin_merge.declared.errors.ResolveError.TheVariants as resolving
 use Rattle.score_command.specs.dropin_merge.declared.resolved.Resolved.{Resolved}
@@ -34,11 +35,15 @@ pub record HasExposure (table : Table) (site : Site) (policy : List PolicyTest) 
   pub is_score : IsScore stored.id_of (stored.Answers facts) facts.tests stored.tests policy score
   pub is_its_exposure : score.exposure ≡ exposure
 
--- the outcome of a unit that is resolved, or is not
+-- the outcome of a unit as it is read
+abbrev pub IsOutcomeOf : Table → Site → List PolicyTest → StoredTests → Resolved → FleetOutcome → Type 0
+IsOutcomeOf table site policy stored unit (Scored exposure) = HasExposure table site policy stored unit exposure
+IsOutcomeOf table site policy stored unit (Unset refusal) = refusal_of unit table site ≡ Some refusal
+IsOutcomeOf table site policy stored unit (Unresolved refusal) = ⊥
+
+-- a unit that is resolved is read by the systemd of the site
 abbrev pub IsOutcome : Table → Site → List PolicyTest → StoredTests → Result Resolved ResolveError → FleetOutcome → Type 0
-IsOutcome table site policy stored (Ok unit) (Scored exposure) = HasExposure table site policy stored unit exposure
-IsOutcome table site policy stored (Ok unit) (Unset refusal) = refusal_of unit table site ≡ Some refusal
-IsOutcome table site policy stored (Ok unit) (Unresolved refusal) = ⊥
+IsOutcome table site policy stored (Ok unit) outcome = IsOutcomeOf table site policy stored (read_by site.systemd unit) outcome
 IsOutcome table site policy stored (Err refusal) (Unresolved told) = told ≡ refusal
 IsOutcome table site policy stored (Err refusal) (Scored exposure) = ⊥
 IsOutcome table site policy stored (Err refusal) (Unset told) = ⊥

@@ -4,7 +4,7 @@ ghost use Rattle.std.specs.BTreeMap.{get_by_text};
 ghost use Rattle.std.specs.Map.{values_of};
 ghost use Rattle.std.specs.Option.{option_or};
 ghost use Rattle.std.specs.String.{string_bytes};
-ghost use Rattle.score_command.specs.host_io.Calls.{Went};
+ghost use Rattle.score_command.specs.host_io.Calls.{AsksExactly};
 ghost use Rattle.score_command.specs.dropin_merge.Asking.{folder_asks};
 ghost use Rattle.score_command.specs.dropin_merge.Places.{locations};
 ghost use Rattle.fleet_command.specs.fleet_names.Answers.{HasCause};
@@ -62,7 +62,7 @@ fn collect_units<S: Shelf>(
     folders: &[&str],
 ) -> Result<Units, NamesError>
     ensures collects_the_units { IfSome (S.told shelf.old) (λ files. CollectsUnits files (map (λ folder. folder.now) folders.now) result) }
-    ensures asks_in_order { IfSome (S.told shelf.old) (λ files. Went S.asks shelf.old shelf.new (folder_asks files (map (λ folder. folder.now) folders.now)) (course result)) }
+    ensures asks_in_order { IfSome (S.told shelf.old) (λ files. AsksExactly S.asks shelf.old shelf.new (folder_asks files (map (λ folder. folder.now) folders.now)) (course result)) }
     ensures map_stays { S.told shelf.new ≡ S.told shelf.old }
     ensures fault_rose { HasCause (S.faults shelf.old) (S.faults shelf.new) result }
 {
@@ -77,7 +77,7 @@ fn collect_units<S: Shelf>(
 /// The units among the files of the folders of units.
 pub fn collect_all<S: Shelf>(alloc: Global, shelf: &mut S) -> Result<Units, NamesError>
     ensures collects_the_units { IfSome (S.told shelf.old) (λ files. CollectsUnits files locations result) }
-    ensures asks_in_order { IfSome (S.told shelf.old) (λ files. Went S.asks shelf.old shelf.new (names_asks files) (course result)) }
+    ensures asks_in_order { IfSome (S.told shelf.old) (λ files. AsksExactly S.asks shelf.old shelf.new (names_asks files) (course result)) }
     ensures map_stays { S.told shelf.new ≡ S.told shelf.old }
     ensures fault_rose { HasCause (S.faults shelf.old) (S.faults shelf.new) result }
 {

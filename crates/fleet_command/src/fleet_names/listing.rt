@@ -1,6 +1,6 @@
 //! The names of the files in a folder of units.
 ghost use Rattle.std.specs.Prelude.{◌≡◌, ◌∷◌, [], IfSome};
-ghost use Rattle.score_command.specs.host_io.Calls.{NamesIn, Went};
+ghost use Rattle.score_command.specs.host_io.Calls.{NamesIn, AsksExactly};
 ghost use Rattle.score_command.specs.host_io.Files.{names_in};
 ghost use Rattle.fleet_command.specs.fleet_names.Answers.{HasCause};
 ghost use Rattle.fleet_command.specs.fleet_names.Asking.{course};
@@ -17,7 +17,7 @@ pub fn list_folder<S: Shelf>(
     folder: &str,
 ) -> Result<Vec<String>, NamesError>
     ensures lists_the_folder { IfSome (S.told shelf.old) (λ files. ListsFolder (names_in files folder.now) result) }
-    ensures asks_for_it { Went S.asks shelf.old shelf.new (NamesIn folder.now ∷ []) (course result) }
+    ensures asks_for_it { AsksExactly S.asks shelf.old shelf.new (NamesIn folder.now ∷ []) (course result) }
     ensures map_stays { S.told shelf.new ≡ S.told shelf.old }
     ensures fault_rose { HasCause (S.faults shelf.old) (S.faults shelf.new) result }
 {

@@ -1,6 +1,6 @@
 //! The units of a host.
 ghost use Rattle.std.specs.Prelude.{◌≡◌, IfSome};
-ghost use Rattle.score_command.specs.host_io.Calls.{Went};
+ghost use Rattle.score_command.specs.host_io.Calls.{AsksExactly};
 ghost use Rattle.fleet_command.specs.fleet_names.Answers.{AreNamed, HasCause};
 ghost use Rattle.fleet_command.specs.fleet_names.Asking.{course, names_asks};
 
@@ -22,7 +22,7 @@ const MOST_UNITS: usize = 1024;
 /// order.
 pub fn fleet_names<S: Shelf>(alloc: Global, shelf: &mut S) -> Result<Vec<UnitName>, NamesError>
     ensures names_the_units { IfSome (S.told shelf.old) (λ files. AreNamed files result) }
-    ensures asks_in_order { IfSome (S.told shelf.old) (λ files. Went S.asks shelf.old shelf.new (names_asks files) (course result)) }
+    ensures asks_in_order { IfSome (S.told shelf.old) (λ files. AsksExactly S.asks shelf.old shelf.new (names_asks files) (course result)) }
     ensures map_stays { S.told shelf.new ≡ S.told shelf.old }
     ensures fault_rose { HasCause (S.faults shelf.old) (S.faults shelf.new) result }
 {

@@ -5,10 +5,10 @@ ghost use Rattle.score_command.specs.exec_settings.Refusals.{refusal_of};
 ghost use Rattle.score_command.specs.exposure_score.policy_weights.Weights.{weight_of};
 ghost use Rattle.score_command.specs.dropin_merge.Resolving.{resolved_of};
 ghost use Rattle.score_command.specs.unit_names.Names.{text_of};
-ghost use Rattle.score_command.specs.host_io.Calls.{Went};
+ghost use Rattle.score_command.specs.host_io.Calls.{AsksExactly};
 ghost use Rattle.fleet_command.specs.fleet_report.Answers.{HasCause};
 ghost use Rattle.fleet_command.specs.fleet_report.Asking.{course, row_asks};
-ghost use Rattle.fleet_command.specs.fleet_report.Outcomes.{HasExposure, IsOutcome, IsRowOf, TellsNoFault};
+ghost use Rattle.fleet_command.specs.fleet_report.Outcomes.{HasExposure, IsOutcome, IsOutcomeOf, IsRowOf, TellsNoFault};
 ghost use Rattle.fleet_command.specs.declared.fleet_report.errors.FleetError.TheVariants.{Memory};
 
 use crate::fleet_report::errors::FleetError;
@@ -54,7 +54,7 @@ fn outcome_of(
     tests: &[CustomTest],
 ) -> Result<FleetOutcome, FleetError>
     requires weighs { 0 < weight_of calls.now (⟦<CustomTest as Stored>⟧.stored tests.now) policy.now }
-    ensures comes_of_it { IfOk result (IsOutcome calls.now site.now policy.now (⟦<CustomTest as Stored>⟧.stored tests.now) (Ok unit.now)) }
+    ensures comes_of_it { IfOk result (IsOutcomeOf calls.now site.now policy.now (⟦<CustomTest as Stored>⟧.stored tests.now) unit.now) }
     ensures tells_no_fault { IfOk result TellsNoFault }
     ensures only_memory_fails { IfErr result (λ error. error ≡ Memory) }
 {
@@ -81,13 +81,16 @@ fn outcome_by_files<S: Shelf>(
     requires weighs { 0 < weight_of calls.now (⟦<CustomTest as Stored>⟧.stored tests.now) policy.now }
     ensures comes_of_its_files { IfSome (S.told shelf.old) (λ files. IfOk result (IsOutcome calls.now site.now policy.now (⟦<CustomTest as Stored>⟧.stored tests.now) (resolved_of files (text_of name.now)))) }
     ensures tells_no_fault { IfOk result TellsNoFault }
-    ensures asks_in_order { IfSome (S.told shelf.old) (λ files. Went S.asks shelf.old shelf.new (row_asks files name.now) (course result)) }
+    ensures asks_in_order { IfSome (S.told shelf.old) (λ files. AsksExactly S.asks shelf.old shelf.new (row_asks files name.now) (course result)) }
     ensures map_stays { S.told shelf.new ≡ S.told shelf.old }
     ensures fault_rose { HasCause (S.faults shelf.old) (S.faults shelf.new) result }
     ensures never_weightless { IsErrOf result FleetError.NoWeight → ⊥ }
 {
     match resolve(alloc, shelf, name.text()) {
-        Ok(unit) => outcome_of(alloc, &unit, calls, site, policy, tests),
+        Ok(mut unit) => {
+            unit.read_by(site.systemd());
+            outcome_of(alloc, &unit, calls, site, policy, tests)
+        }
         Err(ResolveError::ReadFault) => Err(FleetError::ReadFault),
         Err(ResolveError::Memory) => Err(FleetError::Memory),
         Err(refusal) => Ok(FleetOutcome::Unresolved(refusal)),
@@ -108,7 +111,7 @@ pub fn row_of<S: Shelf>(
     ensures same_name { IfOk result (λ row. row.name ≡ name.now) }
     ensures is_the_row { IfSome (S.told shelf.old) (λ files. IfOk result (IsRowOf files calls.now site.now policy.now (⟦<CustomTest as Stored>⟧.stored tests.now))) }
     ensures tells_no_fault { IfOk result (λ row. TellsNoFault row.outcome) }
-    ensures asks_in_order { IfSome (S.told shelf.old) (λ files. Went S.asks shelf.old shelf.new (row_asks files name.now) (course result)) }
+    ensures asks_in_order { IfSome (S.told shelf.old) (λ files. AsksExactly S.asks shelf.old shelf.new (row_asks files name.now) (course result)) }
     ensures map_stays { S.told shelf.new ≡ S.told shelf.old }
     ensures fault_rose { HasCause (S.faults shelf.old) (S.faults shelf.new) result }
     ensures never_weightless { IsErrOf result FleetError.NoWeight → ⊥ }

@@ -1,15 +1,15 @@
 -- The calls that the code's values represent.
-use Rattle.kernel_model.specs.kernel_calls.Doing.{Doing, See, Open, Create, Truncate, Execve, SetMode, Map, Protect, Attach, Schedule}
-use Rattle.kernel_model.specs.kernel_calls.Doing.{Personality, Socket, Socketcall, Enter, Fork, Clone, Unshare, Exit, Mount, Umount, Setuid}
-use Rattle.kernel_model.specs.kernel_calls.Doing.{Setgid, Setresuid, Setresgid, Setgroups, Capset, Prctl, Seccomp, Plain, Asked, Lacking}
-use Rattle.kernel_model.specs.kernel_calls.Doing.{Misformed, Does}
-use Rattle.kernel_model.specs.declared.kernel_calls.doing.Doing.{Doing as Lent}
-use Rattle.kernel_model.specs.declared.kernel_calls.doing.Doing.TheVariants as lent
+use Rattle.kernel_model.specs.kernel_calls.Operation.{Operation, See, Open, Create, Truncate, Execve, SetMode, Map, Protect, Attach, Schedule}
+use Rattle.kernel_model.specs.kernel_calls.Operation.{Personality, Socket, Socketcall, Enter, Fork, Clone, Unshare, Exit, Mount, Umount, Setuid}
+use Rattle.kernel_model.specs.kernel_calls.Operation.{Setgid, Setresuid, Setresgid, Setgroups, Capset, Prctl, Seccomp, Plain, Asked, Lacking}
+use Rattle.kernel_model.specs.kernel_calls.Operation.{Misformed, Does}
+use Rattle.kernel_model.specs.declared.kernel_calls.operation.Operation.{Operation as Lent}
+use Rattle.kernel_model.specs.declared.kernel_calls.operation.Operation.TheVariants as lent
 use Rattle.kernel_model.specs.declared.kernel_calls.asked.Asked.{Asked as LentAsked}
 use Rattle.kernel_model.specs.declared.kernel_calls.asked.Asked.TheVariants as asked
 
 -- the code borrows a call's payload
-abbrev pub seen : Lent → Doing
+abbrev pub seen : Lent → Operation
 seen (lent.See path) = See path.now
 seen (lent.Open flags path) = Open flags path.now
 seen (lent.Create path) = Create path.now
@@ -22,7 +22,7 @@ seen (lent.Attach flags) = Attach flags
 seen (lent.Schedule policy) = Schedule policy
 seen (lent.Personality persona) = Personality persona
 seen (lent.Socket family) = Socket family
-seen (lent.Socketcall operation family) = Socketcall operation family
+seen (lent.Socketcall op family) = Socketcall op family
 seen lent.Enter = Enter
 seen lent.Fork = Fork
 seen (lent.Clone flags) = Clone flags
@@ -37,10 +37,10 @@ seen (lent.Setresgid real effective saved) = Setresgid real effective saved
 seen (lent.Setgroups ids) = Setgroups ids.now
 seen (lent.Capset permitted effective inheritable) = Capset permitted effective inheritable
 seen (lent.Prctl option value other) = Prctl option value other
-seen (lent.Seccomp operation flags code) = Seccomp operation flags code.now
+seen (lent.Seccomp op flags code) = Seccomp op flags code.now
 seen (lent.Plain cap) = Plain cap
 
 abbrev pub asked_seen : LentAsked → Asked
 asked_seen asked.Lacking = Lacking
 asked_seen asked.Misformed = Misformed
-asked_seen (asked.Does doing) = Does (seen doing)
+asked_seen (asked.Does operation) = Does (seen operation)

@@ -1,12 +1,12 @@
 //! What a call asks for, in a kernel with a table of calls.
 
 ghost use Rattle.std.specs.Prelude.{◌≡◌};
-ghost use Rattle.kernel_model.specs.kernel_calls.Doing.{asked_of};
+ghost use Rattle.kernel_model.specs.kernel_calls.Operation.{asked_of};
 ghost use Rattle.kernel_model.specs.kernel_calls.Rules.{rules_of};
 ghost use Rattle.kernel_model.specs.kernel_calls.Seen.{asked_seen};
 
 use crate::kernel_calls::call::Call;
-use crate::kernel_calls::doing::{Doing, doing_of};
+use crate::kernel_calls::operation::{Operation, operation_of};
 use crate::kernel_calls::rules::Rules;
 use call_table::CallTable;
 
@@ -18,7 +18,7 @@ pub enum Asked<'a> {
     /// The payload does not have the call's form. The kernel returns EFAULT.
     Misformed,
     /// The call asks for this.
-    Does(Doing<'a>),
+    Does(Operation<'a>),
 }
 
 impl Rules {
@@ -29,9 +29,9 @@ impl Rules {
     {
         match self.rule(calls, call.abi, call.nr) {
             None => Asked::Lacking,
-            Some(rule) => match doing_of(rule, call) {
+            Some(rule) => match operation_of(rule, call) {
                 None => Asked::Misformed,
-                Some(doing) => Asked::Does(doing),
+                Some(operation) => Asked::Does(operation),
             },
         }
     }

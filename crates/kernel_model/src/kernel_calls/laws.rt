@@ -11,7 +11,7 @@ ghost use Rattle.kernel_model.specs.declared.kernel_calls.payload.Payload.{Paylo
 ghost use Rattle.kernel_model.specs.declared.kernel_calls.rule.Rule.{Rule};
 ghost use Rattle.kernel_model.specs.declared.kernel_calls.rule.Rule.TheVariants.{Plain};
 ghost use Rattle.kernel_model.specs.kernel_calls.Calls.{form_of_payload};
-ghost use Rattle.kernel_model.specs.kernel_calls.Doing.{doing_by, asked_of, Lacking, Misformed};
+ghost use Rattle.kernel_model.specs.kernel_calls.Operation.{operation_by, asked_of, Lacking, Misformed};
 ghost use Rattle.kernel_model.specs.kernel_calls.Rules.{rule_of, rule_at, form_of_rule};
 ghost use Rattle.kernel_model.specs.kernel_calls.Words.{low_word};
 
@@ -31,7 +31,7 @@ pub fn each_call_has_one_rule()
 /// If the kernel has a call, the call asks for something if and only if its payload has the rule's form.
 pub fn form_decides()
     ensures of_the_rule { (rule : Rule) (args : List ℕ) (payload : Payload)
-        → ((form_of_payload payload ≡ form_of_rule rule) ↔ IsSome (doing_by rule args payload)) }
+        → ((form_of_payload payload ≡ form_of_rule rule) ↔ IsSome (operation_by rule args payload)) }
     ensures lacking { (table : Table) (call : Call)
         → ((asked_of table call ≡ Lacking) ↔ (rule_at (calls_in table call.abi) call.nr ≡ None)) }
     ensures misformed { (table : Table) (call : Call) (rule : Rule) → rule_at (calls_in table call.abi) call.nr ≡ Some rule
@@ -42,5 +42,5 @@ pub fn form_decides()
 pub fn low_halves_decide()
     ensures same { (rule : Rule) (args other : List ℕ) (payload : Payload)
         → ((at : ℕ) → at < 6 → low_word args at ≡ low_word other at)
-        → doing_by rule args payload ≡ doing_by rule other payload }
+        → operation_by rule args payload ≡ operation_by rule other payload }
 {}

@@ -52,8 +52,8 @@ abbrev pub is_held_off : Launch → Wish → Row → Bool
 is_held_off launch wish row = is_to_exec wish && is_barred launch row
 
 -- the row is exposed, and the first call for the wish names it
-abbrev pub doing_calls : Launch → Power → ℕ → Wish → Row → List Call
-doing_calls launch power flags wish row = exposing_calls launch power flags wish row.path ++ call_by launch (ForPath wish)
+abbrev pub operation_calls : Launch → Power → ℕ → Wish → Row → List Call
+operation_calls launch power flags wish row = exposing_calls launch power flags wish row.path ++ call_by launch (ForPath wish)
     (OnePath (exposing_path launch power wish row.path)) ∷ []
 
 -- ---- in a user namespace of its own, user_namespaces(7)
@@ -84,9 +84,9 @@ row_inside launch program row =
 abbrev pub row_calls : Launch → Path → Wish → Row → List Call
 row_calls launch program wish row =
     if is_held_off launch wish row && not (is_mounting (power_of launch)) then row_inside launch program row
-    else if not (is_held_off launch wish row) && reaches Nowise launch.table row.path wish then doing_calls launch Nowise ms_remount_bind
+    else if not (is_held_off launch wish row) && reaches Nowise launch.table row.path wish then operation_calls launch Nowise ms_remount_bind
     wish row
-    else gaining launch program cap_sys_admin ++ doing_calls launch (power_of launch)
+    else gaining launch program cap_sys_admin ++ operation_calls launch (power_of launch)
     (if is_held_off launch wish row then unmarked else ms_remount_bind) wish row
 
 -- ---- ids

@@ -2,7 +2,7 @@
 use Rattle.std.specs.Prelude.{◌≡◌, ℕ, true, List, [], ◌∷◌}
 use Rattle.ceilings.specs.call_table.Table.{Table}
 use Rattle.ceilings.specs.kernel_model.kern_files.Bits.{has_all}
-use Rattle.ceilings.specs.kernel_model.kernel_calls.Doing.{Clone, Does, asked_of}
+use Rattle.ceilings.specs.kernel_model.kernel_calls.Operation.{Clone, Does, asked_of}
 use Rattle.ceilings.specs.kernel_model.declared.kernel_calls.call.Call.{Call}
 use Rattle.questions.specs.filter_settings.declared.filter_rules.namespace_types.NamespaceType.TheVariants.{User}
 use Rattle.ceilings.specs.kernel_laws.Questions.{flag_of}

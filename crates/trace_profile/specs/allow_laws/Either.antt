@@ -8,7 +8,7 @@ use Rattle.asked_service.specs.bpf_code.Stack.{answer_of}
 use Rattle.asked_service.specs.call_table.Table.{Table}
 use Rattle.asked_service.specs.kernel_model.declared.kernel_calls.call.Call.{Call}
 use Rattle.asked_service.specs.kernel_model.kernel_calls.Calls.{AreCalls}
-use Rattle.asked_service.specs.kernel_model.kernel_calls.Doing.{Does, Seccomp, asked_of}
+use Rattle.asked_service.specs.kernel_model.kernel_calls.Operation.{Does, Seccomp, asked_of}
 use Rattle.asked_service.specs.kernel_model.World.{World}
 use Rattle.asked_service.specs.kernel_model.Runs.{replies}
 use Rattle.asked_service.specs.launcher.Alike.{HasWordArchs, above}
@@ -25,7 +25,7 @@ AnswersAsEither both one other = (input : CallData) → IsCallData input → Ans
 
 -- it asks to push no program, seccomp(2)
 abbrev pub PushesNone : Table → Call → Type 0
-PushesNone table call = (operation flags : ℕ) (bytes : List ℕ) → asked_of table call ≡ Does (Seccomp operation flags bytes) → ⊥
+PushesNone table call = (op flags : ℕ) (bytes : List ℕ) → asked_of table call ≡ Does (Seccomp op flags bytes) → ⊥
 
 -- none of the calls does
 abbrev pub PushNone : Table → List Call → Type 0

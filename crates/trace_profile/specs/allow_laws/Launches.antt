@@ -10,12 +10,12 @@ use Rattle.asked_service.specs.linux_numbers.Limits.{no_id}
 use Rattle.asked_service.specs.mount_plan.Host.{host_of}
 use Rattle.asked_service.specs.site_table.Table.{Site}
 use Rattle.asked_service.specs.launcher.Alike.{HasWordArchs, above}
-use Rattle.asked_service.specs.launcher.Launch.{Wanted, Ending, Launched, launch}
+use Rattle.asked_service.specs.launcher.Launch.{Wanted, LaunchOutcome, Launched, launch}
 use Rattle.asked_service.specs.launcher.LaunchesAlike.{AreInstalled}
 use Rattle.trace_profile.specs.allow_laws.Either.{AnswersAsEither}
 
 -- the launch with the bytes of these programs
-abbrev pub launch_by : calls.Table → Site → Wanted → Table → List (List ℕ) → Ending
+abbrev pub launch_by : calls.Table → Site → Wanted → Table → List (List ℕ) → LaunchOutcome
 launch_by table site wanted plan programs = launch table site (record wanted { programs = programs }) plan
 
 -- bytes of programs, which have room in one stack, and the world that the launch by them ends in

@@ -6,10 +6,10 @@ use Rattle.exec_settings.specs.host_io.Writing.{Grew}
 use Rattle.exec_settings.specs.host_io.declared.writing.SinkError.{SinkError}
 use Rattle.exec_settings.specs.host_io.declared.writing.SinkError.TheVariants as sink
 use Rattle.unit_inputs.specs.command_answers.Lines.{HandsLast, HandsLines, HandsSome, HandsText}
-use Rattle.unit_inputs.specs.declared.command_answers.ending.Ending.{Ending}
-use Rattle.unit_inputs.specs.declared.command_answers.ending.Ending.TheVariants.{Refused, ReadFault, WriteFault, OutOfMemory}
-use Rattle.unit_inputs.specs.declared.command_answers.stop.Stop.{Stop}
-use Rattle.unit_inputs.specs.declared.command_answers.stop.Stop.TheVariants as stop
+use Rattle.unit_inputs.specs.declared.command_answers.exit_status.ExitStatus.{ExitStatus}
+use Rattle.unit_inputs.specs.declared.command_answers.exit_status.ExitStatus.TheVariants.{Refused, ReadFault, WriteFault, OutOfMemory}
+use Rattle.unit_inputs.specs.declared.command_answers.error.CommandError.{CommandError}
+use Rattle.unit_inputs.specs.declared.command_answers.error.CommandError.TheVariants as stop
 
 -- what the sink has taken has grown by a front of the text
 abbrev pub TakesFront : Option (List ℕ) → Option (List ℕ) → List ℕ → Type 0
@@ -53,10 +53,10 @@ pub record HasWriteCause (before now : ℕ) (result : Result (Unit {0}) SinkErro
   pub no_other_fault : StaysUnless sink.Failed before now result
 
 -- how a run ends whose text was printed so
-abbrev pub ending_of_put : Result (Unit {0}) SinkError → Ending → Ending
-ending_of_put (Ok u) ending = ending
-ending_of_put (Err sink.Failed) ending = WriteFault
-ending_of_put (Err sink.Memory) ending = OutOfMemory
+abbrev pub status_of_put : Result (Unit {0}) SinkError → ExitStatus → ExitStatus
+status_of_put (Ok u) status = status
+status_of_put (Err sink.Failed) status = WriteFault
+status_of_put (Err sink.Memory) status = OutOfMemory
 
 -- the sink around a run, with its meanings: how often it failed, what it took, and what a put does to it
 pub record Output : Type 1 where
@@ -76,19 +76,19 @@ abbrev pub IsUntouched : Output → Type 0
 IsUntouched output = output.after ≡ output.before
 
 -- a text was printed, and the run ended as the printing did
-pub record PrintsText (ending : Ending) (text : List ℕ) (ended : Ending) (output : Output) : Type 0 where
+pub record PrintsText (status : ExitStatus) (text : List ℕ) (ended : ExitStatus) (output : Output) : Type 0 where
   pub put : Result (Unit {0}) SinkError
   pub puts_the_text : PutsText output.taken output.puts output.before output.after text put
   pub cause : HasWriteCause (output.faults output.before) (output.faults output.after) put
-  pub ends : ended ≡ ending_of_put put ending
+  pub ends : ended ≡ status_of_put put status
 
 -- the line of a refusal is printed, and a stop without a line prints nothing
-abbrev pub FinishesStop : Stop → Ending → Output → Type 0
-FinishesStop (stop.Refused line) ended output = PrintsText Refused line.items ended output
-FinishesStop stop.ReadFault ended output = (ended ≡ ReadFault) × IsUntouched output
-FinishesStop stop.Memory ended output = (ended ≡ OutOfMemory) × IsUntouched output
+abbrev pub FinishesError : CommandError → ExitStatus → Output → Type 0
+FinishesError (stop.Refused line) ended output = PrintsText Refused line.items ended output
+FinishesError stop.ReadFault ended output = (ended ≡ ReadFault) × IsUntouched output
+FinishesError stop.Memory ended output = (ended ≡ OutOfMemory) × IsUntouched output
 
 -- what is ready is printed, or what stopped it
-abbrev pub Finishes : {R : Type 0} → (R → Ending) → (R → List ℕ) → Result R Stop → Ending → Output → Type 0
+abbrev pub Finishes : {R : Type 0} → (R → ExitStatus) → (R → List ℕ) → Result R CommandError → ExitStatus → Output → Type 0
 Finishes behind text (Ok ready) ended output = PrintsText (behind ready) (text ready) ended output
-Finishes behind text (Err why) ended output = FinishesStop why ended output
+Finishes behind text (Err why) ended output = FinishesError why ended output

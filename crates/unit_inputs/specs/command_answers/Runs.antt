@@ -2,11 +2,11 @@
 use Rattle.std.specs.Prelude.{◌≡◌, ◌⊎◌, ℕ, ◌<◌, ◌≤◌, List, IsTrue, Result}
 use Rattle.exec_settings.specs.host_io.Causes.{Rose}
 use Rattle.exec_settings.specs.host_io.declared.writing.SinkError.{SinkError}
-use Rattle.unit_inputs.specs.command_answers.Endings.{is_answer, is_whole}
+use Rattle.unit_inputs.specs.command_answers.ExitStatuses.{is_answer, is_whole}
 use Rattle.unit_inputs.specs.command_answers.Laws.{Laws}
 use Rattle.unit_inputs.specs.command_answers.Printing.{IsUntouched, Output, PutsAll, PutsText}
-use Rattle.unit_inputs.specs.declared.command_answers.ending.Ending.{Ending}
-use Rattle.unit_inputs.specs.declared.command_answers.ending.Ending.TheVariants.{ReadFault, WriteFault, OutOfMemory}
+use Rattle.unit_inputs.specs.declared.command_answers.exit_status.ExitStatus.{ExitStatus}
+use Rattle.unit_inputs.specs.declared.command_answers.exit_status.ExitStatus.TheVariants.{ReadFault, WriteFault, OutOfMemory}
 
 -- the shelf and the sink around a run
 pub record Outside : Type 1 where
@@ -20,38 +20,38 @@ WroteWhole admits output = (text : List ℕ) × admits text × PutsAll output.ta
 
 -- nothing was put; or what was written is a text that is admitted for some ending, each line as one piece, all of it or its
 -- front up to an error
-abbrev pub WrotePrefix : (Ending → List ℕ → Type 0) → Output → Type 0
+abbrev pub WrotePrefix : (ExitStatus → List ℕ → Type 0) → Output → Type 0
 WrotePrefix admits output =
     IsUntouched output ⊎
-    ((ending : Ending) × (text : List ℕ) × (put : Result (Unit {0}) SinkError) × admits ending text ×
+    ((status : ExitStatus) × (text : List ℕ) × (put : Result (Unit {0}) SinkError) × admits status text ×
     PutsText output.taken output.puts output.before output.after text put)
 
 -- behind a whole text a run ends only as the command may, and as a failed read only where it reads files
-pub record EndsBy (laws : Laws) (ending : Ending) : Type 0 where
-  pub whole : IsTrue (is_whole ending) → laws.may_end ending
-  pub failed_read : ending ≡ ReadFault → laws.reads
+pub record EndsBy (laws : Laws) (status : ExitStatus) : Type 0 where
+  pub whole : IsTrue (is_whole status) → laws.may_end status
+  pub failed_read : status ≡ ReadFault → laws.reads
 
 -- faults have their causes, and none is passed over: the counts do not fall; a read fault comes only where the shelf's count
 -- rose, and then nothing was put; a write fault comes only where the sink's rose; and where a count grew, its fault comes
-pub record HasFaultCause (ending : Ending) (outside : Outside) : Type 0 where
+pub record HasFaultCause (status : ExitStatus) (outside : Outside) : Type 0 where
   pub shelf_later : outside.shelf_before ≤ outside.shelf_after
   pub sink_later : outside.sink.faults outside.sink.before ≤ outside.sink.faults outside.sink.after
-  pub read_fault : ending ≡ ReadFault → Rose outside.shelf_before outside.shelf_after
-  pub nothing_written : ending ≡ ReadFault → IsUntouched outside.sink
-  pub write_fault : ending ≡ WriteFault → Rose (outside.sink.faults outside.sink.before) (outside.sink.faults outside.sink.after)
-  pub shelf_grew : outside.shelf_before < outside.shelf_after → ending ≡ ReadFault
-  pub sink_grew : outside.sink.faults outside.sink.before < outside.sink.faults outside.sink.after → ending ≡ WriteFault
+  pub read_fault : status ≡ ReadFault → Rose outside.shelf_before outside.shelf_after
+  pub nothing_written : status ≡ ReadFault → IsUntouched outside.sink
+  pub write_fault : status ≡ WriteFault → Rose (outside.sink.faults outside.sink.before) (outside.sink.faults outside.sink.after)
+  pub shelf_grew : outside.shelf_before < outside.shelf_after → status ≡ ReadFault
+  pub sink_grew : outside.sink.faults outside.sink.before < outside.sink.faults outside.sink.after → status ≡ WriteFault
 
 -- all that is asked is accepted and nothing failed: it is answered, or memory ran out
-abbrev pub Completes : Type 0 → Ending → Outside → Type 0
-Completes accepted ending outside =
+abbrev pub Completes : Type 0 → ExitStatus → Outside → Type 0
+Completes accepted status outside =
     accepted → (Rose outside.shelf_before outside.shelf_after → ⊥) → (Rose (outside.sink.faults outside.sink.before) (outside.sink.faults outside.sink.after) → ⊥)
-    → IsTrue (is_answer ending) ⊎ (ending ≡ OutOfMemory)
+    → IsTrue (is_answer status) ⊎ (status ≡ OutOfMemory)
 
 -- a run of a command with these laws that ended so
-pub record IsRun (laws : Laws) (ending : Ending) (outside : Outside) : Type 0 where
-  pub prints_the_whole_text : IsTrue (is_whole ending) → WroteWhole (laws.admits ending) outside.sink
+pub record IsRun (laws : Laws) (status : ExitStatus) (outside : Outside) : Type 0 where
+  pub prints_the_whole_text : IsTrue (is_whole status) → WroteWhole (laws.admits status) outside.sink
   pub prints_a_prefix : WrotePrefix laws.admits outside.sink
-  pub ends_by_the_inputs : EndsBy laws ending
-  pub faults_have_causes : HasFaultCause ending outside
-  pub completes : Completes laws.accepts ending outside
+  pub ends_by_the_inputs : EndsBy laws status
+  pub faults_have_causes : HasFaultCause status outside
+  pub completes : Completes laws.accepts status outside

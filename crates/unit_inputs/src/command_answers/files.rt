@@ -1,11 +1,11 @@
 // Files of the shelf, as the commands read them.
 ghost use Rattle.std.specs.Prelude.{◌≡◌, ◌∷◌, [], IfOk};
-ghost use Rattle.exec_settings.specs.host_io.Calls.{Went};
+ghost use Rattle.exec_settings.specs.host_io.Calls.{AsksExactly};
 ghost use Rattle.unit_inputs.specs.command_answers.Asking.{course, input_file};
-ghost use Rattle.unit_inputs.specs.command_answers.Stops.{HasReadCause, RefusesNothing};
+ghost use Rattle.unit_inputs.specs.command_answers.CommandErrors.{HasReadCause, RefusesNothing};
 ghost use Rattle.unit_inputs.specs.command_answers.ReadFiles.{ReadsContent};
 
-use crate::command_answers::stop::Stop;
+use crate::command_answers::error::CommandError;
 use host_io::{Shelf, ShelfError};
 use std::alloc::Global;
 
@@ -27,10 +27,14 @@ pub enum FileRead {
 }
 
 /// What the file at a path has.
-pub fn read_file<S: Shelf>(alloc: Global, shelf: &mut S, path: &str) -> Result<FileRead, Stop>
+pub fn read_file<S: Shelf>(
+    alloc: Global,
+    shelf: &mut S,
+    path: &str,
+) -> Result<FileRead, CommandError>
     ensures reads_the_file { IfOk result (ReadsContent path.now (S.told shelf.old)) }
     ensures refuses_nothing { RefusesNothing result }
-    ensures asks_for_it { Went S.asks shelf.old shelf.new (input_file path.now ∷ []) (course result) }
+    ensures asks_for_it { AsksExactly S.asks shelf.old shelf.new (input_file path.now ∷ []) (course result) }
     ensures map_stays { S.told shelf.new ≡ S.told shelf.old }
     ensures fault_rose { HasReadCause (S.faults shelf.old) (S.faults shelf.new) result }
 {
@@ -38,7 +42,7 @@ pub fn read_file<S: Shelf>(alloc: Global, shelf: &mut S, path: &str) -> Result<F
         Ok(bytes) => Ok(FileRead::Bytes(bytes)),
         Err(ShelfError::Missing) => Ok(FileRead::Missing),
         Err(ShelfError::TooLarge) => Ok(FileRead::TooLarge),
-        Err(ShelfError::Failed) => Err(Stop::ReadFault),
-        Err(ShelfError::Memory) => Err(Stop::Memory),
+        Err(ShelfError::Failed) => Err(CommandError::ReadFault),
+        Err(ShelfError::Memory) => Err(CommandError::Memory),
     }
 }

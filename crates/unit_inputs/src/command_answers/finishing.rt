@@ -1,49 +1,53 @@
 // How a run goes on behind what a command prepared.
 ghost use Rattle.std.specs.Prelude.{◌≡◌};
-ghost use Rattle.unit_inputs.specs.command_answers.Printing.{Finishes, FinishesStop, ending_of_put, output_of};
+ghost use Rattle.unit_inputs.specs.command_answers.Printing.{Finishes, FinishesError, status_of_put, output_of};
 
-use crate::command_answers::ending::Ending;
+use crate::command_answers::error::CommandError;
+use crate::command_answers::exit_status::ExitStatus;
 use crate::command_answers::lines::put_lines;
 use crate::command_answers::ready::Ready;
-use crate::command_answers::stop::Stop;
 use host_io::{Sink, SinkError};
 use std::alloc::Global;
 
 /// How a run ends whose text was printed so, behind a whole text with this ending.
-pub fn ending_after(put: Result<(), SinkError>, ending: Ending) -> Ending
-    ensures as_it_was_put { result ≡ ending_of_put put ending }
+pub fn status_after(put: Result<(), SinkError>, status: ExitStatus) -> ExitStatus
+    ensures as_it_was_put { result ≡ status_of_put put status }
 {
     match put {
-        Ok(()) => ending,
-        Err(SinkError::Failed) => Ending::WriteFault,
-        Err(SinkError::Memory) => Ending::OutOfMemory,
+        Ok(()) => status,
+        Err(SinkError::Failed) => ExitStatus::WriteFault,
+        Err(SinkError::Memory) => ExitStatus::OutOfMemory,
     }
 }
 
 /// Prints the line of what stopped a command, if it has one, and says how the run ends.
-pub fn finish_stop<K: Sink>(stop: Stop, out: &mut K) -> Ending
-    ensures finishes { FinishesStop stop result (output_of K.faults K.taken K.puts out.old out.new) }
+pub fn finish_error<K: Sink>(stop: CommandError, out: &mut K) -> ExitStatus
+    ensures finishes { FinishesError stop result (output_of K.faults K.taken K.puts out.old out.new) }
 {
     match stop {
-        Stop::Refused(line) => {
+        CommandError::Refused(line) => {
             let put = put_lines(out, line.as_slice());
-            ending_after(put, Ending::Refused)
+            status_after(put, ExitStatus::Refused)
         }
-        Stop::ReadFault => Ending::ReadFault,
-        Stop::Memory => Ending::OutOfMemory,
+        CommandError::ReadFault => ExitStatus::ReadFault,
+        CommandError::Memory => ExitStatus::OutOfMemory,
     }
 }
 
 /// Prints what a command has ready, or the line of its refusal, and says how the run ends.
-pub fn finish<R: Ready, K: Sink>(alloc: Global, prepared: Result<R, Stop>, out: &mut K) -> Ending
-    ensures finishes { Finishes R.ending R.text prepared result (output_of K.faults K.taken K.puts out.old out.new) }
+pub fn finish<R: Ready, K: Sink>(
+    alloc: Global,
+    prepared: Result<R, CommandError>,
+    out: &mut K,
+) -> ExitStatus
+    ensures finishes { Finishes R.status R.text prepared result (output_of K.faults K.taken K.puts out.old out.new) }
 {
     match prepared {
         Ok(mut ready) => {
-            let ending = ready.ending();
+            let status = ready.status();
             let put = ready.print(alloc, out);
-            ending_after(put, ending)
+            status_after(put, status)
         }
-        Err(stop) => finish_stop(stop, out),
+        Err(stop) => finish_error(stop, out),
     }
 }

@@ -1,9 +1,9 @@
 // What a command has ready for printing.
 ghost use Rattle.std.specs.Prelude.{ℕ, List, ◌≡◌};
 ghost use Rattle.unit_inputs.specs.command_answers.Printing.{HasWriteCause, PutsText};
-ghost use Rattle.unit_inputs.specs.declared.command_answers.ending.Ending.{Ending};
+ghost use Rattle.unit_inputs.specs.declared.command_answers.exit_status.ExitStatus.{ExitStatus};
 
-use crate::command_answers::ending::Ending;
+use crate::command_answers::exit_status::ExitStatus;
 use host_io::{Sink, SinkError};
 use std::alloc::Global;
 
@@ -13,11 +13,11 @@ pub trait Ready: Drop {
     ghost text: { Self → List ℕ };
 
     /// How a run ends behind the whole text.
-    ghost ending: { Self → Ending };
+    ghost status: { Self → ExitStatus };
 
     /// How a run ends behind the whole text.
-    fn ending(&self) -> Ending
-        ensures ends_so { result ≡ ending self.now };
+    fn status(&self) -> ExitStatus
+        ensures ends_so { result ≡ status self.now };
 
     /// Prints the text: the sink is handed each line with its line feed as one piece, and so what stands behind the last one.
     /// At an error a prefix of it was taken, line by line. What is ready may be used up by it: a text whose lines come of steps

@@ -1,5 +1,5 @@
 // A text that is ready as a whole.
-use crate::command_answers::ending::Ending;
+use crate::command_answers::exit_status::ExitStatus;
 use crate::command_answers::lines::put_lines;
 use crate::command_answers::ready::Ready;
 use host_io::{Sink, SinkError};
@@ -11,18 +11,18 @@ pub struct ReadyText {
     /// The text.
     pub text: Vec<u8>,
     /// How a run ends behind it.
-    pub ending: Ending,
+    pub status: ExitStatus,
 }
 
 impl Ready for ReadyText {
-    ghost use Rattle.unit_inputs.specs.command_answers.ReadyTexts.{ending_of, text_of};
+    ghost use Rattle.unit_inputs.specs.command_answers.ReadyTexts.{status_of, text_of};
 
     ghost text = { text_of };
 
-    ghost ending = { ending_of };
+    ghost status = { status_of };
 
-    fn ending(&self) -> Ending {
-        self.ending
+    fn status(&self) -> ExitStatus {
+        self.status
     }
 
     fn print<K: Sink>(&mut self, _alloc: Global, out: &mut K) -> Result<(), SinkError> {

@@ -2,8 +2,8 @@
 use Rattle.std.specs.Prelude.{◌≡◌, ◌⊎◌, ◌++◌, ℕ, IsSome, List, Option, Some}
 use Rattle.judge_command.specs.host_io.Files.{Files}
 use Rattle.judge_command.specs.unit_inputs.command_answers.Laws.{FileLaws}
-use Rattle.judge_command.specs.unit_inputs.declared.command_answers.ending.Ending.{Ending}
-use Rattle.judge_command.specs.unit_inputs.declared.command_answers.ending.Ending.TheVariants.{Done, LaunchRefused}
+use Rattle.judge_command.specs.unit_inputs.declared.command_answers.exit_status.ExitStatus.{ExitStatus}
+use Rattle.judge_command.specs.unit_inputs.declared.command_answers.exit_status.ExitStatus.TheVariants.{Done, LaunchRefused}
 use Rattle.judge_command.specs.launcher.declared.launched.Launched.{Launched as Service}
 use Rattle.why_command.specs.opening_lines.Opening.{AreAlone}
 use Rattle.why_command.specs.declared.opening_lines.each.LineAlone.{LineAlone}
@@ -23,31 +23,31 @@ pub record TellsService (name : List ℕ) (inputs : Inputs) (service : Service) 
   pub is_its_text : text ≡ lines_text inputs.calls inputs.site inputs.unit.files told
 
 -- or the launch is refused
-abbrev pub TellsLaunch : List ℕ → Inputs → UnitLaunch → Ending → List ℕ → Type 0
-TellsLaunch name inputs (Refused refusal) ending text = (ending ≡ LaunchRefused) × (text ≡ refusal_line refusal)
-TellsLaunch name inputs (Launched service) ending text = (ending ≡ Done) × TellsService name inputs service text
+abbrev pub TellsLaunch : List ℕ → Inputs → UnitLaunch → ExitStatus → List ℕ → Type 0
+TellsLaunch name inputs (Refused refusal) status text = (status ≡ LaunchRefused) × (text ≡ refusal_line refusal)
+TellsLaunch name inputs (Launched service) status text = (status ≡ Done) × TellsService name inputs service text
 
 -- the result of the unit's launch, and the text for it
-pub record TellsLines (name : List ℕ) (inputs : Inputs) (ending : Ending) (text : List ℕ) : Type 0 where
+pub record TellsLines (name : List ℕ) (inputs : Inputs) (status : ExitStatus) (text : List ℕ) : Type 0 where
   pub launch : UnitLaunch
   pub starts : StartsAs inputs launch
-  pub tells : TellsLaunch name inputs launch ending text
+  pub tells : TellsLaunch name inputs launch status text
 
 -- the order of refusals: the inputs, and then the settings and paths of the unit
 abbrev pub lines_refusals : Files → List ℕ → List (Option (List ℕ))
 lines_refusals files unit = input_refusals files unit ++ refusals_by (start_refusals unit) (inputs_of files unit)
 
 -- by the inputs of the unit
-pub record PrintsLines (files : Files) (unit : List ℕ) (ending : Ending) (text : List ℕ) : Type 0 where
+pub record PrintsLines (files : Files) (unit : List ℕ) (status : ExitStatus) (text : List ℕ) : Type 0 where
   pub inputs : Inputs
   pub inputs_are : inputs_of files unit ≡ Some inputs
-  pub tells : TellsLines unit inputs ending text
+  pub tells : TellsLines unit inputs status text
 
 -- the refusals in their order; if the launch is refused, the status is 7
 abbrev pub lines_laws : List ℕ → FileLaws
 lines_laws unit = record {
   refusals = λ files. lines_refusals files unit;
-  prints = λ files ending text. PrintsLines files unit ending text;
-  may_end = λ ending. (ending ≡ Done) ⊎ (ending ≡ LaunchRefused);
+  prints = λ files status text. PrintsLines files unit status text;
+  may_end = λ status. (status ≡ Done) ⊎ (status ≡ LaunchRefused);
   reads = IsSome (name_of unit);
 }

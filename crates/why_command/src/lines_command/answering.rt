@@ -1,16 +1,16 @@
 //! The text of what each line of a unit denies by itself.
 ghost use Rattle.std.specs.Prelude.{IfOk, IsErrOf};
-ghost use Rattle.judge_command.specs.unit_inputs.command_answers.Stops.{Prepares};
+ghost use Rattle.judge_command.specs.unit_inputs.command_answers.CommandErrors.{Prepares};
 ghost use Rattle.judge_command.specs.asked_service.started_units.Starting.{StartsAs, given, start_refusals};
 ghost use Rattle.judge_command.specs.asked_service.declared.unit_launch.launching.UnitLaunch.TheVariants.{Launched as Started};
-ghost use Rattle.judge_command.specs.unit_inputs.command_answers.ReadyTexts.{IsReadyWith, ending_of, text_of};
+ghost use Rattle.judge_command.specs.unit_inputs.command_answers.ReadyTexts.{IsReadyWith, status_of, text_of};
 ghost use Rattle.why_command.specs.lines_command.Prints.{TellsLaunch, TellsLines, TellsService};
 
 use crate::lines_command::lines::lines_text;
 use crate::opening_lines::Judged;
 use deciding_lines::unit_lines::lines;
 use judge_command::{
-    CallTable, Ending, Launched, ReadyText, Resolved, SiteTable, Stop, UnitLaunch, ask,
+    CallTable, CommandError, ExitStatus, Launched, ReadyText, Resolved, SiteTable, UnitLaunch, ask,
     refusal_line, start,
 };
 use std::alloc::{AllocError, Global};
@@ -48,18 +48,18 @@ fn tell_launch<'a>(
     calls: &'a CallTable,
     site: &'a SiteTable,
     launch: UnitLaunch<'a>,
-) -> Result<ReadyText, Stop>
+) -> Result<ReadyText, CommandError>
     requires starts { StartsAs (given unit.now calls.now site.now) launch }
     ensures { IsReadyWith (TellsLaunch name.now (given unit.now calls.now site.now) launch.entry) result }
 {
     match launch {
         UnitLaunch::Launched(service) => Ok(ReadyText {
             text: tell_service(alloc, name, unit, calls, site, service)?,
-            ending: Ending::Done,
+            status: ExitStatus::Done,
         }),
         UnitLaunch::Refused(refusal) => Ok(ReadyText {
             text: refusal_line(alloc, &refusal)?,
-            ending: Ending::LaunchRefused,
+            status: ExitStatus::LaunchRefused,
         }),
     }
 }
@@ -72,9 +72,9 @@ pub fn answer(
     unit: &Resolved,
     calls: &CallTable,
     site: &SiteTable,
-) -> Result<ReadyText, Stop>
-    ensures answers { Prepares (λ made. TellsLines name.now (given unit.now calls.now site.now) (ending_of made) (text_of made)) (start_refusals name.now (given unit.now calls.now site.now)) result }
-    ensures reads_nothing { IsErrOf result Stop.ReadFault → ⊥ }
+) -> Result<ReadyText, CommandError>
+    ensures answers { Prepares (λ made. TellsLines name.now (given unit.now calls.now site.now) (status_of made) (text_of made)) (start_refusals name.now (given unit.now calls.now site.now)) result }
+    ensures reads_nothing { IsErrOf result CommandError.ReadFault → ⊥ }
 {
     let launch = start(alloc, name, unit, calls, site)?;
     tell_launch(alloc, name, unit, calls, site, launch)

@@ -1,7 +1,7 @@
 use Rattle.unit_inputs.specs.command_answers.Laws.{IsAdmitted}
 use Rattle.unit_inputs.proofs.FileCommands.{at_stop}
 use Rattle.unit_inputs.proofs.Reading.{read_then}
-use Rattle.check_command.specs.Checked.{checked_text, ending_of}
+use Rattle.check_command.specs.Checked.{checked_text, status_of}
 use Rattle.check_command.specs.Prints.{check_laws}
 use Rattle.check_command.proofs.Together.{compared_as, stops_before}
 use Rattle.unit_inputs.specs.Asking.{asks_with_file}
@@ -10,7 +10,7 @@ use Rattle.check_command.proofs.command.prepare.Goals as goal
 
 pub returns-in_err-prepared-clause-prepares : goal.returns-in_err-prepared-clause-prepares
 returns-in_err-prepared-clause-prepares g c =
-    at_stop (IsAdmitted (check_laws (g.S.Shelf.told c.args.shelf.now) c.args.unit.now c.args.name.now c.args.path.now) ending_of
+    at_stop (IsAdmitted (check_laws (g.S.Shelf.told c.args.shelf.now) c.args.unit.now c.args.name.now c.args.path.now) status_of
     checked_text) c.from_residual.result c.in_err-prepared.field-0.0 c.from_residual.ensures.1
     (stops_before c.args.unit.now c.args.name.now c.args.path.now
     (g.S.Shelf.told c.args.shelf.now) c.in_err-prepared.field-0.0 c.in_err-prepared.ensures.prepares)

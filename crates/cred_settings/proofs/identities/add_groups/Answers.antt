@@ -9,28 +9,30 @@ use Rattle.cred_settings.proofs.identities.add_groups.Goals as goal
 
 pub returns-in-None-clause-refused : goal.returns-in-None-clause-refused
 returns-in-None-clause-refused c =
+    let systemd = c.args.systemd in
     let site = c.args.site.now in
     let words = c.args.words.now in
     let word = c.word-item.result in
     let found =
-    first_found (names_no_group site) words c.loop-word.word-index word c.loop-word-test.true c.word-item.is
+    first_found (names_no_group systemd site) words c.loop-word.word-index word c.loop-word-test.true c.word-item.is
     c.loop-word.invariant.none_is_bad
-    (names_none site word (c.in-None.ensures.gid_or_none ∙ ap (gid_meant site) c.as_str.ensures.same_text)) in
+    (names_none systemd site word (c.in-None.ensures.gid_or_none ∙ ap (gid_meant systemd site) c.as_str.ensures.same_text)) in
     subst (λ bad. IsOfGroup bad c.no_such_group.result) (ap Some c.as_str-in-None.ensures.same_text ∙ sym found) c.no_such_group.ensures
 
 pub loop-word-preserved : goal.loop-word-preserved
 loop-word-preserved c =
+    let systemd = c.args.systemd in
     let site = c.args.site.now in
     let words = c.args.words.now in
     let word = c.word-item.result in
-    let named = c.in-Some.ensures.gid_or_none ∙ ap (gid_meant site) c.as_str.ensures.same_text in
+    let named = c.in-Some.ensures.gid_or_none ∙ ap (gid_meant systemd site) c.as_str.ensures.same_text in
     record {
       added =
-          added_by_some (gid_meant site) words c.loop-word.word-index word c.args.groups.now _ _ c.loop-word-test.true c.word-item.is
+          added_by_some (gid_meant systemd site) words c.loop-word.word-index word c.args.groups.now _ _ c.loop-word-test.true c.word-item.is
           c.loop-word.invariant.added
           (c.in_ok-push-in-Some.ensures.longer ∙ ap (λ o. c.loop-word.groups ++ cons_option o []) named);
       none_is_bad =
-          none_more (names_no_group site) words c.loop-word.word-index word c.loop-word-test.true c.word-item.is
+          none_more (names_no_group systemd site) words c.loop-word.word-index word c.loop-word-test.true c.word-item.is
           c.loop-word.invariant.none_is_bad
-          (names_one site word c.in-Some.gid named);
+          (names_one systemd site word c.in-Some.gid named);
     }

@@ -6,7 +6,7 @@ use Rattle.replay_command.specs.unit_inputs.Inputs.{inputs_of, inputs_view}
 use Rattle.replay_command.specs.asked_service.started_units.Starting.{given}
 use Rattle.replay_command.proofs.OfAskedService.Given.{same_inputs}
 use Rattle.replay_command.proofs.OfUnitInputs.Reading.{named, read_behind}
-use Rattle.replay_command.specs.unit_inputs.command_answers.ReadyTexts.{ending_of, text_of}
+use Rattle.replay_command.specs.unit_inputs.command_answers.ReadyTexts.{status_of, text_of}
 use Rattle.derive_command.specs.Prints.{derive_laws}
 use Rattle.derive_command.proofs.Prepared.{admitted_as, stops_at_inputs, stops_at_script}
 use Rattle.replay_command.specs.unit_inputs.Asking.{asks_with_file}
@@ -18,7 +18,7 @@ use Rattle.derive_command.proofs.command.prepare.Goals as goal
 
 pub returns-in_err-inputs-clause-prepares : goal.returns-in_err-inputs-clause-prepares
 returns-in_err-inputs-clause-prepares g c =
-    at_stop (IsAdmitted (laws_over (g.S.Shelf.told c.args.shelf.now) (derive_laws c.args.unit.now c.args.script.now)) ending_of text_of)
+    at_stop (IsAdmitted (laws_over (g.S.Shelf.told c.args.shelf.now) (derive_laws c.args.unit.now c.args.script.now)) status_of text_of)
     c.from_residual.result c.in_err-inputs.field-0.0 c.from_residual.ensures.1
     (stops_at_inputs (λ files inputs. inputs_of files c.args.unit.now ≡ Some (inputs_view inputs))
     (g.S.Shelf.told c.args.shelf.now) c.args.unit.now c.args.script.now c.in_err-inputs.field-0.0
@@ -26,7 +26,7 @@ returns-in_err-inputs-clause-prepares g c =
 
 pub returns-in_err-made-clause-prepares : goal.returns-in_err-made-clause-prepares
 returns-in_err-made-clause-prepares g c =
-    at_stop (IsAdmitted (laws_over (g.S.Shelf.told c.args.shelf.now) (derive_laws c.args.unit.now c.args.script.now)) ending_of text_of)
+    at_stop (IsAdmitted (laws_over (g.S.Shelf.told c.args.shelf.now) (derive_laws c.args.unit.now c.args.script.now)) status_of text_of)
     c.from_residual-in_err-made.result c.in_err-made.field-0.0 c.from_residual-in_err-made.ensures.1
     (stops_at_script (g.S.Shelf.told c.args.shelf.now) (g.S.Shelf.told c.read_inputs.new.shelf) c.args.unit.now c.args.script.now
     c.in_ok-inputs.inputs c.deref.result.now c.in_err-made.field-0.0 c.in_ok-inputs.ensures.reads_for_the_unit.map_stays c.deref.ensures

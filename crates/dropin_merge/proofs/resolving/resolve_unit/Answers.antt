@@ -3,7 +3,7 @@ use Rattle.std.specs.Prelude.{IfSome}
 use Rattle.std.specs.List.{Contains}
 use Rattle.std.specs.String.{string_bytes}
 use Rattle.std.proofs.lemmas.Result.{err_from_is_err_and}
-use Rattle.host_io.specs.Calls.{Went, Whole}
+use Rattle.host_io.specs.Calls.{AsksExactly, Whole}
 use Rattle.dropin_merge.specs.Answers.{IsUnitPath}
 use Rattle.dropin_merge.specs.Asking.{unit_asks}
 use Rattle.dropin_merge.specs.declared.resolved.Resolved.{Resolved}
@@ -53,7 +53,7 @@ returns-in_err-files-clause-asks_in_order g c =
     let p = err_from_is_err_and c.from_residual-in_err-files.result c.from_residual-in_err-files.ensures.1 in
     rw (p.1, p.2)
     (subst (λ how. IfSome (g.S.Shelf.told c.args.shelf.now)
-    (λ files. Went g.S.Shelf.asks c.args.shelf.now c.read_files.new.shelf (unit_asks files c.args.unit) how))
+    (λ files. AsksExactly g.S.Shelf.asks c.args.shelf.now c.read_files.new.shelf (unit_asks files c.args.unit) how))
     (course_as (List UnitFile) Resolved c.in_err-files.field-0.0)
     (behind_it g.S.Shelf.asks (g.S.Shelf.told c.args.shelf.now) c.args.unit c.args.shelf.now _ (map string_bytes c.as_slice.result.now)
     (ap (map string_bytes) c.as_slice.ensures.value ∙ c.in_ok-paths.ensures.in_order)

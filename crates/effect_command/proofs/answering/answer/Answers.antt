@@ -1,8 +1,8 @@
 use Rattle.std.proofs.Common.{Err, Ok}
-use Rattle.judge_command.specs.unit_inputs.command_answers.Stops.{Prepares}
+use Rattle.judge_command.specs.unit_inputs.command_answers.CommandErrors.{Prepares}
 use Rattle.judge_command.proofs.OfUnitInputs.FileCommands.{at_stop}
 use Rattle.judge_command.specs.asked_service.started_units.Starting.{given}
-use Rattle.judge_command.specs.unit_inputs.command_answers.ReadyTexts.{ending_of, text_of}
+use Rattle.judge_command.specs.unit_inputs.command_answers.ReadyTexts.{status_of, text_of}
 use Rattle.effect_command.specs.Prints.{TellsBoth, TellsWith}
 use Rattle.effect_command.specs.Refusals.{refusals_behind_dropin}
 use Rattle.judge_command.proofs.OfUnitInputs.ReadyTexts.{ready_reads_nothing}
@@ -12,7 +12,7 @@ use Rattle.effect_command.proofs.answering.answer.Goals as goal
 pub returns-in_err-first-clause-answers : goal.returns-in_err-first-clause-answers
 returns-in_err-first-clause-answers c =
     let inputs = given c.args.unit.now c.args.calls.now c.args.site.now in
-    at_stop (λ result. Prepares (λ made. TellsWith inputs c.args.more (ending_of made) (text_of made))
+    at_stop (λ result. Prepares (λ made. TellsWith inputs c.args.more (status_of made) (text_of made))
     (refusals_behind_dropin c.args.name.now inputs c.args.more) result) c.from_residual-in_err-first.result c.in_err-first.field-0.0
     c.from_residual-in_err-first.ensures.1
     (answers_refused c.args.name.now inputs c.args.more c.in_err-first.field-0.0 c.in_err-first.ensures.starts)
@@ -20,7 +20,7 @@ returns-in_err-first-clause-answers c =
 pub returns-in_err-second-clause-answers : goal.returns-in_err-second-clause-answers
 returns-in_err-second-clause-answers c =
     let inputs = given c.args.unit.now c.args.calls.now c.args.site.now in
-    at_stop (λ result. Prepares (λ made. TellsWith inputs c.args.more (ending_of made) (text_of made))
+    at_stop (λ result. Prepares (λ made. TellsWith inputs c.args.more (status_of made) (text_of made))
     (refusals_behind_dropin c.args.name.now inputs c.args.more) result) c.from_residual-in_err-second.result c.in_err-second.field-0.0
     c.from_residual-in_err-second.ensures.1
     (answers_refused_with c.args.name.now inputs c.args.more c.in_ok-first.first c.in_ok-first.ensures.starts c.in_err-second.field-0.0

@@ -6,7 +6,7 @@ use Rattle.judge_command.specs.unit_inputs.Inputs.{inputs_of, inputs_view}
 use Rattle.judge_command.specs.asked_service.started_units.Starting.{given}
 use Rattle.judge_command.proofs.OfAskedService.Given.{same_inputs}
 use Rattle.judge_command.proofs.OfUnitInputs.Reading.{named, read_behind}
-use Rattle.judge_command.specs.unit_inputs.command_answers.ReadyTexts.{ending_of, text_of}
+use Rattle.judge_command.specs.unit_inputs.command_answers.ReadyTexts.{status_of, text_of}
 use Rattle.effect_command.specs.Prints.{effect_laws}
 use Rattle.effect_command.proofs.Prepared.{admitted_as, stops_at_dropin, stops_at_inputs}
 use Rattle.judge_command.specs.unit_inputs.Asking.{asks_with_file}
@@ -17,7 +17,7 @@ use Rattle.effect_command.proofs.command.prepare.Goals as goal
 
 pub returns-in_err-inputs-clause-prepares : goal.returns-in_err-inputs-clause-prepares
 returns-in_err-inputs-clause-prepares g c =
-    at_stop (IsAdmitted (laws_over (g.S.Shelf.told c.args.shelf.now) (effect_laws c.args.unit.now c.args.path.now)) ending_of text_of)
+    at_stop (IsAdmitted (laws_over (g.S.Shelf.told c.args.shelf.now) (effect_laws c.args.unit.now c.args.path.now)) status_of text_of)
     c.from_residual.result c.in_err-inputs.field-0.0 c.from_residual.ensures.1
     (stops_at_inputs (λ files inputs. inputs_of files c.args.unit.now ≡ Some (inputs_view inputs))
     (g.S.Shelf.told c.args.shelf.now) c.args.unit.now c.args.path.now c.in_err-inputs.field-0.0
@@ -25,7 +25,7 @@ returns-in_err-inputs-clause-prepares g c =
 
 pub returns-in_err-more-clause-prepares : goal.returns-in_err-more-clause-prepares
 returns-in_err-more-clause-prepares g c =
-    at_stop (IsAdmitted (laws_over (g.S.Shelf.told c.args.shelf.now) (effect_laws c.args.unit.now c.args.path.now)) ending_of text_of)
+    at_stop (IsAdmitted (laws_over (g.S.Shelf.told c.args.shelf.now) (effect_laws c.args.unit.now c.args.path.now)) status_of text_of)
     c.from_residual-in_err-more.result c.in_err-more.field-0.0 c.from_residual-in_err-more.ensures.1
     (stops_at_dropin (g.S.Shelf.told c.args.shelf.now) (g.S.Shelf.told c.read_inputs.new.shelf) c.args.unit.now c.args.path.now
     c.in_ok-inputs.inputs c.in_err-more.field-0.0 c.in_ok-inputs.ensures.reads_for_the_unit.map_stays

@@ -6,5 +6,5 @@ use Rattle.exec_settings.specs.Judged.{unjudged_at}
 use Rattle.exec_settings.proofs.judged.note_unjudged.Given as goal
 
 abbrev pub invariant-loop-place : goal.invariant-loop-place
-invariant-loop-place l = l.notes.items ++ filter_map unjudged_at (assignments_left l.place-iterator)
-    ≡ l.fn.notes.items ++ filter_map unjudged_at (service_assignments l.unit)
+invariant-loop-place l = l.notes.items ++ filter_map (unjudged_at l.unit.systemd) (assignments_left l.place-iterator)
+    ≡ l.fn.notes.items ++ filter_map (unjudged_at l.unit.systemd) (service_assignments l.unit)

@@ -5,5 +5,5 @@ use Rattle.exec_settings.proofs.profile.first_outside.Given as goal
 
 abbrev pub invariant-loop-row : goal.invariant-loop-row
 invariant-loop-row l =
-    find (is_outside l.unit l.command) (map (λ row. (row.0.now, row.1)) (drop l.row-index l.rows))
-    ≡ find (is_outside l.unit l.command) (map (λ row. (row.0.now, row.1)) l.rows)
+    find (is_outside l.unit l.is_relative) (map (λ row. (row.0.now, row.1)) (drop l.row-index l.rows))
+    ≡ find (is_outside l.unit l.is_relative) (map (λ row. (row.0.now, row.1)) l.rows)

@@ -3,7 +3,7 @@ use Rattle.unit_inputs.specs.command_answers.Laws.{IsAdmitted, laws_over}
 use Rattle.unit_inputs.proofs.FileCommands.{at_stop, stop_is_admitted}
 use Rattle.unit_inputs.proofs.Reading.{read_then}
 use Rattle.unit_inputs.specs.declared.settling.SettledUnit.{SettledUnit}
-use Rattle.filter_command.specs.Prints.{ending_of, filter_laws, filters_text}
+use Rattle.filter_command.specs.Prints.{status_of, filter_laws, filters_text}
 use Rattle.filter_command.proofs.Prepared.{prepared}
 use Rattle.unit_inputs.specs.Asking.{input_asks}
 use Rattle.unit_inputs.proofs.Ordering.{order_quiet}
@@ -11,9 +11,9 @@ use Rattle.filter_command.proofs.command.prepare.Goals as goal
 
 pub returns-in_err-one-clause-prepares : goal.returns-in_err-one-clause-prepares
 returns-in_err-one-clause-prepares g c =
-    at_stop (IsAdmitted (laws_over (g.S.Shelf.told c.args.shelf.now) (filter_laws c.args.unit.now)) ending_of filters_text)
+    at_stop (IsAdmitted (laws_over (g.S.Shelf.told c.args.shelf.now) (filter_laws c.args.unit.now)) status_of filters_text)
     c.from_residual.result c.in_err-one.field-0.0 c.from_residual.ensures.1
-    (stop_is_admitted (filter_laws c.args.unit.now) ending_of filters_text {T = SettledUnit} (λ one. Unit {0})
+    (stop_is_admitted (filter_laws c.args.unit.now) status_of filters_text {T = SettledUnit} (λ one. Unit {0})
     (g.S.Shelf.told c.args.shelf.now) c.in_err-one.field-0.0 c.in_err-one.ensures.settles_by_the_files)
 
 pub returns-clause-prepares : goal.returns-clause-prepares

@@ -1,7 +1,7 @@
 use Rattle.score_command.specs.exposure_score.StoredTests.{stored_by}
 use Rattle.score_command.specs.unit_inputs.command_answers.Laws.{IsAdmitted, laws_over}
 use Rattle.score_command.proofs.OfUnitInputs.FileCommands.{at_stop}
-use Rattle.fleet_command.specs.Prints.{ending_of, fleet_laws, text_of}
+use Rattle.fleet_command.specs.Prints.{status_of, fleet_laws, text_of}
 use Rattle.fleet_command.proofs.Prepared.{ready, stops_at_weights, stops_before_units}
 use Rattle.std.proofs.Common.{Err, Global, Vec}
 use Rattle.score_command.specs.unit_inputs.command_answers.Asking.{course}
@@ -16,14 +16,14 @@ use Rattle.fleet_command.proofs.command.prepare.Goals as goal
 pub returns-in_err-inputs-clause-prepares : goal.returns-in_err-inputs-clause-prepares
 returns-in_err-inputs-clause-prepares g c =
     let stored = stored_by (λ test. test.id) (λ test. test.range) (λ test shown answer. (goal.Fn-dyn g).post (test.check.vtable, test.check.value) (shown, tt) answer) c.args.tests.now in
-    at_stop (IsAdmitted (laws_over (g.S.Shelf.told c.args.shelf.now) (fleet_laws c.args.path.now stored)) ending_of text_of)
+    at_stop (IsAdmitted (laws_over (g.S.Shelf.told c.args.shelf.now) (fleet_laws c.args.path.now stored)) status_of text_of)
     c.from_residual.result c.in_err-inputs.field-0.0 c.from_residual.ensures.1
     (stops_before_units (g.S.Shelf.told c.args.shelf.now) c.args.path.now stored c.in_err-inputs.field-0.0 c.in_err-inputs.ensures.prepares)
 
 pub returns-in_err-rows-clause-prepares : goal.returns-in_err-rows-clause-prepares
 returns-in_err-rows-clause-prepares g c =
     let stored = stored_by (λ test. test.id) (λ test. test.range) (λ test shown answer. (goal.Fn-dyn g).post (test.check.vtable, test.check.value) (shown, tt) answer) c.args.tests.now in
-    at_stop (IsAdmitted (laws_over (g.S.Shelf.told c.args.shelf.now) (fleet_laws c.args.path.now stored)) ending_of text_of)
+    at_stop (IsAdmitted (laws_over (g.S.Shelf.told c.args.shelf.now) (fleet_laws c.args.path.now stored)) status_of text_of)
     c.from_residual-in_err-rows.result c.in_err-rows.field-0.0 c.from_residual-in_err-rows.ensures.1
     (stops_at_weights (g.S.Shelf.told c.args.shelf.now) c.args.path.now stored c.in_ok-inputs.inputs c.in_ok-inputs.ensures.prepares
     c.in_err-rows.field-0.0

@@ -17,8 +17,8 @@ returns-in-Ok-clause-runs g c =
 pub returns-in-Err-clause-runs : goal.returns-in-Err-clause-runs
 returns-in-Err-clause-runs g c =
     ran_stopped (judge_laws c.args.unit.now) (λ files. IsPrepared files c.args.unit.now) (g.S.Shelf.told c.args.shelf.now)
-    (together (g.S.Shelf.told c.args.shelf.now) c.args.unit.now) _ c.finish_stop.result c.in-Err.stop c.in-Err.ensures.prepares
-    c.in-Err.ensures.reads_for_the_unit.reads_for_a_name c.in-Err.ensures.reads_for_the_unit.fault_rose c.finish_stop.ensures.finishes
+    (together (g.S.Shelf.told c.args.shelf.now) c.args.unit.now) _ c.finish_error.result c.in-Err.stop c.in-Err.ensures.prepares
+    c.in-Err.ensures.reads_for_the_unit.reads_for_a_name c.in-Err.ensures.reads_for_the_unit.fault_rose c.finish_error.ensures.finishes
 
 pub returns-in-Ok-clause-asks_in_order : goal.returns-in-Ok-clause-asks_in_order
 returns-in-Ok-clause-asks_in_order g c =
@@ -29,5 +29,5 @@ returns-in-Ok-clause-asks_in_order g c =
 pub returns-in-Err-clause-asks_in_order : goal.returns-in-Err-clause-asks_in_order
 returns-in-Err-clause-asks_in_order g c =
     order_stop g.S.Shelf.asks (g.S.Shelf.told c.args.shelf.now)
-    (λ files. input_asks files c.args.unit.now) c.args.shelf.now c.prepare.new.shelf Prepared c.in-Err.stop c.finish_stop.result _
-    c.finish_stop.ensures.finishes c.in-Err.ensures.asks_in_order
+    (λ files. input_asks files c.args.unit.now) c.args.shelf.now c.prepare.new.shelf Prepared c.in-Err.stop c.finish_error.result _
+    c.finish_error.ensures.finishes c.in-Err.ensures.asks_in_order

@@ -18,5 +18,5 @@ returns c =
       finds_as_view = finds_as_view row_at mentions normal plan made;
       places_are_mentioned = mentioned row_at mentions plan made;
       can_be_mounted = λ short. can_be_mounted c.args.site.now mentions c.rows-rows.ensures.holds_of_each_site c.list.ensures.whole
-          c.requires.root_is_the_hosts c.list.ensures.at_most_160 short plan made;
+          c.requires.root_is_the_hosts c.list.ensures.at_most_192 short plan made;
     }

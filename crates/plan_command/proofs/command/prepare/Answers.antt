@@ -1,7 +1,7 @@
 use Rattle.std.proofs.Common.{ap, ◌∙◌}
 use Rattle.unit_inputs.specs.command_answers.Laws.{IsAdmitted, laws_over}
 use Rattle.unit_inputs.proofs.FileCommands.{at_stop}
-use Rattle.plan_command.specs.Prints.{ending_of, mounts_text, plan_laws}
+use Rattle.plan_command.specs.Prints.{status_of, mounts_text, plan_laws}
 use Rattle.unit_inputs.proofs.Reading.{read_then_stopped}
 use Rattle.plan_command.proofs.Prepared.{ready, stops_at_paths, stops_before_paths}
 use Rattle.unit_inputs.specs.Asking.{input_asks}
@@ -18,14 +18,14 @@ plan_mounts-requires g c = record {
 
 pub returns-in_err-one-clause-prepares : goal.returns-in_err-one-clause-prepares
 returns-in_err-one-clause-prepares g c =
-    at_stop (IsAdmitted (laws_over (g.S.Shelf.told c.args.shelf.now) (plan_laws c.args.unit.now)) ending_of mounts_text)
+    at_stop (IsAdmitted (laws_over (g.S.Shelf.told c.args.shelf.now) (plan_laws c.args.unit.now)) status_of mounts_text)
     c.from_residual.result c.in_err-one.field-0.0 c.from_residual.ensures.1
     (stops_before_paths (λ one. Unit {0}) (g.S.Shelf.told c.args.shelf.now) c.args.unit.now c.in_err-one.field-0.0
     c.in_err-one.ensures.settles_by_the_files)
 
 pub returns-in_err-table-clause-prepares : goal.returns-in_err-table-clause-prepares
 returns-in_err-table-clause-prepares g c =
-    at_stop (IsAdmitted (laws_over (g.S.Shelf.told c.args.shelf.now) (plan_laws c.args.unit.now)) ending_of mounts_text)
+    at_stop (IsAdmitted (laws_over (g.S.Shelf.told c.args.shelf.now) (plan_laws c.args.unit.now)) status_of mounts_text)
     c.from_residual-in_err-table.result c.in_err-table.field-0.0 c.from_residual-in_err-table.ensures.1
     (stops_at_paths (g.S.Shelf.told c.args.shelf.now) c.args.unit.now c.in_ok-one.one c.deref.result.now.mentions c.deref-2.result.now
     c.in_err-table.field-0.0

@@ -1,6 +1,6 @@
 use Rattle.std.proofs.Common.{ap, ◌∙◌}
 use Rattle.std.specs.Prelude.{IfSome}
-use Rattle.asked_service.specs.unit_inputs.command_answers.Stops.{Prepares}
+use Rattle.asked_service.specs.unit_inputs.command_answers.CommandErrors.{Prepares}
 use Rattle.asked_service.proofs.OfUnitInputs.FileCommands.{at_stop}
 use Rattle.asked_service.specs.mount_plan.Host.{host_of}
 use Rattle.asked_service.specs.plan_command.Planned.{IsPlan}

@@ -1,7 +1,7 @@
 use Rattle.report_text.specs.exposure_score.StoredTests.{stored_by}
 use Rattle.unit_inputs.specs.command_answers.Laws.{IsAdmitted, laws_over}
 use Rattle.unit_inputs.proofs.FileCommands.{at_stop}
-use Rattle.score_command.specs.Prints.{ending_of, score_laws, scored_text}
+use Rattle.score_command.specs.Prints.{status_of, score_laws, scored_text}
 use Rattle.score_command.specs.Weighed.{IsScoreOf}
 use Rattle.unit_inputs.proofs.Reading.{read_then_stopped}
 use Rattle.score_command.proofs.Prepared.{ready, stops_at_weights, stops_before_weighing}
@@ -15,7 +15,7 @@ pub returns-in_err-prepared-clause-prepares : goal.returns-in_err-prepared-claus
 returns-in_err-prepared-clause-prepares g c =
     let stored = stored_by (λ test. test.id) (λ test. test.range) (λ test shown answer. (goal.Fn-dyn g).post (test.check.vtable, test.check.value) (shown, tt) answer) c.args.tests.now in
     at_stop (IsAdmitted (laws_over (g.S.Shelf.told c.args.shelf.now)
-    (score_laws c.args.unit.now c.args.policy.now c.args.threshold stored)) ending_of scored_text) c.from_residual.result
+    (score_laws c.args.unit.now c.args.policy.now c.args.threshold stored)) status_of scored_text) c.from_residual.result
     c.in_err-prepared.field-0.0 c.from_residual.ensures.1
     (stops_before_weighing (g.S.Shelf.told c.args.shelf.now) c.args.unit.now c.args.policy.now c.args.threshold stored
     c.in_err-prepared.field-0.0 c.in_err-prepared.ensures.prepares)
@@ -24,7 +24,7 @@ pub returns-in_err-score-clause-prepares : goal.returns-in_err-score-clause-prep
 returns-in_err-score-clause-prepares g c =
     let stored = stored_by (λ test. test.id) (λ test. test.range) (λ test shown answer. (goal.Fn-dyn g).post (test.check.vtable, test.check.value) (shown, tt) answer) c.args.tests.now in
     at_stop (IsAdmitted (laws_over (g.S.Shelf.told c.args.shelf.now)
-    (score_laws c.args.unit.now c.args.policy.now c.args.threshold stored)) ending_of scored_text) c.from_residual-in_err-score.result
+    (score_laws c.args.unit.now c.args.policy.now c.args.threshold stored)) status_of scored_text) c.from_residual-in_err-score.result
     c.in_err-score.field-0.0 c.from_residual-in_err-score.ensures.1
     (stops_at_weights (g.S.Shelf.told c.args.shelf.now) c.args.unit.now c.args.policy.now c.args.threshold stored
     c.in_ok-prepared.prepared c.in_ok-known.known c.in_ok-known.ensures.known

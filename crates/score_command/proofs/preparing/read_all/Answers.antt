@@ -6,7 +6,7 @@ use Rattle.report_text.specs.exposure_score.declared.policy_file.policy.PolicyTe
 use Rattle.std.proofs.Common.{List}
 use Rattle.unit_inputs.proofs.Ordering.{order_quiet_stopped, stops_at_file, stops_before_file, with_file}
 use Rattle.std.specs.Prelude.{IfSome}
-use Rattle.unit_inputs.specs.command_answers.Stops.{Prepares}
+use Rattle.unit_inputs.specs.command_answers.CommandErrors.{Prepares}
 use Rattle.unit_inputs.proofs.FileCommands.{at_stop}
 use Rattle.score_command.specs.Prepared.{IsPrepared}
 use Rattle.score_command.specs.Refusals.{read_refusals}

@@ -16,7 +16,7 @@ returns-in_err-users c =
     let p = err_from_is_err_and c.from_residual-in_err-users.result c.from_residual-in_err-users.ensures.1 in
     let rows_read = subst (λ (rows : List Data). unless_fault (row_faults rows) (rows_in_order (with_fixed (map row_of rows))) ≡ Ok c.in_ok-rows.rows.items) c.elements_at.ensures.all_in_order c.in_ok-rows.ensures.reads_the_rows in
     rw (p.1, p.2)
-    (users_stop (view c.args.site.now) c.in-Some.dynamic_uid c.in-Some.user_namespaces c.in_ok-rows.rows.items
+    (users_stop (view c.args.site.now) c.in-Some.dynamic_uid c.in-Some.user_namespaces c.in-Some.systemd c.in_ok-rows.rows.items
     (record { top = c.in-Some.ensures; size = sym c.is_too_large.ensures ∙ c.if-is_too_large.false }) rows_read c.in_err-users.field-0.0
     (subst (λ (users : List Data). IsUnlessMemory (λ (read : List User). read) (Err c.in_err-users.field-0.0)
     (unless_fault (user_faults users) (map user_of users))) c.elements_at-2.ensures.all_in_order
@@ -28,7 +28,7 @@ returns-in_err-groups c =
     let rows_read = subst (λ (rows : List Data). unless_fault (row_faults rows) (rows_in_order (with_fixed (map row_of rows))) ≡ Ok c.in_ok-rows.rows.items) c.elements_at.ensures.all_in_order c.in_ok-rows.ensures.reads_the_rows in
     let users_read = subst (λ (users : List Data). unless_fault (user_faults users) (map user_of users) ≡ Ok c.in_ok-users.users) c.elements_at-2.ensures.all_in_order c.in_ok-users.ensures.reads_the_users in
     rw (p.1, p.2)
-    (groups_stop (view c.args.site.now) c.in-Some.dynamic_uid c.in-Some.user_namespaces c.in_ok-rows.rows.items
+    (groups_stop (view c.args.site.now) c.in-Some.dynamic_uid c.in-Some.user_namespaces c.in-Some.systemd c.in_ok-rows.rows.items
     (record { top = c.in-Some.ensures; size = sym c.is_too_large.ensures ∙ c.if-is_too_large.false }) rows_read
     c.in_ok-users.users users_read c.in_err-groups.field-0.0
     (subst (λ (groups : List Data). IsUnlessMemory (λ (read : List Group). read) (Err c.in_err-groups.field-0.0)
@@ -38,24 +38,24 @@ returns-in_err-groups c =
 pub new-requires : goal.new-requires
 new-requires c =
     let site = view c.args.site.now in
-    let begun : IsBegun site c.in-Some.dynamic_uid c.in-Some.user_namespaces = record { top = c.in-Some.ensures; size = sym c.is_too_large.ensures ∙ c.if-is_too_large.false } in
+    let begun : IsBegun site c.in-Some.dynamic_uid c.in-Some.user_namespaces c.in-Some.systemd = record { top = c.in-Some.ensures; size = sym c.is_too_large.ensures ∙ c.if-is_too_large.false } in
     let rows_read = subst (λ (rows : List Data). unless_fault (row_faults rows) (rows_in_order (with_fixed (map row_of rows))) ≡ Ok c.in_ok-rows.rows.items) c.elements_at.ensures.all_in_order c.in_ok-rows.ensures.reads_the_rows in
     let users_read = subst (λ (users : List Data). unless_fault (user_faults users) (map user_of users) ≡ Ok c.in_ok-users.users) c.elements_at-2.ensures.all_in_order c.in_ok-users.ensures.reads_the_users in
     let groups_read = subst (λ (groups : List Data). unless_fault (group_faults groups) (map group_of groups) ≡ Ok c.in_ok-groups.groups) c.elements_at-3.ensures.all_in_order c.in_ok-groups.ensures.reads_the_groups in
-    holds site c.in-Some.dynamic_uid c.in-Some.user_namespaces c.in_ok-rows.rows.items begun rows_read c.in_ok-users.users users_read
+    holds site c.in-Some.dynamic_uid c.in-Some.user_namespaces c.in-Some.systemd c.in_ok-rows.rows.items begun rows_read c.in_ok-users.users users_read
     c.in_ok-groups.groups
-    (whole site c.in-Some.dynamic_uid c.in-Some.user_namespaces c.in_ok-rows.rows.items begun rows_read c.in_ok-users.users users_read
+    (whole site c.in-Some.dynamic_uid c.in-Some.user_namespaces c.in-Some.systemd c.in_ok-rows.rows.items begun rows_read c.in_ok-users.users users_read
     c.in_ok-groups.groups groups_read)
 
 pub returns : goal.returns
 returns c =
     let site = view c.args.site.now in
-    let begun : IsBegun site c.in-Some.dynamic_uid c.in-Some.user_namespaces = record { top = c.in-Some.ensures; size = sym c.is_too_large.ensures ∙ c.if-is_too_large.false } in
+    let begun : IsBegun site c.in-Some.dynamic_uid c.in-Some.user_namespaces c.in-Some.systemd = record { top = c.in-Some.ensures; size = sym c.is_too_large.ensures ∙ c.if-is_too_large.false } in
     let rows_read = subst (λ (rows : List Data). unless_fault (row_faults rows) (rows_in_order (with_fixed (map row_of rows))) ≡ Ok c.in_ok-rows.rows.items) c.elements_at.ensures.all_in_order c.in_ok-rows.ensures.reads_the_rows in
     let users_read = subst (λ (users : List Data). unless_fault (user_faults users) (map user_of users) ≡ Ok c.in_ok-users.users) c.elements_at-2.ensures.all_in_order c.in_ok-users.ensures.reads_the_users in
     let groups_read = subst (λ (groups : List Data). unless_fault (group_faults groups) (map group_of groups) ≡ Ok c.in_ok-groups.groups) c.elements_at-3.ensures.all_in_order c.in_ok-groups.ensures.reads_the_groups in
-    answered site c.in-Some.dynamic_uid c.in-Some.user_namespaces c.in_ok-rows.rows.items begun rows_read c.in_ok-users.users users_read
+    answered site c.in-Some.dynamic_uid c.in-Some.user_namespaces c.in-Some.systemd c.in_ok-rows.rows.items begun rows_read c.in_ok-users.users users_read
     c.in_ok-groups.groups
-    (whole site c.in-Some.dynamic_uid c.in-Some.user_namespaces c.in_ok-rows.rows.items begun rows_read c.in_ok-users.users users_read
+    (whole site c.in-Some.dynamic_uid c.in-Some.user_namespaces c.in-Some.systemd c.in_ok-rows.rows.items begun rows_read c.in_ok-users.users users_read
     c.in_ok-groups.groups groups_read)
     ∙ ap Ok (sym c.new.ensures)

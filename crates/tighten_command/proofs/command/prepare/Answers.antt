@@ -10,7 +10,7 @@ use Rattle.asked_service.specs.unit_inputs.Asking.{asks_with_file}
 use Rattle.asked_service.specs.unit_inputs.Inputs.{inputs_of, inputs_view}
 use Rattle.asked_service.proofs.OfUnitInputs.Ordering.{order_quiet, stops_at_file, stops_before_file, with_file}
 use Rattle.asked_service.proofs.OfUnitInputs.Reading.{named, read_behind}
-use Rattle.asked_service.specs.unit_inputs.command_answers.ReadyTexts.{ending_of, text_of}
+use Rattle.asked_service.specs.unit_inputs.command_answers.ReadyTexts.{status_of, text_of}
 use Rattle.tighten_command.specs.Prints.{tighten_laws}
 use Rattle.tighten_command.proofs.Prepared.{answered_as, lent_listed, stops_at_inputs, stops_at_keep}
 use Rattle.tighten_command.proofs.command.prepare.Goals as goal
@@ -18,7 +18,7 @@ use Rattle.tighten_command.proofs.command.prepare.Goals as goal
 pub returns-in_err-inputs-clause-prepares : goal.returns-in_err-inputs-clause-prepares
 returns-in_err-inputs-clause-prepares g c =
     let wishes = wishes_by (λ wish. wish.must_open) (λ wish shown answer. (goal.Fn-dyn g).post (wish.test.vtable, wish.test.value) (shown, tt) answer) c.args.wishes.now in
-    at_stop (IsAdmitted (tighten_laws (g.S.Shelf.told c.args.shelf.now) c.args.unit.now c.args.path.now wishes) ending_of text_of)
+    at_stop (IsAdmitted (tighten_laws (g.S.Shelf.told c.args.shelf.now) c.args.unit.now c.args.path.now wishes) status_of text_of)
     c.from_residual.result c.in_err-inputs.field-0.0 c.from_residual.ensures.1
     (stops_at_inputs c.args.unit.now c.args.path.now wishes (λ files inputs. inputs_of files c.args.unit.now ≡ Some (inputs_view inputs))
     (g.S.Shelf.told c.args.shelf.now) c.in_err-inputs.field-0.0 c.in_err-inputs.ensures.reads_by_the_files)
@@ -26,7 +26,7 @@ returns-in_err-inputs-clause-prepares g c =
 pub returns-in_err-keep-clause-prepares : goal.returns-in_err-keep-clause-prepares
 returns-in_err-keep-clause-prepares g c =
     let wishes = wishes_by (λ wish. wish.must_open) (λ wish shown answer. (goal.Fn-dyn g).post (wish.test.vtable, wish.test.value) (shown, tt) answer) c.args.wishes.now in
-    at_stop (IsAdmitted (tighten_laws (g.S.Shelf.told c.args.shelf.now) c.args.unit.now c.args.path.now wishes) ending_of text_of)
+    at_stop (IsAdmitted (tighten_laws (g.S.Shelf.told c.args.shelf.now) c.args.unit.now c.args.path.now wishes) status_of text_of)
     c.from_residual-in_err-keep.result c.in_err-keep.field-0.0 c.from_residual-in_err-keep.ensures.1
     (stops_at_keep c.args.unit.now c.args.path.now wishes (λ (keep : List Question). keep) (g.S.Shelf.told c.args.shelf.now)
     (g.S.Shelf.told c.read_inputs.new.shelf) c.in_ok-inputs.inputs c.deref.result.now c.deref-2.result.now c.in_err-keep.field-0.0

@@ -15,5 +15,5 @@ returns-clause-does_what_is_asked g c =
     (λ wish shown answer. (goal.dyn-2-members g).post (wish.test.vtable, wish.test.value) (shown, tt) answer) wishes)
     _ c.args.shelf.now c.answer.new.shelf (option_map request_of c.parse.result) (map (λ word. word.now) c.args.words.now)
     c.deref.result.now c.args.tests.items c.deref-2.result.now c.args.wishes.items c.answer.result c.of.result
-    c.parse.ensures.request c.deref.ensures.value c.deref-2.ensures.value c.of.ensures.is_the_ending
+    c.parse.ensures.request c.deref.ensures.value c.deref-2.ensures.value c.of.ensures.is_the_status
     c.answer.ensures.runs c.answer.ensures.reads_in_order c.answer.ensures.reads_only_for_it

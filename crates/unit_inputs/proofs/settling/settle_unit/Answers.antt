@@ -4,7 +4,7 @@ use Rattle.unit_inputs.specs.Asking.{input_asks}
 use Rattle.unit_inputs.proofs.Ordering.{order_quiet}
 use Rattle.std.proofs.Common.{◌≡◌, Some}
 use Rattle.std.specs.Prelude.{IfSome}
-use Rattle.unit_inputs.specs.command_answers.Stops.{Prepares}
+use Rattle.unit_inputs.specs.command_answers.CommandErrors.{Prepares}
 use Rattle.unit_inputs.proofs.FileCommands.{at_stop}
 use Rattle.unit_inputs.specs.Inputs.{inputs_of, inputs_view}
 use Rattle.unit_inputs.specs.Settled.{refusals_by, refusals_of, unit_refusals}

@@ -1,8 +1,8 @@
-use Rattle.judge_command.specs.unit_inputs.command_answers.Stops.{Prepares}
+use Rattle.judge_command.specs.unit_inputs.command_answers.CommandErrors.{Prepares}
 use Rattle.judge_command.proofs.OfUnitInputs.FileCommands.{at_stop}
 use Rattle.deciding_lines.specs.Tried.{tried_of}
 use Rattle.judge_command.specs.asked_service.started_units.Starting.{start_refusals}
-use Rattle.judge_command.specs.unit_inputs.command_answers.ReadyTexts.{ending_of, text_of}
+use Rattle.judge_command.specs.unit_inputs.command_answers.ReadyTexts.{status_of, text_of}
 use Rattle.why_command.specs.Prints.{TellsLaunch, TellsWhy}
 use Rattle.judge_command.proofs.OfUnitInputs.ReadyTexts.{ready_reads_nothing}
 use Rattle.why_command.proofs.Told.{answers_launch, answers_stop}
@@ -11,7 +11,7 @@ use Rattle.why_command.proofs.answering.answer.Goals as goal
 pub returns-in_err-launch-clause-answers : goal.returns-in_err-launch-clause-answers
 returns-in_err-launch-clause-answers c =
     let tried = tried_of c.args.trial.now in
-    at_stop (λ result. Prepares (λ made. TellsWhy tried (ending_of made) (text_of made)) (start_refusals tried.name tried.inputs) result)
+    at_stop (λ result. Prepares (λ made. TellsWhy tried (status_of made) (text_of made)) (start_refusals tried.name tried.inputs) result)
     c.from_residual.result c.in_err-launch.field-0.0 c.from_residual.ensures.1
     (answers_stop tried c.in_err-launch.field-0.0 c.in_err-launch.ensures.starts)
 

@@ -1,6 +1,6 @@
 use Rattle.std.proofs.Common.{map, sym, ◌≡◌, ◌∙◌, Some}
 use Rattle.std.specs.Prelude.{IsErrOf}
-use Rattle.judge_command.specs.unit_inputs.declared.command_answers.stop.Stop.TheVariants.{ReadFault}
+use Rattle.judge_command.specs.unit_inputs.declared.command_answers.error.CommandError.TheVariants.{ReadFault}
 use Rattle.judge_command.specs.unit_inputs.command_answers.Laws.{IsAdmitted, laws_over}
 use Rattle.judge_command.proofs.OfUnitInputs.FileCommands.{at_stop}
 use Rattle.judge_command.specs.kernel_laws.declared.question_types.question.Question.{Question}
@@ -10,7 +10,7 @@ use Rattle.judge_command.specs.unit_inputs.Inputs.{inputs_of, inputs_view}
 use Rattle.judge_command.proofs.OfUnitInputs.Ordering.{order_quiet, order_quiet_stopped}
 use Rattle.judge_command.proofs.OfAskedService.Given.{same_inputs}
 use Rattle.judge_command.proofs.OfUnitInputs.Reading.{read_then}
-use Rattle.judge_command.specs.unit_inputs.command_answers.ReadyTexts.{ending_of, text_of}
+use Rattle.judge_command.specs.unit_inputs.command_answers.ReadyTexts.{status_of, text_of}
 use Rattle.why_command.specs.Prints.{why_laws}
 use Rattle.why_command.proofs.Prepared.{admitted_as, as_any, listed_as, stops_at_inputs, stops_at_question}
 use Rattle.why_command.proofs.command.prepare.Goals as goal
@@ -18,7 +18,7 @@ use Rattle.why_command.proofs.command.prepare.Goals as goal
 pub returns-in_err-inputs-clause-prepares : goal.returns-in_err-inputs-clause-prepares
 returns-in_err-inputs-clause-prepares g c =
     at_stop (IsAdmitted (laws_over (g.S.Shelf.told c.args.shelf.now) (why_laws c.args.unit.now (map (λ word. word.now) c.args.words.now)))
-    ending_of text_of) c.from_residual.result c.in_err-inputs.field-0.0 c.from_residual.ensures.1
+    status_of text_of) c.from_residual.result c.in_err-inputs.field-0.0 c.from_residual.ensures.1
     (stops_at_inputs (λ files inputs. inputs_of files c.args.unit.now ≡ Some (inputs_view inputs))
     (g.S.Shelf.told c.args.shelf.now) c.args.unit.now (map (λ word. word.now) c.args.words.now) c.in_err-inputs.field-0.0
     c.in_err-inputs.ensures.reads_by_the_files)
@@ -26,7 +26,7 @@ returns-in_err-inputs-clause-prepares g c =
 pub returns-in_err-question-clause-prepares : goal.returns-in_err-question-clause-prepares
 returns-in_err-question-clause-prepares g c =
     at_stop (IsAdmitted (laws_over (g.S.Shelf.told c.args.shelf.now) (why_laws c.args.unit.now (map (λ word. word.now) c.args.words.now)))
-    ending_of text_of) c.from_residual-in_err-question.result c.in_err-question.field-0.0 c.from_residual-in_err-question.ensures.1
+    status_of text_of) c.from_residual-in_err-question.result c.in_err-question.field-0.0 c.from_residual-in_err-question.ensures.1
     (stops_at_question (g.S.Shelf.told c.args.shelf.now) c.args.unit.now
     (map (λ word. word.now) c.args.words.now) c.in_ok-inputs.inputs c.in_ok-inputs.ensures.reads_by_the_files c.deref.result.now
     c.deref-2.result.now c.in_err-question.field-0.0 c.deref.ensures c.deref-2.ensures c.in_err-question.ensures.asks)

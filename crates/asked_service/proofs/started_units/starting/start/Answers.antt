@@ -1,7 +1,7 @@
 use Rattle.std.proofs.Common.{Ok, Err}
 use Rattle.std.specs.Prelude.{IsErrOf}
-use Rattle.plan_command.specs.unit_inputs.command_answers.Stops.{Prepares}
-use Rattle.plan_command.specs.unit_inputs.declared.command_answers.stop.Stop.TheVariants as stop
+use Rattle.plan_command.specs.unit_inputs.command_answers.CommandErrors.{Prepares}
+use Rattle.plan_command.specs.unit_inputs.declared.command_answers.error.CommandError.TheVariants as stop
 use Rattle.plan_command.proofs.OfUnitInputs.FileCommands.{at_stop}
 use Rattle.asked_service.specs.started_units.Starting.{StartsAs, given, start_refusals}
 use Rattle.asked_service.proofs.Started.{reads_nothing, starts, stopped, told}

@@ -6,5 +6,5 @@ use Rattle.deciding_lines.specs.unit_lines.Lines.{line_at}
 use Rattle.deciding_lines.proofs.unit_lines.listing.lines.Given as goal
 
 abbrev pub invariant-loop-place : goal.invariant-loop-place
-invariant-loop-place l = l.lines.items ++ filter_map line_at (assignments_left l.place-iterator)
-    ≡ filter_map line_at (service_assignments l.unit)
+invariant-loop-place l = l.lines.items ++ filter_map (line_at l.unit.systemd) (assignments_left l.place-iterator)
+    ≡ filter_map (line_at l.unit.systemd) (service_assignments l.unit)

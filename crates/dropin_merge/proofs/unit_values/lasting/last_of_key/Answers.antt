@@ -10,14 +10,14 @@ loop-place-preserved g c =
     record {
       means =
           folds_more (last_read g.T.KeyValue.reads) (λ a o. unwrap_or (option_and_then (λ value. g.T.KeyValue.reads value.text) o) a)
-          (last_steps g.T.KeyValue.reads) (given_by c.args.unit.now.name c.args.key.now) _ _
+          (last_steps g.T.KeyValue.reads) (given_by c.args.unit.now.systemd c.args.unit.now.name c.args.key.now) _ _
           (c.in-Some.place, c.in-Some.assignment.now) _ _ _ _ c.in-Some.ensures.steps c.in_ok-value.ensures.given
           c.loop-place.invariant.means c.in_ok-last.ensures.means;
-      notes = found_more (note_of c.args.unit.now.name c.args.key.now) _ _
+      notes = found_more (note_of c.args.unit.now.systemd c.args.unit.now.name c.args.key.now) _ _
           (c.in-Some.place, c.in-Some.assignment.now) _ _ _ c.in-Some.ensures.steps c.loop-place.invariant.notes
           c.in_ok-value.ensures.noted;
       unread =
-          adds_more (unread_notes g.T.KeyValue.reads) (unread_parts g.T.KeyValue.reads) (given_by c.args.unit.now.name c.args.key.now) _ _
+          adds_more (unread_notes g.T.KeyValue.reads) (unread_parts g.T.KeyValue.reads) (given_by c.args.unit.now.systemd c.args.unit.now.name c.args.key.now) _ _
           (c.in-Some.place, c.in-Some.assignment.now) _ _ _ _ c.in-Some.ensures.steps c.in_ok-value.ensures.given
           c.loop-place.invariant.unread c.in_ok-last.ensures.noted;
     }

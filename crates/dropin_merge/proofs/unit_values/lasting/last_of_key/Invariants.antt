@@ -8,8 +8,8 @@ use Rattle.dropin_merge.proofs.unit_values.lasting.last_of_key.Given as goal
 abbrev pub invariant-loop-place : goal.invariant-loop-place
 invariant-loop-place g l = record {
   means : last_read g.T.KeyValue.reads l.fn.default (values_of l.unit l.key)
-      ≡ last_read g.T.KeyValue.reads l.last (filter_map (given_by l.unit.name l.key) (assignments_left l.place-iterator));
-  notes : notes_of l.unit l.key ≡ l.notes.items ++ filter_map (note_of l.unit.name l.key) (assignments_left l.place-iterator);
+      ≡ last_read g.T.KeyValue.reads l.last (filter_map (given_by l.unit.systemd l.unit.name l.key) (assignments_left l.place-iterator));
+  notes : notes_of l.unit l.key ≡ l.notes.items ++ filter_map (note_of l.unit.systemd l.unit.name l.key) (assignments_left l.place-iterator);
   unread : unread_notes g.T.KeyValue.reads (values_of l.unit l.key)
-      ≡ l.unread.items ++ unread_notes g.T.KeyValue.reads (filter_map (given_by l.unit.name l.key) (assignments_left l.place-iterator));
+      ≡ l.unread.items ++ unread_notes g.T.KeyValue.reads (filter_map (given_by l.unit.systemd l.unit.name l.key) (assignments_left l.place-iterator));
 }

@@ -12,10 +12,10 @@ loop-place-preserved c =
     record {
       means =
           folds_more (last_read Some) (λ a o. unwrap_or (option_map (λ value. value.text) o) a) text_steps
-          (given_by c.args.unit.now.name c.args.key.now) _ _
+          (given_by c.args.unit.now.systemd c.args.unit.now.name c.args.key.now) _ _
           (c.in-Some.place, c.in-Some.assignment.now) _ _ _ _ c.in-Some.ensures.steps c.in_ok-value.ensures.given
           c.loop-place.invariant.means c.next_text-last.ensures;
-      notes = found_more (note_of c.args.unit.now.name c.args.key.now) _ _
+      notes = found_more (note_of c.args.unit.now.systemd c.args.unit.now.name c.args.key.now) _ _
           (c.in-Some.place, c.in-Some.assignment.now) _ _ _ c.in-Some.ensures.steps c.loop-place.invariant.notes
           c.in_ok-value.ensures.noted;
     }

@@ -8,6 +8,6 @@ use Rattle.dropin_merge.proofs.unit_values.lasting.last_text_of_key.Given as goa
 abbrev pub invariant-loop-place : goal.invariant-loop-place
 invariant-loop-place l = record {
   means : last_text (values_of l.unit l.key) ≡ last_read Some l.last
-      (filter_map (given_by l.unit.name l.key) (assignments_left l.place-iterator));
-  notes : notes_of l.unit l.key ≡ l.notes.items ++ filter_map (note_of l.unit.name l.key) (assignments_left l.place-iterator);
+      (filter_map (given_by l.unit.systemd l.unit.name l.key) (assignments_left l.place-iterator));
+  notes : notes_of l.unit l.key ≡ l.notes.items ++ filter_map (note_of l.unit.systemd l.unit.name l.key) (assignments_left l.place-iterator);
 }

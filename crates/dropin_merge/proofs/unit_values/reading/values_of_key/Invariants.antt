@@ -7,8 +7,8 @@ use Rattle.dropin_merge.proofs.unit_values.reading.values_of_key.Given as goal
 
 abbrev pub invariant-loop-place : goal.invariant-loop-place
 invariant-loop-place l = record {
-  values : filter_map (given_by l.unit.name l.key) (service_assignments l.unit)
-      ≡ l.values.items ++ filter_map (given_by l.unit.name l.key) (assignments_left l.place-iterator);
-  notes : filter_map (note_of l.unit.name l.key) (service_assignments l.unit)
-      ≡ l.notes.items ++ filter_map (note_of l.unit.name l.key) (assignments_left l.place-iterator);
+  values : filter_map (given_by l.unit.systemd l.unit.name l.key) (service_assignments l.unit)
+      ≡ l.values.items ++ filter_map (given_by l.unit.systemd l.unit.name l.key) (assignments_left l.place-iterator);
+  notes : filter_map (note_of l.unit.systemd l.unit.name l.key) (service_assignments l.unit)
+      ≡ l.notes.items ++ filter_map (note_of l.unit.systemd l.unit.name l.key) (assignments_left l.place-iterator);
 }

@@ -17,9 +17,9 @@ loop-one-preserved c =
       mode = c.next_mode-mode.ensures.kept_or_set ∙ ap (λ mode. next_mode mode one) c.loop-one.invariant.mode
           ∙ sym (mode_next all i one below c.one-item.is);
       noted =
-          notes_next c.args.table.now all i one c.args.notes.now.items now _ below c.one-item.is c.loop-one.invariant.noted
+          notes_next c.args.systemd c.args.table.now all i one c.args.notes.now.items now _ below c.one-item.is c.loop-one.invariant.noted
           (c.in_ok-note_words.ensures.noted
-          ∙ ap (λ mode. now ++ line_notes c.args.table.now mode one)
+          ∙ ap (λ mode. now ++ line_notes c.args.systemd c.args.table.now mode one)
           (c.unwrap_or.ensures ∙ ap (unwrap_or c.loop-one.mode) c.mode_of.ensures.denies_where_inverted)
-          ∙ ap (λ mode. now ++ line_notes c.args.table.now (unwrap_or mode (mode_of one.line)) one) c.loop-one.invariant.mode);
+          ∙ ap (λ mode. now ++ line_notes c.args.systemd c.args.table.now (unwrap_or mode (mode_of one.line)) one) c.loop-one.invariant.mode);
     }

@@ -4,5 +4,5 @@ use Rattle.filter_settings.proofs.family_lists.FamilyListKeyList.read.Given as g
 
 abbrev pub invariant-loop-one : goal.invariant-loop-one
 invariant-loop-one l =
-    l.notes.items ++ family_notes l.table (drop l.one-index l.all)
-    ≡ l.fn.notes.items ++ family_notes l.table l.all
+    l.notes.items ++ family_notes l.systemd l.table (drop l.one-index l.all)
+    ≡ l.fn.notes.items ++ family_notes l.systemd l.table l.all

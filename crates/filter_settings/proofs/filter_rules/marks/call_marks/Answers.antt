@@ -8,7 +8,7 @@ returns-in-Some c =
     record {
       by_the_list =
           subst (λ calls. IfOk c.marks_of.result (λ marks. IfSome calls (λ list. AreMarksOf c.args.table.now c.args.default list marks.items)))
-          (sym c.in-Some.is) c.marks_of.ensures;
+          (sym c.in-Some.is) c.marks_of.ensures.by_the_words;
     }
 
 pub returns-in-None : goal.returns-in-None

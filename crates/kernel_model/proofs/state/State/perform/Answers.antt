@@ -25,21 +25,21 @@ make_table-requires-clause-spaces c = spaces_too c.perform_there.new.self c.args
 pub returns-in-Replied-clause-performs : goal.returns-in-Replied-clause-performs
 returns-in-Replied-clause-performs c =
     replied_there c.args.self.now c.perform_there.new.self c.args.told.now.calls.now c.args.told.now.site.now c.args.place
-    (effect_at c.args.told.now.calls.now c.args.told.now.site.now c.args.self.now (seen c.args.doing.now))
+    (effect_at c.args.told.now.calls.now c.args.told.now.site.now c.args.self.now (seen c.args.operation.now))
     c.in_ok-reply.field-0 c.in-Replied.reply c.in-Replied.is c.in_ok-reply.ensures.performs
 
 pub returns-in-MakesChild-clause-performs : goal.returns-in-MakesChild-clause-performs
 returns-in-MakesChild-clause-performs c =
     child_made c.args.self.now c.perform_there.new.self c.make_child.new.self c.in_ok-reply.field-0 c.args.told.now.calls.now
     c.args.told.now.site.now c.args.place
-    (effect_at c.args.told.now.calls.now c.args.told.now.site.now c.args.self.now (seen c.args.doing.now))
+    (effect_at c.args.told.now.calls.now c.args.told.now.site.now c.args.self.now (seen c.args.operation.now))
     c.in-MakesChild.own c.make_child.result c.in-MakesChild.is c.in_ok-reply.ensures.stays_where_more_is_to_be_made
     c.in_ok-reply.ensures.performs c.make_child.ensures.makes
 
 pub returns-in-MakesChild-clause-needs_no_memory : goal.returns-in-MakesChild-clause-needs_no_memory
 returns-in-MakesChild-clause-needs_no_memory c =
     child_ready c.args.self.now c.perform_there.new.self c.in_ok-reply.field-0 c.args.told.now.calls.now c.args.told.now.site.now
-    c.args.place (seen c.args.doing.now) c.in-MakesChild.own c.make_child.result c.in-MakesChild.is
+    c.args.place (seen c.args.operation.now) c.in-MakesChild.own c.make_child.result c.in-MakesChild.is
     c.in_ok-reply.ensures.stays_where_more_is_to_be_made c.in_ok-reply.ensures.performs c.make_child.ensures.needs_no_memory
 
 pub returns-in-MakesChild-clause-stays : goal.returns-in-MakesChild-clause-stays
@@ -52,14 +52,14 @@ pub returns-in-MakesTable-clause-performs : goal.returns-in-MakesTable-clause-pe
 returns-in-MakesTable-clause-performs c =
     table_made c.args.self.now c.perform_there.new.self c.make_table.new.self c.in_ok-reply.field-0 c.args.told.now.calls.now
     c.args.told.now.site.now c.args.place
-    (effect_at c.args.told.now.calls.now c.args.told.now.site.now c.args.self.now (seen c.args.doing.now))
+    (effect_at c.args.told.now.calls.now c.args.told.now.site.now c.args.self.now (seen c.args.operation.now))
     c.make_table.result c.in-MakesTable.is c.in_ok-reply.ensures.stays_where_more_is_to_be_made c.in_ok-reply.ensures.performs
     c.make_table.ensures.makes
 
 pub returns-in-MakesTable-clause-needs_no_memory : goal.returns-in-MakesTable-clause-needs_no_memory
 returns-in-MakesTable-clause-needs_no_memory c =
     table_ready c.args.self.now c.perform_there.new.self c.in_ok-reply.field-0 c.args.told.now.calls.now c.args.told.now.site.now
-    c.args.place (seen c.args.doing.now) c.make_table.result c.in-MakesTable.is
+    c.args.place (seen c.args.operation.now) c.make_table.result c.in-MakesTable.is
     c.in_ok-reply.ensures.stays_where_more_is_to_be_made c.in_ok-reply.ensures.performs c.make_table.ensures.needs_no_memory
 
 pub returns-in-MakesTable-clause-stays : goal.returns-in-MakesTable-clause-stays
@@ -96,14 +96,14 @@ pub returns-in-MakesUserChild-clause-performs : goal.returns-in-MakesUserChild-c
 returns-in-MakesUserChild-clause-performs c =
     user_child_made c.args.self.now c.perform_there.new.self c.make_user_child.new.self c.in_ok-reply.field-0 c.args.told.now.calls.now
     c.args.told.now.site.now c.args.place
-    (effect_at c.args.told.now.calls.now c.args.told.now.site.now c.args.self.now (seen c.args.doing.now))
+    (effect_at c.args.told.now.calls.now c.args.told.now.site.now c.args.self.now (seen c.args.operation.now))
     c.in-MakesUserChild.own c.make_user_child.result c.in-MakesUserChild.is c.in_ok-reply.ensures.stays_where_more_is_to_be_made
     c.in_ok-reply.ensures.performs c.make_user_child.ensures.makes
 
 pub returns-in-MakesUserChild-clause-needs_no_memory : goal.returns-in-MakesUserChild-clause-needs_no_memory
 returns-in-MakesUserChild-clause-needs_no_memory c =
     user_child_ready c.args.self.now c.perform_there.new.self c.in_ok-reply.field-0 c.args.told.now.calls.now c.args.told.now.site.now
-    c.args.place (seen c.args.doing.now) c.in-MakesUserChild.own c.make_user_child.result c.in-MakesUserChild.is
+    c.args.place (seen c.args.operation.now) c.in-MakesUserChild.own c.make_user_child.result c.in-MakesUserChild.is
     c.in_ok-reply.ensures.stays_where_more_is_to_be_made c.in_ok-reply.ensures.performs c.make_user_child.ensures.needs_no_memory
 
 pub returns-in-MakesUserChild-clause-stays : goal.returns-in-MakesUserChild-clause-stays
@@ -131,14 +131,14 @@ pub returns-in-MakesOwnUser-clause-performs : goal.returns-in-MakesOwnUser-claus
 returns-in-MakesOwnUser-clause-performs c =
     own_user_made c.args.self.now c.perform_there.new.self c.make_own_user.new.self c.in_ok-reply.field-0 c.args.told.now.calls.now
     c.args.told.now.site.now c.args.place
-    (effect_at c.args.told.now.calls.now c.args.told.now.site.now c.args.self.now (seen c.args.doing.now))
+    (effect_at c.args.told.now.calls.now c.args.told.now.site.now c.args.self.now (seen c.args.operation.now))
     c.in-MakesOwnUser.own c.make_own_user.result c.in-MakesOwnUser.is c.in_ok-reply.ensures.stays_where_more_is_to_be_made
     c.in_ok-reply.ensures.performs c.make_own_user.ensures.makes
 
 pub returns-in-MakesOwnUser-clause-needs_no_memory : goal.returns-in-MakesOwnUser-clause-needs_no_memory
 returns-in-MakesOwnUser-clause-needs_no_memory c =
     own_user_ready c.args.self.now c.perform_there.new.self c.in_ok-reply.field-0 c.args.told.now.calls.now c.args.told.now.site.now
-    c.args.place (seen c.args.doing.now) c.in-MakesOwnUser.own c.make_own_user.result c.in-MakesOwnUser.is
+    c.args.place (seen c.args.operation.now) c.in-MakesOwnUser.own c.make_own_user.result c.in-MakesOwnUser.is
     c.in_ok-reply.ensures.stays_where_more_is_to_be_made c.in_ok-reply.ensures.performs c.make_own_user.ensures.needs_no_memory
 
 pub returns-in-MakesOwnUser-clause-stays : goal.returns-in-MakesOwnUser-clause-stays

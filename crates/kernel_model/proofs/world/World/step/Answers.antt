@@ -13,13 +13,13 @@ invariant_of-self-in-Does c = (
   c.self.invariant.0,
   kernel_after c.self.inside.told.calls.now c.self.inside.told.site.now c.self.inside.state c.perform.new.self c.args.call.now
       c.perform.result c.self.invariant.1
-      (step_is _ _ c.args.call.now c.in-Some.place c.decide.result (seen c.in-Does.doing) c.perform.result (sym c.in-Some.ensures.place)
+      (step_is _ _ c.args.call.now c.in-Some.place c.decide.result (seen c.in-Does.operation) c.perform.result (sym c.in-Some.ensures.place)
       (decides_here c.self.inside.told.calls.now c.self.inside.told.site.now c.self.inside.state c.in-Some.place c.args.call.now c.arch_of.result c.decide.result (let many = c.abis.ensures.counts in omega (arith, many, c.if-call-abis.false)) c.arch_of.ensures.by_position c.decide.ensures.by_its_programs)
       c.in-Pass.is (sym c.in-Does.ensures.by_number_words_and_payload) c.perform.ensures.performs)
       c.perform.ensures.stays,
   owned_after c.self.inside.told.calls.now c.self.inside.told.site.now c.self.inside.state c.perform.new.self c.args.call.now
       c.perform.result c.self.invariant.2
-      (step_is _ _ c.args.call.now c.in-Some.place c.decide.result (seen c.in-Does.doing) c.perform.result (sym c.in-Some.ensures.place)
+      (step_is _ _ c.args.call.now c.in-Some.place c.decide.result (seen c.in-Does.operation) c.perform.result (sym c.in-Some.ensures.place)
       (decides_here c.self.inside.told.calls.now c.self.inside.told.site.now c.self.inside.state c.in-Some.place c.args.call.now c.arch_of.result c.decide.result (let many = c.abis.ensures.counts in omega (arith, many, c.if-call-abis.false)) c.arch_of.ensures.by_position c.decide.ensures.by_its_programs)
       c.in-Pass.is (sym c.in-Does.ensures.by_number_words_and_payload) c.perform.ensures.performs)
       c.perform.ensures.stays,
@@ -27,14 +27,14 @@ invariant_of-self-in-Does c = (
 
 pub returns-in-Does-clause-makes_the_step : goal.returns-in-Does-clause-makes_the_step
 returns-in-Does-clause-makes_the_step c =
-    step_seen _ c.args.self.now c.self.view_is _ c.args.call.now c.in-Some.place c.decide.result (seen c.in-Does.doing) c.perform.result
+    step_seen _ c.args.self.now c.self.view_is _ c.args.call.now c.in-Some.place c.decide.result (seen c.in-Does.operation) c.perform.result
     (sym c.in-Some.ensures.place)
     (decides_here c.self.inside.told.calls.now c.self.inside.told.site.now c.self.inside.state c.in-Some.place c.args.call.now c.arch_of.result c.decide.result (let many = c.abis.ensures.counts in omega (arith, many, c.if-call-abis.false)) c.arch_of.ensures.by_position c.decide.ensures.by_its_programs)
     c.in-Pass.is (sym c.in-Does.ensures.by_number_words_and_payload) c.perform.ensures.performs
 
 pub returns-in-Does-clause-needs_no_memory : goal.returns-in-Does-clause-needs_no_memory
 returns-in-Does-clause-needs_no_memory c =
-    ready_seen _ c.args.self.now c.self.view_is c.args.call.now c.in-Some.place c.decide.result (seen c.in-Does.doing) c.perform.result
+    ready_seen _ c.args.self.now c.self.view_is c.args.call.now c.in-Some.place c.decide.result (seen c.in-Does.operation) c.perform.result
     (sym c.in-Some.ensures.place)
     (decides_here c.self.inside.told.calls.now c.self.inside.told.site.now c.self.inside.state c.in-Some.place c.args.call.now c.arch_of.result c.decide.result (let many = c.abis.ensures.counts in omega (arith, many, c.if-call-abis.false)) c.arch_of.ensures.by_position c.decide.ensures.by_its_programs)
     c.in-Pass.is (sym c.in-Does.ensures.by_number_words_and_payload) c.perform.ensures.needs_no_memory

@@ -20,7 +20,7 @@ shown_at-requires-clause-leads c =
 pub overflow_add-at : goal.overflow_add-at
 overflow_add-at c =
     let x = leads_by c.args.self.now.world.now c.requires.served c.args.row.now c.requires.known c.args.wish Unmounting (inr refl) c.requires.reached (steps_of c.launched_table-table.result.now) c.args.at c.launched_table-table.ensures.its_own c.requires.number in
-    let few : length (steps_of c.launched_table-table.result.now) ≤ 161 = let P : Table → Type 0 = λ t. length t ≤ 161 in subst P (sym c.launched_table-table.ensures.its_own) c.requires.served.offers.plan.few in
+    let few : length (steps_of c.launched_table-table.result.now) ≤ 193 = let P : Table → Type 0 = λ t. length t ≤ 193 in subst P (sym c.launched_table-table.ensures.its_own) c.requires.served.offers.plan.few in
     omega (arith, x.in_range, few)
 
 pub push_uncovering-requires : goal.push_uncovering-requires

@@ -1,8 +1,8 @@
-use Rattle.judge_command.specs.unit_inputs.command_answers.Stops.{Prepares}
+use Rattle.judge_command.specs.unit_inputs.command_answers.CommandErrors.{Prepares}
 use Rattle.judge_command.proofs.OfUnitInputs.FileCommands.{at_stop}
 use Rattle.judge_command.specs.asked_service.started_units.Starting.{given, start_refusals}
 use Rattle.judge_command.proofs.OfUnitInputs.ReadyTexts.{ready_reads_nothing}
-use Rattle.judge_command.specs.unit_inputs.command_answers.ReadyTexts.{ending_of, text_of}
+use Rattle.judge_command.specs.unit_inputs.command_answers.ReadyTexts.{status_of, text_of}
 use Rattle.why_command.specs.lines_command.Prints.{TellsLaunch, TellsLines}
 use Rattle.why_command.proofs.LinesCommandTold.{answers_launch, answers_stop}
 use Rattle.why_command.proofs.lines_command.answering.answer.Goals as goal
@@ -10,7 +10,7 @@ use Rattle.why_command.proofs.lines_command.answering.answer.Goals as goal
 pub returns-in_err-launch-clause-answers : goal.returns-in_err-launch-clause-answers
 returns-in_err-launch-clause-answers c =
     let inputs = given c.args.unit.now c.args.calls.now c.args.site.now in
-    at_stop (λ result. Prepares (λ made. TellsLines c.args.name.now inputs (ending_of made) (text_of made))
+    at_stop (λ result. Prepares (λ made. TellsLines c.args.name.now inputs (status_of made) (text_of made))
     (start_refusals c.args.name.now inputs) result) c.from_residual.result c.in_err-launch.field-0.0 c.from_residual.ensures.1
     (answers_stop c.args.name.now inputs c.in_err-launch.field-0.0 c.in_err-launch.ensures.starts)
 

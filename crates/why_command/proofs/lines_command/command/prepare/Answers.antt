@@ -7,14 +7,14 @@ use Rattle.judge_command.specs.unit_inputs.Inputs.{inputs_of, inputs_view}
 use Rattle.judge_command.proofs.OfUnitInputs.Ordering.{order_quiet}
 use Rattle.judge_command.proofs.OfAskedService.Given.{same_inputs}
 use Rattle.judge_command.proofs.OfUnitInputs.Reading.{read_then}
-use Rattle.judge_command.specs.unit_inputs.command_answers.ReadyTexts.{ending_of, text_of}
+use Rattle.judge_command.specs.unit_inputs.command_answers.ReadyTexts.{status_of, text_of}
 use Rattle.why_command.specs.lines_command.Prints.{lines_laws}
 use Rattle.why_command.proofs.LinesCommandPrepared.{admitted_as, stops_at_inputs}
 use Rattle.why_command.proofs.lines_command.command.prepare.Goals as goal
 
 pub returns-in_err-inputs-clause-prepares : goal.returns-in_err-inputs-clause-prepares
 returns-in_err-inputs-clause-prepares g c =
-    at_stop (IsAdmitted (laws_over (g.S.Shelf.told c.args.shelf.now) (lines_laws c.args.unit.now)) ending_of text_of)
+    at_stop (IsAdmitted (laws_over (g.S.Shelf.told c.args.shelf.now) (lines_laws c.args.unit.now)) status_of text_of)
     c.from_residual.result c.in_err-inputs.field-0.0 c.from_residual.ensures.1
     (stops_at_inputs (λ files inputs. inputs_of files c.args.unit.now ≡ Some (inputs_view inputs))
     (g.S.Shelf.told c.args.shelf.now) c.args.unit.now c.in_err-inputs.field-0.0 c.in_err-inputs.ensures.reads_by_the_files)

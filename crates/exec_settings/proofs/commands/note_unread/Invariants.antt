@@ -1,7 +1,0 @@
-use Rattle.std.proofs.Common.{◌≡◌, ◌++◌, take}
-use Rattle.std.specs.List.{filter_map}
-use Rattle.exec_settings.specs.Commands.{unread_note}
-use Rattle.exec_settings.proofs.commands.note_unread.Given as goal
-
-abbrev pub invariant-loop-value : goal.invariant-loop-value
-invariant-loop-value l = l.notes.items ≡ l.fn.notes.items ++ filter_map unread_note (take l.value-index l.values)

@@ -1,0 +1,22 @@
+-- Settings that restrict the system calls of a service (systemd.exec(5), Sandboxing, System Call Filtering), as systemd 252 counts them
+-- where it decides about NoNewPrivileges=.
+use Rattle.std.specs.Prelude.{ℕ, ◌==◌, ◌||◌, not, Bool, List, codes, length}
+use Rattle.cred_settings.specs.dropin_merge.declared.resolved.Resolved.{Resolved}
+use Rattle.cred_settings.specs.dropin_merge.unit_values.Flags.{unit_flag}
+use Rattle.cred_settings.specs.dropin_merge.unit_values.Values.{in_force, values_of}
+use Rattle.filter_settings.specs.call_table.Table.{Table}
+use Rattle.filter_settings.specs.filter_rules.Installed.{installed}
+use Rattle.filter_settings.specs.declared.filter_rules.settings.FilterSettings.{FilterSettings}
+
+-- some filter of system calls is on
+abbrev pub has_filter : FilterSettings → Table → Bool
+has_filter settings table = not (length (installed settings table) == 0)
+
+-- the key has a value in force
+abbrev pub has_value : Resolved → List ℕ → Bool
+has_value unit key = not (length (in_force (values_of unit key)) == 0)
+
+-- settings that count as a filter, whether or not the model has a filter for them
+unfoldable pub counts_as_filter : Resolved → Bool
+counts_as_filter unit = unit_flag unit (codes "ProtectKernelTunables")
+    || (has_value unit (codes "SystemCallArchitectures") || has_value unit (codes "SystemCallLog"))

@@ -1,0 +1,46 @@
+//! What AmbientCapabilities= and NoNewPrivileges= come to beside other settings (systemd.exec(5)).
+ghost use Rattle.std.specs.Prelude.{◌≡◌, ◌||◌, IfOk};
+ghost use Rattle.exec_settings.specs.Filtered.{counts_as_filter, has_value};
+ghost use Rattle.exec_settings.specs.Settings.{ambient_within};
+
+use cred_settings::{CapSet, Resolved, Version, flag_of_key, in_force, values_of_key};
+use std::alloc::{AllocError, Global};
+
+/// Returns the ambient set. A version of systemd takes those capabilities of AmbientCapabilities= that are in the
+/// bounding set.
+pub fn ambient_within(systemd: Option<Version>, ambient: CapSet, bounding: CapSet) -> CapSet
+    ensures cut_to_the_bounding_set { result ≡ ambient_within systemd ambient bounding }
+{
+    if systemd.is_some() {
+        ambient.cut(bounding)
+    } else {
+        ambient
+    }
+}
+
+/// Returns whether one of the two is true.
+pub fn either(one: bool, other: bool) -> bool
+    ensures one_of_two { result ≡ (one || other) }
+{
+    one || other
+}
+
+// Returns whether the key has a value in force.
+fn has_value(alloc: Global, unit: &Resolved, key: &str) -> Result<bool, AllocError>
+    ensures { IfOk result (λ has. has ≡ has_value unit.now key.now) }
+{
+    let values = values_of_key(alloc, unit, key)?.what;
+    Ok(!in_force(values.as_slice()).is_empty())
+}
+
+/// Returns whether a setting is on that systemd 252 counts as a filter of system calls, whether or not the model has a
+/// filter for it: ProtectKernelTunables=, SystemCallArchitectures= or SystemCallLog=.
+#[tactic(auto, unfolding(crate::specs::Filtered::counts_as_filter))]
+pub fn counts_as_filter(alloc: Global, unit: &Resolved) -> Result<bool, AllocError>
+    ensures one_of_three { IfOk result (λ counts. counts ≡ counts_as_filter unit.now) }
+{
+    let tunables = flag_of_key(alloc, unit, "ProtectKernelTunables")?.what;
+    let architectures = has_value(alloc, unit, "SystemCallArchitectures")?;
+    let log = has_value(alloc, unit, "SystemCallLog")?;
+    Ok(tunables || architectures || log)
+}

@@ -1,0 +1,171 @@
+-- The paths of which each protection speaks, as systemd 252 and 257 have them (systemd.exec(5), Sandboxing).
+use Rattle.std.specs.Prelude.{ℕ, ◌&&◌, ◌||◌, not, Bool, true, false, codes, List, [], ◌∷◌, ◌++◌, Option, Some}
+use Rattle.path_settings.specs.declared.mentions.Mention.{Mention}
+use Rattle.dropin_merge.specs.unit_names.Versions.{is_257}
+use Rattle.dropin_merge.specs.unit_names.declared.version.Version.{Version}
+use Rattle.mount_settings.specs.declared.effects.Effect.{Effect}
+use Rattle.mount_settings.specs.declared.effects.Effect.TheVariants.{ReadOnly, Writable, NotExecutable, Hidden, Empty, Shown}
+use Rattle.mount_settings.specs.declared.protections.SystemProtection.{SystemProtection}
+use Rattle.mount_settings.specs.declared.protections.SystemProtection.TheVariants as system
+use Rattle.mount_settings.specs.declared.protections.HomeProtection.{HomeProtection}
+use Rattle.mount_settings.specs.declared.protections.HomeProtection.TheVariants as home
+use Rattle.mount_settings.specs.declared.protections.Protections.{Protections}
+use Rattle.mount_settings.specs.declared.protections.Switches.{Switches}
+use Rattle.mount_settings.specs.declared.systemd.keys.FurtherKeys.{FurtherKeys}
+use Rattle.mount_settings.specs.declared.systemd.rows.RowsOn.{RowsOn}
+use Rattle.mount_settings.specs.Table.{when}
+use Rattle.mount_settings.specs.systemd.Words.{is_private}
+
+-- the unit is read by systemd 257, which the other version is not
+abbrev pub is_newer : Version → Bool
+is_newer version = is_257 (Some version)
+
+-- ProtectSystem= is on, and not strict
+abbrev pub reads_files : SystemProtection → Bool
+reads_files system.No = false
+reads_files system.Yes = true
+reads_files system.Full = true
+reads_files system.Strict = false
+
+abbrev pub is_full : SystemProtection → Bool
+is_full system.Full = true
+is_full _ = false
+
+abbrev pub is_strict : SystemProtection → Bool
+is_strict system.Strict = true
+is_strict _ = false
+
+abbrev pub hides_homes : HomeProtection → Bool
+hides_homes home.Yes = true
+hides_homes _ = false
+
+abbrev pub reads_homes : HomeProtection → Bool
+reads_homes home.ReadOnly = true
+reads_homes _ = false
+
+abbrev pub empties_homes : HomeProtection → Bool
+empties_homes home.Tmpfs = true
+empties_homes _ = false
+
+-- the service has mounts of its own of the file systems that the kernel shows, and of /run. PrivatePIDs= is a key of systemd 257
+abbrev pub has_api : Version → Protections → FurtherKeys → Bool
+has_api version protections keys =
+    protections.protect_control_groups || (protections.protect_kernel_tunables || (keys.protect_proc ||
+    (keys.proc_subset || (keys.mount_api_vfs || (is_newer version && keys.private_pids)))))
+
+-- with a network of its own the service has a /sys of its own, which shows that network: in systemd 257
+abbrev pub has_own_sysfs : Version → FurtherKeys → Bool
+has_own_sysfs version keys = is_newer version && keys.own_network
+
+-- systemd 257 leaves its mount of /dev as it is, whichever key would make it read-only; and so that of /sys, but for one of the
+-- service's own network
+abbrev pub leaves_devices : Version → Protections → FurtherKeys → Bool
+leaves_devices version protections keys = is_newer version && has_api version protections keys
+
+abbrev pub leaves_sysfs : Version → Protections → FurtherKeys → Bool
+leaves_sysfs version protections keys = leaves_devices version protections keys && not (has_own_sysfs version keys)
+
+-- which rows of the table are on
+abbrev pub rows_on : Version → Switches → Protections → FurtherKeys → RowsOn
+rows_on version switches protections keys = record {
+  files = reads_files protections.protect_system;
+  merged = not (is_newer version) && reads_files protections.protect_system;
+  configuration = is_full protections.protect_system;
+  all = is_strict protections.protect_system;
+  homes_hidden = hides_homes protections.protect_home;
+  homes_read = reads_homes protections.protect_home;
+  homes_fresh = not (is_newer version) && empties_homes protections.protect_home;
+  homes_empty = is_newer version && empties_homes protections.protect_home;
+  temporary = protections.private_tmp;
+  devices = switches.private_devices;
+  tunables = protections.protect_kernel_tunables;
+  kernel_objects = protections.protect_kernel_tunables && not (leaves_sysfs version protections keys);
+  modules = switches.protect_kernel_modules;
+  merged_modules = not (is_newer version) && switches.protect_kernel_modules;
+  logs = switches.protect_kernel_logs;
+  groups_read = protections.protect_control_groups && not (is_private keys.control_groups);
+  groups_left = is_private keys.control_groups;
+  api = has_api version protections keys;
+  sysfs = has_api version protections keys || has_own_sysfs version keys;
+  hostname = keys.protect_hostname;
+  credentials = not keys.credentials;
+}
+
+-- a row of the table: whether it is on, its effect and its paths
+abbrev pub Row : Type 0
+Row = Bool × Effect × List (List ℕ)
+
+abbrev pub by_row : Row → List Mention
+by_row row = when row.0 row.1 row.2
+
+abbrev pub homes : List (List ℕ)
+homes = codes "/home" ∷ codes "/run/user" ∷ codes "/root" ∷ []
+
+-- ProtectSystem=: the system's files, in systemd 252 also by the names of the root that stand for folders of /usr; with `full` its
+-- configuration; with `strict` all but what the kernel shows and the homes
+abbrev pub system_rows : RowsOn → List Row
+system_rows on =
+    (on.files, ReadOnly, codes "/usr" ∷ codes "/boot" ∷ codes "/efi" ∷ [])
+    ∷ (on.merged, ReadOnly, codes "/lib" ∷ codes "/lib64" ∷ codes "/bin" ∷ codes "/sbin" ∷ [])
+    ∷ (on.configuration, ReadOnly, codes "/etc" ∷ [])
+    ∷ (on.all, ReadOnly, codes "/" ∷ [])
+    ∷ (
+      on.all,
+      Writable,
+      codes "/proc" ∷ codes "/sys" ∷ codes "/dev" ∷ codes "/home" ∷ codes "/run/user" ∷ codes "/root" ∷ [],
+    )
+    ∷ []
+
+-- ProtectHome=: the homes are hidden, read-only, or empty, which systemd 257 makes read-only
+abbrev pub home_rows : RowsOn → List Row
+home_rows on =
+    (on.homes_hidden, Hidden, homes) ∷ (on.homes_read, ReadOnly, homes) ∷ (on.homes_fresh, Empty false, homes)
+    ∷ (on.homes_empty, Empty true, homes) ∷ []
+
+-- PrivateDevices=: the devices that stand for no hardware, and the folders of terminals, of shared memory, of message queues and of
+-- large pages
+abbrev pub devices_left : List (List ℕ)
+devices_left =
+    codes "/dev/null" ∷ codes "/dev/zero" ∷ codes "/dev/full" ∷ codes "/dev/random" ∷ codes "/dev/urandom" ∷ codes "/dev/tty"
+    ∷ codes "/dev/ptmx" ∷ codes "/dev/pts" ∷ codes "/dev/shm" ∷ codes "/dev/mqueue" ∷ codes "/dev/hugepages" ∷ []
+
+-- ProtectKernelTunables=
+abbrev pub variables : List (List ℕ)
+variables =
+    codes "/proc/acpi" ∷ codes "/proc/apm" ∷ codes "/proc/asound" ∷ codes "/proc/bus" ∷ codes "/proc/fs" ∷ codes "/proc/irq"
+    ∷ codes "/proc/latency_stats" ∷ codes "/proc/mtrr" ∷ codes "/proc/scsi" ∷ codes "/proc/sys" ∷ codes "/proc/sysrq-trigger"
+    ∷ codes "/proc/timer_stats" ∷ []
+
+-- PrivateTmp= and PrivateDevices=, then the keys that protect the kernel
+abbrev pub kernel_rows : RowsOn → List Row
+kernel_rows on =
+    (on.temporary, Empty false, codes "/tmp" ∷ codes "/var/tmp" ∷ [])
+    ∷ (on.devices, Empty true, codes "/dev" ∷ [])
+    ∷ (on.devices, NotExecutable, codes "/dev" ∷ [])
+    ∷ (on.devices, Shown, devices_left)
+    ∷ (on.tunables, ReadOnly, variables)
+    ∷ (on.tunables, Hidden, codes "/proc/kallsyms" ∷ codes "/proc/kcore" ∷ [])
+    ∷ (on.kernel_objects, ReadOnly, codes "/sys" ∷ [])
+    ∷ (on.tunables, ReadOnly, codes "/sys/fs/bpf" ∷ codes "/sys/kernel/debug" ∷ codes "/sys/kernel/tracing" ∷ [])
+    ∷ (on.tunables, Writable, codes "/sys/fs/cgroup" ∷ codes "/sys/fs/selinux" ∷ [])
+    ∷ (on.modules, Hidden, codes "/usr/lib/modules" ∷ [])
+    ∷ (on.merged_modules, Hidden, codes "/lib/modules" ∷ [])
+    ∷ (on.logs, Hidden, codes "/proc/kmsg" ∷ codes "/dev/kmsg" ∷ [])
+    ∷ []
+
+-- ProtectControlGroups=
+abbrev pub group_rows : RowsOn → List Row
+group_rows on =
+    (on.groups_read, ReadOnly, codes "/sys/fs/cgroup" ∷ []) ∷ (on.groups_left, Writable, codes "/sys/fs/cgroup" ∷ []) ∷ []
+
+-- mounts of its own of what the kernel shows, and of /run; ProtectHostname=; the credentials of other services
+abbrev pub further_rows : RowsOn → List Row
+further_rows on =
+    (on.api, Writable, codes "/proc" ∷ codes "/dev" ∷ codes "/run" ∷ [])
+    ∷ (on.sysfs, Writable, codes "/sys" ∷ [])
+    ∷ (on.hostname, ReadOnly, codes "/proc/sys/kernel/hostname" ∷ codes "/proc/sys/kernel/domainname" ∷ [])
+    ∷ (on.credentials, Hidden, codes "/run/credentials" ∷ [])
+    ∷ []
+
+abbrev pub table : RowsOn → List Row
+table on = system_rows on ++ (home_rows on ++ (kernel_rows on ++ (group_rows on ++ further_rows on)))

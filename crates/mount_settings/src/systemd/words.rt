@@ -1,0 +1,149 @@
+//! Reads values of further keys that decide about the mounts of a service (systemd.exec(5)).
+ghost use Rattle.std.specs.Prelude.{◌≡◌};
+ghost use Rattle.mount_settings.specs.systemd.Words.{proc_value, subset_value, network_value, preserve_value, mounts_value, groups_value, is_yes, is_unset, is_on, is_private};
+
+use crate::choices::{beside, read_choice};
+use dropin_merge::unit_values::KeyValue;
+use path_settings::read_bool;
+
+/// ProtectProc=: whether some processes are not seen.
+#[derive(Clone, Copy)]
+pub(crate) struct ProtectProc {
+    pub(crate) is_limited: bool,
+}
+
+impl KeyValue for ProtectProc {
+    ghost reads = { proc_value };
+
+    fn read(text: &str) -> Option<ProtectProc> {
+        let words = [
+            ("", false),
+            ("default", false),
+            ("noaccess", true),
+            ("invisible", true),
+            ("ptraceable", true),
+        ];
+        let is_limited = beside(&words, text)?;
+        Some(ProtectProc { is_limited })
+    }
+}
+
+/// ProcSubset=: whether the processes alone are seen.
+#[derive(Clone, Copy)]
+pub(crate) struct ProcSubset {
+    pub(crate) is_limited: bool,
+}
+
+impl KeyValue for ProcSubset {
+    ghost reads = { subset_value };
+
+    fn read(text: &str) -> Option<ProcSubset> {
+        let is_limited = beside(&[("", false), ("all", false), ("pid", true)], text)?;
+        Some(ProcSubset { is_limited })
+    }
+}
+
+/// NetworkNamespacePath=: whether a path is given.
+#[derive(Clone, Copy)]
+pub(crate) struct NetworkPath {
+    pub(crate) is_given: bool,
+}
+
+impl KeyValue for NetworkPath {
+    ghost reads = { network_value };
+
+    fn read(text: &str) -> Option<NetworkPath> {
+        match text.as_bytes().first() {
+            None => Some(NetworkPath { is_given: false }),
+            Some(byte) if *byte == b'/' => Some(NetworkPath { is_given: true }),
+            Some(_) => None,
+        }
+    }
+}
+
+/// RuntimeDirectoryPreserve=: whether folders below /run are kept.
+#[derive(Clone, Copy)]
+pub(crate) struct Preserve {
+    pub(crate) is_kept: bool,
+}
+
+impl KeyValue for Preserve {
+    ghost reads = { preserve_value };
+
+    fn read(text: &str) -> Option<Preserve> {
+        let is_kept = read_choice(text, false, true, &[("restart", true)])?;
+        Some(Preserve { is_kept })
+    }
+}
+
+/// PrivateMounts=, of which an empty value says nothing.
+#[derive(Clone, Copy)]
+pub(crate) enum PrivateMounts {
+    Unset,
+    No,
+    Yes,
+}
+
+impl KeyValue for PrivateMounts {
+    ghost reads = { mounts_value };
+
+    fn read(text: &str) -> Option<PrivateMounts> {
+        if text.is_empty() {
+            return Some(PrivateMounts::Unset);
+        }
+        match read_bool(text) {
+            Some(true) => Some(PrivateMounts::Yes),
+            Some(false) => Some(PrivateMounts::No),
+            None => None,
+        }
+    }
+}
+
+impl PrivateMounts {
+    pub(crate) fn is_yes(self) -> bool
+        ensures { result ≡ is_yes self }
+    {
+        matches!(self, PrivateMounts::Yes)
+    }
+
+    pub(crate) fn is_unset(self) -> bool
+        ensures { result ≡ is_unset self }
+    {
+        matches!(self, PrivateMounts::Unset)
+    }
+}
+
+/// ProtectControlGroups= of systemd 257.
+#[derive(Clone, Copy)]
+pub(crate) enum ControlGroups {
+    No,
+    Yes,
+    Private,
+    Strict,
+}
+
+impl KeyValue for ControlGroups {
+    ghost reads = { groups_value };
+
+    fn read(text: &str) -> Option<ControlGroups> {
+        let words = [
+            ("private", ControlGroups::Private),
+            ("strict", ControlGroups::Strict),
+        ];
+        read_choice(text, ControlGroups::No, ControlGroups::Yes, &words)
+    }
+}
+
+impl ControlGroups {
+    pub(crate) fn is_on(self) -> bool
+        ensures { result ≡ is_on self }
+    {
+        !matches!(self, ControlGroups::No)
+    }
+
+    pub(crate) fn is_private(self) -> bool
+        ensures { result ≡ is_private self }
+    {
+        matches!(self, ControlGroups::Private)
+    }
+}

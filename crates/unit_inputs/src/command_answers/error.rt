@@ -1,0 +1,55 @@
+// Why a command is prepared no further.
+ghost use Rattle.std.specs.Prelude.{◌≡◌, IfOk, IsErrOf};
+ghost use Rattle.unit_inputs.specs.command_answers.CommandErrors.{RefusesNothing, error_of_line};
+ghost use Rattle.unit_inputs.specs.declared.command_answers.error.CommandError.TheVariants.{Memory};
+
+use std::alloc::{AllocError, AllocFailed, Global};
+
+/// Why a command is prepared no further.
+#[derive(Drop)]
+pub enum CommandError {
+    /// An input is refused, with this line.
+    Refused(Vec<u8>),
+    /// A read failed.
+    ReadFault,
+    /// Memory ran out.
+    Memory,
+}
+
+impl From<AllocError> for CommandError {
+    ghost from_gives = { λ _ e. e ≡ Memory };
+
+    fn from(_: AllocError) -> Self {
+        CommandError::Memory
+    }
+}
+
+impl<T: Drop> From<AllocFailed<T>> for CommandError {
+    ghost from_gives = { λ _ e. e ≡ Memory };
+
+    fn from(_: AllocFailed<T>) -> Self {
+        CommandError::Memory
+    }
+}
+
+/// The error that prints this line, if memory was found for the line.
+pub fn refuse(line: Result<Vec<u8>, AllocError>) -> CommandError
+    ensures tells_the_line { result ≡ error_of_line line }
+{
+    match line {
+        Ok(line) => CommandError::Refused(line),
+        Err(_) => CommandError::Memory,
+    }
+}
+
+/// A large value behind a pointer, so that a step that fails frees it at little cost.
+pub fn boxed<T: Drop>(alloc: Global, value: T) -> Result<Box<T>, CommandError>
+    ensures holds_the_value { IfOk result (λ held. held.value ≡ value) }
+    ensures refuses_nothing { RefusesNothing result }
+    ensures reads_nothing { IsErrOf result CommandError.ReadFault → ⊥ }
+{
+    match Box::new(alloc, value) {
+        Ok(held) => Ok(held),
+        Err(_) => Err(CommandError::Memory),
+    }
+}

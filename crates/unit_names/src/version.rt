@@ -1,0 +1,13 @@
+//! The versions of systemd whose rules are known.
+
+/// The version of systemd by whose rules the files of a unit are read.
+///
+/// Versions differ in the words of some keys and in what some keys imply (systemd.exec(5), systemd.service(5)). A unit
+/// that is read without a version is read by the rules of the base profile.
+#[derive(Clone, Copy)]
+pub enum Version {
+    /// systemd 252.
+    V252,
+    /// systemd 257.
+    V257,
+}

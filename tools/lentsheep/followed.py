@@ -1,0 +1,33 @@
+"""The partings that the key `systemd` of a site ends: written by tools/profile-tables from docs/PROFILE.md."""
+from __future__ import annotations
+
+#: By their names.
+FOLLOWED = frozenset(
+    """
+    capability-words
+    clone3
+    credentials-hidden
+    device-folders
+    disconnected-tmp
+    families-none
+    family-names
+    folders-open
+    folders-shown
+    home-tmpfs
+    hostname-files
+    linked-folders
+    namespace-lines
+    newer-values
+    nnp-from-more
+    old-names-close
+    old-names-open
+    private-folders
+    run-writable
+    strict-homes
+    suid-newer-calls
+    sys-writable
+    tunables-cgroup
+    tunables-more
+    write-filter
+    """.split()
+)
