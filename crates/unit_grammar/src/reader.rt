@@ -121,7 +121,7 @@ impl Reader {
         self.take_part(alloc, number, part)
     }
 
-    // Takes the line that continues where the file ends.
+    // Takes the line that has begun but not ended when the file ends.
     fn take_begun(&mut self, alloc: Global) -> Result<(), UnitError>
         ensures passed { (lines : List Line) → StandsBefore lines self.old.begun [] self.old.section self.old.assignments self.old.notes
             → Passes lines [] result self.new.begun self.new.section self.new.assignments self.new.notes }
