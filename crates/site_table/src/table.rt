@@ -19,7 +19,7 @@ use unit_names::Version;
 ///
 /// The rows are in byte order of their paths, `/` and `/proc` among them, and are numbered from 0 in that order.
 /// Users and groups are in the order of the file. A binary search finds a row, and a map of names finds a user or a group. A
-/// search for the user of a uid goes through the users, at most 512.
+/// search for the user of a uid reads the users one by one, at most 512.
 #[derive(Drop)]
 pub struct SiteTable {
     dynamic_uid: u32,
