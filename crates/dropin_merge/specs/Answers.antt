@@ -30,7 +30,7 @@ pub record HasCause {T : Type 0} (before now : ℕ) (result : Result T ResolveEr
   pub later : before ≤ now
   pub failed : IsErrOf result ReadFault → Rose before now
 
--- the answer is `BadName` only if the text is no name, and a unit or another refusal only if the text is a name
+-- the answer is `BadName` only if the text is no name, and any other answer except `Memory` only if the text is a name
 abbrev pub NamesUnit : List ℕ → Result Resolved ResolveError → Type 0
 NamesUnit text (Ok resolved) = name_of text ≡ Some resolved.name
 NamesUnit text (Err BadName) = name_of text ≡ None
