@@ -18,7 +18,7 @@ is_busy (byte ∷ piece) = not (byte == 46)
 abbrev AreBusy : List (List ℕ) → Type 0
 AreBusy pieces = AllByRecursion (λ piece. is_busy piece ≡ true) pieces
 
--- the pieces are busy, and the first must be only if a slash precedes it
+-- all pieces after the first are busy, and so is the first if a slash precedes it
 abbrev AreBusyBehind : Bool → List (List ℕ) → Type 0
 AreBusyBehind true pieces = AreBusy pieces
 AreBusyBehind false [] = Unit {0}

@@ -124,13 +124,13 @@ pub reads_normal : (text : List ℕ) → list_any (λ byte. byte == 0) text ≡ 
 reads_normal text clean level = parts_from (pieces_of text) (slashless text) (clean_pieces (λ byte. byte == 0) text clean)
     (none_pass (λ piece. bytes_eq piece (codes "..")) (pieces_of text) level)
 
----- the rest after a prefix
+-- ---- the rest after a prefix
 
 behind_tail : (path : Path) → is_behind (tail_of path) ≡ true
 behind_tail [] = refl
 behind_tail (part ∷ path) = refl
 
--- two texts without a slash end before the first slash
+-- equal texts have equal fronts and rests, if the fronts have no slash and the rests are empty or begin with one
 same_front : (xs ys us vs : List ℕ) → list_any is_slash xs ≡ false → list_any is_slash ys ≡ false → is_behind us ≡ true
     → is_behind vs ≡ true → xs ++ us ≡ ys ++ vs → (xs ≡ ys) × (us ≡ vs)
 same_front [] [] us vs h g p q e = (refl, e)
@@ -202,7 +202,7 @@ rest_text_is front path h g = by (is_prefix front path) refl
         ∙ ap (λ b. cond b (Some (tail_of (rest_of front path))) None) (behind_tail (rest_of front path))
     by false e = not_after (starts_with nat_eq (tail_of path) (tail_of front)) refl e
 
----- the properties of a value
+-- ---- the properties of a value
 
 pub rest_is : (one other : List ℕ) (front path : Path) → IsTail one → IsTail other → parts_of one ≡ front → parts_of other ≡ path
     → behind_text one other ≡ rest_text front path

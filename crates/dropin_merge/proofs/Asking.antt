@@ -40,7 +40,7 @@ module _ {S : Type 0} (asks : S → ShelfCall → S → Type 0) (a b : S) (ask :
   judged_then T U ReadFault quiet made = absurd (quiet refl)
   judged_then T U Memory quiet made = went_cut asks a b (ask ∷ []) made
 
----- answers about a path
+-- ---- answers about a path
 not_missing : (b : Bool) (r : Result UnitFile ResolveError) → cond b (Ok Empty) (says r) ≡ Ok Missing → ⊥
 not_missing true r e = cc
 not_missing false (Ok file) e = cc
@@ -99,7 +99,7 @@ course_as T U (Text path error) = refl
 course_as T U ReadFault = refl
 course_as T U Memory = refl
 
----- texts in turn, up to the first with a property
+-- ---- texts in turn, up to the first with a property
 module _ {S : Type 0} (asks : S → ShelfCall → S → Type 0) (is_last : List ℕ → Bool) (ask : List ℕ → Ask) (whole : List Ask) (a b c : S) (xs : List (String Global)) (i : ℕ) (x : String Global) (text : List ℕ) where
   pub text_more : i < length xs → x ≡ get_or xs i x → text ≡ string_bytes x → is_last text ≡ false
       → Going asks a b whole (map ask (up_to is_last (map string_bytes (drop i xs)))) → AsksExactly asks b c (ask text ∷ []) Whole

@@ -13,7 +13,7 @@ use Rattle.dropin_merge.specs.unit_values.Lasting.{last_read, unless_read, unrea
 use Rattle.dropin_merge.specs.unit_values.Words.{split, words_in, words_behind}
 use Rattle.dropin_merge.proofs.OneMore.{after_last-push}
 
----- one more assignment, which may give a value
+-- ---- one more assignment, which may give a value
 
 -- each value adds to a list
 pub adds_more : {X V Y : Type 0} (F : List V → List Y)
@@ -41,7 +41,7 @@ folds_more F next steps f left more x o all now new first given before after =
     ∙ steps now o (filter_map f more)
     ∙ ap (λ a. F a (filter_map f more)) (sym after)
 
----- the additions and changes of the kinds of keys
+-- ---- the additions and changes of the kinds of keys
 
 pub unread_parts : {A : Type 0} (read : List ℕ → Option A) (o : Option Value) (rest : List Value)
     → unread_notes read (cons_option o rest) ≡ unread_notes read (cons_option o []) ++ unread_notes read rest

@@ -86,7 +86,7 @@ pub any-in_byte_order : (q : List ℕ) (names : List (List ℕ)) → list_any (b
 any-in_byte_order q [] = refl
 any-in_byte_order q (name ∷ names) = any_with q name (in_byte_order names) ∙ ap (λ b. bytes_eq q name || b) (any-in_byte_order q names)
 
----- names with the values of a function for them
+-- ---- names with the values of a function for them
 module _ (f : List ℕ → Option (List ℕ)) where
   all_given : (first : List ℕ) (names : List (List ℕ)) → AllByRecursion (λ y. byte_cmp first y ≡ Less) names
       → AllByRecursion (λ y. byte_cmp first y ≡ Less) (keys_of (filter_map (λ name. won name (f name)) names))

@@ -71,7 +71,7 @@ all_show (byte ∷ text) = all_append (λ b. 32 < b) (escaped_byte byte) (escape
 pub no_white : (text : List ℕ) → All (λ byte. 32 < byte) (escaped_word text)
 no_white text = All-from_recursion (λ byte. 32 < byte) (escaped_word text) (all_show text)
 
----- a run of plain bytes
+-- ---- a run of plain bytes
 
 plain : (byte : ℕ) → is_coded byte ≡ false → escaped_byte byte ≡ byte ∷ []
 unfolding escaped_byte

@@ -126,7 +126,7 @@ mutual
 pub laid_where_closed : (symbols : List Symbol) → open_at_end None symbols ≡ None → (words : List (List ℕ)) × LaysOut symbols words
 laid_where_closed symbols e = laid_from symbols (begun symbols e)
 
----- the faults by the grammar
+-- ---- the faults by the grammar
 
 abbrev told_as : WordsError → Result (List (List ℕ)) WordsError
 told_as fault = Err fault

@@ -24,7 +24,7 @@ use Rattle.text_forms.specs.Answers.{MakesWords}
 use Rattle.text_forms.specs.SoFar.{begun_bytes, marks_of, found, comes_to, splits_on}
 use Rattle.text_forms.proofs.Pieces.{all_text, no_text}
 
----- a word that has begun, before the remaining marks
+-- ---- a word that has begun, before the remaining marks
 
 -- the words of pieces, the first of which continues a word of these bytes
 behind : List ℕ → List (List Mark) → List (List ℕ)
@@ -87,7 +87,7 @@ unfolding words_in behind
 none_left None = refl
 none_left (Some bytes) = begun bytes [] ∙ ap (λ word. word ∷ []) (append-nil bytes)
 
----- one more symbol
+-- ---- one more symbol
 
 step : (old new : SoFar) (symbol : Symbol) (mark : Mark) → new.opened ≡ open_after old.opened symbol → mark ≡ mark_of old.opened symbol →
     ((marks : List Mark) → found new.whole (words_in (marks_of (begun_bytes new.begun) ++ marks))

@@ -12,7 +12,7 @@ use Rattle.text_forms.specs.declared.splitting.symbols.Symbol.TheVariants.{Plain
 use Rattle.text_forms.specs.declared.splitting.marks.Mark.{Mark}
 use Rattle.text_forms.specs.declared.splitting.marks.Mark.TheVariants.{Part, Edge, Gap}
 
----- escapes: a symbol is a plain byte, or a byte that an escape gives
+-- ---- escapes: a symbol is a plain byte, or a byte that an escape gives
 
 abbrev pub is_backslash : ℕ → Bool
 is_backslash byte = byte == ascii "\\"
@@ -86,7 +86,7 @@ marks_from opened (symbol ∷ symbols) = mark_of opened symbol ∷ marks_from (o
 abbrev pub open_at_end : Option ℕ → List Symbol → Option ℕ
 open_at_end opened symbols = fold open_after opened symbols
 
----- words: the stretches between gaps that are not empty; two edges alone are an empty word
+-- ---- words: the stretches between gaps that are not empty; two edges alone are an empty word
 
 abbrev pub is_gap : Mark → Bool
 is_gap (Part byte) = false
