@@ -252,7 +252,7 @@ pub climbs_is : (text : List ℕ) (items found : List (Bor (List ℕ))) (b : Boo
 climbs_is text items found b same e h = sym (h ∙ sym (any_mapped (λ piece. piece.now) climbs found)
     ∙ ap (λ l. list_any climbs (map (λ piece. piece.now) l)) same ∙ ap (list_any climbs) e)
 
--- what was folded of the pieces as they were collected
+-- the text that was folded from the collected pieces
 pub folded_is : (text tail : List ℕ) (items found : List (Bor (List ℕ))) → found ≡ items → map (λ piece. piece.now) items ≡ pieces_of text →
     tail ≡ tail_of (filter (λ piece. not (is_idle piece)) (map (λ piece. piece.now) found)) → tail ≡ tail_of (parts_of text)
 folded_is text tail items found same e h = h ∙ ap (λ l. tail_of (filter (λ piece. not (is_idle piece)) (map (λ piece. piece.now) l))) same

@@ -11,8 +11,8 @@ use thiserror::Error;
 #[derive(Clone, Copy, Debug, PartialEq, Eq)]
 pub enum CallsCause {
     /// The line has an unknown first word, a wrong number of words, or an ill-formed name. Or `abi` is misplaced: the line at
-    /// the front is no `abi` line, or this line is a third `abi` line, or a second one with the name `native` or without a line
-    /// `version 2`.
+    /// the front is no `abi` line, or this line is a third one. Or this line is a second `abi` line with the name `native` or
+    /// without a line `version 2`.
     Words,
     /// An ill-formed NUMBER or ARCH.
     Number,

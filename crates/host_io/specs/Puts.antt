@@ -47,7 +47,7 @@ pub record HandsPart {S : Type 0} (puts : S → Put → S → Type 0) (before no
   pub some_left : 0 < length left
   pub made : Puts puts before now (handed piece counts ++ put_of left (Err error) ∷ [])
 
--- the handing of a piece as one had this result
+-- a piece was handed as one, with this result
 abbrev pub Hands : {S : Type 0} → (S → Put → S → Type 0) → S → S → List ℕ → Result (Unit {0}) SinkError → Type 0
 Hands puts before now piece (Ok u) = HandsWhole puts before now piece
 Hands puts before now piece (Err error) = HandsPart puts before now piece error

@@ -58,8 +58,8 @@ impl<R: Files + AllocGlobal + Clone + Drop> DirShelf<R> {
     }
 }
 
-// Returns the entry, or nothing if the system says that nothing can be there: no such entry, a part of the path that is no
-// folder, a name that is too long, or links in a circle.
+// Returns the entry, or nothing if nothing can be there. The system says so for a missing entry, a part of the path that is no
+// folder, a name that is too long, and links in a circle.
 fn if_there<T: Drop>(found: io::Result<T>) -> io::Result<Option<T>> {
     match found {
         Ok(found) => Ok(Some(found)),

@@ -77,7 +77,7 @@ module _ {S : Type 0} {taken : S → Option (List ℕ)} {puts : S → Put → S 
     hands = some_before puts a b x y error f.hands;
   }
 
-  -- the printing of a text had this result
+  -- a text was printed up to an error, with this result
   pub text_at_error : (a b : S) (x : List ℕ) (error : SinkError) (put : Result (Unit {0}) SinkError)
       → IsErrAnd put (λ own. own ≡ error) → PrintsSome taken puts a b x error → PrintsLines taken puts a b x put
   text_at_error a b x error (Ok u) is prints = absurd is

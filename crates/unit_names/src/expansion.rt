@@ -195,9 +195,9 @@ fn expanded(
 ///
 /// The specifiers are `%%`, `%n`, `%N`, `%p`, `%i`, `%j`, `%P`, `%I`, `%J`, `%t`, `%S`, `%C`, `%L`, `%E`, `%T`, `%V`,
 /// `%u`, `%U` and `%h`, and with a version `%f`, `%g`, `%G` and `%s` too (systemd.unit(5), Specifiers). With a version, a
-/// specifier for what the running machine says is refused, and any other `%` stays as it is written. Without one, a `%`
-/// that makes no specifier is refused. So is an unescaped text whose `\x` lacks its two digits. A result is refused if it
-/// is not UTF-8 or has more than 1,048,576 bytes, the longest line that systemd reads.
+/// specifier whose text the running machine gives is refused, and any other `%` stays as it is written. Without one, a
+/// `%` that makes no specifier is refused. An unescaped text is refused if a `\x` lacks its two digits. A result is
+/// refused if it is not UTF-8 or has more than 1,048,576 bytes, the longest line that systemd reads.
 pub fn expand(
     alloc: Global,
     systemd: Option<Version>,

@@ -7,7 +7,7 @@ ghost use Rattle.unit_names.specs.Specifiers.{specifier_at, specified_text, unes
 use crate::name::UnitName;
 use crate::version::Version;
 
-/// The letters of specifiers for what the running machine, its system and the files of the unit say.
+/// The letters of specifiers whose text the running machine, its system or the files of the unit give.
 const HOST_LETTERS: &[u8] = b"aAbBcdDHlmMoqrRvwWyY";
 
 /// A specifier: `%` and a letter. The system's manager, which runs as root, determines its text.

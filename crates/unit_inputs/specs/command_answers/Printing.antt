@@ -26,7 +26,7 @@ module _ {S : Type 0} (taken : S → Option (List ℕ)) (puts : S → Put → S 
     pub takes : TakesFront (taken before) (taken now) text
     pub hands : HandsSome puts before now text error
 
-  -- the printing of a text of whole lines had this result
+  -- a text of whole lines was printed with this result
   abbrev pub PrintsLines : Result (Unit {0}) SinkError → Type 0
   PrintsLines (Ok u) = PrintsAll
   PrintsLines (Err error) = PrintsSome error
@@ -41,7 +41,7 @@ module _ {S : Type 0} (taken : S → Option (List ℕ)) (puts : S → Put → S 
     pub takes : TakesFront (taken before) (taken now) text
     pub hands : HandsSome puts before now text error ⊎ HandsLast puts before now text error
 
-  -- the putting of a text had this result
+  -- a text was put with this result
   abbrev pub PutsText : Result (Unit {0}) SinkError → Type 0
   PutsText (Ok u) = PutsAll
   PutsText (Err error) = PutsSome error

@@ -31,8 +31,8 @@ pub record EndsBy (laws : Laws) (status : ExitStatus) : Type 0 where
   pub whole : IsTrue (is_whole status) → laws.may_end status
   pub failed_read : status ≡ ReadFault → laws.reads
 
--- every fault has its cause and is reported: the counts do not fall; a read fault needs a risen count of the shelf, and then
--- nothing was put; a write fault needs a risen count of the sink; and a risen count gives its fault
+-- the counts do not fall. A read fault needs a risen count of the shelf, and then nothing was put. A write fault needs a risen
+-- count of the sink. A risen count gives its fault, so no fault is passed over
 pub record HasFaultCause (status : ExitStatus) (outside : Outside) : Type 0 where
   pub shelf_later : outside.shelf_before ≤ outside.shelf_after
   pub sink_later : outside.sink.faults outside.sink.before ≤ outside.sink.faults outside.sink.after
@@ -48,7 +48,7 @@ Completes accepted status outside =
     accepted → (Rose outside.shelf_before outside.shelf_after → ⊥) → (Rose (outside.sink.faults outside.sink.before) (outside.sink.faults outside.sink.after) → ⊥)
     → IsTrue (is_answer status) ⊎ (status ≡ OutOfMemory)
 
--- a run of a command with these laws had this status
+-- a command with these laws ran, and this is its status
 pub record IsRun (laws : Laws) (status : ExitStatus) (outside : Outside) : Type 0 where
   pub prints_the_whole_text : IsTrue (is_whole status) → WroteWhole (laws.admits status) outside.sink
   pub prints_a_prefix : WrotePrefix laws.admits outside.sink
