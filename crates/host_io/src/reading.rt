@@ -42,7 +42,7 @@ pub trait Shelf {
 
     /// Reads the file at `path`, which may have at most `limit` bytes.
     ///
-    /// It returns one of these errors:
+    /// It fails with one of these errors:
     /// - `Missing`: no file has the path;
     /// - `TooLarge`: the file has more than `limit` bytes;
     /// - `Failed`: the outside world failed, and only then the count of faults rises;
@@ -57,7 +57,7 @@ pub trait Shelf {
 
     /// Returns the names of the files directly in the folder `dir`, each once, in no promised order.
     ///
-    /// It returns one of these errors:
+    /// It fails with one of these errors:
     /// - `Missing`: no file lies directly in the folder;
     /// - `TooLarge`: the folder has more than 4,096 files;
     /// - `Failed`: the outside world failed, and only then the count of faults rises;
