@@ -116,8 +116,8 @@ impl UnitName {
         self.text.strip_suffix(SUFFIX).unwrap()
     }
 
-    /// Returns the name of the file that an instance is made from, `PREFIX@.service`. `None` exactly if the name has
-    /// no instance.
+    /// Returns the name of the template from which systemd makes the instance, `PREFIX@.service`. `None` exactly if the
+    /// name has no instance.
     pub fn template(&self, alloc: Global) -> Result<Option<String>, AllocError>
         ensures without_instance { IfOk result (λ template. option_map (λ t. string_bytes t) template ≡ template_of self.now) }
     {

@@ -29,7 +29,7 @@ pub enum Specifier {
     PrefixUnescaped,
     /// `%I`: the instance, unescaped.
     InstanceUnescaped,
-    /// `%J`: what `%j` is, unescaped.
+    /// `%J`: the text of `%j`, unescaped.
     LastPartUnescaped,
     /// `%t`: `/run`.
     RuntimeFolder,
@@ -51,7 +51,7 @@ pub enum Specifier {
     UserNumber,
     /// `%h`: the home of that user, `/root`.
     HomeFolder,
-    /// `%f`: a slash and the unescaped instance, or without an instance the unescaped prefix; slashes at its front are one.
+    /// `%f`: the unescaped instance, or without an instance the unescaped prefix, with exactly one slash at its front.
     NamedPath,
     /// `%g`: the name of the group of the user of the manager, `root`.
     GroupName,
