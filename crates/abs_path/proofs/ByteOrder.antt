@@ -15,13 +15,13 @@ tail-append [] rest = refl
 tail-append (part ∷ front) rest = ap (λ text. (47 ∷ part) ++ text) (tail-append front rest)
     ∙ sym (append_assoc (47 ∷ part) (tail_of front) (tail_of rest))
 
--- a text comes before itself with more behind it
+-- a text precedes itself with more after it
 longer_is_later : (xs ys : List ℕ) (y : ℕ) → slice_cmp nat_cmp xs (xs ++ y ∷ ys) ≡ Less
 longer_is_later [] ys y = refl
 longer_is_later (x ∷ xs) ys y = ap (λ o. ordering_then o (slice_cmp nat_cmp xs (xs ++ y ∷ ys))) (tied_itself nat_cmp_total x)
     ∙ longer_is_later xs ys y
 
--- no path comes before itself
+-- no path precedes itself
 pub not_before_itself : (path : Path) → is_before path path ≡ false
 not_before_itself path = ap is_lt (tied_itself nat_list_cmp_total (tail_of path))
 
@@ -34,7 +34,7 @@ pub before_trans : (one other third : Path) → is_before one other ≡ true →
 before_trans one other third h g =
     ap is_lt (nat_list_cmp_total.trans (tail_of one) (tail_of other) (tail_of third) (lt_Less _ h) (lt_Less _ g))
 
--- a path comes after each path that leads to it
+-- a path follows each path that leads to it
 pub prefix_before : (front path : Path) → is_prefix front path ≡ true → (front ≡ path) ⊎ (is_before front path ≡ true)
 prefix_before front path h = by (rest_of front path) (prefix_and_rest front path h)
   where
@@ -43,6 +43,6 @@ prefix_before front path h = by (rest_of front path) (prefix_and_rest front path
     by (part ∷ rest) e = inr (subst (λ (p : Path). is_before front p ≡ true) e
         (rw tail-append (ap is_lt (longer_is_later (tail_of front) (part ++ tail_of rest) 47))))
 
--- a path's text is that of its prefix, and then that of the rest
+-- the text of a path is the text of its prefix, followed by the text of the rest
 pub text_then_rest : (front path : Path) → is_prefix front path ≡ true → tail_of path ≡ tail_of front ++ tail_of (rest_of front path)
 text_then_rest front path h = sym (ap tail_of (prefix_and_rest front path h)) ∙ tail-append front (rest_of front path)

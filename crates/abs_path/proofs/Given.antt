@@ -1,4 +1,4 @@
--- A list in byte order has exactly the paths that went in.
+-- A list in byte order has exactly the given paths.
 use Rattle.std.proofs.Common.{◌≡◌, true, List}
 use Rattle.std.specs.Prelude.{◌↔◌}
 use Rattle.std.specs.List.{AllByRecursion, Contains}
@@ -7,7 +7,7 @@ use Rattle.abs_path.specs.Paths.{Path, is_normal}
 use Rattle.abs_path.specs.ByteOrder.{in_byte_order}
 use Rattle.abs_path.proofs.Placed.{in_byte_order_is, in_byte_order_was}
 
--- each path of a list is in it
+-- each path of a list is in the list
 each_of : (paths : List Path) → AllByRecursion (Contains paths) paths
 each_of paths = recursion_from_All (Contains paths) paths (All-contains_itself paths)
 

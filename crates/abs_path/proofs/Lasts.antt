@@ -10,7 +10,7 @@ use Rattle.abs_path.specs.Prefix.{is_prefix, is_same}
 use Rattle.abs_path.proofs.Prefixes.{same_part, same_itself}
 use Rattle.abs_path.specs.place_tree.Places.{IsLastAt, IsLastOf, later, behind_or, last_at}
 
--- a kind that is the same of each place
+-- a kind that agrees with another on each place
 pub same_kind : (kind other : Path → Bool) (places : List Path) (o : Option ℕ)
     → ((k : ℕ) (d : Path) → k < length places → other (get_or places k d) ≡ kind (get_or places k d)) →
     IsLastOf kind places o → IsLastOf other places o
@@ -31,7 +31,7 @@ or_right : (a b : Bool) → b ≡ true → (a || b) ≡ true
 or_right true b e = refl
 or_right false b e = e
 
--- of two kinds taken together the later place is the last
+-- the last place of either of two kinds is the later of the two last places
 pub last_of_either : (kind other : Path → Bool) (places : List Path) (one two : Option ℕ) → IsLastOf kind places one
     → IsLastOf other places two → IsLastOf (λ place. kind place || other place) places (later one two)
 last_of_either kind other places None None h g = λ k d low high. or_false _ _ (h k d low high) (g k d low high)
@@ -91,7 +91,7 @@ last_same path (place ∷ places) = by (last_at path places) (last_same path pla
         later_ones zero d low high = absurd (omega arith)
         later_ones (suc k) d low high = h.none_later k d (omega arith) (omega arith)
 
--- a place of the list is the last of its path, or a later one is
+-- a place of the list is the last of its path, or a later place is
 pub has_last : (places : List Path) (k : ℕ) (d : Path) → k < length places → (at : ℕ) × (last_at (get_or places k d) places ≡ Some at)
 has_last places k d lt = by (last_at (get_or places k d) places) (last_same (get_or places k d) places)
   where
@@ -99,7 +99,7 @@ has_last places k d lt = by (last_at (get_or places k d) places) (last_same (get
     by (Some at) h = (at, refl)
     by None h = absurd (false≢true (sym (h k d (omega arith) lt) ∙ same_itself (get_or places k d)))
 
--- with one more place
+-- the list has one more place
 pub last_push : (path : Path) (places : List Path) (place : Path)
     → last_at path (places ++ place ∷ []) ≡ cond (is_same place path) (Some (length places)) (last_at path places)
 last_push path [] place = refl
@@ -110,7 +110,7 @@ last_push path (first ∷ places) place = ap (λ o. behind_or o first path) (las
     by true = refl
     by false = refl
 
--- what leads to a path with one more part is that path, or leads to the path
+-- a place that leads to a path with one more part is that path, or leads to the path
 pub one_part_more : (place front : Path) (part : List ℕ) → is_prefix place (front ++ part ∷ [])
     ≡ (is_prefix place front || is_same place (front ++ part ∷ []))
 one_part_more [] front part = refl
@@ -127,7 +127,7 @@ one_part_more (first ∷ place) (other ∷ front) part = by (bytes_eq first othe
     by true e = e
     by false e = refl
 
--- what leads to a path leads to a front of it, or goes on behind the front
+-- a place that leads to a path leads to a front of it, or continues after the front
 pub front_or_on : (place front : Path) (part : List ℕ) (rest : Path) → is_prefix place (front ++ part ∷ rest) ≡ true
     → (is_prefix place front ≡ true) ⊎ ((more : Path) × (place ≡ front ++ part ∷ more))
 front_or_on [] front part rest e = inl refl

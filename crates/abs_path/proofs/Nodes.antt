@@ -1,4 +1,4 @@
--- What one more node, and one more number, change of a tree's nodes.
+-- One more node and one more number change the nodes of a tree.
 use Rattle.std.proofs.Common.{◌≡◌, ◌<◌, ◌≤◌, ◌+◌, ◌⊎◌, inl, inr, ℕ, zero, suc, Bool, true, false, cond, List, [], ◌∷◌, ◌++◌, length, get_or}
 use Rattle.std.proofs.Common.{set, take, Option, Some, None, refl, sym, ap, ◌∙◌, subst, arith}
 use Rattle.std.specs.Prelude.{◌==◌, ◌&&◌, option_and_then}
@@ -52,7 +52,7 @@ test_of one other ne = by (one == other) (eqb-true one other)
     by true is = absurd (ne (is refl))
     by false is = refl
 
--- a node without ways and without a number, which no way leads to
+-- a node has no ways and no number, and no way leads to it
 pub record IsBare (node : Node) : Type 0 where
   pub no_way : (part : List ℕ) → get_by_text node.children part ≡ None
   pub no_place : node.last ≡ None
@@ -75,7 +75,7 @@ bare_numbers old bare h at = elim (cases_eq at (length old)) [
   | inr other ↦ ap (option_and_then (λ node. node.last)) (pushed_other old bare at other)
 ]
 
--- one node written: its ways and its number, and the others'
+-- one node is written: its ways and its number, and the ways and numbers of the others
 pub ways_written : (nodes : List Node) (at : ℕ) (node : Node) → at < length nodes → (from : ℕ) (part : List ℕ) →
     child_at (set nodes at node) from part ≡ cond (from == at) (get_by_text node.children part) (child_at nodes from part)
 ways_written nodes at node lt from part = elim (cases_eq from at) [
@@ -112,7 +112,7 @@ own_ways nodes at node lt e part = ap (option_and_then (λ node. get_by_text nod
 own_number : (nodes : List Node) (at : ℕ) (node : Node) → at < length nodes → node ≡ get_or nodes at node → number_at nodes at ≡ node.last
 own_number nodes at node lt e = ap (option_and_then (λ node. node.last)) (slice_get_read nodes (length nodes) at node refl lt e)
 
--- where a node is written with the ways that it had, all ways stay
+-- if a node is written with its old ways, all ways stay
 pub ways_stay : (nodes : List Node) (at : ℕ) (node next : Node) → at < length nodes → node ≡ get_or nodes at node
     → ((part : List ℕ) → get_by_text next.children part ≡ get_by_text node.children part) → HasSameWays nodes (set nodes at next)
 ways_stay nodes at node next lt e same from part = ways_written nodes at next lt from part ∙ by (from == at) (eqb-true from at)
@@ -121,7 +121,7 @@ ways_stay nodes at node next lt e same from part = ways_written nodes at next lt
     by true is = same part ∙ sym (own_ways nodes at node lt e part) ∙ ap (λ n. child_at nodes n part) (sym (is refl))
     by false is = refl
 
--- where a node is written with the number that it had, all numbers stay
+-- if a node is written with its old number, all numbers stay
 pub numbers_stay : (nodes : List Node) (at : ℕ) (node next : Node) → at < length nodes → node ≡ get_or nodes at node
     → next.last ≡ node.last → (from : ℕ) → number_at (set nodes at next) from ≡ number_at nodes from
 numbers_stay nodes at node next lt e same from = numbers_written nodes at next lt from ∙ by (from == at) (eqb-true from at)
@@ -130,7 +130,7 @@ numbers_stay nodes at node next lt e same from = numbers_written nodes at next l
     by true is = same ∙ sym (own_number nodes at node lt e) ∙ ap (number_at nodes) (sym (is refl))
     by false is = refl
 
--- nodes with the same ways
+-- the nodes have the same ways
 pub same_nodes : (old new : List Node) → HasSameWays old new → (path : Path) → node_at new path ≡ node_at old path
 same_nodes old new same path = walk_same (child_at old) (child_at new) same 0 path
 
@@ -163,7 +163,7 @@ grows_on one two three h g = record {
   nodes_stay = λ path at e. g.nodes_stay path at (h.nodes_stay path at e);
 }
 
--- a new node with a way to it
+-- the tree has a new node with a way to it
 grows_more : (old new : List Node) (at : ℕ) (part : List ℕ) → IsArena old → OneMore (child_at old) (child_at new) at part (length old)
     → length old < length new →
     ((from : ℕ) → number_at new from ≡ number_at old from) → Grows old new
@@ -259,7 +259,7 @@ made_way old pushed bare node next at part h own =
     more.is at part ∙ ap (λ b. cond (b && bytes_eq part part) (Some (length old)) (child_at old at part)) (eq-eqb at at refl)
     ∙ ap (λ b. cond b (Some (length old)) (child_at old at part)) own
 
--- the number of a place, kept at its node
+-- the node of a place keeps the number of the place
 pub record Numbers (old new : List Node) (at number : ℕ) (place : Path) : Type 0 where
   pub arena : IsArena old
   pub node : node_at old place ≡ Some at
@@ -317,7 +317,7 @@ take_all P [] (suc n) h = tt
 take_all P (place ∷ places) zero h = tt
 take_all P (place ∷ places) (suc n) h = (h.0, take_all P places n h.1)
 
--- a new node, and no way to it
+-- the tree has a new node and no way to it
 pub unmade_grows : (old pushed : List Node) (bare node next : Node) (at : ℕ) → pushed ≡ old ++ bare ∷ [] → IsBare bare → IsArena old
     → at < length old → node ≡ get_or pushed at node → next.last ≡ node.last →
     ((part : List ℕ) → get_by_text next.children part ≡ get_by_text node.children part) → Grows old (set pushed at next)
@@ -358,7 +358,7 @@ empty_tree bare nodes places h e f = subst (λ (l : List Node). IsTree l places)
     numbers [] = h.no_place
     numbers (part ∷ path) = ap (option_and_then (number_at (bare ∷ []))) (no_node part path)
 
--- the number of one more place, written at its node
+-- the number of one more place is written at its node
 pub record Placed (nodes : List Node) (node next : Node) (at : ℕ) (places : List Path) (place : Path) : Type 0 where
   pub tree : IsTree nodes places
   pub node_of_place : node_at nodes place ≡ Some at
@@ -388,7 +388,7 @@ placed_tree nodes node next at places place h =
 pub grown_tree : (old new : List Node) (places : List Path) → IsTree old places → Grows old new → IsTree new places
 grown_tree old new places h g = record { arena = g.arena; numbers = λ path. g.numbers_stay path ∙ h.numbers path }
 
--- one turn of numbering: where a place has its node the number is written there, and each place has one
+-- one turn of numbering: the number of a place is written at the node of the place, and each place has a node
 pub numbered_turn : (nodes : List Node) (node next : Node) (at index : ℕ) (places : List Path) (place : Path)
     → IsTree nodes (take index places) → HasNodes nodes places → index < length places → place ≡ get_or places index place →
     node_at nodes place ≡ Some at → at < length nodes → node ≡ get_or nodes at node

@@ -1,4 +1,4 @@
--- On the way down a tree: the node of a front of the path, the rest of its text, and what was found so far.
+-- A way down a tree has reached the node of a front of the path, the rest of its text, and the last place found so far.
 use Rattle.std.proofs.Common.{◌≡◌, inl, inr, ℕ, Bool, true, false, List, [], ◌∷◌, ◌++◌, get_or, Option, Some, None, refl, sym, ap, ◌∙◌}
 use Rattle.std.proofs.Common.{subst, append_assoc}
 use Rattle.std.specs.Prelude.{◌||◌, option_and_then}
@@ -49,7 +49,7 @@ no_node nodes path at rest part more h e none =
     ∙ ap (option_and_then (λ node. walk (child_at nodes) node (part ∷ parts_of more))) h.node
     ∙ ap (option_and_then (λ child. walk (child_at nodes) child (parts_of more))) none
 
--- the last place that leads to the front
+-- the last place that leads to the front is found
 abbrev pub Found : List Node → Path → Option ℕ → Type 0
 Found nodes front found = (places : List Path) → IsNumbered nodes places → IsLastLeading places front found
 
@@ -75,7 +75,7 @@ found_step nodes front at child part found more h way e so_far places so =
     (last_of_either (λ place. is_prefix place front) (λ place. is_same place (front ++ part ∷ [])) places found
     (last_at (front ++ part ∷ []) places) (so_far places so) (last_same (front ++ part ∷ []) places)))
 
--- where no way leads on, no place behind the front leads to the path
+-- if no way leads on, no place after the front leads to the path
 pub found_stop : (nodes : List Node) (path : Path) (at : ℕ) (rest part more : List ℕ) (found : Option ℕ) → (h : On nodes path at rest)
     → parts_of rest ≡ part ∷ parts_of more → child_at nodes at part ≡ None →
     Found nodes h.front found → Found nodes path found
@@ -109,7 +109,7 @@ found_stop nodes path at rest part more found h e none so_far places so =
 pub on_grown : (old new : List Node) (path : Path) (at : ℕ) (rest : List ℕ) → Grows old new → On old path at rest → On new path at rest
 on_grown old new path at rest g h = record { front = h.front; whole = h.whole; node = g.nodes_stay h.front at h.node }
 
--- both, as they go down
+-- both facts, on the way down
 abbrev pub OnAndFound : List Node → Path → ℕ → List ℕ → Option ℕ → Type 0
 OnAndFound nodes path at rest found = (on : On nodes path at rest) × Found nodes on.front found
 

@@ -12,7 +12,7 @@ use Rattle.abs_path.specs.ByteOrder.{is_before, placed, with_placed, in_byte_ord
 use Rattle.abs_path.proofs.ByteOrder.{before_trans}
 use Rattle.abs_path.proofs.Texts.{same_tail}
 
--- what holds of a path and of each of a list holds of each when it is placed there
+-- a property of a path and of each path of a list holds of each after the path is placed there
 placed_is : (P : Path → Type 0) (path : Path) (paths : List Path) → P path → AllByRecursion P paths → AllByRecursion P (placed path paths)
 placed_is P path [] here h = (here, tt)
 placed_is P path (first ∷ paths) here h = by (is_before path first) (is_before first path) (placed_is P path paths here h.1)
@@ -53,7 +53,7 @@ with_placed_ascending sorted (path ∷ paths) up = with_placed_ascending (placed
 pub in_byte_order_ascending : (paths : List Path) → AreAscending (in_byte_order paths)
 in_byte_order_ascending paths = with_placed_ascending [] paths tt
 
--- normal paths of which neither comes before the other are one path
+-- normal paths of which neither precedes the other are equal
 pub neither_before : (one other : Path) → is_normal one ≡ true → is_normal other ≡ true → is_before one other ≡ false
     → is_before other one ≡ false → one ≡ other
 neither_before one other h g e f =
@@ -67,7 +67,7 @@ neither_before one other h g e f =
     by Equal e f = refl
     by Greater e f = absurd (false≢true (sym f))
 
--- what holds of each path of the ordered list holds of each path that went in
+-- a property of each path of the ordered list holds of each given path
 placed_was : (P : Path → Type 0) (path : Path) (paths : List Path) → is_normal path ≡ true
     → AllByRecursion (λ other. is_normal other ≡ true) paths → AllByRecursion P (placed path paths) → P path × AllByRecursion P paths
 placed_was P path [] clean normal h = (h.0, tt)
@@ -95,7 +95,7 @@ pub in_byte_order_was : (P : Path → Type 0) (paths : List Path) → AllByRecur
     → AllByRecursion P (in_byte_order paths) → AllByRecursion P paths
 in_byte_order_was P paths normal h = (with_placed_was P [] paths tt normal h).1
 
--- with the root among them, the root is first
+-- if the root is among the paths, it is the first
 root_stays : (rest paths : List Path) → (more : List Path) × (with_placed ([] ∷ rest) paths ≡ [] ∷ more)
 root_stays rest [] = (rest, refl)
 root_stays rest ([] ∷ paths) = root_stays rest paths
@@ -104,7 +104,7 @@ root_stays rest ((part ∷ path) ∷ paths) = root_stays (placed (part ∷ path)
 pub root_first : (paths : List Path) → (rest : List Path) × (in_byte_order ([] ∷ paths) ≡ [] ∷ rest)
 root_first paths = root_stays [] paths
 
--- of two normal paths that are not the same one comes first
+-- of two different normal paths, one precedes the other
 pub one_first : (one other : Path) → is_normal one ≡ true → is_normal other ≡ true
     → (one ≡ other) ⊎ ((is_before one other ≡ true) ⊎ (is_before other one ≡ true))
 one_first one other h g = by (is_before one other) (is_before other one) refl refl

@@ -1,4 +1,4 @@
--- A text in which nothing folds away is its own path's text.
+-- A text in which nothing folds away is the text of its own path.
 use Rattle.std.proofs.Common.{◌≡◌, ℕ, Bool, true, false, List, [], ◌∷◌, ◌++◌, filter, refl, sym, ap, ◌∙◌, subst, cond}
 use Rattle.std.specs.Prelude.{◌==◌, ◌||◌, ◌&&◌, not, codes, nat_eq}
 use Rattle.std.specs.List.{AllByRecursion, list_any, slice_split, onto_first, starts_with}
@@ -10,7 +10,7 @@ use Rattle.abs_path.specs.Plain.{is_plain}
 abbrev is_slash : ℕ → Bool
 is_slash byte = byte == 47
 
--- a piece that begins with a byte that is no dot
+-- a piece begins with a byte other than a dot
 abbrev is_busy : List ℕ → Bool
 is_busy [] = false
 is_busy (byte ∷ piece) = not (byte == 46)
@@ -18,13 +18,13 @@ is_busy (byte ∷ piece) = not (byte == 46)
 abbrev AreBusy : List (List ℕ) → Type 0
 AreBusy pieces = AllByRecursion (λ piece. is_busy piece ≡ true) pieces
 
--- the pieces are busy, the first only where a slash stands before it
+-- all pieces after the first are busy, and so is the first if a slash precedes it
 abbrev AreBusyBehind : Bool → List (List ℕ) → Type 0
 AreBusyBehind true pieces = AreBusy pieces
 AreBusyBehind false [] = Unit {0}
 AreBusyBehind false (piece ∷ pieces) = AreBusy pieces
 
--- the pieces of a text, each behind a slash, are a slash and the text
+-- the pieces of a text, each after a slash, are a slash and the text
 pieces_whole : (text : List ℕ) → tail_of (slice_split is_slash text) ≡ 47 ∷ text
 pieces_whole [] = refl
 pieces_whole (x ∷ text) = by (is_slash x) refl (pieces_whole text)
@@ -80,7 +80,7 @@ plain_clean behind (x ∷ text) h =
     let both = and_parts (not (x == 0)) _ h in
     or_from _ _ (not-true (x == 0) both.0) (plain_clean (x == 47) text (and_parts _ _ both.1).1)
 
--- no part of it is `..`
+-- no part of a plain text is `..`
 pub plain_level : (text : List ℕ) → starts_with nat_eq text (codes "/") ≡ true → is_plain false text ≡ true
     → list_any (λ piece. bytes_eq piece (codes "..")) (pieces_of text) ≡ false
 plain_level [] rooted h = refl
@@ -89,7 +89,7 @@ plain_level (x ∷ text) rooted h =
     subst (λ x. is_plain false (x ∷ text) ≡ true → list_any (λ piece. bytes_eq piece (codes "..")) (pieces_of (x ∷ text)) ≡ false) first
     (λ plain. none_climbs (slice_split is_slash text) (busy_pieces true text plain)) h
 
--- its parts have its text
+-- the parts of a plain text have its text
 pub plain_whole : (text : List ℕ) → starts_with nat_eq text (codes "/") ≡ true → is_plain false text ≡ true → text ≡ tail_of (parts_of text)
 plain_whole [] rooted h = refl
 plain_whole (x ∷ text) rooted h =

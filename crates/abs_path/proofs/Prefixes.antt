@@ -8,7 +8,7 @@ use Rattle.std.proofs.lemmas.Slice.Eq.{bytes_eq-Decides}
 use Rattle.abs_path.specs.Paths.{Path, tail_of}
 use Rattle.abs_path.specs.Prefix.{is_prefix, is_same, is_below, rest_of, rest_text}
 
--- equal parts, by the test
+-- the test finds equal parts
 pub same_part : (x y : List ℕ) → bytes_eq x y ≡ true → x ≡ y
 same_part x y h = (bytes_eq-Decides x y).0 h
 
@@ -19,12 +19,12 @@ pub prefix_itself : (path : Path) → is_prefix path path ≡ true
 prefix_itself [] = refl
 prefix_itself (part ∷ path) = and_from _ _ (part_itself part part refl) (prefix_itself path)
 
--- what a prefix and a further path make begins with the prefix
+-- a prefix followed by a further path begins with the prefix
 pub prefix-append : (front rest : Path) → is_prefix front (front ++ rest) ≡ true
 prefix-append [] rest = refl
 prefix-append (part ∷ front) rest = and_from _ _ (part_itself part part refl) (prefix-append front rest)
 
--- a path is its prefix and the rest
+-- a path is its prefix followed by the rest
 pub prefix_and_rest : (front path : Path) → is_prefix front path ≡ true → front ++ rest_of front path ≡ path
 prefix_and_rest [] path h = refl
 prefix_and_rest (part ∷ front) [] h = absurd (false≢true h)
@@ -43,7 +43,7 @@ prefix_trans (x ∷ one) (y ∷ other) (z ∷ third) h g =
     let second = and_parts (bytes_eq y z) (is_prefix other third) g in
     and_from _ _ (part_itself x z (same_part x y first.0 ∙ same_part y z second.0)) (prefix_trans one other third first.1 second.1)
 
--- of two prefixes of one path, one leads to the other
+-- one of two prefixes of a path leads to the other
 pub prefix_chain : (one other path : Path) → is_prefix one path ≡ true → is_prefix other path ≡ true
     → (is_prefix one other ≡ true) ⊎ (is_prefix other one ≡ true)
 prefix_chain [] other path h g = inl refl
@@ -58,7 +58,7 @@ prefix_chain (x ∷ one) (y ∷ other) (z ∷ path) h g =
       | inr w ↦ inr (and_from _ _ (part_itself y x (sym same)) w)
     ]
 
--- the rest behind a prefix is the rest up to a path between, and then the rest behind that
+-- the rest after a prefix is the rest up to a path in between, and then the rest after that path
 pub rest_through : (one other path : Path) → is_prefix one other ≡ true → is_prefix other path ≡ true
     → rest_of one path ≡ rest_of one other ++ rest_of other path
 rest_through [] other path h g = sym (prefix_and_rest other path g)
@@ -99,7 +99,7 @@ pub rest_text-append : (front more : Path) → rest_text front (front ++ more) �
 rest_text-append front more = ap (λ b. cond b (Some (tail_of (rest_of front (front ++ more)))) None) (prefix-append front more)
     ∙ ap (λ p. Some (tail_of p)) (rest-append front more)
 
--- more behind a path makes another
+-- a path with more parts is another path
 longer_is_other : (front more : Path) (part : List ℕ) → is_same front (front ++ part ∷ more) ≡ false
 longer_is_other [] more part = refl
 longer_is_other (first ∷ front) more part = ap (λ b. b && is_same front (front ++ part ∷ more)) (part_itself first first refl)
@@ -108,7 +108,7 @@ longer_is_other (first ∷ front) more part = ap (λ b. b && is_same front (fron
 has_bytes : (n : ℕ) → not (suc n == 0) ≡ true
 has_bytes n = grind arith
 
--- a path is strictly below another that leads to it where it has something behind it
+-- a path is strictly below another that leads to it if it has a rest after it
 pub below_by_rest : (front path : Path) (rest : List ℕ) → Some rest ≡ rest_text front path → not (length rest == 0) ≡ is_below path front
 below_by_rest front path rest e = by (is_prefix front path) refl e
   where

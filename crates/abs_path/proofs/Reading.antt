@@ -1,4 +1,4 @@
--- What reading a text makes of it.
+-- A text is read as a path.
 use Rattle.std.proofs.Common.{◌≡◌, ℕ, zero, suc, ◌+◌, ◌≤◌, ◌<◌, Bool, true, false, cond, List, [], ◌∷◌, ◌++◌, filter, map, length, refl}
 use Rattle.std.proofs.Common.{sym, ap, ◌∙◌, subst, append_assoc, length-append, arith, eqb, Option, Some, None, drop, take}
 use Rattle.std.specs.Option.{option_and_then, option_map, IfSome}
@@ -31,14 +31,14 @@ none_pass : {X : Type 0} (test : X → Bool) (xs : List X) → list_any test xs 
 none_pass test [] h = tt
 none_pass test (x ∷ xs) h = let both = or_parts (test x) (list_any test xs) h in (both.0, none_pass test xs both.1)
 
--- a byte put on the first piece
+-- a byte is put in front of the first piece
 onto_first_is : (test : ℕ → Bool) (x : ℕ) (pieces : List (List ℕ)) → test x ≡ false
     → AllByRecursion (λ piece. list_any test piece ≡ false) pieces
     → AllByRecursion (λ piece. list_any test piece ≡ false) (onto_first x pieces)
 onto_first_is test x [] h all = (or_from _ _ h refl, tt)
 onto_first_is test x (piece ∷ pieces) h all = (or_from _ _ h all.0, all.1)
 
--- what no byte of the text is, no byte of a piece is
+-- a byte that the text lacks is in no piece
 clean_pieces : (test : ℕ → Bool) (text : List ℕ) → list_any test text ≡ false
     → AllByRecursion (λ piece. list_any test piece ≡ false) (slice_split is_slash text)
 clean_pieces test [] h = (refl, tt)
@@ -61,7 +61,7 @@ slashless (x ∷ text) = by (is_slash x) refl (slashless text)
     by true e all = (refl, all)
     by false e all = onto_first_is is_slash x (slice_split is_slash text) e all
 
--- the pieces that say something are parts
+-- the pieces that are not idle are parts
 parts_from : (pieces : List (List ℕ)) → AllByRecursion (λ piece. list_any is_slash piece ≡ false) pieces
     → AllByRecursion (λ piece. list_any (λ byte. byte == 0) piece ≡ false) pieces →
     AllByRecursion (λ piece. bytes_eq piece (codes "..") ≡ false) pieces → is_normal (filter (λ piece. not (is_idle piece)) pieces) ≡ true
@@ -73,7 +73,7 @@ parts_from (piece ∷ pieces) h g k = by (not (is_idle piece)) refl (parts_from 
     by true e more = and_from _ _ (and_from _ _ (and_from _ _ (ap not h.0) (ap not g.0)) (and_from _ _ e (ap not k.0))) more
     by false e more = more
 
--- with each piece behind a slash the text is one byte longer
+-- with each piece after a slash, the text is one byte longer
 length_pieces : (text : List ℕ) → length (tail_of (slice_split is_slash text)) ≡ length text + 1
 length_pieces [] = refl
 length_pieces (x ∷ text) = by (is_slash x) (length_pieces text)
@@ -100,7 +100,7 @@ shorter (piece ∷ pieces) = by (not (is_idle piece)) (shorter pieces)
     by true more = omega (arith, length-append piece (tail_of (filter (λ piece. not (is_idle piece)) pieces)), length-append piece (tail_of pieces))
     by false more = omega (arith, length-append piece (tail_of pieces))
 
--- the folded text is no longer than what was read
+-- the folded text is no longer than the text that was read
 folded_length : (text : List ℕ) → starts_with nat_eq text (codes "/") ≡ true → length (tail_of (parts_of text)) ≤ length text
 folded_length [] h = omega arith
 folded_length (x ∷ text) h = by (is_slash x) refl (and_parts _ _ h).0
@@ -111,7 +111,7 @@ folded_length (x ∷ text) h = by (is_slash x) refl (and_parts _ _ h).0
     by true e same = omega (arith, shorter (slice_split is_slash text), length_pieces text)
     by false e same = absurd (eqb-false x 47 e (sym (eqb-true 47 x same)))
 
--- the text of a normal path, where it is short
+-- the text of a normal path is a tail if it is short
 pub is_tail : (path : Path) → is_normal path ≡ true → length (tail_of path) ≤ 512 → IsTail (tail_of path)
 is_tail path h short = record {
   normal = ap is_normal (parts-tail path h) ∙ h;
@@ -124,13 +124,13 @@ pub reads_normal : (text : List ℕ) → list_any (λ byte. byte == 0) text ≡ 
 reads_normal text clean level = parts_from (pieces_of text) (slashless text) (clean_pieces (λ byte. byte == 0) text clean)
     (none_pass (λ piece. bytes_eq piece (codes "..")) (pieces_of text) level)
 
--- ---- what stands behind a prefix
+-- ---- the rest after a prefix
 
 behind_tail : (path : Path) → is_behind (tail_of path) ≡ true
 behind_tail [] = refl
 behind_tail (part ∷ path) = refl
 
--- two texts in front of which no slash stands end before the first slash
+-- equal texts have equal fronts and rests, if the fronts have no slash and the rests are empty or begin with one
 same_front : (xs ys us vs : List ℕ) → list_any is_slash xs ≡ false → list_any is_slash ys ≡ false → is_behind us ≡ true
     → is_behind vs ≡ true → xs ++ us ≡ ys ++ vs → (xs ≡ ys) × (us ≡ vs)
 same_front [] [] us vs h g p q e = (refl, e)
@@ -150,7 +150,7 @@ behind_both : (front : Path) (rest : List ℕ) → is_behind rest ≡ true → i
 behind_both [] rest h = h
 behind_both (part ∷ front) rest h = refl
 
--- where a path's text goes on behind another's, it goes on behind the path
+-- if a path's text continues another's, the path continues the other
 pub goes_on_behind : (front path : Path) (rest : List ℕ) → is_normal front ≡ true → is_normal path ≡ true → is_behind rest ≡ true
     → tail_of path ≡ tail_of front ++ rest →
     (is_prefix front path ≡ true) × (rest ≡ tail_of (rest_of front path))
@@ -165,7 +165,7 @@ goes_on_behind (part ∷ front) (first ∷ path) rest h g behind e =
     let more = goes_on_behind front path rest one.1 other.1 behind both.1 in
     (and_from _ _ (part_itself part first (sym both.0)) more.0, more.1)
 
--- where a path leads to another, the text goes on behind its text
+-- if a path leads to another, the text of the other continues its text
 pub prefix_behind : (front path : Path) → is_prefix front path ≡ true → tail_of path ≡ tail_of front ++ tail_of (rest_of front path)
 prefix_behind front path h = ap tail_of (sym (prefix_and_rest front path h)) ∙ tail-append front (rest_of front path)
 
@@ -202,7 +202,7 @@ rest_text_is front path h g = by (is_prefix front path) refl
         ∙ ap (λ b. cond b (Some (tail_of (rest_of front path))) None) (behind_tail (rest_of front path))
     by false e = not_after (starts_with nat_eq (tail_of path) (tail_of front)) refl e
 
--- ---- what a value holds
+-- ---- the properties of a value
 
 pub rest_is : (one other : List ℕ) (front path : Path) → IsTail one → IsTail other → parts_of one ≡ front → parts_of other ≡ path
     → behind_text one other ≡ rest_text front path
@@ -245,20 +245,20 @@ any_mapped f test (x ∷ xs) = ap (λ b. test (f x) || b) (any_mapped f test xs)
 abbrev climbs : List ℕ → Bool
 climbs piece = bytes_eq piece (codes "..")
 
--- the pieces as they were collected tell whether one climbs
+-- the collected pieces show whether one climbs
 pub climbs_is : (text : List ℕ) (items found : List (Bor (List ℕ))) (b : Bool) → found ≡ items
     → map (λ piece. piece.now) items ≡ pieces_of text → b ≡ list_any (λ piece. climbs piece.now) found
     → list_any climbs (pieces_of text) ≡ b
 climbs_is text items found b same e h = sym (h ∙ sym (any_mapped (λ piece. piece.now) climbs found)
     ∙ ap (λ l. list_any climbs (map (λ piece. piece.now) l)) same ∙ ap (list_any climbs) e)
 
--- what was folded of the pieces as they were collected
+-- the text that was folded from the collected pieces
 pub folded_is : (text tail : List ℕ) (items found : List (Bor (List ℕ))) → found ≡ items → map (λ piece. piece.now) items ≡ pieces_of text →
     tail ≡ tail_of (filter (λ piece. not (is_idle piece)) (map (λ piece. piece.now) found)) → tail ≡ tail_of (parts_of text)
 folded_is text tail items found same e h = h ∙ ap (λ l. tail_of (filter (λ piece. not (is_idle piece)) (map (λ piece. piece.now) l))) same
     ∙ ap (λ l. tail_of (filter (λ piece. not (is_idle piece)) l)) e
 
--- no fault is found where none of the four holds
+-- a text has no fault if none of the four faults holds
 pub no_fault : (text : List ℕ) → length text ≤ 512 → list_any (λ byte. byte == 0) text ≡ false
     → starts_with nat_eq text (codes "/") ≡ true → list_any climbs (pieces_of text) ≡ false → fault_of text ≡ None
 no_fault text short clean rooted level = let small : nat_lt 512 (length text) ≡ false = le-ltb 512 (length text) short in rw (small, clean, rooted, level)
@@ -267,7 +267,7 @@ pub climbs_fault : (text : List ℕ) → length text ≤ 512 → list_any (λ by
     → starts_with nat_eq text (codes "/") ≡ true → list_any climbs (pieces_of text) ≡ true → fault_of text ≡ Some DotDot
 climbs_fault text short clean rooted level = let small : nat_lt 512 (length text) ≡ false = le-ltb 512 (length text) short in rw (small, clean, rooted, level)
 
--- what was folded is a path's text
+-- the folded text is the text of a path
 pub read_is : (text tail : List ℕ) → length text ≤ 512 → list_any (λ byte. byte == 0) text ≡ false
     → starts_with nat_eq text (codes "/") ≡ true → list_any climbs (pieces_of text) ≡ false → tail ≡ tail_of (parts_of text) → IsTail tail
 read_is text tail short clean rooted level e = subst IsTail (sym e)
@@ -290,7 +290,7 @@ normal-drop (suc n) (part ∷ path) h = normal-drop n path (and_parts (is_part p
 is_rest : (path : Path) → is_normal path ≡ true → IsRest (tail_of path)
 is_rest path h = record { parts = ap is_normal (parts-tail path h) ∙ h; whole = ap tail_of (parts-tail path h) }
 
--- what is behind a prefix of a normal path may be joined
+-- the rest after a prefix of a normal path may be joined
 pub rest_form : (front path : Path) (r : Option (Bor (List ℕ))) → is_normal path ≡ true
     → option_map (λ rest. rest.now) r ≡ rest_text front path → IfSome r (λ rest. IsRest rest.now)
 rest_form front path None h e = tt
@@ -300,7 +300,7 @@ rest_form front path (Some rest) h e = by (is_prefix front path) e
     by true e = let same : tail_of (rest_of front path) ≡ rest.now = cc in subst IsRest same (is_rest (rest_of front path) (normal-drop (length front) path h))
     by false e = absurd (cc)
 
--- the parts of what a path has behind a front
+-- the parts of the rest of a path after a front
 pub rest_parts : (front path : Path) (r : Option (Bor (List ℕ))) → is_normal path ≡ true
     → option_map (λ rest. rest.now) r ≡ rest_text front path → IfSome r (λ rest. parts_of rest.now ≡ rest_of front path)
 rest_parts front path None h e = tt
@@ -310,7 +310,7 @@ rest_parts front path (Some rest) h e = by (is_prefix front path) e
     by true e = let same : tail_of (rest_of front path) ≡ rest.now = cc in ap parts_of (sym same) ∙ parts-tail (rest_of front path) (normal-drop (length front) path h)
     by false e = absurd (cc)
 
--- a path's text is read again
+-- the text of a path is read back
 pub text_parts : (path : Path) → is_normal path ≡ true → parts_of (text_of path) ≡ path
 text_parts [] h = refl
 text_parts (part ∷ path) h = parts-tail (part ∷ path) h
@@ -337,7 +337,7 @@ text_no_fault (part ∷ path) h short =
     no_fault (tail_of (part ∷ path)) short (no_nul (part ∷ path) h) refl
     (ap (list_any climbs) (tail_pieces (part ∷ path) h) ∙ none_climbs (part ∷ path) h)
 
--- a rest and joining it undo each other
+-- taking a rest and joining it undo each other
 pub rest_then_join : (front path : Path) (rest : List ℕ) → is_normal path ≡ true → rest_text front path ≡ Some rest
     → front ++ parts_of rest ≡ path
 rest_then_join front path rest h e = by (is_prefix front path) refl e
@@ -353,7 +353,7 @@ rest_then_join front path rest h e = by (is_prefix front path) refl e
 pub join_then_rest : (front : Path) (rest : List ℕ) → IsRest rest → rest_text front (front ++ parts_of rest) ≡ Some rest
 join_then_rest front rest h = rest_text-append front (parts_of rest) ∙ ap Some h.whole
 
--- the same of a text
+-- the same holds of a text
 pub parts_behind : (front path : Path) (rest : List ℕ) → is_normal path ≡ true → rest_text front path ≡ Some rest
     → parts_of rest ≡ rest_of front path
 parts_behind front path rest normal e = sym (rest-append front (parts_of rest))

@@ -1,4 +1,4 @@
--- What `strip_prefix` gives of a text.
+-- `strip_prefix` returns the text after a prefix.
 use Rattle.std.proofs.Common.{◌≡◌, ℕ, List, length, drop, true, false, cond, Option, Some, None, sym, ap, ◌∙◌, subst}
 use Rattle.std.specs.Option.{MatchOption, option_map}
 use Rattle.std.specs.Str.Pattern.{FindsTextPrefix, StripsPrefix}

@@ -1,4 +1,4 @@
--- Between a path's parts and its text.
+-- A path's parts and its text determine each other.
 use Rattle.std.proofs.Common.{◌≡◌, ℕ, Bool, true, false, List, [], ◌∷◌, ◌++◌, filter, refl, sym, ap, ◌∙◌, append-nil}
 use Rattle.std.specs.Prelude.{◌==◌, not}
 use Rattle.std.specs.List.{All, AllByRecursion, list_any, slice_split}
@@ -22,7 +22,7 @@ not_idle part h = (and_parts _ _ (and_parts _ _ h).1).0
 abbrev is_slash : ℕ → Bool
 is_slash byte = byte == 47
 
--- the pieces between the slashes of a normal path: nothing before the first, and then the parts
+-- the pieces between the slashes of a normal path: an empty one before the first slash, and then the parts
 pub tail_pieces : (path : Path) → is_normal path ≡ true → slice_split is_slash (tail_of path) ≡ [] ∷ path
 tail_pieces [] h = refl
 tail_pieces (part ∷ path) h = let both = and_parts (is_part part) (is_normal path) h in ap (λ rest. [] ∷ rest) (by path (no_slash part both.0) (tail_pieces path both.1))
@@ -47,6 +47,6 @@ keeps_parts (part ∷ path) h =
 pub parts-tail : (path : Path) → is_normal path ≡ true → parts_of (tail_of path) ≡ path
 parts-tail path h = ap (filter (λ part. not (is_idle part))) (tail_pieces path h) ∙ keeps_parts path h
 
--- normal paths with one text are one path
+-- normal paths with the same text are equal
 pub same_tail : (one other : Path) → is_normal one ≡ true → is_normal other ≡ true → tail_of one ≡ tail_of other → one ≡ other
 same_tail one other h g e = sym (parts-tail one h) ∙ ap parts_of e ∙ parts-tail other g

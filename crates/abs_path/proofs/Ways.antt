@@ -1,4 +1,4 @@
--- Ways down a tree by parts, and what one more way to a new node changes.
+-- Ways lead down a tree by parts, and one more way to a new node changes them.
 use Rattle.std.proofs.Common.{◌≡◌, ◌<◌, ◌⊎◌, inl, inr, ℕ, Bool, true, false, cond, List, [], ◌∷◌, ◌++◌, Option, Some, None, refl, sym, ap}
 use Rattle.std.proofs.Common.{◌∙◌, arith}
 use Rattle.std.specs.Prelude.{◌==◌, ◌&&◌, option_and_then}
@@ -14,7 +14,7 @@ pub through : {A B : Type 0} (o : Option A) (f : A → Option B) (last : B) → 
 through None f last e = cc
 through (Some at) f last e = (at, refl, e)
 
--- along a front, and then along the rest
+-- a way leads along a front, and then along the rest
 pub walk-append : (ways : Ways) (at : ℕ) (front rest : Path)
     → walk ways at (front ++ rest) ≡ option_and_then (λ node. walk ways node rest) (walk ways at front)
 walk-append ways at [] rest = refl
@@ -27,7 +27,7 @@ walk-append ways at (part ∷ front) rest = by (ways at part) (λ child. walk-ap
     by None more = refl
     by (Some child) more = more child
 
--- where the ways are the same, so are the nodes
+-- the same ways lead to the same nodes
 pub walk_same : (ways others : Ways) → ((at : ℕ) (part : List ℕ) → others at part ≡ ways at part) → (at : ℕ) (path : Path)
     → walk others at path ≡ walk ways at path
 walk_same ways others same at [] = refl
@@ -39,7 +39,7 @@ walk_same ways others same at (part ∷ path) = ap (option_and_then (λ child. w
     by None more = refl
     by (Some child) more = more child
 
--- one more way, from a node to a new one, which has the next number
+-- one more way leads from a node to a new one, which has the next number
 pub record OneMore (ways more : Ways) (at : ℕ) (part : List ℕ) (size : ℕ) : Type 0 where
   pub below : at < size
   pub none : ways at part ≡ None
@@ -80,7 +80,7 @@ stays ways more at part size h from to (step ∷ path) e =
     ap (option_and_then (λ child. walk more child path)) (way_stays ways more at part size h from there.0 step there.1)
     ∙ stays ways more at part size h there.0 to path there.2
 
--- from the new node no way leads on
+-- no way leads on from the new node
 ended : (ways more : Ways) (at : ℕ) (part : List ℕ) (size : ℕ) → OneMore ways more at part size → (to : ℕ) (path : Path)
     → walk more size path ≡ Some to → (path ≡ []) × (to ≡ size)
 ended ways more at part size h to [] e = (refl, (cc))
@@ -91,7 +91,7 @@ ended ways more at part size h to (step ∷ path) e =
       | inr new ↦ absurd (let below = h.below in let same = new.0 in omega arith)
     ]
 
--- where a path comes to by one more way: where it came to, or to the new node by that way at last
+-- with one more way a path leads to its old node, or at last to the new node
 abbrev pub Came : Ways → ℕ → List ℕ → ℕ → ℕ → ℕ → Path → Type 0
 Came ways at part size from to path = ((to < size) × (walk ways from path ≡ Some to)) ⊎
     ((to ≡ size) × (front : Path) × (path ≡ front ++ part ∷ []) × (walk ways from front ≡ Some at))
@@ -115,7 +115,7 @@ came ways more at part size h from to (step ∷ path) lt e =
     further child way (inr new) =
         inr (new.0, step ∷ new.1, ap (λ p. step ∷ p) new.2, ap (option_and_then (λ child. walk ways child new.1)) way ∙ new.3)
 
--- one more way leaves each two paths apart
+-- one more way keeps any two paths apart
 pub apart_still : (ways more : Ways) (at : ℕ) (part : List ℕ) (size : ℕ) → OneMore ways more at part size → 0 < size →
     ((one other : Path) (to : ℕ) → walk ways 0 one ≡ Some to → walk ways 0 other ≡ Some to → one ≡ other) →
     (one other : Path) (to : ℕ) → walk more 0 one ≡ Some to → walk more 0 other ≡ Some to → one ≡ other

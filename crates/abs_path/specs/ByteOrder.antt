@@ -5,16 +5,16 @@ use Rattle.std.specs.List.{AllByRecursion, fold}
 use Rattle.std.specs.Cmp.Lexicographic.{slice_cmp}
 use Rattle.abs_path.specs.Paths.{Path, tail_of}
 
--- byte order of the texts; the root comes first, with `/` as without it
+-- byte order of the texts; the root is first, with or without its `/`
 abbrev pub is_before : Path → Path → Bool
 is_before one other = is_lt (slice_cmp nat_cmp (tail_of one) (tail_of other))
 
--- each path comes before all later ones
+-- each path precedes all later ones
 abbrev pub AreAscending : List Path → Type 0
 AreAscending [] = Unit {0}
 AreAscending (path ∷ paths) = AllByRecursion (λ later. is_before path later ≡ true) paths × AreAscending paths
 
--- an ascending list with one more path in its place, unless it is there
+-- an ascending list with one more path in its place, unless the list has the path already
 abbrev pub placed : Path → List Path → List Path
 placed path [] = path ∷ []
 placed path (first ∷ paths) = cond (is_before path first) (path ∷ first ∷ paths)

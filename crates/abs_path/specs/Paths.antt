@@ -7,7 +7,7 @@ use Rattle.std.specs.List.{slice_split, list_any, list_all}
 abbrev pub Path : Type 0
 Path = List (List ℕ)
 
--- the parts, each after a slash; nothing for the root
+-- the parts, each after a slash; the root has no such text
 abbrev pub tail_of : Path → List ℕ
 tail_of [] = []
 tail_of (part ∷ parts) = ascii "/" ∷ part ++ tail_of parts
@@ -22,7 +22,7 @@ abbrev pub is_root : Path → Bool
 is_root [] = true
 is_root (part ∷ path) = false
 
--- a part that is in a path as written and says nothing: empty, between two slashes, or a lone dot
+-- a part in the text of a path is idle if it is empty, between two slashes, or a lone dot
 abbrev pub is_idle : List ℕ → Bool
 is_idle part = bytes_eq part [] || bytes_eq part (codes ".")
 
@@ -30,15 +30,15 @@ is_idle part = bytes_eq part [] || bytes_eq part (codes ".")
 abbrev pub proc : Path
 proc = codes "proc" ∷ []
 
--- the text between the slashes of a text
+-- the pieces between the slashes of a text
 abbrev pub pieces_of : List ℕ → List (List ℕ)
 pieces_of text = slice_split (λ byte. byte == ascii "/") text
 
--- the parts of a text between its slashes, but for the idle ones
+-- the parts of a text between its slashes, without the idle ones
 abbrev pub parts_of : List ℕ → Path
 parts_of text = filter (λ part. not (is_idle part)) (pieces_of text)
 
--- a part of a normal path: no slash and no NUL in it, and it is no empty text, no dot and no two dots
+-- a part of a normal path has no slash and no NUL, and is not empty, `.` or `..`
 abbrev pub is_part : List ℕ → Bool
 is_part part = (not (list_any (λ byte. byte == ascii "/") part) && not (list_any (λ byte. byte == 0) part)) &&
     (not (is_idle part) && not (bytes_eq part (codes "..")))

@@ -1,8 +1,8 @@
--- Texts of paths in which nothing folds away, as they are seen byte by byte.
+-- In some texts of paths nothing folds away, as a look at each byte shows.
 use Rattle.std.specs.Prelude.{◌==◌, ◌||◌, ◌&&◌, ℕ, Bool, not, List, [], ◌∷◌}
 use Rattle.std.specs.Str.{byte as ascii}
 
--- no NUL, and a byte after each slash that is no slash and no dot; whether a slash stood before the text
+-- no byte is NUL, and a byte other than a slash or a dot follows each slash; the first argument says whether a slash precedes the text
 abbrev pub is_plain : Bool → List ℕ → Bool
 is_plain behind [] = not behind
 is_plain behind (byte ∷ text) =

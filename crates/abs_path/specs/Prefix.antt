@@ -1,4 +1,4 @@
--- Paths that lead to others, by whole parts, and the rest after them.
+-- A path leads to another by whole parts, and the other has a rest after it.
 use Rattle.std.specs.Prelude.{◌≡◌, ◌==◌, ◌&&◌, ◌<◌, ◌≤◌, ⊤, ℕ, Bool, true, false, not, cond, nat_eq, List, [], ◌∷◌, ◌++◌, length, drop}
 use Rattle.std.specs.Prelude.{Option, Some, None, option_and_then, Result, Ok, Err}
 use Rattle.std.specs.Str.{bytes_eq, byte as ascii}
@@ -8,17 +8,17 @@ use Rattle.abs_path.specs.declared.error.JoinError.{JoinError}
 use Rattle.abs_path.specs.declared.error.JoinError.TheVariants.{TooLong, Memory}
 use Rattle.abs_path.specs.Paths.{Path, tail_of, parts_of, is_normal}
 
--- the first path is the second, or leads to it: by whole parts
+-- by whole parts, the first path is the second or leads to it
 abbrev pub is_prefix : Path → Path → Bool
 is_prefix [] path = true
 is_prefix (part ∷ front) [] = false
 is_prefix (part ∷ front) (first ∷ path) = bytes_eq part first && is_prefix front path
 
--- the same parts
+-- the two paths have the same parts
 abbrev pub is_same : Path → Path → Bool
 is_same one other = pointwise bytes_eq one other
 
--- the other leads to the path and is not it
+-- the other path leads to this path and is not this path
 abbrev pub is_below : Path → Path → Bool
 is_below path other = is_prefix other path && not (is_same other path)
 
@@ -41,7 +41,7 @@ Joins path rest (Ok joined) = (joined ≡ path ++ parts_of rest) × (length (tai
 Joins path rest (Err TooLong) = 512 < length (tail_of (path ++ parts_of rest))
 Joins path rest (Err Memory) = ⊤
 
--- nothing, or a slash at the front
+-- a text that is empty, or begins with a slash
 abbrev pub is_behind : List ℕ → Bool
 is_behind [] = true
 is_behind (byte ∷ text) = byte == ascii "/"
@@ -49,10 +49,10 @@ is_behind (byte ∷ text) = byte == ascii "/"
 abbrev pub behind_only : List ℕ → Option (List ℕ)
 behind_only rest = cond (is_behind rest) (Some rest) None
 
--- what comes after a front of the text
+-- the text after a front, if the text begins with that front
 abbrev pub after : List ℕ → List ℕ → Option (List ℕ)
 after front text = cond (starts_with nat_eq text front) (Some (drop (length front) text)) None
 
--- the rest of a text after another, if it goes on at a slash
+-- the rest of a text after a front, if it is empty or begins with a slash
 abbrev pub behind_text : List ℕ → List ℕ → Option (List ℕ)
 behind_text front text = option_and_then behind_only (after front text)

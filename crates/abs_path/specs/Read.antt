@@ -1,4 +1,4 @@
--- The path of a text, and the first thing that is wrong with a text.
+-- A text has a path, or a first fault.
 use Rattle.std.specs.Prelude.{◌≡◌, ◌==◌, ⊤, ℕ, cond, nat_lt, nat_eq, List, length, codes, Option, Some, None, Result, Ok, Err}
 use Rattle.std.specs.List.{list_any, starts_with}
 use Rattle.std.specs.Str.{bytes_eq}
@@ -6,7 +6,7 @@ use Rattle.abs_path.specs.declared.error.PathError.{PathError}
 use Rattle.abs_path.specs.declared.error.PathError.TheVariants.{TooLong, HasNul, Relative, DotDot, Memory}
 use Rattle.abs_path.specs.Paths.{Path, pieces_of, parts_of}
 
--- the first thing that is wrong with a text: more than 512 bytes, a NUL, no slash in front, a part `..`
+-- the first fault of a text: more than 512 bytes, a NUL, no slash in front, a part `..`
 abbrev pub fault_of : List ℕ → Option PathError
 fault_of text =
     cond (nat_lt 512 (length text)) (Some TooLong)

@@ -1,4 +1,4 @@
-//! The errors of texts that are no path, and of two that are none together.
+//! Defines why a text is no path, and why a rest is not joined to a path.
 
 ghost use Rattle.std.specs.Prelude.{◌≡◌};
 ghost use Rattle.abs_path.specs.declared.error.PathError.TheVariants.{Memory};
@@ -6,7 +6,7 @@ ghost use Rattle.abs_path.specs.declared.error.PathError.TheVariants.{Memory};
 use std::alloc::AllocError;
 use thiserror::Error;
 
-/// Why a text is no path. Of several faults the one listed first is reported.
+/// Why a text is no path. If a text has several faults, the fault listed first here is reported.
 #[derive(Clone, Copy, Debug, PartialEq, Eq, Error)]
 pub enum PathError {
     /// The text has more than 512 bytes.
@@ -21,7 +21,7 @@ pub enum PathError {
     /// A part of the text is `..`.
     #[error("the path has a part `..`")]
     DotDot,
-    /// There was no memory for the path.
+    /// Memory ran out for the path.
     #[error("out of memory")]
     Memory,
 }
@@ -37,10 +37,10 @@ impl From<AllocError> for PathError {
 /// Why a rest is not joined to a path.
 #[derive(Clone, Copy, Debug, PartialEq, Eq, Error)]
 pub enum JoinError {
-    /// The two have more than 512 bytes.
+    /// The path and the rest have more than 512 bytes together.
     #[error("the path has more than 512 bytes")]
     TooLong,
-    /// There was no memory for the path.
+    /// Memory ran out for the path.
     #[error("out of memory")]
     Memory,
 }

@@ -1,4 +1,4 @@
-//! The laws of paths. Each is the contract of a function that does nothing.
+//! States the laws of paths. Each is the contract of a function that does nothing.
 
 ghost use Rattle.std.specs.Prelude.{◌≡◌, ◌⊎◌, ◌↔◌, ◌≤◌, ℕ, List, [], ◌++◌, IsTrue, Some, None, length};
 ghost use Rattle.std.specs.List.{AllByRecursion, Contains};
@@ -7,7 +7,7 @@ ghost use Rattle.abs_path.specs.Prefix.{is_prefix, rest_of, rest_text, IsRest};
 ghost use Rattle.abs_path.specs.ByteOrder.{is_before, in_byte_order, AreAscending};
 ghost use Rattle.abs_path.specs.Read.{fault_of};
 
-/// Prefixes are a partial order with the root below every path, and the prefixes of one path
+/// Prefixes are a partial order. The root is a prefix of every path, and the prefixes of one path
 /// are a chain.
 pub fn prefix_order()
     ensures of_itself { (path : Path) → IsTrue (is_prefix path path) }
@@ -20,7 +20,7 @@ pub fn prefix_order()
         → IsTrue (is_prefix other path) → IsTrue (is_prefix one other) ⊎ IsTrue (is_prefix other one) }
 {}
 
-/// `rest` and `join` undo each other, and a path's text is that of a prefix and then the rest.
+/// `rest` and `join` undo each other. A path's text is the text of a prefix followed by the rest.
 pub fn rest_and_join()
     ensures rest_then_join { (front path : Path) (rest : List ℕ) → IsTrue (is_normal path)
         → rest_text front path ≡ Some rest → front ++ parts_of rest ≡ path }
@@ -37,8 +37,8 @@ pub fn text_read_again()
     ensures same_parts { (path : Path) → IsTrue (is_normal path) → parts_of (text_of path) ≡ path }
 {}
 
-/// Byte order is an order. It puts each path after its proper prefixes, and no two normal paths are equal in it. A
-/// list in it has exactly the paths that are given.
+/// Byte order is an order. It puts each path after its proper prefixes, and no two different normal paths are equal in it. A
+/// list of normal paths keeps exactly its paths when it is put in byte order.
 pub fn byte_order()
     ensures after_prefixes { (front path : Path)
         → IsTrue (is_prefix front path) → (front ≡ path) ⊎ IsTrue (is_before front path) }

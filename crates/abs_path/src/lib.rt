@@ -3,8 +3,8 @@
 //! `AbsPath::read(alloc, "/a//b/")?.text()` is `/a/b`. An `AbsPath` has no empty part, no `.`, no `..` and no NUL, and at most
 //! 512 bytes.
 //!
-//! - [`laws`]: laws of prefixes, joined paths, texts and byte order.
-//! - [`place_tree`]: a tree over the parts of places, which finds the last place that leads to a path.
+//! - [`laws`] has laws of prefixes, joined paths, texts and byte order.
+//! - [`place_tree`] is a tree over the parts of places, which finds the last place that leads to a path.
 #![tactic(auto)]
 
 mod error;

@@ -1,4 +1,4 @@
-//! Lists of paths in byte order, each path once.
+//! Keeps lists of paths in byte order, each path once.
 
 ghost use Rattle.std.specs.Prelude.{◌≡◌, ◌≤◌, OnOk, OnErr, MatchOption, length, insert};
 ghost use Rattle.abs_path.specs.ByteOrder.{placed, AreAscending};
@@ -7,7 +7,7 @@ use crate::path::AbsPath;
 use std::alloc::{AllocError, Global};
 use std::cmp::Ordering;
 
-// where a path goes in the list, unless it is there
+// returns the place of a path in the list, unless the list has the path already
 fn place_of(paths: &[AbsPath], path: &AbsPath) -> Option<usize>
     ensures { MatchOption result (placed path.now paths.now ≡ paths.now)
         (λ at. (at ≤ length paths.now) × (placed path.now paths.now ≡ insert paths.now at path.now)) }
@@ -22,7 +22,7 @@ fn place_of(paths: &[AbsPath], path: &AbsPath) -> Option<usize>
     Some(paths.len())
 }
 
-/// Puts a copy of the path in its place in a list in byte order, unless the list has it already. If memory runs out,
+/// Puts a copy of the path in its place in a list in byte order, unless the list has the path already. If memory runs out,
 /// the list stays as it was.
 pub fn put(alloc: Global, paths: &mut Vec<AbsPath>, path: &AbsPath) -> Result<(), AllocError>
     ensures in_its_place { OnOk result (paths.new.items ≡ placed path.now paths.old.items) }

@@ -1,4 +1,4 @@
-//! The type of a normal absolute path, its text and copies of it.
+//! Defines a normal absolute path, its text and copies of it.
 //!
 //! A contract sees a path as the list of its parts; the text is a function of them.
 
@@ -15,13 +15,13 @@ use std::alloc::{AllocError, Global};
 use std::cmp::Ordering;
 use std::marker::Model;
 
-/// How many bytes the text of a path has at most.
+/// The most bytes of the text of a path.
 const LONGEST: usize = 512;
 
 /// A normal absolute path of at most 512 bytes: no part is empty, `.` or `..`, and no byte is NUL.
 #[derive(Drop)]
 pub struct AbsPath {
-    // the text, but nothing for the root
+    // the text, which is empty for the root
     tail: Text,
 }
 
@@ -36,7 +36,7 @@ impl Model for AbsPath {
 }
 
 impl AbsPath {
-    /// The root, `/`.
+    /// Returns the root, `/`.
     pub fn root(alloc: Global) -> AbsPath
         ensures has_no_parts { result ≡ [] }
     {
@@ -45,7 +45,7 @@ impl AbsPath {
         }
     }
 
-    /// The folder of the processes, `/proc` of proc(5).
+    /// Returns the folder of the processes, `/proc` of proc(5).
     pub fn proc(alloc: Global) -> Result<AbsPath, AllocError>
         ensures of_the_processes { IfOk result (λ path. path ≡ proc) }
     {
@@ -53,7 +53,7 @@ impl AbsPath {
         Ok(AbsPath { tail })
     }
 
-    /// Returns the text: a lone slash for the root, else the parts, each after a slash.
+    /// Returns the text: a lone slash for the root, and otherwise the parts, each after a slash.
     pub fn text(&self) -> &str
         ensures whole { result.now ≡ text_of self.now }
         ensures normal { IsTrue (is_normal self.now) }
@@ -63,14 +63,14 @@ impl AbsPath {
         if tail.is_empty() { "/" } else { tail }
     }
 
-    /// Returns whether it is the root.
+    /// Returns whether the path is the root.
     pub fn is_root(&self) -> bool
         ensures without_parts { result ≡ is_root self.now }
     {
         self.tail.as_str().is_empty()
     }
 
-    /// Returns how many bytes the parts have, each with the slash before it; none for the root.
+    /// Returns how many bytes the parts have, each with the slash before it. The root has 0.
     pub fn tail_len(&self) -> usize
         ensures length { result ≡ length (tail_of self.now) }
         ensures short { result ≤ 512 }
@@ -78,14 +78,14 @@ impl AbsPath {
         self.tail.len()
     }
 
-    /// Byte order of the texts.
+    /// Compares two paths in the byte order of their texts.
     pub fn order(&self, other: &AbsPath) -> Ordering
         ensures by_bytes { result ≡ slice_cmp nat_cmp (tail_of self.now) (tail_of other.now) }
     {
         self.tail.as_str().cmp(other.tail.as_str())
     }
 
-    /// The same path again.
+    /// Returns a copy of the path.
     pub fn copy(&self, alloc: Global) -> Result<AbsPath, AllocError>
         ensures same { IfOk result (λ path. path ≡ self.now) }
     {

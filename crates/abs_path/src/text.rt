@@ -1,4 +1,4 @@
-//! A text that is held in place where it is short, so that most paths take no memory beside their own.
+//! Keeps a short text in place, so that most paths take no memory beside their own.
 
 ghost use Rattle.std.specs.Prelude.{◌≡◌, ◌++◌, [], length, IfOk, IfSome, string_bytes};
 ghost use Rattle.abs_path.specs.Held.{bytes_of};
@@ -7,7 +7,7 @@ use arrayvec::ArrayString;
 use std::alloc::{AllocError, Global};
 use std::marker::Model;
 
-/// How many bytes a text has at most that is held in place.
+/// The most bytes of a text that is held in place.
 const IN_PLACE: usize = 24;
 
 #[derive(Drop)]
@@ -16,7 +16,7 @@ enum Held {
     Long(String),
 }
 
-/// A text, in place where it has at most 24 bytes. A contract sees its bytes.
+/// A text, which is held in place if it has at most 24 bytes. A contract sees its bytes.
 #[derive(Drop)]
 pub(crate) struct Text {
     held: Held,
@@ -32,7 +32,7 @@ impl Model for Text {
 }
 
 impl Text {
-    /// The text without a byte.
+    /// Returns an empty text.
     pub(crate) fn empty() -> Text
         ensures { result ≡ [] }
     {
@@ -41,7 +41,7 @@ impl Text {
         }
     }
 
-    /// The text of a string.
+    /// Returns the text of a string.
     pub(crate) fn of(text: String) -> Text
         ensures { result ≡ string_bytes text }
     {
@@ -55,7 +55,7 @@ impl Text {
         }
     }
 
-    /// The same bytes again.
+    /// Returns a text with the same bytes.
     pub(crate) fn read(alloc: Global, text: &str) -> Result<Text, AllocError>
         ensures { IfOk result (λ read. read ≡ text.now) }
     {
@@ -66,7 +66,7 @@ impl Text {
         Ok(Text { held })
     }
 
-    /// The text with a rest after it.
+    /// Returns the text with a rest after it.
     pub(crate) fn with_rest(&self, alloc: Global, rest: &str) -> Result<Text, AllocError>
         ensures { IfOk result (λ text. text ≡ self.now ++ rest.now) }
     {
@@ -77,7 +77,7 @@ impl Text {
         Ok(Text { held })
     }
 
-    /// The same text again.
+    /// Returns a copy of the text.
     pub(crate) fn copy(&self) -> Result<Text, AllocError>
         ensures { IfOk result (λ text. text ≡ self.now) }
     {
@@ -88,7 +88,7 @@ impl Text {
         Ok(Text { held })
     }
 
-    /// Returns how many bytes it has.
+    /// Returns how many bytes the text has.
     pub(crate) fn len(&self) -> usize
         ensures { result ≡ length self.now }
     {
@@ -105,14 +105,14 @@ impl Text {
     }
 }
 
-// the text in place, where it is short enough
+// returns the text in place, if it is short enough
 fn short(text: &str) -> Option<ArrayString<IN_PLACE>>
     ensures { IfSome result (λ short. short.bytes ≡ text.now) }
 {
     ArrayString::from(text).ok()
 }
 
-// the text with a rest after it in place, where the two are short enough
+// returns the text with a rest after it in place, if the two are short enough
 fn short_with_rest(front: &Held, rest: &str) -> Option<ArrayString<IN_PLACE>>
     ensures { IfSome result (λ short. short.bytes ≡ bytes_of front.now ++ rest.now) }
 {

@@ -1,4 +1,4 @@
--- The bytes of instructions, and the instructions of bytes.
+-- Instructions have bytes, and bytes have instructions.
 use Rattle.std.proofs.Common.{◌≡◌, ℕ, zero, suc, ◌*◌, ◌/◌, ◌%◌, ◌^◌, List, [], ◌∷◌, length, drop, get_or, map, refl, sym, ap, ◌∙◌, subst}
 use Rattle.std.proofs.Common.{arith}
 use Rattle.std.specs.Int.{from_le_bytes, to_le_bytes, w32}
@@ -15,7 +15,7 @@ length-first_chunks : (count : ℕ) (bytes : List ℕ) → length (first_chunks 
 length-first_chunks zero bytes = refl
 length-first_chunks (suc count) bytes = ap suc (length-first_chunks count (drop 8 bytes))
 
--- how many instructions the bytes have
+-- the number of instructions in the bytes
 pub length-insns_of : (bytes : List ℕ) → length (insns_of bytes) ≡ length bytes / 8
 length-insns_of bytes = length-map (first_chunks 8 (length bytes / 8) bytes) insn_of ∙ length-first_chunks (length bytes / 8) bytes
 
@@ -23,7 +23,7 @@ length-bytes_of : (code : List Insn) → length (bytes_of code) ≡ 8 * length c
 length-bytes_of [] = refl
 length-bytes_of (insn ∷ code) = omega (arith, length-bytes_of code)
 
--- what an instruction is read back as: itself, with its numbers cut to their sizes
+-- an instruction is read back with its numbers cut to their sizes
 cut : Insn → Insn
 cut insn = insn_of (bytes_of_insn insn)
 
@@ -70,6 +70,6 @@ fitting_program code fits accepted = record {
   accepted = accepted;
 }
 
--- and what is read back has numbers that fit
+-- instructions that are read back have numbers that fit
 pub program_fits : (code : List Insn) → IsProgram code → All Fits code
 program_fits code program = subst (All Fits) (sym (program.insns ∙ insns_back code)) (all_cut_fit code)

@@ -1,4 +1,4 @@
--- The function that gives the program of bytes gives what is accepted.
+-- The function `program_of` gives exactly the accepted program.
 use Rattle.std.proofs.Common.{◌≡◌, ℕ, zero, suc, ◌+◌, ◌%◌, ◌<◌, ◌≤◌, Bool, true, false, cond, List, [], ◌∷◌, length, Option, Some}
 use Rattle.std.proofs.Common.{None, refl, sym, ap, ◌∙◌, subst, arith, inl, inr}
 use Rattle.std.specs.Prelude.{◌==◌, ◌&&◌, not, nat_le, slice_get}
@@ -59,7 +59,7 @@ of_follows (Some (JumpIf t o)) insn at to (inr h) = or_right (to == at + 1 + ins
     (eq-eqb to (at + 1 + insn.jf) h)
 of_follows op insn at to h = eq-eqb to (at + 1) h
 
--- a test of what stands at a place
+-- a test of the instruction at a place
 found_of : (o : Option Insn) (test : Insn → Bool) → option_map_or test o false ≡ true → (insn : Insn) × (o ≡ Some insn) × (test insn ≡ true)
 found_of None test e = cc
 found_of (Some insn) test e = (insn, refl, e)
@@ -152,7 +152,7 @@ of_accepted code a =
     (and_from (ends_in_return code) (not (any_below (length code) (is_unstored_load code))) a.ends
     (of_none (any_below (length code) (is_unstored_load code)) (none_unstored code a.stored)))
 
--- bytes that are a program give it
+-- bytes that are a program give that program
 pub program_of-accepts : (bytes : List ℕ) (program : List Insn) → Accepts bytes program → program_of bytes ≡ Some program
 program_of-accepts bytes program a =
     let test : (length bytes % 8 == 0 && is_accepted (insns_of bytes)) ≡ true =
@@ -167,6 +167,6 @@ by_test bytes true e h =
     absurd (h (insns_of bytes)
     (record { whole = eqb-true (length bytes % 8) 0 parts.0; insns = refl; accepted = accepted_of (insns_of bytes) parts.1 }))
 
--- others give none
+-- other bytes give no program
 pub program_of-none : (bytes : List ℕ) → ((program : List Insn) → Accepts bytes program → ⊥) → program_of bytes ≡ None
 program_of-none bytes h = by_test bytes (length bytes % 8 == 0 && is_accepted (insns_of bytes)) refl h

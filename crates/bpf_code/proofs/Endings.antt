@@ -1,4 +1,4 @@
--- How a program ends, and the function by which proofs compute it, are the same.
+-- The function by which proofs compute agrees with the end of a program.
 use Rattle.std.proofs.Common.{◌≡◌, ℕ, zero, suc, ◌+◌, ◌≤◌, List, [], ◌∷◌, length, drop, Option, Some, None, refl, sym, ap, ◌∙◌, subst}
 use Rattle.std.proofs.Common.{arith}
 use Rattle.std.specs.Prelude.{slice_get}
@@ -11,7 +11,7 @@ use Rattle.bpf_code.specs.Ops.{op_of}
 use Rattle.bpf_code.specs.Effects.{effect_by}
 use Rattle.bpf_code.specs.Meaning.{Ends, stops, continues, counted, goes_on, run_from, start_regs, Answers, AnswersWithin, IsOnlyAnswer}
 
--- what is skipped is dropped
+-- skipping instructions is the same as dropping them
 pub run_from-skip : (code : List Insn) (input : CallData) (skip : ℕ) (regs : Regs)
     → run_from code input skip regs ≡ run_from (drop skip code) input 0 regs
 run_from-skip [] input zero regs = refl
@@ -19,7 +19,7 @@ run_from-skip [] input (suc skip) regs = refl
 run_from-skip (insn ∷ code) input zero regs = refl
 run_from-skip (insn ∷ code) input (suc skip) regs = run_from-skip code input skip regs
 
--- the instruction at a place is the first of those from there on
+-- the instruction at a place is the first of the instructions from there on
 pub found_in_drop : (code rest : List Insn) (insn : Insn) (at : ℕ) → drop at code ≡ insn ∷ rest → slice_get code at ≡ Some insn
 found_in_drop [] rest insn zero e = cc
 found_in_drop [] rest insn (suc at) e = cc
@@ -91,14 +91,14 @@ ends_from code (insn ∷ rest) input at (suc skip) regs result count left e =
     subst (λ i. Ends code input i regs result count) same
     (ends_from code rest input (at + 1) skip regs result count (rest_of_drop code rest insn at left) e)
 
--- what is computed is how the program ends
+-- the program ends with the computed result
 pub ends_by_run : (code : List Insn) (input : CallData) (at : ℕ) (regs : Regs) (result count : ℕ)
     → run_from (drop at code) input 0 regs ≡ Some (result, count) → Ends code input at regs result count
 ends_by_run code input at regs result count e =
     let same : at + 0 ≡ at = omega arith in
     subst (λ i. Ends code input i regs result count) same (ends_from code (drop at code) input at 0 regs result count refl e)
 
--- how the program ends is what is computed
+-- the function computes the result with which the program ends
 pub run_by_ends : (code : List Insn) (input : CallData) (at : ℕ) (regs : Regs) (result count : ℕ) → Ends code input at regs result count
     → run_from (drop at code) input 0 regs ≡ Some (result, count)
 run_by_ends code input at regs result _ (stops _ _ after insn _ found effect) =
@@ -110,7 +110,7 @@ run_by_ends code input at regs result _ (continues _ skip _ after insn _ count f
     ∙ ap (λ l. run_from l input 0 after) (drop_further code (at + 1) skip)
     ∙ run_by_ends code input (at + 1 + skip) after result count more)
 
--- the same for a whole program
+-- the same holds of a whole program
 pub answers_by_run : (code : List Insn) (input : CallData) (answer count : ℕ) → run_from code input 0 start_regs ≡ Some (answer, count)
     → Answers code input answer
 answers_by_run code input answer count e = (count, ends_by_run code input 0 start_regs answer count e)
@@ -134,7 +134,7 @@ within_effect rest input result count (Some (Skip skip, after)) e further =
     let le = further skip after b.0 b.1 in
     omega arith
 
--- no instruction is made twice
+-- no instruction is performed twice
 pub count_within : (code : List Insn) (input : CallData) (skip : ℕ) (regs : Regs) (result count : ℕ)
     → run_from code input skip regs ≡ Some (result, count) → count ≤ length code
 count_within [] input skip regs result count e = cc

@@ -1,4 +1,4 @@
--- The first fault of a program, and its end.
+-- A program may have a first fault, and it has an end.
 use Rattle.std.proofs.Common.{◌≡◌, ℕ, zero, suc, ◌+◌, ◌-◌, ◌<◌, Bool, false, List, [], ◌∷◌, length, get_or, Some, None, refl, sym, ap, ◌∙◌}
 use Rattle.std.proofs.Common.{subst, arith, inl, inr}
 use Rattle.std.specs.Prelude.{slice_get, ◌⊎◌}
@@ -9,7 +9,7 @@ use Rattle.bpf_code.specs.declared.program.Fault.{Fault}
 use Rattle.bpf_code.specs.Ops.{op_of}
 use Rattle.bpf_code.specs.Accepted.{AreFine, fault_of, IsFirstFault, is_return, ends_in_return}
 
--- the instructions in front of a place have no fault
+-- the instructions before a place have no fault
 abbrev pub FineBefore : List Insn → ℕ → Type 0
 FineBefore code at = (before : ℕ) (other : Insn) → before < at → slice_get code before ≡ Some other
     → fault_of other (length code - (before + 1)) ≡ None
@@ -34,7 +34,7 @@ fine_before_more code at next insn e found fine h before other lt there =
           (subst (λ x. fault_of x (length code - (at + 1)) ≡ None) one fine)
     ]
 
--- the same at the element that a loop reads
+-- the same holds at the element that a loop reads
 pub read_fine : (code : List Insn) (at left : ℕ) (d : Insn) → at < length code → left ≡ length code - at - 1
     → None ≡ fault_of (get_or code at d) left → FineBefore code at → FineBefore code (at + 1)
 read_fine code at left d lt e fine h =
@@ -58,7 +58,7 @@ fine_before_all (insn ∷ code) h =
           subst (λ n. fault_of other n ≡ None) same (h (suc before) other (omega arith) found)),
     )
 
--- a fault is somewhere, so not all are fine
+-- if all instructions are fine, the instruction at a place has no fault
 pub fine_at : (code : List Insn) (at : ℕ) (insn : Insn) → AreFine code → slice_get code at ≡ Some insn
     → fault_of insn (length code - (at + 1)) ≡ None
 fine_at [] at insn fine found = cc

@@ -1,4 +1,4 @@
--- Sets of scratch words, and how they pass to the places that follow an instruction.
+-- Sets of scratch words pass to the places that follow an instruction.
 use Rattle.std.proofs.Common.{◌≡◌, ℕ, zero, suc, ◌+◌, ◌<◌, ◌≤◌, true, false, List, length, Option, Some, None, refl, sym, ◌∙◌, subst, arith}
 use Rattle.std.proofs.Common.{inl, inr}
 use Rattle.std.specs.Prelude.{◌⊎◌, nat_lt, slice_index, bit_or, max}
@@ -75,7 +75,7 @@ joined_from marks at words to word lt h =
       | inr other ↦ inl (subst (λ n. Has n word) (joined_other marks at words to other.1) h)
     ]
 
--- each place that follows gets more words
+-- each place that follows an instruction gets more words
 abbrev jump_place : Insn → ℕ → ℕ
 jump_place insn at = at + 1 + insn.k
 
@@ -92,7 +92,7 @@ length-passed_on (Some (JumpIf t o)) insn at words marks = length-joined (joined
     (false_place insn at) words ∙ length-joined marks (true_place insn at) words
 length-passed_on op insn at words marks = length-joined marks (at + 1) words
 
--- the places so far stay
+-- the marks of the places so far stay
 pub passed_on_stays : (op : Option Op) (insn : Insn) (at words : ℕ) (marks : List ℕ) (to : ℕ) → to ≤ at
     → slice_index (passed_on op insn at words marks) to ≡ slice_index marks to
 passed_on_stays (Some Jump) insn at words marks to le = joined_other marks (jump_place insn at) words to (λ e. absurd (omega arith))
@@ -141,7 +141,7 @@ passed_on_from (Some (JumpIf t o)) insn at words marks to word lt h =
     ]
 passed_on_from op insn at words marks to word lt h = joined_from marks (at + 1) words to word lt h
 
--- what follows an instruction stands behind it
+-- the places that follow an instruction are later ones
 pub follows_later : (op : Option Op) (insn : Insn) (at to : ℕ) → Follows op insn at to → at < to
 follows_later (Some Jump) insn at to follows = omega arith
 follows_later (Some (JumpIf t o)) insn at to (inl follows) = omega arith
@@ -157,7 +157,7 @@ cleared words k word small e h =
     let there : Has (without_word words k) k = subst (Has (without_word words k)) (sym e) h in
     zero_or_one _ gone there
 
--- the words that are unstored behind an instruction
+-- the words that are unstored after an instruction
 pub behind_from : (op : Option Op) (insn : Insn) (left words word : ℕ) → fault_by op insn left ≡ None → word < 16
     → Has (unstored_behind op insn words) word → Has words word × (stores op insn word ≡ false)
 behind_from (Some (Store r)) insn left words word fine lt h =
@@ -175,7 +175,7 @@ behind_gives (Some (Store r)) insn left words word fine lt h other =
     bit_at_clear_other w16 words insn.k small word lt (λ e. eqb-false insn.k word other (sym e)) ∙ h
 behind_gives op insn left words word fine lt h other = h
 
--- a load without a fault is of a scratch word that there is
+-- a load without a fault loads an existing scratch word
 pub load_word_small : (op : Option Op) (insn : Insn) (left : ℕ) → fault_by op insn left ≡ None → is_scratch_load op ≡ true → insn.k < 16
 load_word_small (Some (LoadScratch r)) insn left fine loads = ltb-true _ _ (unless_none (nat_lt insn.k 16) _ fine)
 load_word_small op insn left fine loads = cc

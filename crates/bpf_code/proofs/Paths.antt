@@ -1,4 +1,4 @@
--- Paths that do not store a scratch word, and the marks that find them.
+-- Some paths do not store a scratch word, and the marks find them.
 use Rattle.std.proofs.Common.{◌≡◌, ℕ, ◌+◌, ◌<◌, ◌≤◌, true, false, List, length, Some, None, refl, sym, ap, ◌∙◌, subst, arith, inl, inr}
 use Rattle.std.specs.Prelude.{slice_get, slice_index, replicate}
 use Rattle.std.proofs.lemmas.Option.{slice_get_within}
@@ -13,8 +13,8 @@ use Rattle.bpf_code.proofs.FirstFaults.{lt_or_same, same_some}
 use Rattle.bpf_code.proofs.Marks.{length-joined, joined_gives, joined_from, length-passed_on, passed_on_stays, passed_on_keeps}
 use Rattle.bpf_code.proofs.Marks.{passed_on_gives, passed_on_from, follows_later, behind_from, behind_gives, load_word_small}
 
--- the marks have, at each place, words that some path to it leaves unstored, and all of them as far as the places
--- before this one lead; no load before this one is unstored
+-- the marks have, at each place, words that some path to it leaves unstored, and all such words of paths from the places
+-- before this one; no load before this one is unstored
 pub record Marked (code : List Insn) (at : ℕ) (marks : List ℕ) : Type 0 where
   pub sized : length marks ≡ length code
   pub start : (word : ℕ) → word < 16 → 0 < length code → Has (slice_index marks 0) word
@@ -62,7 +62,7 @@ marked_start code = record {
   none_before = λ before below h. absurd (omega arith);
 }
 
--- the marks behind an instruction
+-- the marks after an instruction
 module _ (code : List Insn) (at left : ℕ) (marks : List ℕ) (insn : Insn) (m : Marked code at marks) (lt : at < length code) (found : slice_get code at ≡ Some insn) (fine : fault_of insn left ≡ None) where
   abbrev here : ℕ
   here = slice_index marks at

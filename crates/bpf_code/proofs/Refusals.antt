@@ -1,4 +1,4 @@
--- Each answer of the reader is the only one.
+-- The reader has only one answer for some bytes.
 use Rattle.std.proofs.Common.{◌≡◌, ℕ, ◌+◌, ◌-◌, ◌*◌, ◌/◌, ◌%◌, ◌<◌, ◌≤◌, true, false, List, [], ◌∷◌, length, Some, None, Ok, Err, refl, sym}
 use Rattle.std.proofs.Common.{ap, ◌∙◌, subst, arith, inl, inr}
 use Rattle.std.specs.Prelude.{◌⊎◌, slice_get, Option, Result, IfErr, IsErrAnd, MatchOption, MatchResult}
@@ -16,7 +16,7 @@ use Rattle.bpf_code.proofs.Computed.{program_of-none}
 use Rattle.bpf_code.proofs.Chunks.{length-insns_of}
 use Rattle.bpf_code.proofs.FirstFaults.{same_some, fine_at}
 
--- the first of two places is one place
+-- two places are equal if neither precedes the other
 first_place : (a b : ℕ) → (a < b → ⊥) → (b < a → ⊥) → a ≡ b
 first_place a b h k =
     elim (cases_lt a b) [
@@ -70,7 +70,7 @@ code_refused code _ a (unstored at fine e h) = let l = h.unstored in a.stored at
 empty_is_whole : (n : ℕ) → n ≡ 0 → n % 8 ≡ 0
 empty_is_whole n e = ap (λ m. m % 8) e
 
--- the bytes have one refusal
+-- the bytes have only one refusal
 refused_once : (bytes : List ℕ) (a b : ProgramError) → Refuses bytes a → Refuses bytes b → a ≡ b
 refused_once bytes _ _ (not_whole h) (not_whole k) = refl
 refused_once bytes _ _ (not_whole h) (empty k) = absurd (h (empty_is_whole (length bytes) k))
@@ -126,7 +126,7 @@ Answer = Result (List Insn) ProgramError
 abbrev failed : ProgramError → Answer
 failed e = Err e
 
--- a refusal, where it is not want of memory, is the only answer
+-- a refusal other than `Memory` is the only answer
 pub refusal_alone : (bytes : List ℕ) (e : ProgramError) → (¬ (e ≡ error.Memory) → Refuses bytes e) → (other : ProgramError)
     → Refuses bytes other → (failed e ≡ failed other) ⊎ (failed e ≡ failed error.Memory)
 refusal_alone bytes e h other k =
@@ -147,7 +147,7 @@ pub program_excludes : (bytes : List ℕ) (program : List Insn) → Accepts byte
     → ◌≡◌ {A = Answer} (Ok program) (Err other) ⊎ (◌≡◌ {A = Answer} (Ok program) (failed error.Memory))
 program_excludes bytes program a other k = absurd (accepted_unrefused bytes program other a k)
 
--- an error that was handed on
+-- an error was passed on
 handed_on : (answer : Answer) (e : ProgramError) → IsErrAnd answer (λ x. x ≡ e) → answer ≡ failed e
 handed_on (Ok program) e h = absurd h
 handed_on (Err x) e h = ap failed h
@@ -168,7 +168,7 @@ pub handed_excludes : (bytes : List ℕ) (answer : Answer) (e : ProgramError) �
 handed_excludes bytes answer e is h program a = subst (λ r. (r ≡ Ok program) ⊎ (r ≡ failed error.Memory)) (sym (handed_on answer e is))
     (refusal_excludes bytes e h program a)
 
--- the refusals of instructions are those of the bytes that they are read from
+-- the refusals of instructions are the refusals of their bytes
 pub for_insns : (bytes : List ℕ) (insns : List Insn) (e : ProgramError) → IsCode bytes → insns ≡ insns_of bytes
     → (¬ (e ≡ error.Memory) → RefusesCode insns e) → ¬ (e ≡ error.Memory) → Refuses bytes e
 for_insns bytes insns e code is h not = for_code e code (subst (λ l. RefusesCode l e) is (h not))

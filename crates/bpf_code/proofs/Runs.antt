@@ -73,13 +73,13 @@ ends-drop (suc n) [] lt h = absurd (omega arith)
 ends-drop (suc n) (insn ∷ []) lt h = absurd (omega arith)
 ends-drop (suc n) (insn ∷ next ∷ code) lt h = ends-drop n (next ∷ code) (omega arith) h
 
--- the end in a program that is not empty
+-- instructions follow an instruction that does not end its program
 pub some_left : (insn : Insn) (rest : List Insn) → ends_in_return (insn ∷ rest) ≡ true → is_return (op_of insn.code) ≡ false
     → 0 < length rest
 some_left insn [] h r = cc
 some_left insn (next ∷ rest) h r = omega arith
 
--- an instruction that answers skips none
+-- an instruction without a fault skips fewer instructions than follow it
 pub stays_within : (op : Op) (insn : Insn) (left : ℕ) (regs : Regs) (input : CallData) → op_fault op insn left ≡ None
     → (is_return (Some op) ≡ false → 0 < left) → StaysWithin left (effect_of op insn regs input).0
 stays_within (Return source.Number) insn left regs input e more = tt
@@ -102,7 +102,7 @@ has_effect : (o : Option Op) (insn : Insn) (left : ℕ) (regs : Regs) (input : C
 has_effect None insn left regs input fine e = cc
 has_effect (Some op) insn left regs input fine e = cc
 
--- and one that goes on leads inside
+-- an instruction that continues leads inside the program
 stays_below : (left : ℕ) (skip : ℕ) (after : Regs) (e : Effect × Regs) → e ≡ (Skip skip, after) → StaysWithin left e.0 → skip < left
 stays_below left skip after e same h = subst (λ x. StaysWithin left x.0) same h
 
@@ -119,7 +119,7 @@ ends_rest : (insn : Insn) (rest : List Insn) → 0 < length rest → ends_in_ret
 ends_rest insn [] lt h = absurd (omega arith)
 ends_rest insn (next ∷ rest) lt h = h
 
--- one step of an accepted program that goes on
+-- one step of an accepted program continues
 pub record GoesOn (insn : Insn) (rest : List Insn) (regs regs' : Regs) (input : CallData) (skip : ℕ) : Type 0 where
   pub fine : AreFine (drop skip rest)
   pub ends : ends_in_return (drop skip rest) ≡ true
@@ -138,13 +138,13 @@ goes_on_from insn rest regs regs' input skip e below fine ends =
           ∙ ap counted (run_from-skip rest input skip regs' ∙ h);
     }
 
--- one step of an accepted program that answers
+-- one step of an accepted program answers
 pub answers_now : (code : List Insn) (insn : Insn) (rest : List Insn) (regs regs' : Regs) (input : CallData) (answer : ℕ)
     → code ≡ insn ∷ rest → effect_by (op_of insn.code) insn regs input ≡ Some (End answer, regs')
     → run_from code input 0 regs ≡ Some (answer, 1)
 answers_now code insn rest regs regs' input answer is e = ap (λ l. run_from l input 0 regs) is ∙ ap (λ f. goes_on f (run_from rest input)) e
 
--- what holds of the part of a program that is still to run
+-- the remaining part of a program has these properties
 pub record Remains (whole code : List Insn) (regs : Regs) (input : CallData) : Type 0 where
   pub fine : AreFine code
   pub ends : ends_in_return code ≡ true
@@ -168,7 +168,7 @@ remains_more whole code insn rest part regs regs' input skip r is e below p =
           (ap (λ l. run_from l input 0 regs) is ∙ g.answers answer count (ap (λ l. run_from l input 0 regs') (sym p) ∙ h));
     }
 
--- the part ends here, so the program does
+-- the part ends here, and so does the program
 pub remains_ends : (whole code : List Insn) (insn : Insn) (rest : List Insn) (regs regs' : Regs) (input : CallData) (answer : ℕ)
     → Remains whole code regs input → code ≡ insn ∷ rest → effect_by (op_of insn.code) insn regs input ≡ Some (End answer, regs')
     → (total : ℕ) × (run_from whole input 0 start_regs ≡ Some (answer, total))

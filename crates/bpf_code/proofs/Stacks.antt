@@ -1,4 +1,4 @@
--- Laws of what a stack decides.
+-- A stack decides by these laws.
 use Rattle.std.proofs.Common.{◌≡◌, ℕ, zero, suc, ◌+◌, ◌<◌, ◌≤◌, ◌==◌, ◌||◌, Bool, true, false, cond, List, [], ◌∷◌, ◌++◌, length, Option}
 use Rattle.std.proofs.Common.{Some, None, refl, sym, ap, ◌∙◌, subst, arith, inl, inr}
 use Rattle.std.specs.Prelude.{ℤ, pos, int_le, ◌≤ℤ◌, ◌<ℤ◌, ◌⊎◌, slice_get}
@@ -38,7 +38,7 @@ order_of a b false e = grind (arith, ints)
 <ℤ_weak : (a b : ℤ) → a <ℤ b → a ≤ℤ b
 <ℤ_weak a b h = omega (arith, ints)
 
--- of two answers, which one is the stronger, and why
+-- the stronger of two answers, and the reason
 pub data Stronger (older newer : ℕ) : ℕ → Type 0 where
   newer_is : action_of newer ≤ℤ action_of older → Stronger older newer newer
   older_is : action_of older <ℤ action_of newer → Stronger older newer older
@@ -71,7 +71,7 @@ alone_newest a (suc at) other lt h = cc
 alone : (a : ℕ) → IsDeciding (a ∷ []) a
 alone a = record { place = 0; found = refl; least = alone_least a; newest = alone_newest a }
 
--- the oldest is weaker
+-- the oldest answer is weaker
 behind_least : (older : ℕ) (newer : List ℕ) (a : ℕ) → action_of a ≤ℤ action_of older → IsDeciding newer a → (at other : ℕ)
     → slice_get (older ∷ newer) at ≡ Some other → action_of a ≤ℤ action_of other
 behind_least older newer a le d zero other h = ≤ℤ_trans _ (action_of older) _ le (same_least older other h)
@@ -88,7 +88,7 @@ behind_found older newer a place h = let e : place + 1 ≡ suc place = omega ari
 behind : (older : ℕ) (newer : List ℕ) (a : ℕ) → action_of a ≤ℤ action_of older → IsDeciding newer a → IsDeciding (older ∷ newer) a
 behind older newer a le d = record { place = d.place + 1; found = behind_found older newer a d.place d.found; least = behind_least older newer a le d; newest = behind_newest older newer a d }
 
--- the oldest is stronger
+-- the oldest answer is stronger
 before_least : (older : ℕ) (newer : List ℕ) (a : ℕ) → action_of older <ℤ action_of a → IsDeciding newer a → (at other : ℕ)
     → slice_get (older ∷ newer) at ≡ Some other → action_of older ≤ℤ action_of other
 before_least older newer a lt d zero other h = same_least older other h
@@ -112,7 +112,7 @@ decides_next : (older : ℕ) (newer : List ℕ) (d : Option ℕ) → deciding ne
 decides_next older newer None e next = subst (λ l. IsDeciding (older ∷ l) older) (sym (none_decides newer e)) (alone older)
 decides_next older newer (Some a) e next = decides_by older newer a (stronger older a) (next a refl) (stronger_is older a)
 
--- the answer that decides is the least one, and the newest of that action
+-- the deciding answer is the least one, and the newest with that action
 pub decides : (answers : List ℕ) (answer : ℕ) → deciding answers ≡ Some answer → IsDeciding answers answer
 decides [] answer e = cc
 decides (older ∷ newer) answer e = subst (IsDeciding (older ∷ newer)) (some_same _ _ e)
@@ -150,7 +150,7 @@ deciding-push [] newest = refl
 deciding-push (older ∷ newer) newest = ap (λ d. Some (stronger_of older d)) (deciding-push newer newest)
     ∙ ap Some (pushed_more older newest (deciding newer))
 
--- where the call passes, the action is that of ALLOW or LOG
+-- if the call passes, the action is ALLOW or LOG
 pass_test : (t u v : Bool) (n : ℕ) → cond t Pass (cond u (Errno n) (cond v (Errno 38) Kill)) ≡ Pass → t ≡ true
 pass_test true u v n e = refl
 pass_test false true v n e = cc
@@ -166,14 +166,14 @@ not_firm_action : (action : ℕ) → (action ≡ allow) ⊎ (action ≡ log) →
 not_firm_action action (inl e) h = let k : pos allow <ℤ pos log = subst (λ q. cast_signed w32 q <ℤ pos log) e h in omega (arith, ints)
 not_firm_action action (inr e) h = let k : pos log <ℤ pos log = subst (λ q. cast_signed w32 q <ℤ pos log) e h in omega (arith, ints)
 
--- an answer below LOG does not let the call through
+-- an answer below LOG does not allow the call
 pub firm_refuses : (answer : ℕ) → IsFirm answer → decision_of answer ≡ Pass → ⊥
 firm_refuses answer firm passes =
     not_firm_action (action_word answer)
     (pass_action (action_word answer) _ _ refl refl (pass_test (action_word answer == allow || action_word answer == log) _ _ _ passes))
     firm
 
--- an answer below LOG keeps its place: what decides is below LOG
+-- if an answer is below LOG, the deciding answer is below LOG
 pub record DecidesFirm (answers : List ℕ) : Type 0 where
   pub answer : ℕ
   pub decides : deciding answers ≡ Some answer
@@ -198,7 +198,7 @@ firm_decides (older ∷ newer) (inl firm) =
     record { answer = stronger_of older (deciding newer); decides = refl; firm = firm_older older (deciding newer) firm }
 firm_decides (older ∷ newer) (inr h) = firm_newer older newer (firm_decides newer h)
 
--- where some answer is below LOG, the call does not pass
+-- if some answer is below LOG, the call does not pass
 pub HasFirm-refused : (answers : List ℕ) → HasFirm answers → decision_by (deciding answers) ≡ Pass → ⊥
 HasFirm-refused answers h passes = let d = firm_decides answers h in firm_refuses d.answer d.firm (sym (ap decision_by d.decides) ∙ passes)
 
@@ -207,7 +207,7 @@ HasFirm-append [] newer h = absurd h
 HasFirm-append (a ∷ older) newer (inl firm) = inl firm
 HasFirm-append (a ∷ older) newer (inr h) = inr (HasFirm-append older newer h)
 
--- the other way round: where all answers are plain and the call does not pass, some answer is below LOG
+-- conversely: if all answers are plain and the call does not pass, some answer is below LOG
 all_pass_by : (older : ℕ) (d : Option ℕ) → decision_of older ≡ Pass → decision_by d ≡ Pass → decision_of (stronger_of older d) ≡ Pass
 all_pass_by older None p q = p
 all_pass_by older (Some a) p q = elim (int_le (action_of a) (action_of older)) as
@@ -223,7 +223,7 @@ pub plain_cases : (answers : List ℕ) → ArePlain answers → (decision_by (de
 plain_cases [] h = inl refl
 plain_cases (older ∷ newer) h = plain_more older newer h.0 (plain_cases newer h.1)
 
--- a refusal by plain answers stands whatever newer answers come
+-- a refusal by plain answers stays whatever newer answers follow
 pub refusal_stands : (older newer : List ℕ) → ArePlain older → (decision_by (deciding older) ≡ Pass → ⊥)
     → decision_by (deciding (older ++ newer)) ≡ Pass → ⊥
 refusal_stands older newer plain refused passes =
@@ -233,7 +233,7 @@ refusal_stands older newer plain refused passes =
           (HasFirm-append older newer firm) passes
     ]
 
--- what is lost without the premise: 0x7ffd0000 kills, and a newer LOG lets the call through
+-- without the premise the law is false: 0x7ffd0000 kills, and a newer LOG allows the call
 pub odd_action : (decision_by (deciding (0x7ffd0000 ∷ [])) ≡ Kill) × (decision_by (deciding (0x7ffd0000 ∷ 0x7ffc0000 ∷ [])) ≡ Pass)
 odd_action = (refl, refl)
 
@@ -250,7 +250,7 @@ each-push : (programs : List (List Insn)) (code : List Insn) (input : CallData) 
 each-push [] code input each h = (h, tt)
 each-push (program ∷ programs) code input each h = (each.0, each-push programs code input each.1 h)
 
--- the first so many programs were asked
+-- the first so many programs have answered
 pub record Asked (programs : List (List Insn)) (input : CallData) (count : ℕ) (strongest : Option ℕ) : Type 0 where
   pub strongest_is : strongest ≡ deciding (answers_of (take count programs) input)
   pub each : AnswerEach (take count programs) input (answers_of (take count programs) input)
@@ -283,7 +283,7 @@ decided_by [] (Some answer) e = cc
 decided_by (oldest ∷ answers) None e = cc
 decided_by (oldest ∷ answers) (Some answer) e = (answer, decides (oldest ∷ answers) answer e, refl)
 
--- the computed decision is the one by the least action
+-- the computed decision follows the least action
 pub computed_decides : (programs : List (List Insn)) (input : CallData) → AnswerEach programs input (answers_of programs input)
     → Decides programs input (decision_on programs input)
 computed_decides programs input each =

@@ -1,4 +1,4 @@
--- The functions by which proofs compute give what the relations say.
+-- The functions by which proofs compute agree with the relations.
 use Rattle.std.proofs.Common.{◌≡◌, ℕ, ◌%◌, Bool, true, false, cond, List, [], ◌∷◌, length, Some, None, refl, sym, ap, ◌∙◌, subst, arith}
 use Rattle.std.proofs.Common.{inl, inr}
 use Rattle.std.specs.Prelude.{◌==◌, ◌&&◌, ◌≤ℤ◌, ◌<ℤ◌, ℤ, slice_get}

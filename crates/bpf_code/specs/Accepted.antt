@@ -1,4 +1,4 @@
--- The programs that are accepted: the checks of seccomp(2), as its program is read.
+-- seccomp(2) accepts a program by these checks.
 use Rattle.std.specs.Prelude.{◌≡◌, ℕ, ◌+◌, ◌-◌, ◌%◌, ◌==◌, ◌<◌, ◌≤◌, nat_lt, ◌&&◌, Bool, true, false, if◌then◌else◌, ◌⊎◌, List, [], ◌∷◌}
 use Rattle.std.specs.Prelude.{length, slice_get, Option, Some, None}
 use Rattle.linux_numbers.specs.Limits.{bpf_maxinsns}
@@ -15,15 +15,15 @@ use Rattle.bpf_code.specs.Ops.{op_of}
 abbrev pub unless : Bool → Fault → Option Fault
 unless good fault = if good then None else Some fault
 
--- a division by 0 and a shift by 32 or more are refused where the operand is the instruction's number
+-- a division by 0 and a shift by 32 or more are refused if the operand is the instruction's number
 abbrev pub number_fault : AluOp → ℕ → Option Fault
 number_fault alu.Div k = unless (nat_lt 0 k) fault.DivZero
 number_fault alu.Lsh k = unless (nat_lt k 32) fault.Shift
 number_fault alu.Rsh k = unless (nat_lt k 32) fault.Shift
 number_fault op k = None
 
--- the fault of an instruction that so many follow. A load is of a whole word of the data, there are sixteen scratch words, and a jump
--- stays inside the program
+-- the fault of an instruction, given how many instructions follow it: a load takes a whole word of the data, there are sixteen
+-- scratch words, and a jump stays inside the program
 abbrev pub op_fault : Op → Insn → ℕ → Option Fault
 op_fault LoadWord insn left = unless (nat_lt insn.k 64 && insn.k % 4 == 0) fault.Load
 op_fault (LoadScratch r) insn left = unless (nat_lt insn.k 16) fault.Scratch
@@ -65,8 +65,8 @@ ends_in_return [] = false
 ends_in_return (insn ∷ []) = is_return (op_of insn.code)
 ends_in_return (insn ∷ next ∷ code) = ends_in_return (next ∷ code)
 
--- a path goes from a jump to each of its targets, and from every other instruction, one that ends the program among
--- them, to the next
+-- a path leads from a jump to each of its targets, and from every other instruction to the next, even from one that ends
+-- the program
 abbrev pub Follows : Option Op → Insn → ℕ → ℕ → Type 0
 Follows (Some Jump) insn at to = to ≡ at + 1 + insn.k
 Follows (Some (JumpIf t o)) insn at to = (to ≡ at + 1 + insn.jt) ⊎ (to ≡ at + 1 + insn.jf)
@@ -77,7 +77,7 @@ abbrev pub stores : Option Op → Insn → ℕ → Bool
 stores (Some (Store r)) insn word = insn.k == word
 stores op insn word = false
 
--- some path from the first instruction leads to this place and does not store the word before
+-- some path from the first instruction leads to this place without a store of the word
 pub data ReachesUnstored (code : List Insn) (word : ℕ) : ℕ → Type 0 where
   at_start : ReachesUnstored code word 0
   goes : (at to : ℕ) (insn : Insn) → ReachesUnstored code word at → slice_get code at ≡ Some insn
@@ -87,24 +87,24 @@ abbrev pub is_scratch_load : Option Op → Bool
 is_scratch_load (Some (LoadScratch r)) = true
 is_scratch_load op = false
 
--- no path reaches a load of a scratch word that it does not store before
+-- every path that reaches a load of a scratch word stores that word before
 abbrev pub NoUnstored : List Insn → Type 0
 NoUnstored code = (at : ℕ) (insn : Insn) → slice_get code at ≡ Some insn → is_scratch_load (op_of insn.code) ≡ true
     → ReachesUnstored code insn.k at → ⊥
 
--- some path reaches the load at this place, and does not store its word before
+-- some path reaches the load at this place without a store of its word
 pub record LoadsUnstored (code : List Insn) (at : ℕ) : Type 0 where
   pub insn : Insn
   pub found : slice_get code at ≡ Some insn
   pub loads : is_scratch_load (op_of insn.code) ≡ true
   pub reached : ReachesUnstored code insn.k at
 
--- and this is the first such load
+-- the load at this place is the first such load
 pub record IsFirstUnstored (code : List Insn) (at : ℕ) : Type 0 where
   pub unstored : LoadsUnstored code at
   pub none_before : (before : ℕ) → before < at → LoadsUnstored code before → ⊥
 
--- seccomp(2) takes the program
+-- seccomp(2) accepts the program
 pub record IsAccepted (code : List Insn) : Type 0 where
   pub short : length code ≤ bpf_maxinsns
   pub fine : AreFine code

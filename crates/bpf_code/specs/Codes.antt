@@ -1,5 +1,5 @@
--- The parts of the codes of instructions, by their names in <linux/bpf_common.h>. A code has a class. With it comes a size and a mode, an
--- operation and an operand, a test and an operand, or what is returned or moved.
+-- The parts of the codes of instructions, by their names in <linux/bpf_common.h>. A code has a class. A class has a size and a mode, an
+-- operation and an operand, a test and an operand, or a source that is returned or moved.
 use Rattle.std.specs.Prelude.{ℕ}
 
 -- classes
@@ -31,7 +31,7 @@ misc = 0x07
 abbrev pub w : ℕ
 w = 0x00
 
--- modes of loads: a number, a place of the data, a scratch word, the length of the data
+-- modes of loads: a number, an offset in the data, a scratch word, the length of the data
 abbrev pub imm : ℕ
 imm = 0x00
 
@@ -91,7 +91,7 @@ jge = 0x30
 abbrev pub jset : ℕ
 jset = 0x40
 
--- operands: the instruction's number, X, and of a return A
+-- operands: the instruction's number, X, and for a return also A
 abbrev pub k : ℕ
 k = 0x00
 

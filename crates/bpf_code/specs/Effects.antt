@@ -1,5 +1,5 @@
--- The effect of each instruction on the registers, and where it leads: the instruction table of classic BPF (seccomp(2), bpf_insn in
--- <linux/filter.h>).
+-- Each instruction changes the registers and leads to another one or to the end: the instruction table of classic BPF (seccomp(2),
+-- bpf_insn in <linux/filter.h>).
 use Rattle.std.specs.Prelude.{ℕ, ◌+◌, ◌-◌, ◌*◌, ◌/◌, ◌%◌, ◌^◌, ◌<◌, ◌==◌, nat_lt, nat_le, Bool, not, if◌then◌else◌, List, [], ◌∷◌, ◌++◌}
 use Rattle.std.specs.Prelude.{flat_map, slice_index, slice_set, bit_and, bit_or, bit_xor, Option, Some, None}
 use Rattle.bpf_code.specs.declared.machine.Insn.{Insn}
@@ -24,8 +24,8 @@ use Rattle.bpf_code.specs.declared.ops.Source.TheVariants as source
 abbrev pub halves : ℕ → List ℕ
 halves n = n % 2 ^ 32 ∷ n / 2 ^ 32 ∷ []
 
--- struct seccomp_data as its sixteen words, in the order of their offsets: nr at 0, arch at 4, the instruction pointer at 8, and from 16
--- on the six arguments. Each number of 64 bits has its low half first
+-- struct seccomp_data as its sixteen words, in the order of their offsets: nr at 0, arch at 4, the instruction pointer at 8, and the
+-- six arguments from 16 on. Each number of 64 bits has its low half first
 abbrev pub words_of : CallData → List ℕ
 words_of input = input.nr ∷ input.arch ∷ halves input.ip ++ flat_map halves input.args
 
@@ -34,7 +34,7 @@ abbrev pub value_of : Operand → Insn → Regs → ℕ
 value_of operand.Number insn regs = insn.k
 value_of operand.X insn regs = regs.x
 
--- an operation on two words: sums, differences and products wrap at 32 bits, shifts go by the operand's low five bits
+-- an operation on two words: sums, differences and products wrap at 32 bits, and shifts use the low five bits of the operand
 abbrev pub result_of_op : AluOp → ℕ → ℕ → ℕ
 result_of_op alu.Add a b = (a + b) % 2 ^ 32
 result_of_op alu.Sub a b = (a + (2 ^ 32 - b)) % 2 ^ 32
@@ -67,7 +67,7 @@ abbrev pub alu_effect : AluOp → ℕ → Regs → Effect × Regs
 alu_effect alu.Div n regs = if n == 0 then (End 0, regs) else (Skip 0, record regs { a = result_of_op alu.Div regs.a n })
 alu_effect op n regs = (Skip 0, record regs { a = result_of_op op regs.a n })
 
--- the table: an instruction ends the program with a result, or changes the registers and goes on after so many instructions
+-- the table: an instruction ends the program with a result, or changes the registers and skips so many instructions
 abbrev pub effect_of : Op → Insn → Regs → CallData → Effect × Regs
 effect_of LoadWord insn regs input = (Skip 0, record regs { a = slice_index (words_of input) (insn.k / 4) })
 effect_of (LoadLen r) insn regs input = (Skip 0, with_reg r 64 regs)
@@ -83,7 +83,7 @@ effect_of (JumpIf t o) insn regs input = (Skip (if holds t regs.a (value_of o in
 effect_of (Return source.Number) insn regs input = (End insn.k, regs)
 effect_of (Return source.A) insn regs input = (End regs.a, regs)
 
--- what an instruction does; one whose code is not in the table does nothing
+-- the effect of an instruction; an instruction whose code is not in the table has no effect
 abbrev pub effect_by : Option Op → Insn → Regs → CallData → Option (Effect × Regs)
 effect_by None insn regs input = None
 effect_by (Some op) insn regs input = Some (effect_of op insn regs input)

@@ -1,4 +1,4 @@
--- What each code of an instruction stands for: the codes that seccomp(2) allows.
+-- The operation of each code of an instruction that seccomp(2) allows.
 use Rattle.std.specs.Prelude.{ℕ, ◌+◌, ◌==◌, if◌then◌else◌, Option, Some, None}
 use Rattle.bpf_code.specs.declared.ops.Op.{Op}
 use Rattle.bpf_code.specs.declared.ops.Op.TheVariants as op

@@ -1,5 +1,5 @@
--- The program that bytes are, as a function: the same acceptance, with tests in place of facts. A path leads forward
--- only, so one to a place has at most as many steps as the place is high.
+-- The program of bytes as a function, which accepts the same programs by tests in place of facts. A path only leads
+-- forward, so a path to a place has at most as many steps as the number of the place.
 use Rattle.std.specs.Prelude.{ℕ, zero, suc, ◌+◌, ◌%◌, ◌==◌, nat_le, ◌&&◌, ◌||◌, not, Bool, true, false, if◌then◌else◌, List, [], ◌∷◌}
 use Rattle.std.specs.Prelude.{length, slice_get, Option, Some, None}
 use Rattle.std.specs.Option.{option_map_or, is_none}
@@ -26,7 +26,7 @@ abbrev pub passes_to : List Insn → ℕ → ℕ → ℕ → Bool
 passes_to code word at to = option_map_or (λ insn. not (stores (op_of insn.code) insn word) && leads_to (op_of insn.code) insn at to)
     (slice_get code at) false
 
--- some path of at most so many steps leads to this place and does not store the word before
+-- some path of at most so many steps leads to this place without a store of the word
 abbrev pub reaches : List Insn → ℕ → ℕ → ℕ → Bool
 reaches code word zero to = to == 0
 reaches code word (suc steps) to = to == 0 || any_below to (λ at. reaches code word steps at && passes_to code word at to)
@@ -42,6 +42,6 @@ abbrev pub is_accepted : List Insn → Bool
 is_accepted code = (nat_le (length code) bpf_maxinsns && are_fine code) &&
     (ends_in_return code && not (any_below (length code) (is_unstored_load code)))
 
--- the program that the bytes are, where they are one
+-- the program of the bytes, if they are a program
 abbrev pub program_of : List ℕ → Option (List Insn)
 program_of bytes = if length bytes % 8 == 0 && is_accepted (insns_of bytes) then Some (insns_of bytes) else None

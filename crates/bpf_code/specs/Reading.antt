@@ -1,4 +1,4 @@
--- The bytes that are a program, and the refusals of others.
+-- Bytes are a program, or are refused.
 use Rattle.std.specs.Prelude.{◌≡◌, ℕ, ◌*◌, ◌/◌, ◌%◌, ◌^◌, ◌<◌, ◌≤◌, ◌⊎◌, true, false, List, [], ◌∷◌, ◌++◌, map, flat_map, length}
 use Rattle.std.specs.Prelude.{slice_index, Result, Err}
 use Rattle.std.specs.Int.{from_le_bytes, to_le_bytes, w16, w32}
@@ -26,7 +26,7 @@ insn_of bytes =
 abbrev pub insns_of : List ℕ → List Insn
 insns_of bytes = map insn_of (first_chunks 8 (length bytes / 8) bytes)
 
--- whole instructions, at least one and at most 4,096
+-- the bytes are whole instructions, at least one and at most 4,096
 pub record IsCode (bytes : List ℕ) : Type 0 where
   pub whole : length bytes % 8 ≡ 0
   pub some : 0 < length bytes
@@ -38,7 +38,7 @@ pub record Accepts (bytes : List ℕ) (program : List Insn) : Type 0 where
   pub insns : program ≡ insns_of bytes
   pub accepted : IsAccepted program
 
--- the numbers are those that struct sock_filter holds
+-- the numbers fit the fields of struct sock_filter
 pub record Fits (insn : Insn) : Type 0 where
   pub code : insn.code < 2 ^ 16
   pub jt : insn.jt < 2 ^ 8
@@ -53,7 +53,7 @@ bytes_of_insn insn = to_le_bytes w16 insn.code ++ insn.jt % 2 ^ 8 ∷ insn.jf % 
 abbrev pub bytes_of : List Insn → List ℕ
 bytes_of code = flat_map bytes_of_insn code
 
--- seccomp(2) takes the instructions: their bytes are accepted as them, so their numbers fit too
+-- seccomp(2) accepts the instructions: their bytes are accepted as these instructions, so their numbers fit too
 abbrev pub IsProgram : List Insn → Type 0
 IsProgram code = Accepts (bytes_of code) code
 
@@ -66,14 +66,14 @@ refusal_of fault.Shift at = error.Shift at
 refusal_of fault.DivZero at = error.DivZero at
 refusal_of fault.Jump at = error.Jump at
 
--- the instructions are refused for this, the first check that fails: the faults of instructions, in their order; then
+-- the instructions are refused by the first check that fails: first the faults of instructions, in their order; then
 -- whether the last one ends the program; then the loads of scratch words
 pub data RefusesCode (code : List Insn) : ProgramError → Type 0 where
   faulty : (at : ℕ) (fault : Fault) → IsFirstFault code at fault → RefusesCode code (refusal_of fault at)
   no_return : AreFine code → ends_in_return code ≡ false → RefusesCode code error.NoReturn
   unstored : (at : ℕ) → AreFine code → ends_in_return code ≡ true → IsFirstUnstored code at → RefusesCode code (error.Unstored at)
 
--- the bytes are refused for this: for their length, or for the instructions that they are
+-- the bytes are refused for their length, or for their instructions
 pub data Refuses (bytes : List ℕ) : ProgramError → Type 0 where
   not_whole : ¬ (length bytes % 8 ≡ 0) → Refuses bytes error.Length
   empty : length bytes ≡ 0 → Refuses bytes error.Empty

@@ -1,4 +1,4 @@
--- Sets of scratch words as numbers, a bit for each word, and how they pass from an instruction to those that follow it.
+-- Sets of scratch words are numbers, with a bit for each word, and pass from an instruction to the instructions that follow it.
 use Rattle.std.specs.Prelude.{◌≡◌, ℕ, ◌+◌, ◌*◌, ◌%◌, ◌^◌, List, slice_index, slice_set, bit_and, bit_or, Option, Some}
 use Rattle.std.specs.Int.{bit_at, bit_not, w16}
 use Rattle.bpf_code.specs.declared.machine.Insn.{Insn}
@@ -18,11 +18,11 @@ abbrev pub unstored_behind : Option Op → Insn → ℕ → ℕ
 unstored_behind (Some (Store r)) insn words = without_word words insn.k
 unstored_behind op insn words = words
 
--- the sets of all places, where one place has these words too
+-- the sets of all places, after these words are added at one place
 abbrev pub joined : List ℕ → ℕ → ℕ → List ℕ
 joined marks at words = slice_set marks at (bit_or (slice_index marks at) words)
 
--- where each place that follows an instruction has these words too
+-- the sets of all places, after these words are added at each place that follows an instruction
 abbrev pub passed_on : Option Op → Insn → ℕ → ℕ → List ℕ → List ℕ
 passed_on (Some Jump) insn at words marks = joined marks (at + 1 + insn.k) words
 passed_on (Some (JumpIf t o)) insn at words marks = joined (joined marks (at + 1 + insn.jt) words) (at + 1 + insn.jf) words

@@ -1,4 +1,4 @@
-// The codes of instructions: the ones that seccomp(2) allows, and what each stands for.
+// Lists the codes of instructions that seccomp(2) allows, and the operation of each.
 //
 // <linux/bpf_common.h> names the parts of a code: a class, and with it a size and a mode, or an operation and an
 // operand.
@@ -27,7 +27,7 @@ const MISC: u16 = 0x07;
 // The size of a load: a word of 32 bits.
 const W: u16 = 0x00;
 
-// Modes of loads: a number, a place of the data, a scratch word, the length of the data.
+// Modes of loads: a number, an offset in the data, a scratch word, the length of the data.
 const IMM: u16 = 0x00;
 
 const ABS: u16 = 0x20;
@@ -68,7 +68,7 @@ const JGE: u16 = 0x30;
 
 const JSET: u16 = 0x40;
 
-// Operands: the instruction's number, X, and of a return A.
+// Operands: the instruction's number, X, and for a return also A.
 const K: u16 = 0x00;
 
 const X: u16 = 0x08;
@@ -104,11 +104,11 @@ pub const JMP_JSET_K: u16 = JMP | JSET | K;
 /// BPF_RET | BPF_K
 pub const RET_K: u16 = RET | K;
 
-/// Returns the operation of a code, or none if it is not in the table.
+/// Returns the operation of a code, or None if the code is not in the table.
 pub(crate) fn decode(code: u16) -> Option<Op>
     ensures { result ≡ op_of code }
 {
-    // A pattern names a constant: a code that has no name of its own is compared with its parts.
+    // A pattern needs a named constant, so a code without a name is compared with its parts.
     match code {
         LD_W_ABS => Some(Op::LoadWord),
         _ if code == LD | W | LEN => Some(Op::LoadLen(Reg::A)),

@@ -1,4 +1,4 @@
-// Decides by the answers of programs.
+// Decides a call by the answers of programs.
 ghost use Rattle.std.specs.Prelude.{◌≡◌};
 ghost use Rattle.bpf_code.specs.Stack.{action_word, action_of, stronger, decision_of};
 
@@ -9,29 +9,29 @@ use linux_numbers::limits::MAX_ERRNO;
 /// The decision of a stack of programs about a call.
 #[derive(Clone, Copy, PartialEq, Eq)]
 pub enum Decision {
-    /// The call is performed.
+    /// The kernel performs the call.
     Pass,
-    /// The call is answered with this number, and not performed.
+    /// The call fails with this error number, and the kernel does not perform it.
     Errno(u32),
-    /// The process is killed.
+    /// The kernel kills the process.
     Kill,
 }
 
-// The action of an answer: its upper 16 bits, as a word.
+// Returns the action of an answer: its upper 16 bits, as a word.
 fn action_word(answer: u32) -> u32
     ensures { result ≡ action_word answer }
 {
     (answer >> 16) << 16
 }
 
-// The action as a signed number, by which answers are compared.
+// Returns the action as a signed number, by which answers are compared.
 fn action(answer: u32) -> i32
     ensures { result ≡ action_of answer }
 {
     action_word(answer).cast_signed()
 }
 
-/// Of two answers the one that decides.
+/// Returns the deciding one of two answers: the newer answer, unless its action is greater.
 pub(crate) fn stronger_answer(older: u32, newer: u32) -> u32
     ensures { result ≡ stronger older newer }
 {

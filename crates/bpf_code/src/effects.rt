@@ -1,6 +1,6 @@
-// What each instruction does to the registers, and where it leads.
+// Performs instructions: each changes the registers and leads to another instruction or to the end.
 //
-// The table is `effect_of` of the definitions; `perform` is its reading in code.
+// The definitions have the table `effect_of`; `perform` is that table as code.
 ghost use Rattle.std.specs.Prelude.{flat_map, length, ◌*◌, ◌≡◌, ◌<◌, ◌%◌, ◌/◌, ◌^◌, if◌then◌else◌, ℕ, slice_index, None};
 ghost use Rattle.bpf_code.specs.Effects.{halves, words_of, effect_of, result_of_op, holds, alu_effect, value_of};
 ghost use Rattle.bpf_code.specs.Accepted.{op_fault};
@@ -8,7 +8,7 @@ ghost use Rattle.bpf_code.specs.Accepted.{op_fault};
 use crate::machine::{CallData, DATA_LEN, Effect, Insn, Regs};
 use crate::ops::{AluOp, Op, Operand, Reg, Source, Test};
 
-// The low or the high 32 bits.
+// Returns the low or the high 32 bits.
 fn half(n: u64, high: bool) -> u32
     ensures { result ≡ (if high then n / 2 ^ 32 else n % 2 ^ 32) }
 {
@@ -19,7 +19,7 @@ fn half(n: u64, high: bool) -> u32
     }
 }
 
-// A word of the arguments.
+// Returns a word of the arguments.
 fn argument_word(args: &[u64], at: usize) -> u32
     requires { at < 2 * length args.now }
     ensures { result ≡ slice_index (flat_map halves args.now) at }
@@ -27,7 +27,7 @@ fn argument_word(args: &[u64], at: usize) -> u32
     half(args[at / 2], at % 2 == 1)
 }
 
-// A word of the data.
+// Returns a word of the data.
 fn word(input: &CallData, at: u32) -> u32
     requires { at < 16 }
     ensures { result ≡ slice_index (words_of input.now) at }
@@ -78,7 +78,7 @@ fn operand_value(operand: Operand, insn: Insn, regs: &Regs) -> u32
     }
 }
 
-// An operation on A, which ends the program where it divides by 0.
+// Performs an operation on A. A division by 0 ends the program.
 fn alu(op: AluOp, regs: &mut Regs, n: u32) -> Effect
     ensures { (result, regs.new) ≡ alu_effect op n regs.old }
 {
@@ -91,7 +91,7 @@ fn alu(op: AluOp, regs: &mut Regs, n: u32) -> Effect
     }
 }
 
-/// Performs an instruction that has no fault and whose code stands for this operation.
+/// Performs an instruction that has no fault, given the operation of its code.
 pub fn perform(op: Op, insn: Insn, regs: &mut Regs, input: &CallData) -> Effect
     requires { (left : ℕ) × (op_fault op insn left ≡ None) }
     ensures by_the_effect { (result, regs.new) ≡ effect_of op insn regs.old input.now }

@@ -1,4 +1,4 @@
-// Finds faults of instructions, and tests if the last one ends the program.
+// Finds faults of instructions, and tests whether the last one ends the program.
 ghost use Rattle.std.specs.Prelude.{◌≡◌, ◌-◌, Some, None, MatchOption};
 ghost use Rattle.bpf_code.specs.Ops.{op_of};
 ghost use Rattle.bpf_code.specs.Accepted.{unless, number_fault, op_fault, fault_of, AreFine, IsFirstFault, is_return, ends_in_return};
@@ -18,7 +18,7 @@ fn fault_unless(good: bool, fault: Fault) -> Option<Fault>
     if good { None } else { Some(fault) }
 }
 
-// The fault of an operation with the instruction's number.
+// Returns the fault of an operation with the instruction's number.
 fn fault_of_number(op: AluOp, number: u32) -> Option<Fault>
     ensures { result ≡ number_fault op number }
 {
@@ -29,7 +29,7 @@ fn fault_of_number(op: AluOp, number: u32) -> Option<Fault>
     }
 }
 
-// The fault of an instruction whose code means this operation, and which so many follow.
+// Returns the fault of an instruction with this operation, given how many instructions follow it.
 fn fault_in(op: Op, insn: Insn, left: usize) -> Option<Fault>
     ensures { result ≡ op_fault op insn left }
 {
@@ -48,7 +48,7 @@ fn fault_in(op: Op, insn: Insn, left: usize) -> Option<Fault>
     }
 }
 
-// The fault of an instruction that so many follow.
+// Returns the fault of an instruction, given how many instructions follow it.
 fn fault(insn: Insn, left: usize) -> Option<Fault>
     ensures { result ≡ fault_of insn left }
 {
@@ -58,7 +58,7 @@ fn fault(insn: Insn, left: usize) -> Option<Fault>
     }
 }
 
-/// The place and the fault of the first instruction that has one.
+/// Returns the place and the fault of the first instruction that has one.
 pub fn first_fault(insns: &[Insn]) -> Option<(usize, Fault)>
     ensures the_first { MatchOption result (AreFine insns.now) (λ found. IsFirstFault insns.now found.0 found.1) }
 {

@@ -1,4 +1,4 @@
-// Instructions as bytes: eight each, little endian.
+// Converts instructions to bytes and back: eight bytes each, little endian.
 ghost use Rattle.std.specs.Prelude.{◌≡◌, ◌≤◌, IfOk, length};
 ghost use Rattle.std.specs.List.{All};
 ghost use Rattle.bpf_code.specs.Reading.{Fits, insn_of, insns_of, bytes_of_insn, bytes_of};
@@ -6,10 +6,10 @@ ghost use Rattle.bpf_code.specs.Reading.{Fits, insn_of, insns_of, bytes_of_insn,
 use crate::machine::Insn;
 use std::alloc::{AllocError, Global};
 
-/// How many bytes an instruction has, `sizeof(struct sock_filter)`.
+/// The number of bytes of an instruction, `sizeof(struct sock_filter)`.
 pub const INSN_LEN: usize = 8;
 
-// The instruction that these bytes are.
+// Returns the instruction of these bytes.
 fn insn_from(bytes: &[u8; INSN_LEN]) -> Insn
     ensures read { result ≡ insn_of bytes.now }
     ensures fits { Fits result }
@@ -23,7 +23,7 @@ fn insn_from(bytes: &[u8; INSN_LEN]) -> Insn
     }
 }
 
-// The bytes that are this instruction.
+// Returns the bytes of this instruction.
 fn bytes_from(insn: Insn) -> [u8; INSN_LEN]
     ensures { result ≡ bytes_of_insn insn }
 {
@@ -32,7 +32,7 @@ fn bytes_from(insn: Insn) -> [u8; INSN_LEN]
     [c0, c1, insn.jt, insn.jf, k0, k1, k2, k3]
 }
 
-/// The instructions that bytes are; fewer than eight at the end are passed over.
+/// Returns the instructions of some bytes, and skips a rest of fewer than eight bytes.
 pub fn insns_from_bytes(alloc: Global, bytes: &[u8]) -> Result<Vec<Insn>, AllocError>
     ensures read { IfOk result (λ insns. insns.items ≡ insns_of bytes.now) }
     ensures fit { IfOk result (λ insns. All Fits insns.items) }
@@ -45,7 +45,7 @@ pub fn insns_from_bytes(alloc: Global, bytes: &[u8]) -> Result<Vec<Insn>, AllocE
     Ok(insns)
 }
 
-/// The bytes that are these instructions.
+/// Returns the bytes of these instructions.
 pub fn bytes_from_insns(alloc: Global, insns: &[Insn]) -> Result<Vec<u8>, AllocError>
     requires { length insns.now ≤ 4096 }
     ensures of_the_instructions { IfOk result (λ bytes. bytes.items ≡ bytes_of insns.now) }

@@ -1,7 +1,7 @@
 // Runs a program.
 //
-// A step performs one instruction (`effects`); an accepted program (`program`) has an instruction wherever a step
-// leads, so it always ends.
+// A step performs one instruction (`effects`). An accepted program (`program`) has an instruction at every place to which a
+// step leads, so the program always ends.
 ghost use Rattle.std.specs.Prelude.{◌≡◌, ◌<◌, Some, None, false, length};
 ghost use Rattle.bpf_code.specs.Ops.{op_of};
 ghost use Rattle.bpf_code.specs.Effects.{effect_by, StaysWithin};
@@ -13,7 +13,7 @@ use crate::effects::perform;
 use crate::machine::{CallData, Effect, Insn, Regs};
 use crate::program::Program;
 
-// Performs an instruction that has no fault and that so many follow.
+// Performs an instruction without a fault, given how many instructions follow it.
 fn step(insn: Insn, left: usize, regs: &mut Regs, input: &CallData) -> Effect
     requires fine { fault_of insn left ≡ None }
     requires more { is_return (op_of insn.code) ≡ false → 0 < left }
@@ -25,8 +25,8 @@ fn step(insn: Insn, left: usize, regs: &mut Regs, input: &CallData) -> Effect
 
 /// Returns the answer of the program for the data of a call.
 ///
-/// Every program ends on all data, with one answer, after at most as many instructions as it has. Nothing is
-/// allocated.
+/// Every program ends on all data, with one answer, after at most as many instructions as it has. A run takes no
+/// memory.
 pub fn run(program: &Program, input: &CallData) -> u32
     ensures answers { Answers program.now input.now result }
     ensures only_answer { IsOnlyAnswer program.now input.now result }

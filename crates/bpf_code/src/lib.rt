@@ -1,8 +1,8 @@
 //! Runs classic BPF programs as seccomp(2) does, on the data of a system call.
 //!
 //! `run(&program, &CallData { nr: 1, arch: 0xc000_003e, ip: 0, args: [0; 6] })` answers for a call. A [`Program`] is
-//! read from bytes or made of instructions. A [`Stack`] decides by all programs that a process has installed. The
-//! words of actions are those of `linux_numbers`.
+//! read from bytes or made of instructions. A [`Stack`] decides by all programs that a process has installed.
+//! `linux_numbers` has the words of the actions.
 #![tactic(auto)]
 
 pub mod codes;

@@ -1,27 +1,27 @@
-// The machine of classic BPF: its instructions, the data of a call, and its registers.
+// Defines the machine of classic BPF: its instructions, the data of a call, and its registers.
 ghost use Rattle.std.specs.Prelude.{◌≡◌};
 ghost use Rattle.bpf_code.specs.Meaning.{start_regs};
 
-/// How many bytes the data of a call has, `sizeof(struct seccomp_data)`.
+/// The number of bytes of a call's data, `sizeof(struct seccomp_data)`.
 pub const DATA_LEN: u32 = 64;
 
-/// How many scratch words there are, BPF_MEMWORDS.
+/// The number of scratch words, BPF_MEMWORDS.
 pub const SCRATCH_WORDS: u32 = 16;
 
 /// An instruction, `struct sock_filter` of seccomp(2).
 #[derive(Clone, Copy)]
 pub struct Insn {
-    /// What the instruction does: a code of [`crate::codes`].
+    /// The operation of the instruction: a code of [`crate::codes`].
     pub code: u16,
-    /// How many instructions a test skips where it holds.
+    /// The number of instructions that a test skips if it holds.
     pub jt: u8,
-    /// How many instructions a test skips where it fails.
+    /// The number of instructions that a test skips if it fails.
     pub jf: u8,
     /// A number, an offset, a scratch word or a distance.
     pub k: u32,
 }
 
-/// What a program is asked about: a system call, `struct seccomp_data` of seccomp(2).
+/// The input of a program: a system call, `struct seccomp_data` of seccomp(2).
 #[derive(Clone, Copy)]
 pub struct CallData {
     /// The number of the call.
@@ -42,17 +42,17 @@ pub struct Regs {
     pub scratch: [u32; 16],
 }
 
-/// Where an instruction leads.
+/// The next step after an instruction.
 #[derive(Clone, Copy)]
 pub enum Effect {
     /// The program ends with this result.
     End(u32),
-    /// The program goes on after this many instructions.
+    /// The program skips this many instructions.
     Skip(u32),
 }
 
 impl Regs {
-    /// All zero, as a program finds them.
+    /// Returns registers that are all zero, as at the start of a program.
     pub fn new() -> Self
         ensures all_zero { result ≡ start_regs }
     {

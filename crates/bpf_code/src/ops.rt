@@ -1,4 +1,4 @@
-// What instructions can do: the operations, tests and operands of classic BPF.
+// Defines the operations, tests and operands of classic BPF.
 /// A register: the accumulator A or the index register X.
 #[derive(Clone, Copy)]
 pub enum Reg {
@@ -36,14 +36,14 @@ pub enum Test {
     Set,
 }
 
-/// What a program ends with: the instruction's number k, or A.
+/// The result of a program: the instruction's number k, or A.
 #[derive(Clone, Copy)]
 pub enum Source {
     Number,
     A,
 }
 
-/// What an instruction does.
+/// The operation of an instruction.
 #[derive(Clone, Copy)]
 pub enum Op {
     /// A becomes the word of the call's data at offset k.
@@ -56,7 +56,7 @@ pub enum Op {
     LoadScratch(Reg),
     /// Scratch word k becomes the register.
     Store(Reg),
-    /// A becomes what the operation makes of A and the operand.
+    /// A becomes the result of the operation on A and the operand.
     Alu(AluOp, Operand),
     /// A becomes 0 - A.
     Neg,
@@ -64,9 +64,9 @@ pub enum Op {
     MoveToX,
     /// A becomes X.
     MoveToA,
-    /// k instructions are skipped.
+    /// The program skips k instructions.
     Jump,
-    /// jt instructions are skipped where the test holds, else jf.
+    /// The program skips jt instructions if the test holds, and jf otherwise.
     JumpIf(Test, Operand),
     /// The program ends.
     Return(Source),

@@ -17,14 +17,14 @@ use std::alloc::{AllocError, Global};
 use std::marker::Model;
 use thiserror::Error;
 
-/// What is wrong with an instruction.
+/// A fault of an instruction.
 #[derive(Clone, Copy)]
 pub enum Fault {
     /// The code is not in the table.
     Opcode,
     /// The offset of a load is no word of the call's data.
     Load,
-    /// There is no such scratch word.
+    /// The number of a scratch word is 16 or more.
     Scratch,
     /// A shift by 32 or more.
     Shift,
@@ -67,7 +67,7 @@ pub enum ProgramError {
     /// The last instruction does not end the program.
     #[error("the last instruction does not end the program")]
     NoReturn,
-    /// Some path reaches this load and does not store its scratch word before.
+    /// Some path reaches this load without a store of its scratch word.
     #[error("instruction {0}: the scratch word may not be stored")]
     Unstored(u32),
     /// Memory ran out.
@@ -86,7 +86,7 @@ impl From<AllocError> for ProgramError {
 }
 
 impl Fault {
-    /// The refusal for this fault of the instruction at a place.
+    /// Returns the refusal for this fault of the instruction at a place.
     pub fn at(self, place: u32) -> ProgramError
         ensures of_the_fault { result ≡ refusal_of self place }
     {
@@ -101,8 +101,8 @@ impl Fault {
     }
 }
 
-/// A program that seccomp(2) accepts: one to 4,096 instructions without a fault, the last of which ends it, and on
-/// no path a load of a scratch word that is not stored before.
+/// A program that seccomp(2) accepts. It has one to 4,096 instructions without a fault, and the last one ends it. Every path
+/// stores a scratch word before it loads that word.
 #[derive(Drop)]
 pub struct Program {
     insns: Vec<Insn>,
@@ -155,19 +155,19 @@ fn check_insns(alloc: Global, insns: &[Insn]) -> Result<(), ProgramError>
 }
 
 impl Program {
-    /// Reads the program of some bytes, with the checks of seccomp(2), or gives the first refusal.
+    /// Reads the program of some bytes, with the checks of seccomp(2), or returns the first refusal.
     ///
-    /// Each instruction is a `struct sock_filter`, little endian. Unless memory runs out, the answer is the program
-    /// exactly if the bytes are one, and each refusal exactly if it is the first.
+    /// Each instruction is a `struct sock_filter`, little endian. Unless memory runs out, it returns a program exactly if the
+    /// bytes are that program, and a refusal exactly if that refusal is the first.
     pub fn read(alloc: Global, bytes: &[u8]) -> Result<Program, ProgramError>
         ensures accepts { IfOk result (Accepts bytes.now) }
         ensures refuses { IfErr result (UnlessMemory (Refuses bytes.now)) }
 
-        // And each answer comes if it must, unless memory runs out.
+        // It returns each answer whenever it must, unless memory runs out.
         ensures whole_program { (program : List Insn) → Accepts bytes.now program → IsOrMemory result (Ok program) }
         ensures first_refusal { (error : ProgramError) → Refuses bytes.now error → IsOrMemory result (Err error) }
 
-        // The same by the function.
+        // The function `program_of` says the same.
         ensures program_of { MatchResult result
             (λ program. program_of bytes.now ≡ Some program)
             (UnlessMemory (λ error. program_of bytes.now ≡ None)) }
@@ -178,7 +178,7 @@ impl Program {
         Ok(Program { insns })
     }
 
-    /// The bytes of its instructions, which are read back as this program.
+    /// Returns the bytes of the instructions, which are read back as this program.
     pub fn bytes(&self, alloc: Global) -> Result<Vec<u8>, AllocError>
         ensures of_the_instructions { IfOk result (λ bytes. bytes.items ≡ bytes_of self.now) }
         ensures read_back { IfOk result (λ bytes. Accepts bytes.items self.now) }
@@ -186,7 +186,7 @@ impl Program {
         bytes_from_insns(alloc, &self.insns)
     }
 
-    /// The program of these instructions, whose bytes are accepted.
+    /// Makes the program of these instructions, whose bytes are accepted.
     pub fn made(insns: Vec<Insn>) -> Self
         requires { IsProgram insns.items }
         ensures of_the_instructions { result ≡ insns.items }
@@ -194,7 +194,7 @@ impl Program {
         Program { insns }
     }
 
-    /// The instructions, whose bytes are accepted.
+    /// Returns the instructions, whose bytes are accepted.
     pub fn insns(&self) -> &[Insn]
         ensures insns { result.now ≡ self.now }
         ensures program { IsProgram self.now }
@@ -202,7 +202,7 @@ impl Program {
         &self.insns
     }
 
-    /// An equal program.
+    /// Returns an equal program.
     pub fn copy(&self) -> Result<Program, AllocError>
         ensures same { IfOk result (λ program. program ≡ self.now) }
     {

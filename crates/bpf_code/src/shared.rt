@@ -1,4 +1,4 @@
-// Holds a program once for all processes that have it; it is dropped with the last of them.
+// Holds a program once for all processes that have it, and drops it with the last of them.
 ghost use Rattle.std.specs.Prelude.{◌≡◌, IfOk, length};
 ghost use Rattle.bpf_code.specs.Meaning.{Answers};
 
@@ -9,7 +9,7 @@ use std::alloc::{AllocError, Global};
 use std::marker::Model;
 use std::rc::Rc;
 
-/// A program, which contracts see, and which is shared by all that have it.
+/// A program that several owners share. Contracts see the program.
 #[derive(Drop)]
 pub(crate) struct SharedProgram {
     program: Rc<Program>,
@@ -25,7 +25,7 @@ impl Model for SharedProgram {
 }
 
 impl SharedProgram {
-    /// The program, with nobody else who has it.
+    /// Holds a program for one owner.
     pub fn new(alloc: Global, program: Program) -> Result<Self, AllocError>
         ensures of_the_program { IfOk result (λ shared. shared ≡ program) }
     {
@@ -35,7 +35,7 @@ impl SharedProgram {
         }
     }
 
-    /// The same program, for one more who has it.
+    /// Returns the same program for one more owner.
     pub fn share(&self) -> Result<Self, AllocError>
         ensures same { IfOk result (λ shared. shared ≡ self.now) }
     {
@@ -44,14 +44,14 @@ impl SharedProgram {
         })
     }
 
-    /// Returns how many instructions it has.
+    /// Returns how many instructions the program has.
     pub fn len(&self) -> usize
         ensures counts { result ≡ length self.now }
     {
         self.program.insns().len()
     }
 
-    /// Returns its answer for the data of a call.
+    /// Returns the answer of the program for the data of a call.
     pub fn run(&self, input: &CallData) -> u32
         ensures answers { Answers self.now input.now result }
     {

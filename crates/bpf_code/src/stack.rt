@@ -1,6 +1,6 @@
-// Stacks of programs: all that a process has installed.
+// Defines a stack of programs: all programs that a process has installed.
 //
-// A call is put to every program (`interpreter`), and one answer decides (`decision`). Equal stacks share their programs (`shared`).
+// Each program answers for a call (`interpreter`), and one answer decides (`decision`). Equal stacks share programs (`shared`).
 ghost use Rattle.std.specs.Prelude.{◌≡◌, ◌+◌, ◌≤◌, ◌<◌, ◌↔◌, [], ◌∷◌, ◌++◌, length, IfOk, OnOk, OnErr};
 ghost use Rattle.linux_numbers.specs.Limits.{max_insns_per_path};
 ghost use Rattle.bpf_code.specs.Stack.{room_of, answers_of, deciding, pushed, AnswerEach, Decides, decision_on};
@@ -17,7 +17,7 @@ use thiserror::Error;
 /// Why a program is not pushed.
 #[derive(Clone, Copy, Debug, PartialEq, Eq, Error)]
 pub enum PushError {
-    /// The programs would take more than 32,768 instructions, where each earlier one takes 4 more.
+    /// The programs would take more than 32,768 instructions. Each earlier program takes 4 more than it has.
     #[error("the programs are too long together")]
     TooLong,
     /// Memory ran out.
@@ -25,7 +25,7 @@ pub enum PushError {
     Memory,
 }
 
-// What a program takes beside its instructions.
+// The room that a program takes beside its instructions.
 const PROGRAM_ROOM: usize = 4;
 
 /// The programs of a process, the oldest first.
@@ -46,7 +46,7 @@ impl Model for Stack {
     ghost invariant = { λ s. room_of s.programs.items ≤ 32772 };
 }
 
-// The room that the programs take.
+// Returns the room that the programs take.
 fn room(programs: &[SharedProgram]) -> usize
     requires { room_of programs.now ≤ 32772 }
     ensures { result ≡ room_of programs.now }
@@ -58,14 +58,14 @@ fn room(programs: &[SharedProgram]) -> usize
     room
 }
 
-// The answer that decides once a newer one is there.
+// Returns the deciding answer after a newer one.
 fn with_newer(strongest: Option<u32>, newest: u32) -> u32
     ensures { result ≡ pushed strongest newest }
 {
     strongest.map_or(newest, |older| stronger_answer(older, newest))
 }
 
-// The answer that decides.
+// Returns the deciding answer.
 fn deciding_answer(programs: &[SharedProgram], input: &CallData) -> Option<u32>
     ensures deciding { result ≡ deciding (answers_of programs.now input.now) }
     ensures each { AnswerEach programs.now input.now (answers_of programs.now input.now) }
@@ -77,7 +77,7 @@ fn deciding_answer(programs: &[SharedProgram], input: &CallData) -> Option<u32>
     strongest
 }
 
-// The same programs, for one more who has them.
+// Returns the same programs for one more owner.
 fn shares(alloc: Global, programs: &[SharedProgram]) -> Result<Vec<SharedProgram>, AllocError>
     ensures { IfOk result (λ shares. shares.items ≡ programs.now) }
 {
@@ -89,7 +89,7 @@ fn shares(alloc: Global, programs: &[SharedProgram]) -> Result<Vec<SharedProgram
 }
 
 impl Stack {
-    /// A stack with no programs.
+    /// Makes a stack without programs.
     pub fn new(alloc: Global) -> Self
         ensures empty { result ≡ [] }
     {
@@ -98,7 +98,7 @@ impl Stack {
         }
     }
 
-    /// An equal stack, which shares its programs with this one.
+    /// Returns an equal stack, which shares its programs with this one.
     pub fn copy(&self) -> Result<Stack, AllocError>
         ensures same { IfOk result (λ stack. stack ≡ self.now) }
     {
@@ -123,8 +123,8 @@ impl Stack {
         }
     }
 
-    /// Returns the decision of the programs about a call. All of them answer, and the least action decides; of
-    /// several answers with that action, the newest. Nothing is allocated.
+    /// Returns the decision of the programs about a call. All programs answer, and the least action decides. If several
+    /// answers have that action, the newest decides. Nothing is allocated.
     pub fn decide(&self, input: &CallData) -> Decision
         ensures decides { Decides self.now input.now result }
         ensures decision { result ≡ decision_on self.now input.now }

@@ -1,7 +1,7 @@
-// The first load of a scratch word that some path does not store before.
+// Finds the first load of a scratch word that some path does not store before.
 //
-// Jumps lead forward only, so one pass is enough: at each place it has the words that some path to it leaves
-// unstored, and hands them to the places that follow.
+// Jumps only lead forward, so one pass is enough. At each place it knows the words that some path to this place leaves
+// unstored, and it hands them to the places that follow.
 ghost use Rattle.std.specs.Prelude.{◌≡◌, ◌+◌, ◌<◌, ◌≤◌, ◌↔◌, ℕ, length, replicate, true, None, IsTrue, IfOk, MatchOption};
 ghost use Rattle.bpf_code.specs.Ops.{op_of};
 ghost use Rattle.bpf_code.specs.Accepted.{AreFine, fault_of, is_scratch_load, NoUnstored, IsFirstUnstored};
@@ -33,7 +33,7 @@ fn without(words: Words, word: u32) -> Words
     words & !(1 << word)
 }
 
-// Gives a place these words too, where there is such a place.
+// Adds these words to the marks of a place, if the place exists.
 fn join(marks: &mut [Words], at: usize, words: Words)
     ensures { marks.new ≡ joined marks.old at words }
 {
@@ -53,7 +53,7 @@ fn loads(insn: Insn, words: Words) -> bool
     }
 }
 
-// The words that are still unstored after an instruction.
+// Returns the words that are still unstored after an instruction.
 fn left_unstored(insn: Insn, words: Words) -> Words
     requires { (left : ℕ) × (fault_of insn left ≡ None) }
     ensures { result ≡ unstored_behind (op_of insn.code) insn words }
@@ -64,7 +64,7 @@ fn left_unstored(insn: Insn, words: Words) -> Words
     }
 }
 
-// Gives each place that follows an instruction these words too.
+// Adds these words to the marks of each place that follows an instruction.
 fn pass_on(insn: Insn, at: usize, words: Words, marks: &mut [Words])
     requires { at < 4096 }
     ensures { marks.new ≡ passed_on (op_of insn.code) insn at words marks.old }
@@ -79,7 +79,7 @@ fn pass_on(insn: Insn, at: usize, words: Words, marks: &mut [Words])
     }
 }
 
-// The place of the first load of a scratch word that some path does not store before, by marks that are empty.
+// Returns the place of the first load of a scratch word that some path does not store before. The marks begin empty.
 fn first_marked(insns: &[Insn], marks: &mut [Words]) -> Option<usize>
     requires fine { AreFine insns.now }
     requires short { length insns.now ≤ 4096 }
@@ -97,7 +97,7 @@ fn first_marked(insns: &[Insn], marks: &mut [Words]) -> Option<usize>
     None
 }
 
-/// The place of the first load of a scratch word that some path does not store before.
+/// Returns the place of the first load of a scratch word that some path does not store before.
 pub fn first_unstored(alloc: Global, insns: &[Insn]) -> Result<Option<usize>, AllocError>
     requires fine { AreFine insns.now }
     requires short { length insns.now ≤ 4096 }

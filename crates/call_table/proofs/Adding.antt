@@ -1,4 +1,4 @@
--- What one more line does to the lists of a table.
+-- One more line adds to the lists of a table.
 use Rattle.std.proofs.Common.{◌≡◌, ◌≤◌, ℕ, Bool, false, List, [], ◌++◌, length, length-append, Option, None, Some, Result, Ok, Err, refl}
 use Rattle.std.proofs.Common.{sym, ap, subst, arith}
 use Rattle.std.specs.Prelude.{OnOk, IfSome, ◌==◌}
@@ -20,7 +20,7 @@ no_lines most = record {
   few = omega arith;
 }
 
--- a table is sound where its parts are
+-- a table is sound if its parts are
 every_longer : (old new more tail : List CallLine) → new ≡ old ++ more → length (old ++ tail) ≤ length (new ++ tail)
 every_longer old new more tail e =
     let long = length-append old more in
@@ -28,7 +28,7 @@ every_longer old new more tail e =
     let after = length-append new tail in
     omega (arith, ap length e)
 
--- a call more of the native ABI, while there is no other, leaves the groups sound
+-- one more call of the native ABI leaves the groups sound while there is no other ABI
 pub native_sound : (table : Table) (cause : Option CallsCause) (at : ℕ) (more new : List CallLine) (result : Result (Unit {0}) CallsError)
     → IsTable table → table.second ≡ None
     → Steps cause at (table.calls ++ more) new result → OnOk result (AreLines most_calls new) → OnOk result (AreOf 0 new)
@@ -46,7 +46,7 @@ native_sound table cause at more new (Ok done) h alone steps sound own = record 
 }
 native_sound table cause at more new (Err error) h alone steps sound own = tt
 
--- and so does a call more of the second
+-- one more call of the second ABI leaves the groups sound
 pub second_sound : (table : Table) (second : Abi) (cause : Option CallsCause) (at : ℕ) (more new : List CallLine)
     (result : Result (Unit {0}) CallsError) → IsTable table → table.second ≡ Some second
     → Steps cause at (second.calls ++ more) new result → OnOk result (AreLines most_calls new)
@@ -73,7 +73,7 @@ second_sound table second cause at more new (Ok done) h is steps sound caps own 
         omega (arith, e, ap length steps.1)
 second_sound table second cause at more new (Err error) h is steps sound caps own = tt
 
--- a second ABI without calls
+-- a second ABI begins without calls
 pub opens_sound : (table : Table) (name : List ℕ) (arch : ℕ) (calls : List CallLine) → calls ≡ [] → IsTable table → table.second ≡ None
     → bytes_eq name table.name ≡ false → arch == table.arch ≡ false
     → IsTable (record { name = table.name; arch = table.arch; calls = table.calls; families = table.families; groups = table.groups; second = Some (record { name = name; arch = arch; calls = calls }) })
@@ -88,7 +88,7 @@ opens_sound table name arch calls none h alone other_name other_arch = subst (λ
       second = record { calls = no_lines most_calls; own = λ k d lt. absurd (omega arith); other_name = other_name; other_arch = other_arch; same_caps = λ k d lt. absurd (omega arith) };
     })
 
--- before the first line
+-- the table before the first line
 pub begins : (two : Bool) (name : List ℕ) (arch : ℕ) (table : Table)
     → table ≡ record { name = name; arch = arch; calls = []; families = []; groups = []; second = None }
     → HasRead two (record { name = name; arch = arch }) [] table

@@ -1,4 +1,4 @@
--- The calls of all ABIs, one after the other: those of the native ABI, then those of the other.
+-- The calls of all ABIs: the calls of the native ABI, followed by the calls of the other.
 use Rattle.std.proofs.Common.{◌≡◌, ◌<◌, ◌≤◌, ℕ, zero, suc, List, [], ◌∷◌, ◌++◌, ◌-◌, Option, Some, None, length, refl, ap, ◌∙◌, arith}
 use Rattle.std.specs.Prelude.{slice_get}
 use Rattle.std.specs.Option.{option_map_or, option_to_list}
@@ -19,7 +19,7 @@ at_back [] back at h = let n : at ≡ at - 0 = omega arith in ap (slice_get back
 at_back (x ∷ front) back zero h = absurd (omega arith)
 at_back (x ∷ front) back (suc at) h = let n : at - length front ≡ suc at - suc (length front) = omega arith in at_back front back at (omega arith) ∙ ap (slice_get back) n
 
--- a call of each ABI
+-- a position finds a call of one of the ABIs
 module _ (table : Table) where
   pub front_call : (at : ℕ) → at < length table.calls → slice_get (every_call table) at ≡ slice_get table.calls at
   front_call at h = at_front table.calls (second_calls table.second) at h

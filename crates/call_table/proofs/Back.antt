@@ -38,11 +38,11 @@ other_name : (table : Table) (o : Option Abi) → table.second ≡ o → IfSome 
 other_name table None e facts = facts
 other_name table (Some second) e facts = facts.other_name
 
--- the ABIs of a table have names of their own
+-- the ABIs of a table have different names
 pub has_other_name : (table : Table) → IsTable table → HasOtherName table
 has_other_name table is = other_name table table.second refl is.second
 
--- the ABI that a word speaks of is one of the table
+-- the table has the ABI of a word
 there_by : (o : Option Abi) (name : List ℕ) → option_map_or (λ found. bytes_eq name found.name) o false ≡ true → IsSome o
 there_by None name e = absurd (false≢true e)
 there_by (Some found) name e = refl

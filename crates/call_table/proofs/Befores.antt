@@ -1,4 +1,4 @@
--- Each line with those before it, with one more.
+-- Each line with the lines before it, after one more line.
 use Rattle.std.proofs.Common.{◌≡◌, Option, List, [], ◌∷◌, ◌++◌, sym, ap, ◌∙◌, append_assoc, append-nil}
 use Rattle.std.specs.List.{filter_map}
 use Rattle.std.proofs.lemmas.List.Elements.{filter_map-append}
@@ -12,7 +12,7 @@ with_before-append before (first ∷ xs) more =
     (with_before-append (before ++ first ∷ []) xs more
     ∙ ap (λ b. with_before (before ++ first ∷ []) xs ++ with_before b more) (append_assoc before (first ∷ []) xs))
 
--- what each gives, with more
+-- each element gives its values, with more elements
 pub given-append : {X Y : Type 0} (f : List X × X → Option Y) (xs more : List X)
     → filter_map f (with_before [] (xs ++ more)) ≡ filter_map f (with_before [] xs) ++ filter_map f (with_before xs more)
 given-append f xs more = ap (filter_map f) (with_before-append [] xs more) ∙ filter_map-append f (with_before [] xs) (with_before xs more)

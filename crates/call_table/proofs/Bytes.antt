@@ -1,4 +1,4 @@
--- Bytes that are text, and bytes that are not.
+-- Bytes may be text or no text.
 use Rattle.std.proofs.Common.{◌≡◌, ℕ, Bool, true, false, cond, Some, None, Result, Err, List, refl, sym, ap, ◌∙◌, subst}
 use Rattle.std.proofs.lemmas.Option.{none-some, same_Some}
 use Rattle.text_forms.specs.line_text.Lines.{Line, is_text, text_of, lines_of}

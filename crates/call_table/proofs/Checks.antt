@@ -1,4 +1,4 @@
--- What the checks of a line answer.
+-- The checks of a line give these answers.
 use Rattle.std.proofs.Common.{◌≡◌, ℕ, ◌<◌, ◌≤◌, false, List, [], ◌∷◌, ◌++◌, length, Option, Some, None, Ok, Err, is_none, refl, sym, ap}
 use Rattle.std.proofs.Common.{◌∙◌, subst, arith, length-append}
 use Rattle.std.specs.Option.{option_map}
@@ -26,7 +26,7 @@ pub cap_unread : (written : Option (Bor (List ℕ))) (word : Bor (List ℕ)) →
 cap_unread written word is read = subst (λ (w : Option (Bor (List ℕ))). ReadsCap (option_map (λ x. x.now) w) (Err Cap)) (sym is)
     (ap is_none (sym read), refl)
 
--- groups with a group line more
+-- the groups with one more group line
 pub groups_more : (calls : List CallLine) (groups : List GroupLine) (name : List ℕ) (words : List (List ℕ)) (members : List ℕ)
     (new : List GroupLine) → AreGroups (length calls) groups → list_any (has_group name) groups ≡ false
     → members ≡ members_of calls groups words

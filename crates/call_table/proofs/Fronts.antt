@@ -1,4 +1,4 @@
--- What stands behind `@` at the front of a word.
+-- The text after `@` at the front of a word.
 use Rattle.std.proofs.Common.{◌≡◌, ◌≢◌, ℕ, true, false, cond, eqb, Option, Some, None, List, [], ◌∷◌, refl, sym, ap, arith}
 use Rattle.std.specs.Option.{option_map, MatchOption}
 use Rattle.std.proofs.lemmas.Bool.Decides.{nat_tests}

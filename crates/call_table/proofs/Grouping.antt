@@ -1,4 +1,4 @@
--- Groups with one more, and members of groups.
+-- The groups have one more group, and groups have members.
 use Rattle.std.proofs.Common.{◌≡◌, ℕ, zero, suc, ◌+◌, ◌<◌, ◌≤◌, Bool, true, false, cond, List, [], ◌∷◌, ◌++◌, length, map, filter, Some}
 use Rattle.std.proofs.Common.{None, ⊎_elim, ap, ◌∙◌, subst, arith}
 use Rattle.std.specs.Prelude.{find}
@@ -43,7 +43,7 @@ groups_push count groups group h new_name members = record {
   members = All-push (HasMembers count) groups group h.members members;
 }
 
--- more calls leave the groups
+-- more calls leave the groups sound
 pub groups_wider : (count more : ℕ) (groups : List GroupLine) → count ≤ more → AreGroups count groups → AreGroups more groups
 groups_wider count more groups le h = record {
   by_name = h.by_name;

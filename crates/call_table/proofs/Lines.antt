@@ -11,7 +11,7 @@ use Rattle.std.proofs.lemmas.Slice.Eq.{bytes_eq-Decides}
 use Rattle.call_table.specs.call_names.Known.{known_calls, known_call}
 use Rattle.call_table.specs.declared.call_names.known.KnownCall.{KnownCall}
 
--- the test that no name stands again behind itself
+-- tests that no name occurs again after itself
 is_distinct : List (List ℕ) → Bool
 is_distinct [] = true
 is_distinct (name ∷ names) = list_all (λ other. not (bytes_eq name other)) names && is_distinct names

@@ -1,4 +1,4 @@
--- Marks on calls, and the positions that are marked.
+-- Calls have marks, and some positions are marked.
 use Rattle.std.proofs.Common.{◌≡◌, ℕ, ◌+◌, ◌<◌, Bool, true, false, cond, List, [], ◌∷◌, length, map, filter, get_or, Option, Some, refl}
 use Rattle.std.proofs.Common.{sym, ap, ◌∙◌, arith}
 use Rattle.std.specs.Prelude.{◌||◌, ◌==◌, slice_set}
@@ -28,7 +28,7 @@ marks_call calls word place old many found call same = record {
         ≡ (get_or old at false || (place == at))
     written at d lt = let low : at < length old = omega arith in grind (arith, common_steps)
 
--- marks that begin with none are the test of each call
+-- marks that begin empty are the test of each call
 marks_are : (calls : List CallLine) (test : ℕ × CallLine → Bool) (old new : List Bool) → ((at : ℕ) → get_or old at false ≡ false)
     → Marks calls test old new → new ≡ map test (enumerate_from 0 calls)
 marks_are [] test old new none h = empty new h.as_many

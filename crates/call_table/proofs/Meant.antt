@@ -1,4 +1,4 @@
--- What is read is what the lines say.
+-- The table follows from the lines.
 use Rattle.std.proofs.Common.{◌≡◌, ℕ, Bool, true, false, cond, Option, Some, None, Ok, Err, List, [], ◌∷◌, ◌++◌, refl, sym, ap, ◌∙◌, subst}
 use Rattle.std.proofs.Common.{append-nil, append_assoc}
 use Rattle.std.specs.Prelude.{slice_get, find, not}
@@ -25,7 +25,7 @@ use Rattle.call_table.proofs.Befores.{given-append}
 use Rattle.call_table.proofs.Places.{missing_any, fails}
 use Rattle.call_table.proofs.Standing.{is_group}
 
--- a line more
+-- one more line
 group_step : (done : List Line) (groups : List GroupLine) (line : Line) (kind : Kind) → line_kind line ≡ kind → ReadsGroups done groups
     → ReadsGroups (done ++ line ∷ []) (groups ++ cons_option (group_of (every_call_of done) groups kind) [])
 group_step done groups line (abi name digits) e h = subst (ReadsGroups (done ++ line ∷ [])) (sym (append-nil groups)) (other_line done groups line h (λ name words is. let differ = sym e ∙ is in cc))

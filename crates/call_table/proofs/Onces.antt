@@ -1,4 +1,4 @@
--- Lines whose names and numbers stand once, with one more.
+-- The names and numbers of lines occur once, also after one more line.
 use Rattle.std.proofs.Common.{◌≡◌, ℕ, true, false, List, [], ◌∷◌, ◌++◌, Some, ⊎_elim, refl, sym, ap, ◌∙◌, subst, arith}
 use Rattle.std.specs.Prelude.{◌==◌}
 use Rattle.std.specs.List.{list_any}

@@ -1,4 +1,4 @@
--- The first place of a list that passes a test.
+-- The first place of a list at which a test passes.
 use Rattle.std.proofs.Common.{subst, ◌≡◌, ℕ, zero, suc, ◌+◌, ◌-◌, ◌<◌, ◌≤◌, Bool, true, false, cond, ltb, List, [], ◌∷◌, ◌++◌, length}
 use Rattle.std.proofs.Common.{get_or, Some, None, ◌⊎◌, ⊎_elim, inl, inr, refl, ap, ◌∙◌, arith, length-append}
 use Rattle.std.specs.Prelude.{◌||◌, find, slice_get}
@@ -71,7 +71,7 @@ some_place p (x ∷ xs) i e = by (list_any p (x ∷ xs)) refl
     by true h = h
     by false h = let none = nowhere_any p (x ∷ xs) h in cc
 
--- a place stays where more follows, and a first one is at the end
+-- a place stays if more elements follow, and an element at the end has the first place if no other passes
 pub place_stays : {X : Type 0} (p : X → Bool) (xs ys : List X) (i : ℕ) (d : X) → position p xs ≡ Some i → position p (xs ++ ys) ≡ Some i
 place_stays p xs ys i d e =
     let at = position-Some p xs i d e in
@@ -87,7 +87,7 @@ place_at_end p xs y none here =
     place_found p (xs ++ y ∷ []) (length xs) y (omega (arith, long))
     (λ k h. ap p (get_or_append_left xs (y ∷ []) y k h) ∙ fails p xs k y none h) (ap p (get_or_push xs y y (length xs) refl) ∙ here)
 
--- a place further on, where none is before
+-- a place is further on if no place precedes it
 pub place_behind : {X : Type 0} (p : X → Bool) (xs ys : List X) (j : ℕ) (d : X) → position p xs ≡ None → position p ys ≡ Some j
     → position p (xs ++ ys) ≡ Some (length xs + j)
 place_behind p xs ys j d none e =
@@ -110,7 +110,7 @@ pub place_nowhere_more : {X : Type 0} (p : X → Bool) (xs ys : List X) → posi
 place_nowhere_more p xs ys none further =
     nowhere_any p (xs ++ ys) (list_any-append p xs ys ∙ ap (λ b. b || list_any p ys) (any_nowhere p xs none) ∙ any_nowhere p ys further)
 
--- an element of a longer list
+-- an element of a longer list is in the list or at its end
 pub get_push_cases : {X : Type 0} (xs : List X) (y z : X) (i : ℕ) → slice_get (xs ++ y ∷ []) i ≡ Some z
     → (slice_get xs i ≡ Some z) ⊎ ((i ≡ length xs) × (y ≡ z))
 get_push_cases [] y z zero e = inr (refl, cc)
@@ -118,7 +118,7 @@ get_push_cases [] y z (suc i) e = cc
 get_push_cases (x ∷ xs) y z zero e = inl e
 get_push_cases (x ∷ xs) y z (suc i) e = ⊎_elim (λ h. inl h) (λ h. inr (ap suc h.0, h.1)) (get_push_cases xs y z i e)
 
--- an element that is found is one of the list
+-- a found element is in the list
 pub found_any : {X : Type 0} (p : X → Bool) (xs : List X) (x : X) → find p xs ≡ Some x → list_any p xs ≡ true
 found_any p [] x e = cc
 found_any {X} p (y ∷ xs) x e = by (p y) (found_any p xs x) e

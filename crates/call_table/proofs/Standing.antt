@@ -1,4 +1,4 @@
--- Which calls the words of a group stand for, as a relation.
+-- The words of a group name calls, as a relation.
 use Rattle.std.proofs.Common.{◌≡◌, ℕ, zero, suc, ◌+◌, ◌<◌, Bool, true, false, cond, List, [], ◌∷◌, length, map, filter, get_or, Option}
 use Rattle.std.proofs.Common.{Some, None, ◌⊎◌, ⊎_elim, inl, inr, refl, sym, ap, ◌∙◌, subst, arith}
 use Rattle.std.specs.Prelude.{slice_get, ◌==◌}
@@ -28,7 +28,7 @@ at_front xs x = (0, omega arith, refl)
 further : {X : Type 0} (y : X) (xs : List X) (x : X) → Contains xs x → Contains (y ∷ xs) x
 further y xs x h = let low : h.0 < length xs = h.1 in (suc h.0, omega arith, h.2)
 
--- a call that is picked from a number on
+-- a call is picked, with the count beginning at a number
 pub record Picked (n : ℕ) (calls : List CallLine) (test : ℕ × CallLine → Bool) (position : ℕ) : Type 0 where
   pub place : ℕ
   pub call : CallLine
@@ -90,7 +90,7 @@ picked_in n (first ∷ calls) test (suc place) call there passes =
     by true g = further n (map (λ (c : ℕ × CallLine). c.0) (filter test (enumerate_from (n + 1) calls))) (n + suc place) g
     by false g = g
 
--- a word that stands for a call, as a test and as a relation
+-- a word names a call, as a test and as a relation
 member_test : (position : ℕ) (group : GroupLine) → has_member position group ≡ true → Contains group.members position
 member_test position group h =
     let some = Any-from_list_any (λ member. member == position) group.members h in

@@ -1,4 +1,4 @@
--- What one more line does to what has been read.
+-- One more line adds to the lines that have been read.
 use Rattle.std.proofs.Common.{◌≡◌, ℕ, Bool, cond, Option, Some, None, Err, List, [], ◌∷◌, ◌++◌, length, refl, sym, ap, ◌∙◌, suc, ◌+◌, map}
 use Rattle.std.proofs.Common.{◌<◌, get_or, take, drop}
 use Rattle.std.proofs.Math.Seq.{drop-cons}
@@ -28,7 +28,7 @@ groups_behind-append : (groups : List GroupLine) (places more : List (List Line 
 groups_behind-append groups [] more = refl
 groups_behind-append groups (place ∷ places) more = groups_behind-append (with_group groups place) places more
 
--- the groups of some lines and one more
+-- the groups of some lines and one more line
 pub groups_more : (lines : List Line) (line : Line) → groups_of (lines ++ line ∷ [])
     ≡ groups_of lines ++ cons_option (group_of (every_call_of lines) (groups_of lines) (line_kind line)) []
 groups_more lines line = ap (groups_behind []) (with_before-append [] lines (line ∷ []))
@@ -38,7 +38,7 @@ behind_option : {X : Type 0} (o : Option X) (xs ys : List X) → cons_option o (
 behind_option None xs ys = refl
 behind_option (Some x) xs ys = refl
 
--- a line more adds to the native ABI as long as no second is opened
+-- one more line adds to the native ABI while no second ABI is open
 native_more : (lines : List Line) (line : Line) → calls_of 0 (native_lines (lines ++ line ∷ []))
     ≡ calls_of 0 (native_lines lines) ++ cons_option (native_with (second_of lines) (line_kind line)) []
 native_more [] line = by (line_kind line) refl
@@ -64,7 +64,7 @@ native_more (first ∷ lines) line = by (line_kind first) (ap (cons_option (call
     by (group name members) goes_on = goes_on
     by malformed goes_on = goes_on
 
--- and else to the second
+-- one more line adds to the second ABI if it is open
 second_more : (lines : List Line) (line : Line) → second_of (lines ++ line ∷ []) ≡ second_with (second_of lines) (line_kind line)
 second_more [] line = by (line_kind line)
   where
@@ -100,7 +100,7 @@ no_more : (faults : List CallsError) (o : Option CallsError) → slice_get fault
 no_more [] o e f = ap (λ o. slice_get (cons_option o []) 0) f
 no_more (fault ∷ faults) o e f = e
 
--- the fault of a line, by the table of what was read
+-- the fault of a line, by the table of the lines before it
 fault_known : (two : Bool) (head : Head) (lines : List Line) (line : Line) (table : Table) (cause : Option CallsCause)
     → HasRead two head lines table → cause_of two table (line_kind line) ≡ cause
     → fault_at two head (lines, line) ≡ option_map (at_line line.number) cause
@@ -148,7 +148,7 @@ pub split_at : {X : Type 0} (xs : List X) (i : ℕ) (x : X) → i < length xs �
 split_at xs i x lt is = sym (take-append-drop i xs) ∙ ap (λ ls. take i xs ++ ls)
     (drop-cons xs i x lt ∙ ap (λ l. l ∷ drop (suc i) xs) (sym is))
 
--- what a list is made into, at one of its places
+-- the image of a list, at one of its places
 pub split_made : {X Y : Type 0} (f : X → Y) (xs : List X) (i : ℕ) (d : X) → i < length xs
     → map f xs ≡ map f (take i xs) ++ f (get_or xs i d) ∷ map f (drop (suc i) xs)
 split_made f xs i d lt =

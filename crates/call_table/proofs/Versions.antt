@@ -1,4 +1,4 @@
--- A text of the first version, behind a line `version 2`.
+-- A text of the first version may follow a line `version 2`.
 use Rattle.std.proofs.Common.{◌≡◌, ℕ, ◌+◌, Bool, true, false, cond, Option, Some, None, Ok, Err, List, [], ◌∷◌, ◌++◌, map, refl, sym, ap}
 use Rattle.std.proofs.Common.{◌∙◌}
 use Rattle.std.specs.Prelude.{slice_get, unwrap_or, not, codes, ◌==◌}
@@ -24,7 +24,7 @@ use Rattle.call_table.specs.Reading.{second_of, every_call_of, with_group, group
 use Rattle.call_table.specs.Reading.{unless_fault, table_of_rest, with_arch, with_abi, table_from, is_version, table_of_lines, table_of}
 use Rattle.call_table.specs.Reading.{begins_alone, is_first_version, with_version}
 
--- the same line, one further down
+-- the same line, with the next number
 abbrev next : Line → Line
 next line = record { number = line.number + 1; text = line.text }
 
@@ -99,7 +99,7 @@ table_alike head lines =
     let second = second_alike lines in
     λ i. record { name = head.name; arch = head.arch; calls = calls i; families = families i; groups = groups i; second = second i }
 
--- a line without a fault where one ABI is announced has none where two are
+-- a line without a fault in a file of one ABI has no fault in a file of two
 no_abi_fault : (table : Table) (name digits : List ℕ) → abi_fault false table name digits ≡ None → abi_fault true table name digits ≡ None
 unfolding abi_fault
 no_abi_fault table name digits e = cc
@@ -182,7 +182,7 @@ lines_alike (first ∷ rest) table alone e = by (is_version first) alone e
     by true alone e = cc
     by false alone e = read e
 
--- lines one further down
+-- the lines with the next numbers
 counted_alike : (n : ℕ) (texts : List (List ℕ)) → counted_from (n + 1) texts ≡ map next (counted_from n texts)
 counted_alike n [] = refl
 counted_alike n (text ∷ texts) = by (not (is_skipped text)) (counted_alike (n + 1) texts)

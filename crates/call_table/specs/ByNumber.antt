@@ -12,7 +12,7 @@ numbered_at place = record { number = place.1.number; position = place.0 }
 abbrev pub numbered_lines : List CallLine → List Numbered
 numbered_lines lines = map numbered_at (enumerate_from 0 lines)
 
--- each line once, the numbers ascending
+-- the order has each line once, and its numbers ascend
 pub record AscendsByNumber (lines : List CallLine) (order : List Numbered) : Type 0 where
   pub each_once : IsPermutation (numbered_lines lines) order
   pub ascending : IsStrictlyIncreasing (map (λ numbered. numbered.number) order)

@@ -1,4 +1,4 @@
--- The printed words of the causes.
+-- Each cause has a printed word.
 use Rattle.std.specs.Prelude.{ℕ, List, codes}
 use Rattle.call_table.specs.declared.causes.CallsCause.{CallsCause}
 use Rattle.call_table.specs.declared.causes.CallsCause.TheVariants.{Words, Number, Cap, Modelled, Duplicate, Member, TooMany}

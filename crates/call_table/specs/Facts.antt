@@ -1,4 +1,4 @@
--- What every table meets.
+-- Every table has these properties.
 use Rattle.std.specs.Prelude.{◌≡◌, ℕ, ◌==◌, ◌<◌, ◌≤◌, false, None, Some, List, length, slice_get, IfSome}
 use Rattle.std.specs.Str.{bytes_eq}
 use Rattle.std.specs.List.{All}
@@ -12,12 +12,12 @@ use Rattle.call_table.specs.declared.listed.CallLine.{CallLine}
 use Rattle.call_table.specs.declared.listed.GroupLine.{GroupLine}
 use Rattle.call_table.specs.declared.by_number.Numbered.{Numbered}
 
--- members are positions among so many calls, ascending, each once
+-- the members are positions among so many calls, ascending, each once
 pub record HasMembers (count : ℕ) (group : GroupLine) : Type 0 where
   pub below : All (λ position. position < count) group.members
   pub ascending : IsStrictlyIncreasing group.members
 
--- a group is what its name finds, and has members among so many calls
+-- the name of a group finds that group, and the group has members among so many calls
 pub record AreGroups (count : ℕ) (groups : List GroupLine) : Type 0 where
   pub by_name : (at : ℕ) (group : GroupLine) → slice_get groups at ≡ Some group → group_named group.name groups ≡ Some group
   pub members : All (HasMembers count) groups
@@ -28,15 +28,15 @@ pub record AreLines (most : ℕ) (lines : List CallLine) : Type 0 where
   pub in_range : All IsInRange lines
   pub few : length lines ≤ most
 
--- a call that both ABIs have asks for the same capability in both
+-- if both ABIs have a call, it needs the same capability in both
 abbrev pub HasCapAmong : List CallLine → CallLine → Type 0
 HasCapAmong others line = IfSome (named line.name others) (λ other. other.cap ≡ line.cap)
 
--- all are of the ABI of this position
+-- all lines belong to the ABI of this position
 abbrev pub AreOf : ℕ → List CallLine → Type 0
 AreOf place lines = All (λ line. line.abi ≡ place) lines
 
--- a second ABI beside the native one
+-- a second ABI follows the native one
 pub record IsSecond (table : Table) (second : Abi) : Type 0 where
   pub calls : AreLines most_calls second.calls
   pub own : AreOf 1 second.calls
@@ -44,7 +44,7 @@ pub record IsSecond (table : Table) (second : Abi) : Type 0 where
   pub other_arch : second.arch == table.arch ≡ false
   pub same_caps : All (HasCapAmong table.calls) second.calls
 
--- a table of some lines
+-- the table was made from some lines
 pub record IsTable (table : Table) : Type 0 where
   pub calls : AreLines most_calls table.calls
   pub native : AreOf 0 table.calls
@@ -54,12 +54,12 @@ pub record IsTable (table : Table) : Type 0 where
   pub few_groups : length table.groups ≤ most_groups
   pub second : IfSome table.second (IsSecond table)
 
--- a table that was read has the calls of every launch too
+-- a table that was read also has the calls of every launch
 pub record IsWhole (table : Table) : Type 0 where
   pub sound : IsTable table
   pub launches : missing_call table.calls ≡ None
 
--- such a table, kept with the order of its calls by number
+-- such a table is kept with the order of its calls by number
 pub record IsKept (table : Table) (order second_order : List Numbered) : Type 0 where
   pub whole : IsWhole table
   pub by_number : AscendsByNumber table.calls order

@@ -1,4 +1,4 @@
--- What may be wrong with a line after the first abi line, by the table of the lines before it.
+-- The faults of a line after the first abi line, by the table of the lines before it.
 use Rattle.std.specs.Prelude.{ℕ, ◌==◌, ◌&&◌, ◌||◌, not, nat_le, Bool, true, false, is_some, is_none, Option, Some, None, option_and_then}
 use Rattle.std.specs.Prelude.{List, [], ◌∷◌, length, find, codes}
 use Rattle.std.specs.List.{list_any, list_all}
@@ -24,11 +24,11 @@ most_families = 128
 abbrev pub most_groups : ℕ
 most_groups = 128
 
--- of several faults the first in the list decides
+-- the first fault in the list decides
 abbrev pub first_of : List (Bool × CallsCause) → Option CallsCause
 first_of faults = option_map (λ fault. fault.1) (find (λ fault. fault.0) faults)
 
--- a capability is written, and its name is none
+-- the line writes a capability whose name is unknown
 abbrev pub is_bad_cap : Option (List ℕ) → Bool
 is_bad_cap None = false
 is_bad_cap (Some word) = is_none (cap_of word)
@@ -43,12 +43,12 @@ is_same_cap (Some number) (Some other) = number == other
 abbrev pub has_other_cap : List CallLine → List ℕ → Option ℕ → Bool
 has_other_cap others name cap' = option_map_or (λ line. not (is_same_cap line.cap cap')) (named name others) false
 
--- an earlier line has the name, or the number
+-- an earlier line has the name or the number
 abbrev pub is_listed : List CallLine → Entry → Bool
 is_listed lines entry = list_any (has_name entry.name) lines || option_map_or (λ number. list_any (has_number number) lines)
     (number_of entry.digits) false
 
--- a call or a family, after others of the kind; another ABI gives a call of the name the same capability
+-- the fault of a call or a family, given the earlier lines of the kind; a call needs the same capability in both ABIs
 unfoldable pub entry_fault : List CallLine → List CallLine → ℕ → Bool → Entry → Option CallsCause
 entry_fault others lines most without_cap entry =
     first_of
@@ -56,7 +56,7 @@ entry_fault others lines most without_cap entry =
     (is_bad_cap entry.cap_word || has_other_cap others entry.name (option_and_then cap_of entry.cap_word), Cap) ∷
     (without_cap && is_some entry.cap_word, Modelled) ∷ (is_listed lines entry, Duplicate) ∷ (nat_le most (length lines), TooMany) ∷ [])
 
--- a group, after some calls and other groups
+-- the fault of a group, given some calls and other groups
 unfoldable pub group_fault : List CallLine → List GroupLine → List ℕ → List (List ℕ) → Option CallsCause
 group_fault calls groups name members =
     first_of
@@ -68,7 +68,7 @@ abbrev pub call_fault : Option Abi → List CallLine → Entry → Option CallsC
 call_fault None calls entry = entry_fault [] calls most_calls (is_known_call entry.name) entry
 call_fault (Some second) calls entry = entry_fault calls second.calls most_calls (is_known_call entry.name) entry
 
--- a further abi line: there is at most one, only where two ABIs are announced, and its name is no `native`
+-- the fault of a further abi line: there is at most one, only after `version 2`, and its name is not `native`
 unfoldable pub abi_fault : Bool → Table → List ℕ → List ℕ → Option CallsCause
 abi_fault two table name digits =
     first_of
@@ -76,7 +76,7 @@ abi_fault two table name digits =
     (is_none (arch_of digits), Number) ∷
     (bytes_eq name table.name || option_map_or (λ arch. arch == table.arch) (arch_of digits) false, Duplicate) ∷ [])
 
--- the cause of a line, after those that gave the table; a call that the kernel models by a rule of its own, or lacks, takes no capability
+-- the cause of a line, given the table of the lines before it; a call that the kernel models by its own rule, or lacks, has no capability
 abbrev pub cause_of : Bool → Table → Kind → Option CallsCause
 cause_of two table (abi name digits) = abi_fault two table name digits
 cause_of two table (call entry) = call_fault table.second table.calls entry

@@ -1,4 +1,4 @@
--- What a line of calls.txt is, by its words.
+-- A line of calls.txt has a kind, by its words.
 use Rattle.std.specs.Prelude.{ℕ, cond, List, [], ◌∷◌, codes, map, Option, Some, None}
 use Rattle.std.specs.Option.{option_map}
 use Rattle.std.specs.Str.{bytes_eq}
@@ -13,7 +13,7 @@ pub record Entry : Type 0 where
   pub digits : List ℕ
   pub cap_word : Option (List ℕ)
 
--- what a line is
+-- the kinds of a line
 pub data Kind : Type 0 where
   abi : (name digits : List ℕ) → Kind
   call : (entry : Entry) → Kind
@@ -47,7 +47,7 @@ abbrev pub named_group : List (List ℕ) → Option (List ℕ) → Kind
 named_group members None = malformed
 named_group members (Some name) = cond (is_name name) (group name members) malformed
 
--- `group @NAME MEMBER ..`, with a member at least
+-- `group @NAME MEMBER ..`, with at least one member
 abbrev pub group_line : List (List ℕ) → Kind
 group_line (word ∷ member ∷ members) = named_group (member ∷ members) (behind_at word)
 group_line words = malformed
@@ -59,12 +59,12 @@ kind_by word words =
     (cond (bytes_eq word (codes "family")) (family_line (entry_of words))
     (cond (bytes_eq word (codes "abi")) (abi_line words) malformed)))
 
--- the first word says what the line is
+-- the first word gives the kind of the line
 abbrev pub kind_of : List (List ℕ) → Kind
 kind_of [] = malformed
 kind_of (word ∷ words) = kind_by word words
 
--- the same, as the code has it
+-- contracts see the kind of the code in this way
 abbrev pub seen_entry : ReadEntry → Entry
 seen_entry entry = record { name = entry.name.now; digits = entry.digits.now; cap_word = option_map (λ word. word.now) entry.cap_word }
 

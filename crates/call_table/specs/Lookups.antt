@@ -28,12 +28,12 @@ place_numbered number lines = position (has_number number) lines
 abbrev pub group_named : List ℕ → List GroupLine → Option GroupLine
 group_named name groups = find (λ group. bytes_eq name group.name) groups
 
--- each name and each number is given once: a line is what its name and its number find
+-- each name and each number occurs once: the name and the number of a line find that line
 pub record AreOnce (lines : List CallLine) : Type 0 where
   pub by_name : (at : ℕ) (line : CallLine) → slice_get lines at ≡ Some line → place_named line.name lines ≡ Some at
   pub by_number : (at : ℕ) (line : CallLine) → slice_get lines at ≡ Some line → place_numbered line.number lines ≡ Some at
 
--- numbers below 2^32, and capabilities from 0 to 40
+-- the number is below 2^32, and the capability is from 0 to 40
 pub record IsInRange (line : CallLine) : Type 0 where
   pub number : line.number < 4294967296
   pub capability : IfSome line.cap (λ number. number ≤ 40)

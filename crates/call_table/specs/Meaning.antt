@@ -1,4 +1,4 @@
--- What a table says of the lines of calls.txt.
+-- A table follows from the lines of calls.txt.
 use Rattle.std.specs.Prelude.{◌≡◌, ◌⊎◌, ℕ, Bool, true, false, Some, None, List, [], ◌∷◌, ◌++◌, slice_get}
 use Rattle.std.specs.List.{Contains, list_any}
 use Rattle.std.specs.List.Sorted.{IsStrictlyIncreasing}
@@ -14,12 +14,12 @@ use Rattle.call_table.specs.Table.{Table}
 use Rattle.call_table.specs.declared.listed.CallLine.{CallLine}
 use Rattle.call_table.specs.declared.listed.GroupLine.{GroupLine}
 
--- a word without `@` stands for the first call of its name
+-- a word without `@` names the first call of its name
 pub record NamesCall (calls : List CallLine) (word : List ℕ) (position : ℕ) : Type 0 where
   pub plain : behind_at word ≡ None
   pub first : place_named word calls ≡ Some position
 
--- a word with `@` stands for the members of an earlier group
+-- a word with `@` names the members of an earlier group
 pub record NamesGroup (groups : List GroupLine) (word : List ℕ) (position : ℕ) : Type 0 where
   pub name : List ℕ
   pub group : GroupLine
@@ -27,11 +27,11 @@ pub record NamesGroup (groups : List GroupLine) (word : List ℕ) (position : �
   pub found : group_named name groups ≡ Some group
   pub member : Contains group.members position
 
--- a word of a group line stands for the call at a position
+-- a word of a group line names the call at a position
 abbrev pub StandsFor : List CallLine → List GroupLine → List ℕ → ℕ → Type 0
 StandsFor calls groups word position = NamesCall calls word position ⊎ NamesGroup groups word position
 
--- a group line after some calls and groups: its members ascend, and are the calls that some word stands for
+-- a group line after some calls and groups: its members ascend, and are exactly the calls that some word names
 pub record IsGroup (calls : List CallLine) (groups : List GroupLine) (name : List ℕ) (words : List (List ℕ)) (made : GroupLine) : Type 0 where
   pub called : made.name ≡ name
   pub ascending : IsStrictlyIncreasing made.members
@@ -41,7 +41,7 @@ pub record IsGroup (calls : List CallLine) (groups : List GroupLine) (name : Lis
       × ((call : CallLine) (word : List ℕ) → slice_get calls position ≡ Some call → Contains words word
       → StandsFor calls groups word position → Contains made.members position)
 
--- the groups of some lines: each group line gives one, by the lines before it
+-- the groups of some lines: each group line gives one group, by the lines before it
 pub data ReadsGroups : List Line → List GroupLine → Type 0 where
   no_line : ReadsGroups [] []
   other_line : (lines : List Line) (groups : List GroupLine) (line : Line) → ReadsGroups lines groups
@@ -51,13 +51,13 @@ pub data ReadsGroups : List Line → List GroupLine → Type 0 where
       → line_kind line ≡ group name words → IsGroup (every_call_of lines) groups name words made
       → ReadsGroups (lines ++ line ∷ []) (groups ++ made ∷ [])
 
--- the first abi line and the lines after it, where two ABIs are announced by a line before them, or one is
+-- the file begins with the first abi line, or with `version 2` and then the first abi line
 pub data BeginsWith (first : Line) (rest : List Line) : Bool → List Line → Type 0 where
   alone : is_version first ≡ false → BeginsWith first rest false (first ∷ rest)
   behind_version : (version : Line) → is_version version ≡ true → BeginsWith first rest true (version ∷ first ∷ rest)
 
--- the bytes are text. The first abi line gives the name and the architecture, and the lines after it the lists, each line without a fault
--- by those before it. The native ABI has the calls of every launch
+-- the bytes are text. The first abi line gives the name and the architecture. Each later line adds to the lists, by the lines
+-- before it. The native ABI has the calls of every launch
 pub record ReadsTable (bytes : List ℕ) (table : Table) : Type 0 where
   pub text : is_text bytes ≡ true
   pub two : Bool

@@ -1,4 +1,4 @@
--- Which calls the words of a group stand for.
+-- The words of a group name calls.
 use Rattle.std.specs.Prelude.{◌≡◌, ℕ, ◌==◌, Bool, true, false, Option, Some, None, List, map, filter}
 use Rattle.std.specs.List.{list_any, list_all, enumerate_from}
 use Rattle.std.specs.Option.{option_map_or}
@@ -8,7 +8,7 @@ use Rattle.call_table.specs.Lookups.{has_name, place_named, group_named}
 use Rattle.call_table.specs.declared.listed.CallLine.{CallLine}
 use Rattle.call_table.specs.declared.listed.GroupLine.{GroupLine}
 
--- the position is one of the group's members
+-- the position is among the members of the group
 abbrev pub has_member : ℕ → GroupLine → Bool
 has_member position group = list_any (λ member. member == position) group.members
 
@@ -20,15 +20,15 @@ abbrev pub stands_for_by : List CallLine → List GroupLine → List ℕ → ℕ
 stands_for_by calls groups word call None = is_first calls word call.0
 stands_for_by calls groups word call (Some name) = option_map_or (has_member call.0) (group_named name groups) false
 
--- `@NAME` stands for the members of the group of that name, any other word for the first call of that name
+-- `@NAME` names the members of the group of that name, and any other word names the first call of that name
 abbrev pub stands_for : List CallLine → List GroupLine → List ℕ → ℕ × CallLine → Bool
 stands_for calls groups word call = stands_for_by calls groups word call (behind_at word)
 
--- some word stands for the call
+-- some word names the call
 abbrev pub is_member : List CallLine → List GroupLine → List (List ℕ) → ℕ × CallLine → Bool
 is_member calls groups words call = list_any (λ word. stands_for calls groups word call) words
 
--- members are positions in calls, from 0, ascending, each once: those that some word stands for
+-- the members are the positions of the calls that some word names, from 0, ascending, each once
 abbrev pub members_of : List CallLine → List GroupLine → List (List ℕ) → List ℕ
 members_of calls groups words = map (λ call. call.0) (filter (is_member calls groups words) (enumerate_from 0 calls))
 
@@ -43,7 +43,7 @@ is_known_by calls groups word (Some name) = list_any (has_group name) groups
 abbrev pub is_known : List CallLine → List GroupLine → List ℕ → Bool
 is_known calls groups word = is_known_by calls groups word (behind_at word)
 
--- the members of a group line, where each of its words is known
+-- the members of a group line, if each of its words is known
 abbrev pub FindsMembers : List CallLine → List GroupLine → List (List ℕ) → Option (List ℕ) → Type 0
 FindsMembers calls groups words None = list_all (is_known calls groups) words ≡ false
 FindsMembers calls groups words (Some members) = (list_all (is_known calls groups) words ≡ true) × (members ≡ members_of calls groups words)

@@ -1,4 +1,4 @@
--- The numbers of calls.txt, and its names of capabilities.
+-- Lines of calls.txt have numbers and names of capabilities.
 use Rattle.std.specs.Prelude.{ℕ, ◌==◌, ◌&&◌, ◌||◌, ◌^◌, nat_lt, nat_le, if◌then◌else◌, Bool, List, length, Option, Some, None}
 use Rattle.std.specs.Prelude.{option_and_then}
 use Rattle.std.specs.List.{list_all, position}
@@ -23,6 +23,6 @@ word_only number = if nat_lt number (2 ^ 32) then Some number else None
 unfoldable pub number_of : List ℕ → Option ℕ
 number_of digits = option_and_then word_only (decimal_value digits)
 
--- CAP: the name of a capability, letter by letter (capabilities(7))
+-- CAP: exactly the name of a capability (capabilities(7))
 unfoldable pub cap_of : List ℕ → Option ℕ
 cap_of word = position (λ name. bytes_eq name word) names

@@ -1,4 +1,4 @@
--- What a step of the reading answers.
+-- The reader answers step by step.
 use Rattle.std.specs.Prelude.{◌≡◌, ℕ, ◌<◌, ◌≤◌, ◌||◌, Bool, true, false, Option, Some, None, is_some, IfSome, option_and_then, Result, Ok}
 use Rattle.std.specs.Prelude.{Err, List, [], ◌∷◌, ◌++◌, length}
 use Rattle.std.specs.List.{cons_option, list_any}
@@ -28,7 +28,7 @@ IsUnlessMemory (Err (AtLine number cause)) wanted = wanted ≡ Err (AtLine numbe
 IsUnlessMemory (Err NoAbi) wanted = wanted ≡ Err NoAbi
 IsUnlessMemory (Err (NoCall name)) wanted = wanted ≡ Err (NoCall name)
 
--- a step makes what is wanted exactly where the line of this number has no cause, unless memory ran out
+-- unless memory ran out, a step succeeds as wanted exactly if the line of this number has no fault
 abbrev pub Steps : {X : Type 0} → Option CallsCause → ℕ → X → X → Result (Unit {0}) CallsError → Type 0
 Steps cause number wanted made (Ok done) = (cause ≡ None) × (made ≡ wanted)
 Steps cause number wanted made (Err Memory) = Unit {0}
@@ -52,13 +52,13 @@ abbrev pub ChecksEntry : List CallLine → List CallLine → ℕ → Bool → En
 ChecksEntry others lines most without_cap entry (Ok found) = IsChecked others lines most without_cap entry found.0 found.1
 ChecksEntry others lines most without_cap entry (Err cause) = entry_fault others lines most without_cap entry ≡ Some cause
 
--- what a line writes as its capability
+-- the capability that a line writes
 abbrev pub ReadsCap : Option (List ℕ) → Result (Option ℕ) CallsCause → Type 0
 ReadsCap word (Ok found) = (is_bad_cap word ≡ false) × (found ≡ option_and_then cap_of word) ×
     (is_some found ≡ is_some word) × IfSome found (λ number. number ≤ 40)
 ReadsCap word (Err cause) = (is_bad_cap word ≡ true) × (cause ≡ Cap)
 
--- a call line adds to the native ABI as long as there is no second, and else to the second
+-- a call line adds its call to the native ABI as long as there is no second ABI, and to the second ABI after that
 abbrev pub native_with : Option Abi → Kind → Option CallLine
 native_with None kind = call_of 0 kind
 native_with (Some second) kind = None
@@ -68,7 +68,7 @@ second_with None kind = opened_by kind []
 second_with (Some second) kind =
     Some (record { name = second.name; arch = second.arch; calls = second.calls ++ cons_option (call_of 1 kind) [] })
 
--- and what it writes for a call of this name, which another ABI does not contradict
+-- the capability that a line writes for a call of this name, if another ABI does not contradict it
 abbrev pub ChecksCap : List CallLine → List ℕ → Option (List ℕ) → Result (Option ℕ) CallsCause → Type 0
 ChecksCap others name word (Ok found) =
     ((is_bad_cap word || has_other_cap others name (option_and_then cap_of word)) ≡ false) × (found ≡ option_and_then cap_of word) ×
@@ -77,7 +77,7 @@ ChecksCap others name word (Ok found) =
 ChecksCap others name word (Err cause) = ((is_bad_cap word || has_other_cap others name (option_and_then cap_of word)) ≡ true) ×
     (cause ≡ Cap)
 
--- a table with what a line adds
+-- the table with one more line
 abbrev pub with_kind : Table → Kind → Table
 with_kind table kind =
     record {
@@ -89,7 +89,7 @@ with_kind table kind =
       second = second_with table.second kind;
     }
 
--- what a reader has after some lines without a fault
+-- the reader has read some lines without a fault
 pub record HasRead (two : Bool) (head : Head) (lines : List Line) (table : Table) : Type 0 where
   pub faultless : fault_of two head lines ≡ None
   pub read : table ≡ table_behind head lines
@@ -103,7 +103,7 @@ ReadsRest two head lines (Err (AtLine number cause)) = fault_of two head lines �
 ReadsRest two head lines (Err NoAbi) = ⊥
 ReadsRest two head lines (Err (NoCall name)) = ⊥
 
--- the first abi line gives the name and the architecture, or decides alone
+-- the first abi line gives the name and the architecture, or the refusal of the whole table
 abbrev pub Opens : Line → Result (List ℕ × ℕ) CallsError → Type 0
 Opens line (Ok head) = (two : Bool) (lines : List Line) → table_from two (line ∷ lines)
     ≡ table_of_rest two (record { name = head.0; arch = head.1 }) lines

@@ -22,7 +22,7 @@ use Rattle.call_table.specs.declared.causes.CallsError.TheVariants.{NotText, Lin
 unfoldable pub line_kind : Line → Kind
 line_kind line = kind_of (words_of line.text)
 
--- the line of a table that an entry gives, where its number can be read: of an ABI, from 0, which is 0 for a family
+-- the line of an entry in a table, if its number can be read; it belongs to the ABI of this position, and a family has 0
 abbrev pub listed_as : ℕ → Entry → Option CallLine
 listed_as place entry = option_map
     (λ number. record { name = entry.name; number = number; cap = option_and_then cap_of entry.cap_word; abi = place })
@@ -49,7 +49,7 @@ group_of calls groups (family entry) = None
 group_of calls groups (group name members) = Some (record { name = name; members = members_of calls groups members })
 group_of calls groups malformed = None
 
--- the calls of some lines, for the ABI of a position, and the families
+-- the calls of some lines, for the ABI of this position, and the families
 abbrev pub calls_of : ℕ → List Line → List CallLine
 calls_of place lines = filter_map (λ line. call_of place (line_kind line)) lines
 
@@ -63,12 +63,12 @@ is_abi (family entry) = false
 is_abi (group name members) = false
 is_abi malformed = false
 
--- the lines of the native ABI: those before a further abi line
+-- the lines of the native ABI, which precede a further abi line
 abbrev pub native_lines : List Line → List Line
 native_lines [] = []
 native_lines (line ∷ lines) = cond (is_abi (line_kind line)) [] (line ∷ native_lines lines)
 
--- the ABI that a line opens, where it is an abi line, with the calls of the lines after it; an ill-formed ARCH is a fault
+-- an abi line opens an ABI with the calls of the lines after it; an ill-formed ARCH is a fault
 abbrev pub opened_by : Kind → List Line → Option Abi
 opened_by (abi name digits) lines = Some (record { name = name; arch = unwrap_or (arch_of digits) 0; calls = calls_of 1 lines })
 opened_by (call entry) lines = None
@@ -76,7 +76,7 @@ opened_by (family entry) lines = None
 opened_by (group name members) lines = None
 opened_by malformed lines = None
 
--- the second ABI of some lines after the first abi line: that of the first abi line among them
+-- the second ABI of the lines after the first abi line, which the first abi line among them opens
 abbrev pub second_of : List Line → Option Abi
 second_of [] = None
 second_of (line ∷ lines) = option_or (opened_by (line_kind line) lines) (second_of lines)
@@ -85,7 +85,7 @@ second_of (line ∷ lines) = option_or (opened_by (line_kind line) lines) (secon
 abbrev pub every_call_of : List Line → List CallLine
 every_call_of lines = calls_of 0 (native_lines lines) ++ second_calls (second_of lines)
 
--- one more line after some groups: the members of a group are calls and groups of the lines before it
+-- one more line after some groups: the members of a group are calls and groups of earlier lines
 abbrev pub with_group : List GroupLine → List Line × Line → List GroupLine
 with_group groups place = groups ++ cons_option (group_of (every_call_of place.0) groups (line_kind place.1)) []
 
@@ -116,7 +116,7 @@ table_behind head lines = record {
 abbrev pub at_line : ℕ → CallsCause → CallsError
 at_line number cause = AtLine number cause
 
--- the fault of a line by those before it, where two ABIs are announced or one is
+-- the fault of a line, given the lines before it; `two` says whether the file announces two ABIs
 abbrev pub fault_at : Bool → Head → List Line × Line → Option CallsError
 fault_at two head place = option_map (at_line place.1.number) (cause_of two (table_behind head place.0) (line_kind place.1))
 
@@ -133,7 +133,7 @@ launch_calls = codes "capset" ∷ codes "execve" ∷ codes "prctl" ∷ codes "se
 abbrev pub lacks : List CallLine → List ℕ → Bool
 lacks calls name = not (list_any (has_name name) calls)
 
--- the first of them that the calls lack
+-- the first of these calls that a list of calls lacks
 unfoldable pub missing_call : List CallLine → Option (List ℕ)
 missing_call calls = find (lacks calls) launch_calls
 
@@ -145,7 +145,7 @@ abbrev pub unless_fault : Option CallsError → Table → Result Table CallsErro
 unless_fault None table = unless_missing (missing_call table.calls) table
 unless_fault (Some fault) table = Err fault
 
--- the lines after the first abi line: the first fault, else the first missing call, else the table
+-- the lines after the first abi line give the first fault, or else the first missing call, or else the table
 abbrev pub table_of_rest : Bool → Head → List Line → Result Table CallsError
 table_of_rest two head lines = unless_fault (fault_of two head lines) (table_behind head lines)
 
@@ -173,16 +173,16 @@ is_version_by words = false
 unfoldable pub is_version : Line → Bool
 is_version line = is_version_by (words_of line.text)
 
--- what the lines give that are not passed over: two ABIs are announced by a first line `version 2`
+-- the table of the lines that are not skipped; a first line `version 2` announces two ABIs
 abbrev pub table_of_lines : List Line → Result Table CallsError
 table_of_lines [] = Err NoAbi
 table_of_lines (line ∷ lines) = cond (is_version line) (table_from true lines) (table_from false (line ∷ lines))
 
--- what calls.txt gives: it is text, or refused as none before anything else
+-- the table of calls.txt; bytes that are no text are refused before anything else
 unfoldable pub table_of : List ℕ → Result Table CallsError
 table_of bytes = cond (is_text bytes) (table_of_lines (lines_of bytes)) (Err NotText)
 
--- a text of the first version: its first line that counts, if any, is no `version 2`
+-- a text of the first version: its first line that is not skipped, if any, is no `version 2`
 abbrev pub begins_alone : List Line → Bool
 begins_alone [] = true
 begins_alone (line ∷ lines) = not (is_version line)

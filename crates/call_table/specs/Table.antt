@@ -1,4 +1,4 @@
--- The table of system calls that calls.txt gives.
+-- The table of system calls in calls.txt.
 use Rattle.std.specs.Prelude.{ℕ, List, [], ◌∷◌, ◌++◌, Option, Some, None, slice_get}
 use Rattle.std.specs.Option.{option_map_or, option_to_list}
 use Rattle.call_table.specs.declared.listed.CallLine.{CallLine}
@@ -11,8 +11,8 @@ pub record Abi : Type 0 where
   pub arch : ℕ
   pub calls : List CallLine
 
--- the native ABI with its calls, the families and groups, and a second ABI where there is one; lines stand in the order
--- of the file
+-- the native ABI with its calls, the families and groups, and a second ABI if there is one; all lists have the order of the
+-- file
 pub record Table : Type 0 where
   pub name : List ℕ
   pub arch : ℕ
@@ -32,7 +32,7 @@ abbrev pub second_calls : Option Abi → List CallLine
 second_calls None = []
 second_calls (Some second) = second.calls
 
--- all calls in the order of the file: those of the native ABI come first
+-- all calls in the order of the file; the calls of the native ABI come first
 abbrev pub every_call : Table → List CallLine
 every_call table = table.calls ++ second_calls table.second
 

@@ -1,4 +1,4 @@
--- What the values of the code stand for.
+-- Contracts see the values of the code in this way.
 use Rattle.std.specs.Prelude.{List, [], Option, Some, None}
 use Rattle.std.specs.Option.{option_map}
 use denote.Ref.{Bor}
@@ -21,7 +21,7 @@ made lists = record {
   second = option_map made_second lists.second;
 }
 
--- the calls of an ABI, where there is one
+-- the calls of an ABI, if there is one
 abbrev pub lines_seen : Option (Bor (List CallLine)) → List CallLine
 lines_seen None = []
 lines_seen (Some calls) = calls.now

@@ -1,4 +1,4 @@
-// The order of calls by their numbers.
+// Sorts calls by their numbers.
 ghost use Rattle.std.specs.Prelude.{◌≡◌, IfOk};
 ghost use Rattle.call_table.specs.Lookups.{AreOnce};
 ghost use Rattle.call_table.specs.ByNumber.{numbered_lines, AscendsByNumber};
@@ -13,7 +13,7 @@ pub struct Numbered {
     pub position: usize,
 }
 
-// The number of each line with its position, in the order of the lines.
+// Returns the number of each line with its position, in the order of the lines.
 fn numbered_lines(alloc: Global, lines: &[CallLine]) -> Result<Vec<Numbered>, AllocError>
     ensures { IfOk result (λ order. order.items ≡ numbered_lines lines.now) }
 {
@@ -27,7 +27,7 @@ fn numbered_lines(alloc: Global, lines: &[CallLine]) -> Result<Vec<Numbered>, Al
     Ok(order)
 }
 
-/// The numbers of lines with their positions, ascending by number.
+/// Returns the numbers of lines with their positions, ascending by number.
 pub fn by_number(alloc: Global, lines: &[CallLine]) -> Result<Vec<Numbered>, AllocError>
     requires { AreOnce lines.now }
     ensures ascending { IfOk result (λ order. AscendsByNumber lines.now order.items) }

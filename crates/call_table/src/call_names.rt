@@ -1,8 +1,7 @@
 //! Lists the system calls that the modelled kernel knows by name.
 //!
-//! Each known call has a rule of its own, or is one that the kernel lacks. Every other call of a table is a plain
-//! one. A rule says which payload its calls carry: `known_call("openat")` is a modelled call whose flags are the
-//! third argument.
+//! The kernel has a rule of its own for a known call, or lacks the call. Every other call of a table is plain. A rule says which
+//! payload its calls carry: `known_call("openat")` is a modelled call whose flags are the third argument.
 
 mod known;
 pub mod laws;

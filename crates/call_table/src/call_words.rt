@@ -1,6 +1,6 @@
 //! Reads and writes words that name calls of either ABI.
 //!
-//! A call of the native ABI is named by its name or its number, and one of another ABI by `ABI:NAME` or
+//! A word names a call of the native ABI by its name or its number, and a call of another ABI by `ABI:NAME` or
 //! `ABI:#NUMBER`. With a table of x86-64 and i386, `i386:read` is the `read` of the second ABI.
 
 ghost use Rattle.std.specs.Prelude.{◌≡◌, ◌++◌, OnOk, option_map, slice_get};
@@ -47,7 +47,7 @@ pub fn spelled<'a>(table: &CallTable, word: &'a str) -> Option<(u8, &'a str)>
     }
 }
 
-/// Returns the name of the call at a position among all calls, from 0. Those of the native ABI come first.
+/// Returns the name of the call at a position among all calls, from 0. The calls of the native ABI come first.
 pub fn name_at(table: &CallTable, place: usize) -> Option<&str>
     ensures by_position { option_map (λ name. name.now) result ≡ option_map (λ call. call.name) (slice_get (every_call table.now) place) }
 {
@@ -66,8 +66,8 @@ fn push_second(out: &mut Vec<u8>, table: &CallTable) -> Result<(), AllocError>
     }
 }
 
-/// Appends the text before the name or the number of a call: nothing for the native ABI, and for another its name and
-/// a colon.
+/// Appends the text before the name or the number of a call: nothing for the native ABI, and its name and a colon for
+/// another ABI.
 pub fn push_abi(out: &mut Vec<u8>, table: &CallTable, abi: u8) -> Result<(), AllocError>
     ensures writes_the_abi { OnOk result (out.new.items ≡ out.old.items ++ abi_word table.now abi) }
 {
@@ -77,7 +77,7 @@ pub fn push_abi(out: &mut Vec<u8>, table: &CallTable, abi: u8) -> Result<(), All
     push_second(out, table)
 }
 
-/// A call that is spelled for an ABI of the table is read back.
+/// States that a call that is spelled for an ABI of the table is read back.
 pub fn is_read_back(table: &CallTable)
     ensures is_read_back { IsReadBack table.now }
 {

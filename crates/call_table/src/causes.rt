@@ -1,4 +1,4 @@
-// Why calls.txt is refused.
+// Defines why calls.txt is refused.
 ghost use Rattle.std.specs.Prelude.{◌≡◌};
 ghost use Rattle.call_table.specs.Causes.{cause_text};
 ghost use Rattle.call_table.specs.declared.causes.CallsError.TheVariants.{Memory};
@@ -7,31 +7,31 @@ use crate::names::Name;
 use std::alloc::AllocError;
 use thiserror::Error;
 
-/// The fault of a line; of several, the first in this order.
+/// The fault of a line. If a line has several faults, the fault listed first here is reported.
 #[derive(Clone, Copy, Debug, PartialEq, Eq)]
 pub enum CallsCause {
-    /// An unknown first word, a wrong count of words, an ill-formed name, or an `abi` line in a wrong place. Such a
-    /// line is missing at the front, is a second one without a line `version 2` or of the name `native`, or is a
-    /// third one.
+    /// The line has an unknown first word, a wrong number of words, or an ill-formed name. Or `abi` is misplaced: the line at
+    /// the front is no `abi` line, or this line is a third one. Or this line is a second `abi` line with the name `native` or
+    /// without a line `version 2`.
     Words,
     /// An ill-formed NUMBER or ARCH.
     Number,
-    /// CAP is no name of a capability, or the other ABI gives a call of the name another CAP, or one of the two has a
-    /// CAP and the other none.
+    /// CAP is no name of a capability, or differs from the CAP of the call in the other ABI. A call with a CAP differs from a
+    /// call without one.
     Cap,
-    /// A CAP for a call that takes none.
+    /// The line writes a CAP for a call that takes no CAP.
     Modelled,
-    /// The name or the number of an earlier line of the kind, for a call of its ABI; the name or the ARCH
-    /// of the first `abi` line.
+    /// An earlier line of the kind, or of the ABI for a call, has the same name or the same number. Or a second `abi` line has the
+    /// name or the ARCH of the first.
     Duplicate,
-    /// A member that no earlier line names.
+    /// No earlier line names a member.
     Member,
-    /// More than 512 calls of an ABI, 128 families or 128 groups.
+    /// The table has more than 512 calls of an ABI, 128 families or 128 groups.
     TooMany,
 }
 
 impl CallsCause {
-    /// The word that is printed for the cause.
+    /// Returns the printed word for the cause.
     pub fn text(self) -> &'static str
         ensures printed_word { result.now ≡ cause_text self }
     {
@@ -53,16 +53,16 @@ pub enum CallsError {
     /// The bytes are not UTF-8, or have a NUL.
     #[error("no text")]
     NotText,
-    /// The first faulty line, from 1, and its cause.
+    /// The first faulty line, from 1, has this cause.
     #[error("line {0}: {1:?}")]
     Line(u64, CallsCause),
-    /// No line is left for an `abi` line: all lines but a first `version 2` are skipped.
+    /// The file has no line for an `abi` line: all lines except a first `version 2` are skipped.
     #[error("no abi line")]
     NoAbi,
-    /// The first call that every launch makes and the native ABI lacks.
+    /// The native ABI lacks this call, the first such call that every launch makes.
     #[error("no call {0}")]
     NoCall(Name),
-    /// There is no memory left.
+    /// Memory ran out.
     #[error("out of memory")]
     Memory,
 }

@@ -1,4 +1,4 @@
-// The kind of a line, by its words.
+// Finds the kind of a line by its words.
 ghost use Rattle.std.specs.Prelude.{◌≡◌, map};
 ghost use Rattle.std.specs.Option.{option_map};
 ghost use Rattle.call_table.specs.Names.{behind_at};

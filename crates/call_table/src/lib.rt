@@ -3,8 +3,8 @@
 //! If the first ABI of the file has the line `call read 0`, `read_calls(alloc, bytes)?.number("read")` is `Some(0)`. The file
 //! describes one ABI or two (syscalls(2)). It gives each call and each family its number and, if it needs one, its capability.
 //!
-//! - [`call_names`]: the calls that the modelled kernel knows by name, and their rules.
-//! - [`call_words`]: words that name a call of an ABI, such as `i386:read`.
+//! - [`call_names`] has the calls that the modelled kernel knows by name, and their rules.
+//! - [`call_words`] has words that name a call of an ABI, such as `i386:read`.
 #![tactic(auto)]
 
 mod by_number;

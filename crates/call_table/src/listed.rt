@@ -1,4 +1,4 @@
-// The lines of a table: a call or a family, and a group of calls.
+// Defines the lines of a table: a call or a family, and a group of calls.
 use crate::names::Name;
 use name_table::{NameTable, Named};
 use text_forms::item_list::ItemList;
@@ -7,11 +7,11 @@ use text_forms::item_list::ItemList;
 #[derive(Drop)]
 pub struct CallLine {
     pub name: Name,
-    /// The number of the system call, or of the address family (socket(2)).
+    /// The number of the system call or of the address family (socket(2)).
     pub number: u32,
-    /// The capability that every use asks for, by its number (capabilities(7)).
+    /// The number of the capability that every use needs (capabilities(7)).
     pub cap: Option<u8>,
-    /// The position of the ABI that a call belongs to, from 0; 0 for a family.
+    /// The position of the call's ABI, from 0. A family has 0.
     pub abi: u8,
 }
 
@@ -23,10 +23,10 @@ impl Named for CallLine {
     }
 }
 
-/// Calls of an ABI, or families, in the order of the file and by name; contracts see them as a list.
+/// Calls of an ABI, or families, in the order of the file and by name. Contracts see them as a list.
 pub type CallLines = NameTable<CallLine>;
 
-/// Members of a group, which contracts see as a list of positions in the table's calls, from 0.
+/// The members of a group, which contracts see as a list of positions in the table's calls, from 0.
 pub type Members = ItemList<usize>;
 
 /// A group of calls.
@@ -34,7 +34,7 @@ pub type Members = ItemList<usize>;
 pub struct GroupLine {
     /// The name, without the `@` of the line.
     pub name: Name,
-    /// Positions in the table's calls, from 0, ascending, each once.
+    /// The positions in the table's calls, from 0, ascending, each once.
     pub members: Members,
 }
 
@@ -46,5 +46,5 @@ impl Named for GroupLine {
     }
 }
 
-/// Groups in the order of the file and by name; contracts see them as a list.
+/// Groups in the order of the file and by name. Contracts see them as a list.
 pub type GroupLines = NameTable<GroupLine>;

@@ -51,7 +51,7 @@ pub struct Lists {
     pub second: Option<SecondAbi>,
 }
 
-/// The calls of a second ABI, where there is one.
+/// Returns the calls of the second ABI, if there is one.
 pub fn second_calls(second: &Option<SecondAbi>) -> Option<&CallLines>
     ensures calls_of_second { lines_seen result ≡ second_calls (option_map made_second second.now) }
 {
@@ -61,7 +61,7 @@ pub fn second_calls(second: &Option<SecondAbi>) -> Option<&CallLines>
     }
 }
 
-// The capability that a line writes, if any.
+// Reads the capability that a line writes, if any.
 fn read_written_cap(word: Option<&str>) -> Result<Option<u8>, CallsCause>
     ensures { ReadsCap (option_map (λ word. word.now) word.entry) result }
 {
@@ -94,7 +94,7 @@ fn has_other_cap(others: Option<&CallLines>, name: &str, cap: Option<u8>) -> boo
     }
 }
 
-// The capability that a line writes for a call of this name, if any, where no other ABI contradicts it.
+// Reads the capability that a line writes for a call of this name, if any, and refuses one that another ABI contradicts.
 fn check_cap(
     others: Option<&CallLines>,
     name: &str,
@@ -109,7 +109,7 @@ fn check_cap(
     Ok(cap)
 }
 
-// The number and the capability of a call or a family, or its first fault after these lines.
+// Returns the number and the capability of a call or a family, or its first fault after these lines.
 #[tactic(auto, unfolding(crate::specs::Faults::entry_fault))]
 fn check_entry(
     others: Option<&CallLines>,
@@ -134,7 +134,7 @@ fn check_entry(
     Ok((number, cap))
 }
 
-// Adds a call of an ABI, or a family, to its list; the calls of the other ABI stand beside.
+// Adds a call of an ABI, or a family, to its list. `others` has the calls of the other ABI.
 fn add_entry(
     alloc: Global,
     others: Option<&CallLines>,
@@ -206,7 +206,7 @@ fn add_group(
 }
 
 impl Lists {
-    /// The lists of no line after the first abi line.
+    /// Makes the lists that have no line after the first abi line.
     pub fn new(alloc: Global, name: Name, arch: u32) -> Lists
         ensures has_no_lines { made result ≡ record { name = name; arch = arch; calls = []; families = []; groups = []; second = None } }
     {
@@ -282,7 +282,7 @@ impl Lists {
         }
     }
 
-    // Adds what a line of this kind says.
+    // Adds a line of this kind.
     fn add(&mut self, alloc: Global, two: bool, at: u64, kind: Kind) -> Result<(), CallsError>
         requires { IsTable (made self.old) }
         ensures steps { Steps (cause_of two (made self.old) (seen kind.entry)) at (with_kind (made self.old) (seen kind.entry)) (made self.new) result }
@@ -314,7 +314,7 @@ impl Lists {
         }
     }
 
-    /// Adds what the next line says, where two ABIs are announced or one is.
+    /// Adds the next line. `two` says whether the file announces two ABIs.
     #[tactic(auto, unfolding(crate::specs::Reading::line_kind))]
     pub fn take(&mut self, alloc: Global, two: bool, line: &Line) -> Result<(), CallsError>
         requires { IsTable (made self.old) }

@@ -1,4 +1,4 @@
-// Finds calls by number and by name. A list has at most 512 calls, so a number is looked up by going through it. A name may
+// Finds calls by number and by name. A list has at most 512 calls, so a search by number goes through it. A name may
 // belong to either of two ABIs.
 ghost use Rattle.std.specs.Prelude.{◌≡◌, ◌<◌, ◌+◌, ◌^◌, ◌++◌, length, option_copied};
 ghost use Rattle.std.specs.List.{list_any};
@@ -21,7 +21,7 @@ pub fn numbered(lines: &[CallLine], number: u32) -> Option<&CallLine>
     lines.iter().find(|line| line.number == number)
 }
 
-/// Returns the calls of an ABI, or none where the table lacks the ABI.
+/// Returns the calls of an ABI, or no calls if the table lacks the ABI.
 pub fn lines_of(calls: Option<&CallLines>) -> &[CallLine]
     ensures lines_or_none { result.now ≡ lines_seen calls.entry }
 {
@@ -45,7 +45,7 @@ fn place_in(calls: Option<&CallLines>, name: &str) -> Option<usize>
     calls?.place(name)
 }
 
-/// Returns the position of the first call of this name, from 0, among these calls and then those of another ABI.
+/// Returns the position of the first call of this name, from 0, among these calls followed by the calls of another ABI.
 pub fn place_among(calls: &CallLines, more: Option<&CallLines>, name: &str) -> Option<usize>
     requires { length calls.now + length (lines_seen more) < 2 ^ 63 }
     ensures by_name { result ≡ place_named name.now (calls.now ++ lines_seen more.entry) }

@@ -1,4 +1,4 @@
-// Finds the calls that the words of a group stand for.
+// Finds the calls that the words of a group name.
 ghost use Rattle.std.specs.Prelude.{◌≡◌, ◌==◌, ◌<◌, ◌≤◌, ◌||◌, ◌++◌, ℕ, IsTrue, true, false, map, filter, length, slice_index_or, IfOk};
 ghost use Rattle.std.specs.List.{list_any, list_all, All, enumerate_from};
 ghost use Rattle.call_table.specs.Members.{stands_for, is_member, is_known, FindsMembers};
@@ -23,7 +23,7 @@ fn mark_all(marks: &mut [bool], positions: &[usize])
     }
 }
 
-// Marks the calls that a word stands for. Returns false if the word names neither a call nor a group.
+// Marks the calls that a word names. Returns false if the word names neither a call nor a group.
 fn mark_word(
     marks: &mut [bool],
     calls: &CallLines,
@@ -54,7 +54,7 @@ fn mark_word(
     }
 }
 
-// Marks the calls that the words stand for. Returns false if a word names neither a call nor a group.
+// Marks the calls that the words name. Returns false if a word names neither a call nor a group.
 fn mark_words(
     marks: &mut [bool],
     calls: &CallLines,
@@ -88,7 +88,7 @@ fn marked(alloc: Global, marks: &[bool]) -> Result<Vec<usize>, AllocError>
     Ok(positions)
 }
 
-// Finds the members of a group by marks on the calls, none of which is set yet.
+// Finds the members of a group by marks on the calls. No mark is set yet.
 fn members_among(
     alloc: Global,
     marks: &mut [bool],
@@ -109,7 +109,7 @@ fn members_among(
     }
 }
 
-/// Finds the calls that the words of a group stand for, among the calls of the native ABI and then those of a second one.
+/// Finds the calls that the words of a group name, among the calls of the native ABI followed by the calls of a second ABI.
 ///
 /// Returns `None` if a word names neither an earlier call nor an earlier group.
 pub fn find_members(

@@ -1,4 +1,4 @@
-// Names of calls, groups and families.
+// Defines names of calls, groups and families.
 ghost use Rattle.std.specs.Prelude.{◌≡◌, Some, IfOk};
 ghost use Rattle.std.specs.List.{list_all};
 ghost use Rattle.std.specs.Option.{option_map};
@@ -32,7 +32,7 @@ impl fmt::Display for Name {
 }
 
 impl Name {
-    /// A copy of a text.
+    /// Returns a copy of a text.
     pub fn new(alloc: Global, text: &str) -> Result<Name, AllocError>
         ensures same_text { IfOk result (λ name. name ≡ text.now) }
     {
@@ -41,7 +41,7 @@ impl Name {
         })
     }
 
-    /// The text of the name.
+    /// Returns the text of the name.
     pub fn as_str(&self) -> &str
         ensures same_text { result.now ≡ self.now }
     {
@@ -68,7 +68,7 @@ pub fn is_name(word: &str) -> bool
     !word.is_empty() && has_name_bytes(word)
 }
 
-/// The name of the group that a word `@NAME` stands for.
+/// Returns the name of the group in a word `@NAME`.
 pub fn behind_at(word: &str) -> Option<&str>
     ensures behind_the_at { option_map (λ name. name.now) result ≡ behind_at word.now }
 {

@@ -1,4 +1,4 @@
-// Numbers, and names of capabilities.
+// Reads numbers, and names of capabilities.
 ghost use Rattle.std.specs.Prelude.{◌≡◌, ◌≤◌, IfSome};
 ghost use Rattle.std.specs.List.{list_all};
 ghost use Rattle.call_table.specs.Numbers.{is_lower_hex, arch_of, number_of, cap_of};
@@ -6,7 +6,7 @@ ghost use Rattle.call_table.specs.Numbers.{is_lower_hex, arch_of, number_of, cap
 use cap_sets::CapSet;
 use text_forms::read_decimal;
 
-/// How many capabilities there are: CAP_LAST_CAP and one, linux/capability.h.
+/// The number of capabilities: CAP_LAST_CAP and one, linux/capability.h.
 const CAPABILITIES: u8 = 41;
 
 fn is_lower_hex(byte: u8) -> bool
@@ -21,7 +21,7 @@ fn are_lower_hex(digits: &str) -> bool
     digits.as_bytes().iter().all(|byte| is_lower_hex(*byte))
 }
 
-/// The architecture of eight hex digits in lower case.
+/// Returns the architecture of eight hex digits in lower case.
 #[tactic(auto, unfolding(crate::specs::Numbers::arch_of))]
 pub fn read_arch(digits: &str) -> Option<u32>
     ensures its_arch { result ≡ arch_of digits.now }
@@ -33,7 +33,7 @@ pub fn read_arch(digits: &str) -> Option<u32>
     }
 }
 
-/// The number of a decimal text, below 2^32.
+/// Returns the number of a decimal text, below 2^32.
 #[tactic(auto, unfolding(crate::specs::Numbers::number_of))]
 pub fn read_number(digits: &str) -> Option<u32>
     ensures by_its_digits { result ≡ number_of digits.now }
@@ -42,7 +42,7 @@ pub fn read_number(digits: &str) -> Option<u32>
     u32::try_from(number).ok()
 }
 
-/// The number of the capability of this name, letter by letter.
+/// Returns the number of the capability of exactly this name.
 pub fn read_cap(word: &str) -> Option<u8>
     ensures named { result ≡ cap_of word.now }
     ensures in_range { IfSome result (λ number. number ≤ 40) }

@@ -1,6 +1,6 @@
 // Reads the table, line by line.
 //
-// `line_text` gives the lines and `kinds` their kinds; `lists` judges a line by those before it.
+// `line_text` gives the lines and `kinds` their kinds; `lists` judges a line by the lines before it.
 ghost use Rattle.std.specs.Prelude.{◌≡◌, ◌≢◌, true, map, IfOk, IfErr, Ok, Err};
 ghost use Rattle.call_table.specs.declared.causes.CallsError.TheVariants.{Memory};
 ghost use Rattle.text_forms.specs.line_text.Views.{line_view};
@@ -19,7 +19,7 @@ use crate::table::CallTable;
 use std::alloc::{AllocError, Global};
 use text_forms::line_text::{Line, read_lines, read_text, words};
 
-// The name and the architecture of the first abi line.
+// Reads the name and the architecture of the first abi line.
 #[tactic(auto, unfolding(crate::specs::Reading::line_kind))]
 fn read_abi(alloc: Global, line: &Line) -> Result<(Name, u32), CallsError>
     ensures { Opens (line_view line.now) result }
@@ -34,7 +34,7 @@ fn read_abi(alloc: Global, line: &Line) -> Result<(Name, u32), CallsError>
     Ok((Name::new(alloc, name)?, arch))
 }
 
-// The lines after the first abi line.
+// Reads the lines after the first abi line.
 fn read_rest(
     alloc: Global,
     two: bool,
@@ -51,7 +51,7 @@ fn read_rest(
     Ok(lists)
 }
 
-// The first abi line and the lines after it.
+// Reads the first abi line and the lines after it.
 fn read_from(alloc: Global, two: bool, lines: &[Line]) -> Result<CallTable, CallsError>
     ensures { IsUnlessMemory result (table_from two (map line_view lines.now)) }
 {
@@ -78,7 +78,7 @@ fn is_version(alloc: Global, line: &Line) -> Result<bool, AllocError>
     Ok(are_version(words.as_slice()))
 }
 
-// Returns the lines that are not skipped.
+// Returns the table of the lines that are not skipped.
 fn read_table(alloc: Global, lines: &[Line]) -> Result<CallTable, CallsError>
     ensures { IsUnlessMemory result (table_of_lines (map line_view lines.now)) }
 {
@@ -103,18 +103,17 @@ fn read_bytes(alloc: Global, bytes: &[u8]) -> Result<CallTable, CallsError>
 
 /// Reads the table of system calls in the bytes of calls.txt.
 ///
-/// The file is cut at LF. Empty lines and lines that begin with `#` are skipped, and spaces separate words. The first
-/// line is `abi NAME ARCH`, which is the native ABI; ARCH is eight hex digits in lower case. The lines after it are
+/// Each LF ends a line. Empty lines and lines that begin with `#` are skipped, and spaces separate words. The first line is
+/// `abi NAME ARCH`, which is the native ABI; ARCH is eight hex digits in lower case. The lines after it are
 /// `call NAME NUMBER [CAP]`, `family NAME NUMBER [CAP]` and `group @NAME MEMBER ..`, in any order. NUMBER is decimal
 /// and below 2^32, and CAP is the name of a capability (capabilities(7)). A member is the name of a call, or `@` and
-/// the name of a group, of an earlier line. Calls that the kernel models by a rule of their own, and calls that it
-/// lacks, have no CAP.
+/// the name of a group, of an earlier line. A call has no CAP if the kernel models it by a rule of its own or lacks it.
 ///
-/// After a first line `version 2`, one further `abi` line may follow, of another name and another ARCH, and not of
-/// the name `native`. A call belongs to the last ABI before it. Its name and its number are given once in that ABI,
-/// with the CAP that a call of its name has in the other. A member stands for the calls of its name in both.
+/// After a first line `version 2`, one further `abi` line may follow, with another name and another ARCH. Its name is not
+/// `native`. A call belongs to the last ABI before it. That ABI has the name and the number of the call once. If the other ABI
+/// has a call of this name, both have the same CAP. A member means the calls of its name in both ABIs.
 ///
-/// The refusals come in this order:
+/// It returns the first of these refusals:
 /// - `NotText`, if the bytes are not UTF-8 or have a NUL;
 /// - `Line` of the first faulty line, with the first of its causes in the order of `CallsCause`;
 /// - `NoAbi`, if no line is left for the first `abi`;
@@ -123,14 +122,13 @@ fn read_bytes(alloc: Global, bytes: &[u8]) -> Result<CallTable, CallsError>
 pub fn read_calls(alloc: Global, bytes: &[u8]) -> Result<CallTable, CallsError>
     ensures reads_the_table { IfOk result (λ table. table_of bytes.now ≡ Ok table) }
     ensures first_refusal { IfErr result (λ error. error ≢ Memory → table_of bytes.now ≡ Err error) }
-    // What reading means: each list of the table is what the lines of its kind say.
+    // Each list of the table has exactly the lines of its kind.
     ensures reading_is_of_lines { (table : Table) → table_of bytes.now ≡ Ok table → ReadsTable bytes.now table }
 {
     read_bytes(alloc, bytes)
 }
 
-/// States that a text of the first version, without a first line `version 2`, stays accepted with that line in front
-/// of it, and has the same table.
+/// States that a text without a first line `version 2` stays accepted with that line in front of it, and has the same table.
 pub fn same_reading(_bytes: &[u8])
     ensures same_table { (table : Table) → is_first_version _bytes.now ≡ true → table_of _bytes.now ≡ Ok table → table_of (with_version _bytes.now) ≡ Ok table }
 {}

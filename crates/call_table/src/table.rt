@@ -1,4 +1,4 @@
-// The table of system calls, as contracts and callers see it.
+// Defines the table of system calls for contracts and callers.
 ghost use Rattle.std.specs.Prelude.{◌≡◌, ◌<◌, ◌≤◌, ◌^◌, None, map, find, length, option_and_then, slice_get};
 ghost use Rattle.std.specs.Option.{option_map, option_copied};
 ghost use Rattle.call_table.specs.Lookups.{named, numbered, place_named, group_named};
@@ -42,7 +42,7 @@ impl Model for CallTable {
     ghost invariant = { λ table. IsKept (made table.lists) table.by_number.items table.second_by_number.items };
 }
 
-// The calls that every launch makes.
+// Returns the calls that every launch makes.
 fn launch_calls() -> &'static [&'static str]
     ensures { map (λ name. name.now) result.now ≡ launch_calls }
 {
@@ -58,7 +58,7 @@ fn launch_calls() -> &'static [&'static str]
     ]
 }
 
-// The first of these names that is not among the calls.
+// Returns the first of these names that no call has.
 fn first_missing(calls: &CallLines, names: &[&'static str]) -> Option<&'static str>
     ensures { option_map (λ name. name.now) result ≡ find (lacks calls.now) (map (λ name. name.now) names.now) }
 {
@@ -70,7 +70,7 @@ fn first_missing(calls: &CallLines, names: &[&'static str]) -> Option<&'static s
     None
 }
 
-// The first call of every launch that is not among these.
+// Returns the first call of every launch that is not among these calls.
 #[tactic(auto, unfolding(crate::specs::Reading::missing_call))]
 fn missing_call(calls: &CallLines) -> Option<&'static str>
     ensures { option_map (λ name. name.now) result ≡ missing_call calls.now }
@@ -79,7 +79,7 @@ fn missing_call(calls: &CallLines) -> Option<&'static str>
 }
 
 impl CallTable {
-    // The table of these lists, where they have the calls of every launch.
+    // Makes the table of these lists, if they have the calls of every launch.
     pub(crate) fn of(alloc: Global, lists: Lists) -> Result<CallTable, CallsError>
         requires { IsTable (made lists) }
         ensures { IsUnlessMemory result (unless_missing (missing_call lists.calls) (made lists)) }
@@ -96,14 +96,14 @@ impl CallTable {
         })
     }
 
-    /// The architecture, as AUDIT_ARCH of linux/audit.h: `0xc000003e` for x86-64.
+    /// Returns the architecture, as AUDIT_ARCH of linux/audit.h: `0xc000003e` for x86-64.
     pub fn arch(&self) -> u32
         ensures as_stated { result ≡ self.now.arch }
     {
         self.lists.arch
     }
 
-    /// The number of the call of this name.
+    /// Returns the number of the call of this name.
     pub fn number(&self, name: &str) -> Option<u32>
         ensures by_name { result ≡ option_map (λ call. call.number) (named name.now self.now.calls) }
     {
@@ -128,7 +128,7 @@ impl CallTable {
         }
     }
 
-    /// The name of the ABI at this position, from 0.
+    /// Returns the name of the ABI at this position, from 0.
     pub fn abi_name(&self, abi: u8) -> Option<&str>
         ensures by_position { option_map (λ name. name.now) result ≡ option_map (λ abi. abi.name) (abi_at self.now abi) }
     {
@@ -142,7 +142,7 @@ impl CallTable {
         }
     }
 
-    /// The architecture of the ABI at this position, from 0.
+    /// Returns the architecture of the ABI at this position, from 0.
     pub fn arch_of(&self, abi: u8) -> u32
         requires { abi < length (abis self.now) }
         ensures by_position { result ≡ arch_of self.now abi }
@@ -153,7 +153,7 @@ impl CallTable {
         }
     }
 
-    // The architecture of the second ABI, or 0.
+    // Returns the architecture of the second ABI, or 0 if there is only one ABI.
     fn second_arch(&self) -> u32
         ensures { result ≡ arch_of self.now 1 }
     {
@@ -163,7 +163,7 @@ impl CallTable {
         }
     }
 
-    /// States what holds of every table: it is whole, and its architectures are words of 32 bits. The call does
+    /// States facts of every table: it is whole, and its architectures are words of 32 bits. The call does
     /// nothing.
     pub fn look_at(&self)
         ensures whole { IsWhole self.now }
@@ -175,7 +175,7 @@ impl CallTable {
         let _second = self.second_arch();
     }
 
-    // The calls of the ABI at this position, from 0, where there is one.
+    // Returns the calls of the ABI at this position, from 0, if there is such an ABI.
     fn lines_in(&self, abi: u8) -> Option<&CallLines>
         ensures lists { lines_seen result ≡ calls_in self.now abi }
         ensures names_and_numbers_once { AreLines most_calls (calls_in self.now abi) }
@@ -188,7 +188,7 @@ impl CallTable {
         }
     }
 
-    /// The calls of the ABI at this position, from 0, in the order of the file, at most 512; none where there is no such ABI.
+    /// Returns the calls of the ABI at this position, from 0, in the order of the file, at most 512. A missing ABI has no calls.
     pub fn calls_in(&self, abi: u8) -> &[CallLine]
         ensures lists { result.now ≡ calls_in self.now abi }
         ensures names_and_numbers_once { AreLines most_calls (calls_in self.now abi) }
@@ -197,7 +197,7 @@ impl CallTable {
         lines_of(self.lines_in(abi))
     }
 
-    /// The call at this position among all calls, from 0: those of the native ABI come first.
+    /// Returns the call at this position among all calls, from 0. The calls of the native ABI come first.
     #[tactic(auto, using(crate::proofs::AllCalls::front_call, crate::proofs::AllCalls::back_call))]
     pub fn call_at(&self, at: usize) -> Option<&CallLine>
         ensures by_position { option_copied result ≡ slice_get (every_call self.now) at }
@@ -210,7 +210,7 @@ impl CallTable {
         }
     }
 
-    /// The numbers of the calls of an ABI with their positions in `calls_in`, ascending by number.
+    /// Returns the numbers of the calls of an ABI with their positions in `calls_in`, ascending by number.
     pub fn by_number_in(&self, abi: u8) -> &[Numbered]
         ensures ascends { AscendsByNumber (calls_in self.now abi) result.now }
     {
@@ -221,59 +221,59 @@ impl CallTable {
         }
     }
 
-    /// The number that the ABI at this position gives the call of this name.
+    /// Returns the number that the ABI at this position gives the call of this name.
     pub fn number_in(&self, abi: u8, name: &str) -> Option<u32>
         ensures by_name { result ≡ option_map (λ call. call.number) (named name.now (calls_in self.now abi)) }
     {
         Some(named(self.lines_in(abi), name)?.number)
     }
 
-    /// The name of the call to which the ABI at this position gives this number.
+    /// Returns the name of the call to which the ABI at this position gives this number.
     pub fn name_in(&self, abi: u8, number: u32) -> Option<&str>
         ensures by_number { option_map (λ name. name.now) result ≡ option_map (λ call. call.name) (numbered number (calls_in self.now abi)) }
     {
         Some(numbered(self.calls_in(abi), number)?.name.as_str())
     }
 
-    /// The capability of the call to which the ABI at this position gives this number, where it gives it one.
+    /// Returns the capability of the call to which the ABI at this position gives this number, if the call has one.
     pub fn cap_in(&self, abi: u8, number: u32) -> Option<u8>
         ensures by_number { result ≡ option_and_then (λ call. call.cap) (numbered number (calls_in self.now abi)) }
     {
         numbered(self.calls_in(abi), number)?.cap
     }
 
-    /// The name of the call of this number.
+    /// Returns the name of the call of this number.
     pub fn name(&self, number: u32) -> Option<&str>
         ensures by_number { option_map (λ name. name.now) result ≡ option_map (λ call. call.name) (numbered number self.now.calls) }
     {
         Some(numbered(self.lists.calls.lines(), number)?.name.as_str())
     }
 
-    /// The capability of the call of this number, where the table has the call and gives it one.
+    /// Returns the capability of the call of this number, if the table has the call and the call has one.
     pub fn cap(&self, number: u32) -> Option<u8>
         ensures by_number { result ≡ option_and_then (λ call. call.cap) (numbered number self.now.calls) }
     {
         numbered(self.lists.calls.lines(), number)?.cap
     }
 
-    /// Returns the members of the group of this name, which is written without its `@`.
+    /// Returns the members of the group of this name, without its `@`.
     ///
-    /// Members are positions in all calls, from 0. They ascend, and each stands once: where both ABIs have a call of a name,
-    /// the first of the two is the member.
+    /// Members are positions in all calls, from 0. They ascend, and no position occurs twice. A member whose name both ABIs have is
+    /// the position of the first of its two calls.
     pub fn members(&self, group: &str) -> Option<&[usize]>
         ensures by_name { option_copied result ≡ option_map (λ group. group.members) (group_named group.now self.now.groups) }
     {
         Some(self.lists.groups.get(group)?.members.list())
     }
 
-    /// The number of the family of this name (socket(2)).
+    /// Returns the number of the family of this name (socket(2)).
     pub fn family(&self, name: &str) -> Option<u32>
         ensures by_name { result ≡ option_map (λ family. family.number) (named name.now self.now.families) }
     {
         Some(self.lists.families.get(name)?.number)
     }
 
-    /// The calls in the order of the file, at most 512.
+    /// Returns the calls in the order of the file, at most 512.
     pub fn calls(&self) -> &[CallLine]
         ensures lists { result.now ≡ self.now.calls }
         ensures names_and_numbers_once { AreLines most_calls self.now.calls }
@@ -282,14 +282,14 @@ impl CallTable {
         self.lists.calls.lines()
     }
 
-    /// The numbers of the calls with their positions in `calls`, ascending by number.
+    /// Returns the numbers of the calls with their positions in `calls`, ascending by number.
     pub fn by_number(&self) -> &[Numbered]
         ensures ascends { AscendsByNumber self.now.calls result.now }
     {
         &self.by_number
     }
 
-    /// The families in the order of the file, at most 128.
+    /// Returns the families in the order of the file, at most 128.
     pub fn families(&self) -> &[CallLine]
         ensures lists { result.now ≡ self.now.families }
         ensures names_and_numbers_once { AreLines most_families self.now.families }
@@ -297,7 +297,7 @@ impl CallTable {
         self.lists.families.lines()
     }
 
-    /// The groups in the order of the file, at most 128.
+    /// Returns the groups in the order of the file, at most 128.
     pub fn groups(&self) -> &[GroupLine]
         ensures lists { result.now ≡ self.now.groups }
         ensures names_once_and_members_ascend { AreGroups (length (every_call self.now)) self.now.groups }

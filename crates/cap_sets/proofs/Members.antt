@@ -1,4 +1,4 @@
--- The members of what the operations make, and the order of sets.
+-- The results of the operations have their members, and sets have their order.
 use Rattle.std.proofs.Common.{◌≡◌, ℕ, ◌+◌, ◌<◌, ◌%◌, Bool, true, false, arith, eqb, min, max, ap, sym, ◌∙◌}
 use Rattle.std.specs.Prelude.{◌&&◌, ◌||◌, ◌==◌, not, nat_le}
 use Rattle.std.specs.Int.{bit_at}
@@ -47,7 +47,7 @@ has_single k number = grind (arith, nat_tests, bit_at-pow_other k number, bit_at
 pub has_with : (a k number : ℕ) → has (union a (single k)) number ≡ (has a number || number == k)
 has_with a k number = has_union a (single k) number ∙ ap (λ b. has a number || b) (has_single k number)
 
--- sets with the same members are one word
+-- sets with the same members are the same word
 bit_of : (a b i : ℕ) → eqb (bit_at a i) 1 ≡ eqb (bit_at b i) 1 → bit_at a i ≡ bit_at b i
 bit_of a b i h = grind (arith, nat_tests, bit_at-lt a i, bit_at-lt b i)
 

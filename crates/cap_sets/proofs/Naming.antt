@@ -1,4 +1,4 @@
--- No two names are one, in any case.
+-- Any two names differ, even without regard to case.
 use Rattle.std.proofs.Common.{◌≡◌, ℕ, zero, suc, ◌+◌, ◌<◌, ◌≤◌, Bool, true, List, [], ◌∷◌, Option, Some, None, cond, eqb, map, length}
 use Rattle.std.proofs.Common.{get_or, refl, sym, ap, ◌∙◌, arith}
 use Rattle.std.specs.Prelude.{◌&&◌}
@@ -7,7 +7,7 @@ use Rattle.std.proofs.lemmas.Bool.{and_parts, eqb-true}
 use Rattle.std.proofs.lemmas.List.{length-map, get_or-map}
 use Rattle.cap_sets.specs.Names.{names, name_of, in_lower_case, table}
 
--- the place of the first name that is this in lower case
+-- the place of the first name that is this text in lower case
 number_of : List ℕ → List (List ℕ) → ℕ
 number_of text [] = 0
 number_of text (name ∷ names) = cond (bytes_eq (in_lower_case name) text) 0 (number_of text names + 1)
@@ -38,7 +38,7 @@ distinct one other h g e =
 pub flags_length : {X : Type 0} (row : X → List ℕ × ℕ) (flags : List X) → map row flags ≡ table → length flags ≡ 41
 flags_length row flags e = sym (length-map flags row) ∙ ap length e
 
--- the name at a place of a table of flags
+-- a table of flags has the name at this place
 pub name_at : {X : Type 0} (row : X → List ℕ × ℕ) (flags : List X) (i : ℕ) (d : X) → map row flags ≡ table → i ≤ 40
     → (row (get_or flags i d)).0 ≡ name_of i
 unfolding name_of
@@ -49,7 +49,7 @@ name_at row flags i d e h =
     ap (λ (p : List ℕ × ℕ). p.0) (sym (get_or-map row flags i d ([], 0) there) ∙ ap (λ rows. get_or rows i ([], 0)) e)
     ∙ sym (get_or-map (λ (p : List ℕ × ℕ). p.0) table i ([], 0) [] shown)
 
--- a name found at one place is found nowhere else
+-- a name at one place is at no other place
 pub found_at : (at : ℕ) (text : List ℕ) → at ≤ 40 → in_lower_case (name_of at) ≡ in_lower_case text → (number : ℕ) → number ≤ 40 →
     (Some at ≡ Some number → in_lower_case (name_of number) ≡ in_lower_case text) ×
     (in_lower_case (name_of number) ≡ in_lower_case text → Some at ≡ Some number)

@@ -24,7 +24,7 @@ name_of cap' = slice_index_or names cap' []
 abbrev pub in_lower_case : List ℕ → List ℕ
 in_lower_case text = str_to_ascii_lowercase text
 
--- each name with the word that has its number's bit alone
+-- each name with the word whose only bit has the number of the name
 abbrev pub rows_from : ℕ → List (List ℕ) → List (List ℕ × ℕ)
 rows_from cap' [] = []
 rows_from cap' (name ∷ names) = (name, 2 ^ cap') ∷ rows_from (cap' + 1) names

@@ -1,13 +1,13 @@
-//! Words of capability bits, and the table of capabilities: each by its name and its bit.
+//! Defines words of capability bits, and the table of capabilities with the name and the bit of each.
 //!
-//! The numbers are those of linux/capability.h.
+//! The numbers follow linux/capability.h.
 
 ghost use Rattle.std.specs.Prelude.{⊤};
 ghost use Rattle.cap_sets.specs.Names.{table};
 
 use bitflags::{Flag, Flags, bitflag_items};
 
-/// Any bits of a word, those above 40 too. No public item names it, so `bitflags` stays out of the interface.
+/// Any bits of a word, even above 40. No public item names it, so `bitflags` stays out of the interface.
 #[derive(Clone, Copy, PartialEq, Eq)]
 pub(crate) struct Bits(pub(crate) u64);
 

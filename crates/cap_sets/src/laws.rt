@@ -1,4 +1,4 @@
-//! The laws of sets of capabilities. Each is the contract of a function that does nothing.
+//! States the laws of sets of capabilities. Each is the contract of a function that does nothing.
 
 ghost use Rattle.std.specs.Prelude.{◌≡◌, ℕ, ◌≤◌, codes};
 ghost use Rattle.linux_numbers.specs.Capabilities.{cap_setgid, cap_setuid, cap_setpcap, cap_sys_module, cap_sys_rawio, cap_sys_admin, cap_sys_time, cap_mknod, cap_syslog, cap_wake_alarm, cap_last_cap};
@@ -13,13 +13,13 @@ pub fn set_order()
     ensures within_through { (one other third : ℕ) → IsWithin one other → IsWithin other third → IsWithin one third }
 {}
 
-/// No two capabilities have one name, in any case.
+/// Any two capabilities have different names, even without regard to case.
 pub fn distinct_names()
     ensures distinct { (one other : ℕ) → one ≤ 40 → other ≤ 40
         → in_lower_case (name_of one) ≡ in_lower_case (name_of other) → one ≡ other }
 {}
 
-/// The capabilities that rules speak of by number have these names here.
+/// The capabilities that rules name by number have these names here.
 #[tactic(auto, unfolding(crate::specs::Names::name_of))]
 pub fn numbers_have_their_names()
     ensures setgid { name_of cap_setgid ≡ codes "CAP_SETGID" }

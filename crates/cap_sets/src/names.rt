@@ -1,4 +1,4 @@
-//! The names of the capabilities, from the one table of their bits.
+//! Names the capabilities, from the one table of their bits.
 
 ghost use Rattle.std.specs.Prelude.{◌≡◌, ◌↔◌, ℕ, ◌≤◌, Some, IfSome};
 ghost use Rattle.cap_sets.specs.Names.{name_of, in_lower_case};
@@ -9,7 +9,7 @@ use bitflags::{Flag, Flags};
 use linux_numbers::capabilities::CAP_LAST_CAP;
 
 impl CapSet {
-    /// The number of the capability of this name in any ASCII case, as `cap_chown`; else None.
+    /// Returns the number of the capability of this name in any ASCII case, such as `cap_chown`, or None for another text.
     pub fn from_name(name: &str) -> Option<u8>
         ensures named { (number : ℕ) → number ≤ 40
             → (result ≡ Some number) ↔ (in_lower_case (name_of number) ≡ in_lower_case name.now) }
@@ -23,7 +23,7 @@ impl CapSet {
         None
     }
 
-    /// The name of the capability of this number, at most 40, as `CAP_CHOWN`.
+    /// Returns the name of the capability of this number, at most 40, such as `CAP_CHOWN`.
     pub fn name(cap: u8) -> &'static str
         requires { cap ≤ 40 }
         ensures its_name { result.now ≡ name_of cap }

@@ -1,4 +1,4 @@
-//! The type of a set of capabilities, and its algebra.
+//! Defines a set of capabilities, and its algebra.
 //!
 //! A contract sees a set as the word of its bits, and its members by `has`.
 
@@ -28,7 +28,7 @@ impl Model for CapSet {
 }
 
 impl CapSet {
-    /// The set of none.
+    /// Returns the empty set.
     #[tactic(auto, using(crate::proofs::Members::has_none), unfolding(crate::specs::Sets::none))]
     pub fn empty() -> CapSet
         ensures none { result ≡ none }
@@ -37,7 +37,7 @@ impl CapSet {
         CapSet { bits: 0 }
     }
 
-    /// The set of all 41.
+    /// Returns the set of all 41 capabilities.
     #[tactic(auto, using(crate::proofs::Members::has_all), unfolding(crate::specs::Sets::all))]
     pub fn full() -> CapSet
         ensures all { result ≡ all }
@@ -48,7 +48,7 @@ impl CapSet {
         }
     }
 
-    /// Those of either set.
+    /// Returns the capabilities of either set.
     #[tactic(auto, using(crate::proofs::Words::or_below, crate::proofs::Members::has_union), unfolding(crate::specs::Sets::union))]
     pub fn union(self, other: CapSet) -> CapSet
         ensures union { result ≡ union self other }
@@ -59,7 +59,7 @@ impl CapSet {
         }
     }
 
-    /// Those of this set that the other lacks.
+    /// Returns the capabilities of this set that the other lacks.
     #[tactic(auto, using(crate::proofs::Words::minus_below, crate::proofs::Members::has_minus), unfolding(crate::specs::Sets::minus))]
     pub fn minus(self, other: CapSet) -> CapSet
         ensures minus { result ≡ minus self other }
@@ -72,7 +72,7 @@ impl CapSet {
         }
     }
 
-    /// Those of both sets.
+    /// Returns the capabilities of both sets.
     #[tactic(auto, using(crate::proofs::Words::and_below, crate::proofs::Members::has_cut), unfolding(crate::specs::Sets::cut))]
     pub fn cut(self, other: CapSet) -> CapSet
         ensures cut { result ≡ cut self other }
@@ -83,7 +83,7 @@ impl CapSet {
         }
     }
 
-    /// Returns whether the capability of this number is in the set; none above 40 is.
+    /// Returns whether the set has the capability of this number. No set has a number above 40.
     #[tactic(auto, using(crate::proofs::Words::shifted, crate::proofs::Words::shifted_out), unfolding(crate::specs::Sets::has))]
     pub fn contains(self, cap: u8) -> bool
         ensures has { result ≡ has self cap }
@@ -92,7 +92,7 @@ impl CapSet {
         cap <= 40 && (self.bits >> cap) & 1 == 1
     }
 
-    /// Returns whether each of this set is in the other.
+    /// Returns whether the other set has each capability of this set.
     #[tactic(auto, unfolding(crate::specs::Sets::within))]
     pub fn within(self, other: CapSet) -> bool
         ensures test { result ≡ within self other }
@@ -101,7 +101,7 @@ impl CapSet {
         Bits(other.bits).contains(Bits(self.bits))
     }
 
-    /// This set and the capability of this number, at most 40.
+    /// Returns this set with the capability of this number, at most 40.
     #[tactic(auto, using(crate::proofs::Words::single_below, crate::proofs::Words::or_below, crate::proofs::Members::has_with), unfolding(crate::specs::Sets::union, crate::specs::Sets::single))]
     pub fn with(self, cap: u8) -> CapSet
         requires { cap ≤ 40 }
@@ -113,7 +113,7 @@ impl CapSet {
         }
     }
 
-    /// The word of the set, as capset(2) takes it: bit 0 for capability 0.
+    /// Returns the word of the set, as capset(2) takes it: bit 0 for capability 0.
     pub fn bits(self) -> u64
         ensures word { result ≡ self }
         ensures below { result < 2 ^ 41 }
@@ -121,7 +121,7 @@ impl CapSet {
         self.bits
     }
 
-    /// The set of a word, or None exactly where a bit above 40 is set.
+    /// Returns the set of a word, or None exactly if a bit above 40 is set.
     pub fn from_bits(n: u64) -> Option<CapSet>
         ensures known_bits { IsSome result ↔ (n < 2 ^ 41) }
         ensures set { IfSome result (λ set. set ≡ n) }

@@ -1,4 +1,4 @@
--- The calls by which the parts of a unit are read.
+-- The parts of a unit are read by these calls.
 use Rattle.std.proofs.Common.{◌≡◌, ℕ, ◌+◌, ◌<◌, Bool, true, false, cond, List, [], ◌∷◌, length, drop, get_or, Option, Some, None, Result}
 use Rattle.std.proofs.Common.{Ok, Err, map, Vec, String, Global, refl, sym, ap, ◌∙◌, subst}
 use Rattle.std.specs.Prelude.{IfSome, IsErrOf, is_some, string_bytes, unwrap_or}
@@ -23,12 +23,12 @@ use Rattle.dropin_merge.proofs.Reading.{told_from, told_to}
 
 -- ---- one call
 module _ {S : Type 0} (asks : S → ShelfCall → S → Type 0) (a b : S) (ask : Ask) where
-  -- by what the shelf answered
+  -- the course of one call, by the answer of the shelf
   pub call_ends : {T : Type 0} (result end : Result T ShelfError) → result ≡ end → asks a (call_of ask result) b
       → AsksExactly asks a b (ask ∷ []) (course_of end)
   call_ends result end is made = subst (AsksExactly asks a b (ask ∷ [])) (ap course_of is) (one_call asks a b ask result made)
 
-  -- a file that was read is judged
+  -- a file is judged after it was read
   pub judged_then : (T U : Type 0) (e : ResolveError) → (IsErrOf {T = U} (Err e) ReadFault → ⊥) → AsksExactly asks a b (ask ∷ []) Whole
       → AsksExactly asks a b (ask ∷ []) (course {T = T} (Err e))
   judged_then T U BadName quiet made = made
@@ -40,7 +40,7 @@ module _ {S : Type 0} (asks : S → ShelfCall → S → Type 0) (a b : S) (ask :
   judged_then T U ReadFault quiet made = absurd (quiet refl)
   judged_then T U Memory quiet made = went_cut asks a b (ask ∷ []) made
 
--- ---- what an answer says of a path
+-- ---- answers about a path
 not_missing : (b : Bool) (r : Result UnitFile ResolveError) → cond b (Ok Empty) (says r) ≡ Ok Missing → ⊥
 not_missing true r e = cc
 not_missing false (Ok file) e = cc
@@ -88,7 +88,7 @@ refused_is_overfull files place (Text path error) h whole = absurd h
 refused_is_overfull files place ReadFault h whole = cc
 refused_is_overfull files place Memory h whole = cc
 
--- how it ended is the same whatever was wanted
+-- the course of an error is the same for every wanted value
 pub course_as : (T U : Type 0) (e : ResolveError) → course {T = T} (Err e) ≡ course {T = U} (Err e)
 course_as T U BadName = refl
 course_as T U NotFound = refl
@@ -99,7 +99,7 @@ course_as T U (Text path error) = refl
 course_as T U ReadFault = refl
 course_as T U Memory = refl
 
--- ---- texts in turn, up to the first of which something holds
+-- ---- texts in turn, up to the first with a property
 module _ {S : Type 0} (asks : S → ShelfCall → S → Type 0) (is_last : List ℕ → Bool) (ask : List ℕ → Ask) (whole : List Ask) (a b c : S) (xs : List (String Global)) (i : ℕ) (x : String Global) (text : List ℕ) where
   pub text_more : i < length xs → x ≡ get_or xs i x → text ≡ string_bytes x → is_last text ≡ false
       → Going asks a b whole (map ask (up_to is_last (map string_bytes (drop i xs)))) → AsksExactly asks b c (ask text ∷ []) Whole
@@ -117,7 +117,7 @@ module _ {S : Type 0} (asks : S → ShelfCall → S → Type 0) (is_last : List 
 
 -- ---- the loops
 module _ {S : Type 0} (asks : S → ShelfCall → S → Type 0) (start told : Option Files) (same : told ≡ start) (a b c : S) (xs : List (String Global)) (i : ℕ) (x : String Global) (text : List ℕ) (h : i < length xs) (is : x ≡ get_or xs i x) (said : text ≡ string_bytes x) where
-  -- a path at which no fragment is
+  -- the fragment is not at this path
   pub fragment_more : IfSome told (λ files. IsUnlessFailed {T = Found} (Ok Missing) (file_at text (bytes_at files text)))
       → AsksExactly asks b c (unit_file text ∷ []) Whole
       → ((files : Files) → start ≡ Some files → Going asks a b (fragment_asks files (map string_bytes xs))
@@ -131,7 +131,7 @@ module _ {S : Type 0} (asks : S → ShelfCall → S → Type 0) (start told : Op
       (same ∙ known)))
       (going files known) made
 
-  -- one at which it is
+  -- the fragment is at this path
   pub fragment_found : (found : Found) → (found ≡ Missing → ⊥)
       → IfSome told (λ files. IsUnlessFailed {T = Found} (Ok found) (file_at text (bytes_at files text)))
       → AsksExactly asks b c (unit_file text ∷ []) Whole
@@ -162,7 +162,7 @@ module _ {S : Type 0} (asks : S → ShelfCall → S → Type 0) (start told : Op
       (told_from (λ files. IsUnlessFailed {T = Found} (Err e) (file_at text (bytes_at files text))) told read files (same ∙ known)))
       (going files known) made))
 
-  -- a drop-in that is not refused
+  -- a drop-in is not refused
   pub dropin_more : (found : Found) → IfSome told (λ files. IsUnlessFailed {T = Found} (Ok found) (file_at text (bytes_at files text)))
       → AsksExactly asks b c (unit_file text ∷ []) Whole
       → ((files : Files) → start ≡ Some files → Going asks a b (dropin_asks files (map string_bytes xs))
@@ -190,7 +190,7 @@ module _ {S : Type 0} (asks : S → ShelfCall → S → Type 0) (start told : Op
       (told_from (λ files. IsUnlessFailed {T = Found} (Err e) (file_at text (bytes_at files text))) told read files (same ∙ known)))
       (going files known) made))
 
-  -- where memory ran out behind one that was read
+  -- memory ran out after a drop-in was read
   pub dropin_cut : (found : Found) → IfSome told (λ files. IsUnlessFailed {T = Found} (Ok found) (file_at text (bytes_at files text)))
       → AsksExactly asks b c (unit_file text ∷ []) Whole
       → ((files : Files) → start ≡ Some files → Going asks a b (dropin_asks files (map string_bytes xs))
@@ -202,7 +202,7 @@ module _ {S : Type 0} (asks : S → ShelfCall → S → Type 0) (start told : Op
       text_stops asks (is_refused files) unit_file (dropin_asks files (map string_bytes xs)) a b c xs i x text Cut h is said (λ e. cc)
       (going files known) (went_cut asks b c (unit_file text ∷ []) made))
 
-  -- a folder that is not overfull
+  -- a folder has not too many files
   pub folder_more : (names : Vec (String Global) Global) → IfSome told (λ files. ListsPlace (names_in files text) (Ok names))
       → AsksExactly asks b c (NamesIn text ∷ []) Whole
       → ((files : Files) → start ≡ Some files → Going asks a b (folder_asks files (map string_bytes xs))
@@ -256,7 +256,7 @@ said_is : (text : List ℕ) (o : Option (List ℕ)) (file : UnitFile) → file_a
 said_is text None file e = cc
 said_is text (Some bytes) file e = (refl, says_same (is_empty bytes) (judged text bytes) file e)
 
--- the first path that is there is the fragment, and one that is not leaves it to the others
+-- the first path that exists is the fragment, and a missing path leaves the others
 pub fragment_left : (files : Files) (xs : List (String Global)) (i : ℕ) (x : String Global) (text : List ℕ) → i < length xs
     → x ≡ get_or xs i x → text ≡ string_bytes x
     → fragment_read files (fragment_of files (map string_bytes (drop i xs)))

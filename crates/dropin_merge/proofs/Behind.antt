@@ -1,4 +1,4 @@
--- What is asked behind the fragment of a unit.
+-- The folders and the drop-ins are read after the fragment of a unit.
 use Rattle.std.proofs.Common.{◌≡◌, ℕ, ◌<◌, ◌≤◌, Bool, true, false, cond, List, [], ◌∷◌, ◌++◌, length, Option, Some, None, Result, Ok, Err}
 use Rattle.std.proofs.Common.{map, String, Global, refl, sym, ap, ◌∙◌, subst}
 use Rattle.std.specs.Prelude.{◌||◌, nat_lt, IfSome, string_bytes}
@@ -28,7 +28,7 @@ use Rattle.dropin_merge.proofs.Reading.{told_from, told_to}
 abbrev Winners : Type 0
 Winners = BTreeMap (String Global) (String Global)
 
--- the drop-ins that win, where there are not too many
+-- the winning drop-ins, if they are not too many
 abbrev winning_asks : Name → Files → List Ask
 winning_asks unit files = cond (is_crowded files unit) [] (dropin_asks files (winning_paths files unit))
 
@@ -48,7 +48,7 @@ module _ {S : Type 0} (asks : S → ShelfCall → S → Type 0) (told : Option F
       → IfSome told (λ files. AsksExactly asks a b (folder_asks files (dropin_places unit)) how)
   folders_of_it how made = subst (λ ps. IfSome told (λ files. AsksExactly asks a b (folder_asks files ps) how)) named made
 
-  -- a folder is overfull, or the listing failed
+  -- a folder has too many files, or the listing failed
   pub folders_stop : (e : ResolveError) → IfSome told (λ files. CollectsWinners files places (Err e))
       → IfSome told (λ files. AsksExactly asks a b (folder_asks files places) (course {T = Winners} (Err e)))
       → IfSome told (λ files. AsksExactly asks a b (behind_fragment files unit) (course {T = List UnitFile} (Err e)))
@@ -63,7 +63,7 @@ module _ {S : Type 0} (asks : S → ShelfCall → S → Type 0) (told : Option F
       (ap (list_any (is_overfull files)) (sym named) ∙ overfull_by files places e stopped whole))
       collected))
 
-  -- memory ran out behind the listing
+  -- memory ran out after the listing
   pub folders_cut : IfSome told (λ files. AsksExactly asks a b (folder_asks files places) Whole)
       → IfSome told (λ files. AsksExactly asks a b (behind_fragment files unit) Cut)
   folders_cut made =
@@ -131,7 +131,7 @@ module _ {S : Type 0} (asks : S → ShelfCall → S → Type 0) (told : Option F
       by_refusal files ReadFault h whole = cc
       by_refusal files Memory h whole = cc
 
-  -- what is read behind it
+  -- the folders and the drop-ins are read after the fragment
   pub behind_it : (c : S) (between : Option Files) (fragment : UnitFile) (how : Course) → between ≡ told
       → IfSome told (λ files. IsUnlessFailed {T = UnitFile} (Ok fragment) (fragment_read files (fragment_of files paths)))
       → IfSome told (λ files. AsksExactly asks a b (fragment_asks files paths) Whole)

@@ -1,4 +1,4 @@
--- The winners of the places that have been listed, with those of the places that are left.
+-- The winners of the places listed so far, with the winners of the remaining places.
 use Rattle.std.proofs.Common.{◌≡◌, ℕ, ◌+◌, ◌<◌, ◌≤◌, false, List, [], ◌∷◌, length, drop, get_or, Option, Some, None, Ok, map, Vec, String}
 use Rattle.std.proofs.Common.{Global, sym, ap, ◌∙◌, subst, arith}
 use Rattle.std.specs.Prelude.{◌&&◌, ◌||◌, nat_lt, cond, IfSome, string_bytes}
@@ -21,7 +21,7 @@ use Rattle.dropin_merge.proofs.Winning.{winner_among-cons, option_or_assoc, opti
 few_files : (n : ℕ) → n ≤ 4096 → nat_lt 4096 n ≡ false
 few_files n h = grind (arith, nat_tests)
 
--- what a listing answers
+-- a listing answers the names of a place
 pub lists_place : (told : Option Files) (folder : List ℕ) (names : Vec (String Global) Global) → Lists told folder (Ok names)
     → IfSome told (λ files. ListsPlace (names_in files folder) (Ok names))
 lists_place None folder names h = tt

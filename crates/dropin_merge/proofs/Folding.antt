@@ -1,4 +1,4 @@
--- What is said of a key, folded over the assignments of a walk.
+-- The answer about a key is folded over the assignments of a walk.
 use Rattle.std.proofs.Common.{◌≡◌, ℕ, Bool, true, false, cond, Option, Some, None, List, [], ◌∷◌, ◌++◌, length, refl, sym, ap, ◌∙◌}
 use Rattle.std.proofs.Common.{append_assoc, append-nil}
 use Rattle.std.specs.Prelude.{◌==◌, flat_map, fold, option_and_then, unwrap_or}
@@ -13,9 +13,9 @@ use Rattle.dropin_merge.specs.unit_values.Lasting.{last_read, unless_read, unrea
 use Rattle.dropin_merge.specs.unit_values.Words.{split, words_in, words_behind}
 use Rattle.dropin_merge.proofs.OneMore.{after_last-push}
 
--- ---- one assignment more, of which nothing or a value is given
+-- ---- one more assignment, which may give a value
 
--- a list to which each value adds
+-- each value adds to a list
 pub adds_more : {X V Y : Type 0} (F : List V → List Y)
     → ((o : Option V) (rest : List V) → F (cons_option o rest) ≡ F (cons_option o []) ++ F rest) →
     (f : X → Option V) (left more : List X) (x : X) (o : Option V) (all now new : List Y) → left ≡ x ∷ more → o ≡ f x
@@ -29,7 +29,7 @@ adds_more F parts f left more x o all now new first given before after =
     ∙ sym (append_assoc now (F (cons_option o [])) (F (filter_map f more)))
     ∙ ap (λ ys. ys ++ F (filter_map f more)) (sym after)
 
--- what each value may change
+-- each value may change an answer
 pub folds_more : {X V A : Type 0} (F : A → List V → A) (next : A → Option V → A)
     → ((a : A) (o : Option V) (rest : List V) → F a (cons_option o rest) ≡ F (next a o) rest) →
     (f : X → Option V) (left more : List X) (x : X) (o : Option V) (all now new : A) → left ≡ x ∷ more → o ≡ f x
@@ -41,7 +41,7 @@ folds_more F next steps f left more x o all now new first given before after =
     ∙ steps now o (filter_map f more)
     ∙ ap (λ a. F a (filter_map f more)) (sym after)
 
--- ---- what the kinds of keys add and change
+-- ---- the additions and changes of the kinds of keys
 
 pub unread_parts : {A : Type 0} (read : List ℕ → Option A) (o : Option Value) (rest : List Value)
     → unread_notes read (cons_option o rest) ≡ unread_notes read (cons_option o []) ++ unread_notes read rest

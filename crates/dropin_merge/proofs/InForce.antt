@@ -69,7 +69,7 @@ module _ (files : Files) (unit : Name) (places : List (List ℕ)) (m : BTreeMap 
       ap (λ ps. joined_by (fragment ∷ []) (dropins_read files ps)) winning_are
       ∙ sym (ap (λ b. cond b (Err DropIns) (joined_by (fragment ∷ []) (dropins_read files (winning_paths files unit)))) (is_not_crowded h))
 
--- what was answered of the files that are told
+-- the answer over the files that the shelf shows
 pub refuses_many : (told : Option Files) (unit : Name) (places : List (List ℕ)) (m : BTreeMap (String Global) (String Global))
     (fragment : UnitFile) → places ≡ dropin_places unit → IsOrdered string_cmp m
     → IfSome told (λ files. CollectsWinners files places (Ok m)) → 256 < length m.entries

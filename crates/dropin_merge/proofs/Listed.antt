@@ -1,4 +1,4 @@
--- A folder has a name exactly where its path is there.
+-- A folder lists a name exactly if the path of the name exists.
 use Rattle.std.proofs.Common.{◌≡◌, ℕ, Bool, true, false, cond, List, [], ◌∷◌, ◌++◌, length, drop, Option, Some, None, refl, sym, ap, ◌∙◌}
 use Rattle.std.specs.Prelude.{◌&&◌, ◌||◌, not, ◌==◌, option_and_then, nat_eq, is_some, find}
 use Rattle.std.specs.Option.{option_map, option_map_or}
@@ -15,7 +15,7 @@ use Rattle.dropin_merge.specs.Winners.{is_there, ends_in_conf, is_conf}
 pub below_is : (folder name : List ℕ) → below folder name ≡ folder ++ 47 ∷ name
 below_is folder name = refl
 
--- two tests are one where each gives the other
+-- two tests are equal if each implies the other
 pub both_ways : (a b : Bool) → (a ≡ true → b ≡ true) → (b ≡ true → a ≡ true) → a ≡ b
 both_ways true b f g = sym (f refl)
 both_ways false true f g = g refl
@@ -26,7 +26,7 @@ behind_front front rest =
     let starts : starts_with nat_eq (front ++ rest) front ≡ true = (starts_is Decides-eqb (front ++ rest) front _ refl).1 rest refl in
     ap (λ b. cond b (Some (drop (length front) (front ++ rest))) None) starts ∙ ap Some (drop_at front rest (length front) refl)
 
--- what a name is that is there
+-- a text that is a name is its own name
 name_is : (name : List ℕ) → is_some (as_name name) ≡ true → as_name name ≡ Some name
 name_is name h = by_test (not (length name == 0) && not (list_any (λ b. b == 47) name)) h
   where
@@ -95,7 +95,7 @@ module _ (folder q : List ℕ) where
   either true b t = refl
   either false b t = refl
 
-  -- the names of a folder have q exactly where it is a name and its path is there
+  -- the names of a folder have q exactly if q is a name and its path exists
   pub listed_there : (files : Files) → list_any (bytes_eq q) (names_in files folder)
       ≡ (is_some (as_name q) && is_there files (below folder q))
   listed_there [] = none_there (is_some (as_name q))
@@ -112,7 +112,7 @@ module _ (folder q : List ℕ) where
       ∙ ap (λ b. is_some (as_name q) && b)
       (sym (there_more (bytes_eq file.0 (below folder q)) file (find (λ f. bytes_eq f.0 (below folder q)) files)))
 
--- among those that end in `.conf` too
+-- the same holds of the names that end in `.conf`
 pub conf_there : (files : Files) (folder q : List ℕ) → (ends_in_conf q && list_any (bytes_eq q) (names_in files folder))
     ≡ (is_conf q && is_there files (below folder q))
 conf_there files folder q =

@@ -1,4 +1,4 @@
--- What one more value does, for all keys.
+-- One more value changes the answers about all keys.
 use Rattle.std.proofs.Common.{◌≡◌, ℕ, ◌+◌, ◌<◌, List, ◌++◌, length, take, get_or, sym, ap, ◌∙◌, append_assoc}
 use Rattle.unit_grammar.proofs.Befores.{given_more}
 use Rattle.unit_grammar.specs.declared.notes.NoteCause.{NoteCause}
@@ -7,7 +7,7 @@ use Rattle.dropin_merge.specs.declared.unit_values.value.Value.{Value}
 use Rattle.dropin_merge.specs.unit_values.Notes.{notes_at, noted}
 use Rattle.dropin_merge.proofs.OneMore.{take_item}
 
--- the notes of the values so far, with those of the next
+-- the notes on the values so far, followed by the notes on the next value
 pub noted_next : (causes : List Value × Value → List NoteCause) (values : List Value) (i : ℕ) (value : Value)
     (old now next : List FileNote) → i < length values → value ≡ get_or values i value → now ≡ old ++ noted causes (take i values)
     → next ≡ now ++ notes_at value (causes (take i values, value)) → next ≡ old ++ noted causes (take (i + 1) values)

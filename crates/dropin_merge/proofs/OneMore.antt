@@ -1,4 +1,4 @@
--- What one more element does to a list that was gone through so far.
+-- One more element changes the answer over the elements so far.
 use Rattle.std.proofs.Common.{◌≡◌, ℕ, ◌+◌, ◌-◌, ◌<◌, Bool, true, false, cond, Option, Some, None, List, [], ◌∷◌, ◌++◌, length, take, drop}
 use Rattle.std.proofs.Common.{get_or, refl, sym, ap, ◌∙◌, arith, append_assoc, append-nil, length-append}
 use Rattle.std.specs.Prelude.{flat_map, not, unwrap_or}
@@ -13,7 +13,7 @@ use Rattle.unit_grammar.proofs.Befores.{later}
 suffix_len-push : {X : Type 0} (q : X → Bool) (xs : List X) (x : X) → suffix_len q (xs ++ x ∷ []) ≡ cond (q x) (1 + suffix_len q xs) 0
 suffix_len-push q xs x = ap (prefix_len q) (reverse-append xs (x ∷ []))
 
--- what stands behind the last that passes
+-- the elements after the last one that passes
 pub after_last-push : {X : Type 0} (p : X → Bool) (xs : List X) (x : X)
     → after_last p (xs ++ x ∷ []) ≡ cond (p x) [] (after_last p xs ++ x ∷ [])
 after_last-push p xs x =
@@ -32,7 +32,7 @@ after_last-push p xs x =
 pub take_item : {X : Type 0} (xs : List X) (i : ℕ) (x : X) → i < length xs → x ≡ get_or xs i x → take (i + 1) xs ≡ take i xs ++ x ∷ []
 take_item xs i x lt is = take_more xs i x lt ∙ ap (λ y. take i xs ++ y ∷ []) (sym is)
 
--- what each element adds to a list
+-- each element adds to a list
 pub added_by_all : {X Y : Type 0} (f : X → List Y) (xs : List X) (i : ℕ) (x : X) (old now next : List Y) → i < length xs
     → x ≡ get_or xs i x → now ≡ old ++ flat_map f (take i xs) → next ≡ now ++ f x → next ≡ old ++ flat_map f (take (i + 1) xs)
 added_by_all f xs i x old now next lt is before step =
@@ -45,7 +45,7 @@ added_by_all f xs i x old now next lt is before step =
     ∙ flat_map-append f (take i xs) (x ∷ [])
     ∙ ap (λ ys. flat_map f (take i xs) ++ ys) (append-nil (f x))))
 
--- what each element may add to a list
+-- each element may add to a list
 pub added_by_some : {X Y : Type 0} (f : X → Option Y) (xs : List X) (i : ℕ) (x : X) (old now next : List Y) → i < length xs
     → x ≡ get_or xs i x → now ≡ old ++ filter_map f (take i xs) → next ≡ now ++ cons_option (f x) []
     → next ≡ old ++ filter_map f (take (i + 1) xs)
@@ -55,7 +55,7 @@ added_by_some f xs i x old now next lt is before step =
     ∙ append_assoc old (filter_map f (take i xs)) (cons_option (f x) [])
     ∙ ap (λ ys. old ++ ys) (sym (ap (filter_map f) (take_item xs i x lt is) ∙ filter_map-append f (take i xs) (x ∷ [])))
 
--- the last of two, or a default
+-- the later of two values, or a default
 pub unwrap_later : {X : Type 0} (o old : Option X) (default : X) → unwrap_or (later o old) default ≡ unwrap_or o (unwrap_or old default)
 unwrap_later None old default = refl
 unwrap_later (Some x) old default = refl

@@ -19,13 +19,13 @@ use Rattle.dropin_merge.specs.Winners.{with_name, in_byte_order, won}
 abbrev pub byte_cmp : List ℕ → List ℕ → Ordering
 byte_cmp = slice_cmp nat_cmp
 
--- a name is below those that are above a greater one
+-- a name is below all names that are above a greater one
 below_all : (name first : List ℕ) → byte_cmp name first ≡ Less → (names : List (List ℕ))
     → AllByRecursion (λ y. byte_cmp first y ≡ Less) names → AllByRecursion (λ y. byte_cmp name y ≡ Less) names
 below_all name first less [] all = tt
 below_all name first less (y ∷ names) all = (nat_list_cmp_total.trans name first y less all.0, below_all name first less names all.1)
 
--- what is above another name and above those with a name among others
+-- a name below another and below some names is also below the other added to them
 above_with : (first name : List ℕ) → byte_cmp first name ≡ Less → (names : List (List ℕ))
     → AllByRecursion (λ y. byte_cmp first y ≡ Less) names → AllByRecursion (λ y. byte_cmp first y ≡ Less) (with_name name names)
 above_with first name less [] all = (less, tt)
@@ -86,7 +86,7 @@ pub any-in_byte_order : (q : List ℕ) (names : List (List ℕ)) → list_any (b
 any-in_byte_order q [] = refl
 any-in_byte_order q (name ∷ names) = any_with q name (in_byte_order names) ∙ ap (λ b. bytes_eq q name || b) (any-in_byte_order q names)
 
--- ---- names with what a function gives for them
+-- ---- names with the values of a function for them
 module _ (f : List ℕ → Option (List ℕ)) where
   all_given : (first : List ℕ) (names : List (List ℕ)) → AllByRecursion (λ y. byte_cmp first y ≡ Less) names
       → AllByRecursion (λ y. byte_cmp first y ≡ Less) (keys_of (filter_map (λ name. won name (f name)) names))

@@ -1,4 +1,4 @@
--- Where the files lie that are answered or refused.
+-- The files in an answer or a refusal lie at known paths.
 use Rattle.std.proofs.Common.{◌≡◌, ℕ, ◌+◌, ◌<◌, ◌≤◌, true, List, [], ◌∷◌, ◌++◌, length, get_or, Result, Ok, Err, map, String, Global, sym}
 use Rattle.std.proofs.Common.{ap, ◌∙◌, subst, arith, append-nil}
 use Rattle.std.specs.Prelude.{IfOk, string_bytes}
@@ -22,7 +22,7 @@ use Rattle.dropin_merge.specs.declared.errors.ResolveError.{ResolveError}
 use Rattle.dropin_merge.specs.declared.errors.ResolveError.TheVariants.{BadName, NotFound, Masked, DropIns, TooLarge, Text, ReadFault}
 use Rattle.dropin_merge.specs.declared.errors.ResolveError.TheVariants.{Memory}
 
--- an element that was read is one of the list
+-- an element that was read is in the list
 pub contains_read : (xs : List (String Global)) (i : ℕ) (x : String Global) (text : List ℕ) → i < length xs → x ≡ get_or xs i x
     → text ≡ string_bytes x → Contains (map string_bytes xs) text
 contains_read xs i x text h is said = (
@@ -31,7 +31,7 @@ contains_read xs i x text h is said = (
   get_or-map string_bytes xs i x text h ∙ ap string_bytes (sym is) ∙ sym said,
 )
 
--- a refusal at some paths is one at more paths
+-- a refusal at some paths is also a refusal at more paths
 pub refuses_wider : (T U : Type 0) (P Q : List ℕ → Type 0) (e : ResolveError) → ((path : List ℕ) → P path → Q path)
     → RefusesAt P {T = T} (Err e) → RefusesAt Q {T = U} (Err e)
 refuses_wider T U P Q BadName wider h = h
@@ -61,7 +61,7 @@ module _ (P : UnitFile → Type 0) (fragment : UnitFile) where
       let few : length l.dropins ≤ count = l.few in
       record { dropins = l.dropins; led = l.led; few = omega arith; placed = l.placed }
 
--- one more path was read, and its file is there or not
+-- one more path was read, and its file exists or is missing
 pub led_next : (fragment : UnitFile) (all : List (List ℕ)) (count : ℕ) (done new : List UnitFile) (found : Found) (text : List ℕ)
     → IsLedBy (λ file. Contains all file.path) fragment count done → LiesAt text found → Contains all text → new ≡ done ++ file_in found
     → IsLedBy (λ file. Contains all file.path) fragment (count + 1) new
@@ -91,7 +91,7 @@ insert_keeps m n place name key path conf lies made places placed kept =
     (All-values-insert_entry string_cmp key path P m.entries kept
     (record { place = place; name = name; placed = placed; counts = conf; lies = lies }))
 
--- what holds of each path that is read holds of each text among them
+-- a property of each path that was read holds of each text among them
 pub kept_path : (places : List (List ℕ)) (paths : List (String Global)) → All (λ path. IsDropinPath places (string_bytes path)) paths
     → (text : List ℕ) → Contains (map string_bytes paths) text → IsDropinPath places text
 kept_path places paths kept text found =

@@ -1,4 +1,4 @@
--- The winners are those of least rank.
+-- The winners have the least rank.
 use Rattle.std.proofs.Common.{◌≡◌, ℕ, suc, zero, ◌≤◌, Bool, true, false, cond, List, [], ◌∷◌, Option, Some, None, refl, sym, ap, ◌∙◌, subst}
 use Rattle.std.proofs.Common.{arith}
 use Rattle.std.specs.Prelude.{◌↔◌, find}
@@ -23,7 +23,7 @@ some_same : {X : Type 0} (x y : X) → Some x ≡ Some y → x ≡ y
 some_same x y e = cc
 
 module _ (files : Files) (q : List ℕ) where
-  -- a drop-in of later places, seen from one place more
+  -- a drop-in of later places has one rank more if another place precedes them
   later : (place : List ℕ) (places : List (List ℕ)) (path : List ℕ) (rank : ℕ) → IsDropin files places q path rank
       → IsDropin files (place ∷ places) q path (suc rank)
   later place places path rank d = record { counts = d.counts; place = d.place; ranked = d.ranked; lies = d.lies; there = d.there }
@@ -110,7 +110,7 @@ module _ (files : Files) (q : List ℕ) where
   wins_winner places path w =
       ap (λ b. cond b (find (is_there files) (paths_in places q)) None) w.dropin.counts ∙ wins_found places w.rank path w.dropin w.least
 
--- a look-up finds what the list has
+-- a look-up finds exactly the pairs of the list
 lookup_iff : (es : List (List ℕ × List ℕ)) → IsStrictlySortedBy byte_cmp (keys_of es) → (q path : List ℕ)
     → (lookup (is_at (byte_cmp q)) es ≡ Some path) ↔ Contains es (q, path)
 lookup_iff es sorted q path = (

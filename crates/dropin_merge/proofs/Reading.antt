@@ -1,4 +1,4 @@
--- Files that are read one after the other.
+-- Files are read one after the other.
 use Rattle.std.proofs.Common.{◌≡◌, ℕ, ◌+◌, ◌<◌, Bool, true, false, cond, List, [], ◌∷◌, ◌++◌, length, drop, get_or, Option, Some, None}
 use Rattle.std.proofs.Common.{Result, Ok, Err, map, filter, String, Global, refl, sym, ap, ◌∙◌, subst, append_assoc, append-nil}
 use Rattle.std.specs.Prelude.{not, unwrap_or, IfSome, string_bytes}
@@ -17,7 +17,7 @@ use Rattle.dropin_merge.specs.declared.errors.ResolveError.{ResolveError}
 use Rattle.dropin_merge.specs.declared.errors.ResolveError.TheVariants.{BadName, NotFound, Masked, DropIns, TooLarge, Text, ReadFault}
 use Rattle.dropin_merge.specs.declared.errors.ResolveError.TheVariants.{Memory}
 
--- what holds of the files that are told, in both forms
+-- a property of the files that the shelf shows, in both forms
 pub told_from : {X : Type 0} (P : X → Type 0) (o : Option X) → IfSome o P → (x : X) → o ≡ Some x → P x
 told_from P None h x e = cc
 told_from P (Some y) h x e = subst P (some_same y x e) h
@@ -29,7 +29,7 @@ pub told_to : {X : Type 0} (P : X → Type 0) (o : Option X) → ((x : X) → o 
 told_to P None h = tt
 told_to P (Some x) h = h x refl
 
--- a refusal that stays where it is wanted
+-- a refusal stays wanted
 pub failed_on : {T U : Type 0} (e : ResolveError) (w : Result T ResolveError) (v : Result U ResolveError) → (w ≡ Err e → v ≡ Err e)
     → IsUnlessFailed {T = T} (Err e) w → IsUnlessFailed {T = U} (Err e) v
 failed_on BadName w v h i = h i
@@ -42,7 +42,7 @@ failed_on ReadFault w v h i = tt
 failed_on Memory w v h i = tt
 
 -- ---- the drop-ins
--- some files, the answer of a path, and those behind it
+-- the files so far, the answer of a path, and the files after it
 abbrev pub and_behind : List UnitFile → Result Found ResolveError → List (Result UnitFile ResolveError)
     → Result (List UnitFile) ResolveError
 and_behind files (Ok Missing) behind = joined_by files behind
@@ -81,7 +81,7 @@ dropins_read-cons files done path paths = by_bytes (bytes_at files path) refl
         (filter (λ p. not (is_empty (content files p))) paths)))) e
         ∙ by_empty bytes (ap (λ o. unwrap_or o []) e) (is_empty bytes)
 
--- one more path of those that are read
+-- one more of the paths is read
 pub dropin_more : (files : Files) (told : Option Files) (done new : List UnitFile) (paths : List (String Global)) (i : ℕ)
     (path : String Global) (text : List ℕ) (found : Found) (whole : Result (List UnitFile) ResolveError)
     → told ≡ Some files
@@ -104,7 +104,7 @@ dropin_more files told done new paths i path text found whole known h is said re
     by_found Empty = ap (λ fs. joined_by fs (dropins_read files (map string_bytes (drop (i + 1) paths)))) (append-nil done)
     by_found (Says file) = refl
 
--- a path that is refused
+-- a path is refused
 pub dropin_stops : (start told : Option Files) (whole : Files → Result (List UnitFile) ResolveError) (done : List UnitFile)
     (paths : List (String Global)) (i : ℕ) (path : String Global) (text : List ℕ) (e : ResolveError)
     → told ≡ start

@@ -1,4 +1,4 @@
--- What a unit says without its other sections.
+-- A unit without its other sections gives the same answers.
 use Rattle.std.proofs.Common.{◌≡◌, ℕ, ◌+◌, Bool, true, false, cond, List, [], ◌∷◌, ◌++◌, refl, sym, ap, ◌∙◌, map}
 use Rattle.std.specs.Prelude.{filter}
 use Rattle.std.specs.List.{filter_map}
@@ -8,7 +8,7 @@ use Rattle.dropin_merge.specs.unit_values.Assignments.{is_of_service, placed, se
 use Rattle.dropin_merge.specs.unit_values.Assignments.{without_others}
 use Rattle.dropin_merge.specs.unit_values.Values.{given_by, note_of, values_of, notes_of, written_by, written_values}
 
--- what passes a test once passes it twice
+-- an element that passes a test once passes it twice
 once_more : {X : Type 0} (p : X → Bool) (b : Bool) (x : X) (xs : List X) → p x ≡ b → filter p xs ≡ filter p (filter p xs)
     → cond b (x ∷ filter p xs) (filter p xs) ≡ filter p (cond b (x ∷ filter p xs) (filter p xs))
 once_more p true x xs passes same = ap (λ ys. x ∷ ys) same ∙ sym

@@ -70,7 +70,7 @@ false_from : (b : Bool) → (b ≡ true → ⊥) → b ≡ false
 false_from true h = absurd (h refl)
 false_from false h = refl
 
--- a name that has not been won is won by its path
+-- a name that nothing has won is won by its path
 pub insert_wins : (m n : BTreeMap (String Global) (String Global)) (place name : List ℕ) (path : String Global) → ends_in_conf name ≡ true
     → get_by_text m name ≡ None → string_bytes path ≡ below place name
     → UpdatesBy string_cmp (λ k. slice_cmp nat_cmp name (string_bytes k)) m n (Some path) → (q : List ℕ)
@@ -98,7 +98,7 @@ insert_wins m n place name path conf absent lies updates q =
         false_is_true h = cc
 
 -- ---- the winners of a unit
--- what a filter by the ending keeps
+-- a filter by the ending keeps these names
 any_filter : (q : List ℕ) (names : List (List ℕ)) → list_any (bytes_eq q) (filter ends_in_conf names)
     ≡ (ends_in_conf q && list_any (bytes_eq q) names)
 any_filter q [] = by_ending (ends_in_conf q)
@@ -144,7 +144,7 @@ found_or true true here next n e = refl
 found_or true false here next n e = sym e
 found_or false t here next n e = sym e
 
--- the names of drop-ins are those that have a winner
+-- the names of drop-ins are exactly the names with a winner
 names_have_winners : (files : Files) (q : List ℕ) (places : List (List ℕ))
     → (ends_in_conf q && list_any (bytes_eq q) (flat_map (names_in files) places))
     ≡ (is_conf q && is_some (find (is_there files) (paths_in places q)))
@@ -162,7 +162,7 @@ names_have_winners files q (place ∷ places) =
     ∙ found_or (is_conf q) (is_there files (below place q)) (below place q) (find (is_there files) (paths_in places q)) _
     (sym (names_have_winners files q places))
 
--- what has a winner only where a test passes is the same behind the test
+-- a value that a test may remove stays the same if the test passes
 none_if : Bool → Option (List ℕ)
 none_if b = cond b None None
 
@@ -183,7 +183,7 @@ lookup-winners_of files unit q =
 pub winners_of-sorted : (files : Files) (unit : Name) → IsStrictlySortedBy byte_cmp (keys_of (winners_of files unit))
 winners_of-sorted files unit = sorted_given (winner_of files unit) _ (in_byte_order-sorted (conf_names files (dropin_places unit)))
 
--- two lists in order are one where they have the same at each name
+-- two lists in order are equal if they have the same value at each name
 both_hold : (a b : Bool) → T a → T b → T (a && b)
 both_hold true b f g = g
 both_hold false b f g = f
@@ -247,7 +247,7 @@ none_is : {X : Type 0} (o : Option X) → is_some o ≡ false → o ≡ None
 none_is None e = refl
 none_is (Some x) e = cc
 
--- the same, where the key is a copy of the name
+-- the same holds if the key is a copy of the name
 pub copy_wins : (m n : BTreeMap (String Global) (String Global)) (place name : List ℕ) (key path : String Global)
     → string_bytes key ≡ name → ends_in_conf name ≡ true → is_some (get_by_text m name) ≡ false → string_bytes path ≡ below place name
     → UpdatesBy string_cmp (string_cmp key) m n (Some path) → (q : List ℕ)

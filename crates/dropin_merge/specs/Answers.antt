@@ -1,4 +1,4 @@
--- What is promised of an answer.
+-- The promises about an answer.
 use Rattle.std.specs.Prelude.{◌≡◌, ◌≢◌, ◌⊎◌, ◌≤◌, ℕ, Some, None, true, IsSome, IfSome, IsErrOf, Result, Ok, Err, List, ◌∷◌, length}
 use Rattle.std.specs.List.{All, Contains}
 use Rattle.host_io.specs.Causes.{Rose}
@@ -25,12 +25,12 @@ IsUnlessFailed (Err (Text path fault)) wanted = wanted ≡ Err (Text path fault)
 IsUnlessFailed (Err ReadFault) wanted = Unit {0}
 IsUnlessFailed (Err Memory) wanted = Unit {0}
 
--- the count of faults does not fall, and `ReadFault` comes only where it rose
+-- the count of faults does not fall, and it rises if the answer is `ReadFault`
 pub record HasCause {T : Type 0} (before now : ℕ) (result : Result T ResolveError) : Type 0 where
   pub later : before ≤ now
   pub failed : IsErrOf result ReadFault → Rose before now
 
--- `BadName` comes only where the text is no name, and every other answer but want of memory only where it is one
+-- the answer is `BadName` only if the text is no name, and any other answer except `Memory` only if the text is a name
 abbrev pub NamesUnit : List ℕ → Result Resolved ResolveError → Type 0
 NamesUnit text (Ok resolved) = name_of text ≡ Some resolved.name
 NamesUnit text (Err BadName) = name_of text ≡ None
@@ -42,7 +42,7 @@ NamesUnit text (Err (Text path fault)) = IsSome (name_of text)
 NamesUnit text (Err ReadFault) = IsSome (name_of text)
 NamesUnit text (Err Memory) = Unit {0}
 
--- a path of a drop-in in one of these places
+-- the path is a drop-in directly in one of these places
 pub record IsDropinPath (places : List (List ℕ)) (path : List ℕ) : Type 0 where
   pub place : List ℕ
   pub name : List ℕ
@@ -50,11 +50,11 @@ pub record IsDropinPath (places : List (List ℕ)) (path : List ℕ) : Type 0 wh
   pub counts : ends_in_conf name ≡ true
   pub lies : path ≡ below place name
 
--- a path at which a file of the unit may lie
+-- a file of the unit may lie at this path
 abbrev pub IsUnitPath : Name → List ℕ → Type 0
 IsUnitPath unit path = Contains (fragment_paths unit) path ⊎ IsDropinPath (dropin_places unit) path
 
--- a fragment, and behind it at most 256 drop-ins
+-- the files are a fragment and at most 256 drop-ins after it
 pub record AreUnitFiles (unit : Name) (files : List UnitFile) : Type 0 where
   pub fragment : UnitFile
   pub dropins : List UnitFile
@@ -63,7 +63,7 @@ pub record AreUnitFiles (unit : Name) (files : List UnitFile) : Type 0 where
   pub few : length dropins ≤ 256
   pub placed : All (λ file. IsDropinPath (dropin_places unit) file.path) dropins
 
--- files of the unit are answered, or one of them is refused
+-- the answer has files of the unit, or refuses one of them
 abbrev pub LiesInPlaces : List ℕ → Result Resolved ResolveError → Type 0
 LiesInPlaces text (Ok resolved) = AreUnitFiles resolved.name resolved.files
 LiesInPlaces text (Err BadName) = Unit {0}

@@ -1,4 +1,4 @@
--- The calls by which a unit is read: the paths of its fragment, then the folders of its drop-ins, then the drop-ins that win
+-- A unit is read by these calls: the paths of its fragment, then the folders of its drop-ins, then the winning drop-ins
 -- (systemd.unit(5), Unit File Load Path). Each answer is judged before the next call.
 use Rattle.std.specs.Prelude.{ℕ, Bool, true, false, cond, Option, Some, None, Result, Ok, Err, List, [], ◌++◌, map}
 use Rattle.host_io.specs.Calls.{Ask, FileAt, NamesIn, Course, Whole, Faulted, Cut, unless_refused, up_to}
@@ -25,29 +25,29 @@ is_refusal (Err refusal) = true
 abbrev pub is_refused : Files → List ℕ → Bool
 is_refused files path = is_refusal (file_at path (bytes_at files path))
 
--- paths up to the first that is there
+-- the paths of the fragment, up to the first that exists
 abbrev pub fragment_asks : Files → List (List ℕ) → List Ask
 fragment_asks files paths = map unit_file (up_to (is_there files) paths)
 
--- folders up to the first that is overfull
+-- the folders, up to the first with too many files
 abbrev pub folder_asks : Files → List (List ℕ) → List Ask
 folder_asks files places = map NamesIn (up_to (is_overfull files) places)
 
--- drop-ins up to the first that is refused
+-- the drop-ins, up to the first that is refused
 abbrev pub dropin_asks : Files → List (List ℕ) → List Ask
 dropin_asks files paths = map unit_file (up_to (is_refused files) paths)
 
--- behind the fragment: all folders, and the drop-ins that win, where these are not too many
+-- after the fragment: all folders, and the winning drop-ins if these are not too many
 abbrev pub behind_fragment : Files → Name → List Ask
 behind_fragment files unit = folder_asks files (dropin_places unit) ++ cond (is_crowded files unit) []
     (dropin_asks files (winning_paths files unit))
 
--- all of a unit, of which nothing is read behind a fragment that is missing or refused
+-- all calls for a unit; if the fragment is missing or refused, nothing is read after it
 abbrev pub unit_asks : Files → Name → List Ask
 unit_asks files unit = fragment_asks files (fragment_paths unit) ++ unless_refused
     (fragment_read files (fragment_of files (fragment_paths unit))) (behind_fragment files unit)
 
--- nothing is read for a text that is no name
+-- a text that is no name is refused without a read
 abbrev pub name_asks : Files → Option Name → List Ask
 name_asks files None = []
 name_asks files (Some unit) = unit_asks files unit
@@ -55,7 +55,7 @@ name_asks files (Some unit) = unit_asks files unit
 abbrev pub resolve_asks : Files → List ℕ → List Ask
 resolve_asks files text = name_asks files (name_of text)
 
--- how a reading ended that was answered so
+-- the course of a reading with this answer
 abbrev pub course : {T : Type 0} → Result T ResolveError → Course
 course (Ok value) = Whole
 course (Err BadName) = Whole

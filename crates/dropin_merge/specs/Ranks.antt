@@ -1,4 +1,4 @@
--- Which drop-in wins a file name, said of all paths of the map at once (systemd.unit(5), Description: drop-in files).
+-- The winner of a file name among all paths of the map at once (systemd.unit(5), Description: drop-in files).
 use Rattle.std.specs.Prelude.{◌≡◌, ◌↔◌, ◌≤◌, ℕ, true, Some, List}
 use Rattle.std.specs.List.{Contains, slice_get}
 use Rattle.std.specs.List.Sorted.{IsStrictlySortedBy}
@@ -18,13 +18,13 @@ pub record IsDropin (files : Files) (places : List (List ℕ)) (name path : List
   pub lies : path ≡ below place name
   pub there : is_there files path ≡ true
 
--- a drop-in wins its file name where no drop-in of that name has a lesser rank
+-- a drop-in wins its file name if no drop-in of that name has a lesser rank
 pub record Wins (files : Files) (places : List (List ℕ)) (name path : List ℕ) : Type 0 where
   pub rank : ℕ
   pub dropin : IsDropin files places name path rank
   pub least : (other : List ℕ) (higher : ℕ) → IsDropin files places name other higher → rank ≤ higher
 
--- pairs of a file name and the path that wins it: all of them, in byte order of file names, each name once
+-- the pairs of a file name and its winning path are complete and in byte order of file names, each name once
 pub record AreWinners (files : Files) (unit : Name) (winners : List (List ℕ × List ℕ)) : Type 0 where
   pub in_order : IsStrictlySortedBy (slice_cmp nat_cmp) (keys_of winners)
   pub exactly : (name path : List ℕ) → Contains winners (name, path) ↔ Wins files (dropin_places unit) name path

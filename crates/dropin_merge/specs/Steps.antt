@@ -1,4 +1,4 @@
--- What the parts of a resolution answer each other, where the shelf tells its files.
+-- The answers of the parts of a resolution over a shelf that shows its files.
 use Rattle.std.specs.Prelude.{Vec, String, string_bytes, ◌≡◌, ◌≢◌, ◌≤◌, ◌&&◌, nat_lt, ℕ, true, false, cond, Option, Some, None, Result, Ok}
 use Rattle.std.specs.Prelude.{Err, List, [], ◌∷◌, map, length}
 use Rattle.std.specs.List.{All, list_any}
@@ -21,29 +21,29 @@ use Rattle.dropin_merge.specs.declared.errors.ResolveError.{ResolveError}
 use Rattle.dropin_merge.specs.declared.errors.ResolveError.TheVariants.{BadName, NotFound, Masked, DropIns, TooLarge, Text, ReadFault}
 use Rattle.dropin_merge.specs.declared.errors.ResolveError.TheVariants.{Memory}
 
--- a file that says something
+-- a file with a text, or its refusal
 abbrev pub says : Result UnitFile ResolveError → Result Found ResolveError
 says (Ok file) = Ok (Says file)
 says (Err refusal) = Err refusal
 
--- what is found at a path, by the bytes of the file that is there
+-- the finding at a path, by the bytes of its file
 abbrev pub file_at : List ℕ → Option (List ℕ) → Result Found ResolveError
 file_at path None = Ok Missing
 file_at path (Some bytes) = cond (is_empty bytes) (Ok Empty) (says (judged path bytes))
 
--- the file that says something, if there is one
+-- the file with a text, if there is one
 abbrev pub file_in : Found → List UnitFile
 file_in Missing = []
 file_in Empty = []
 file_in (Says file) = file ∷ []
 
--- it lies at this path
+-- the file lies at this path
 abbrev pub LiesAt : List ℕ → Found → Type 0
 LiesAt path Missing = Unit {0}
 LiesAt path Empty = Unit {0}
 LiesAt path (Says file) = file.path ≡ path
 
--- the names of a folder are answered, in any order
+-- the answer has the names of the folder, in any order, or refuses too many names
 abbrev pub ListsPlace : List (List ℕ) → Result (Vec (String Global) Global) ResolveError → Type 0
 ListsPlace names (Ok listed) = ((q : List ℕ) → list_any (bytes_eq q) (map string_bytes listed.items) ≡ list_any (bytes_eq q) names) ×
     (nat_lt 4096 (length names) ≡ false)
@@ -60,15 +60,15 @@ ListsPlace names (Err (Text path fault)) = ⊥
 abbrev pub winner_at : BTreeMap (String Global) (String Global) → List ℕ → Option (List ℕ)
 winner_at winners q = option_map string_bytes (get_by_text winners q)
 
--- what a file of a place gives for a file name
+-- the path that a file of a place gives for a file name
 abbrev pub at_name : List ℕ → List ℕ → List ℕ → Option (List ℕ)
 at_name place name q = cond (ends_in_conf q && bytes_eq q name) (Some (below place q)) None
 
--- what the files of a place give for it
+-- the path that the files of a place give for a file name
 abbrev pub at_place : List ℕ → List (List ℕ) → List ℕ → Option (List ℕ)
 at_place place names q = cond (ends_in_conf q && list_any (bytes_eq q) names) (Some (below place q)) None
 
--- each file name has its winner among some places, none of which is overfull
+-- each file name has its winner among these places, or a place has too many files
 abbrev pub CollectsWinners : Files → List (List ℕ) → Result (BTreeMap (String Global) (String Global)) ResolveError → Type 0
 CollectsWinners files places (Ok winners) = ((q : List ℕ) → winner_at winners q ≡ winner_among files places q) ×
     (list_any (is_overfull files) places ≡ false)
@@ -81,7 +81,7 @@ CollectsWinners files places (Err Masked) = ⊥
 CollectsWinners files places (Err (TooLarge path)) = ⊥
 CollectsWinners files places (Err (Text path fault)) = ⊥
 
--- where a step refuses, it is for no name, and what it refuses is a file at one of these paths
+-- a step never refuses a name, and it refuses only a file at one of these paths
 abbrev pub RefusesAt : (List ℕ → Type 0) → {T : Type 0} → Result T ResolveError → Type 0
 RefusesAt P (Ok value) = Unit {0}
 RefusesAt P (Err BadName) = ⊥
@@ -93,13 +93,13 @@ RefusesAt P (Err (Text path error)) = P path × (error ≢ fault.Memory)
 RefusesAt P (Err ReadFault) = Unit {0}
 RefusesAt P (Err Memory) = Unit {0}
 
--- a file, and behind it at most so many others, of which this holds
+-- the files are this fragment and at most so many others after it, which have this property
 pub record IsLedBy (P : UnitFile → Type 0) (fragment : UnitFile) (count : ℕ) (files : List UnitFile) : Type 0 where
   pub dropins : List UnitFile
   pub led : files ≡ fragment ∷ dropins
   pub few : length dropins ≤ count
   pub placed : All P dropins
 
--- the paths that have won lie in these places
+-- the winning paths lie in these places
 abbrev pub KeepsTo : List (List ℕ) → BTreeMap (String Global) (String Global) → Type 0
 KeepsTo places winners = All (λ path. IsDropinPath places (string_bytes path)) (values_of winners.entries)

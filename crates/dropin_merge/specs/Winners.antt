@@ -1,4 +1,4 @@
--- Which drop-ins of a unit are read (systemd.unit(5), Description: drop-in files).
+-- The drop-ins that a unit reads (systemd.unit(5), Description: drop-in files).
 use Rattle.std.specs.Prelude.{ℕ, ◌&&◌, nat_eq, Bool, cond, Option, None, is_some, List, [], ◌∷◌, map, filter, flat_map, find, codes}
 use Rattle.std.specs.List.{ends_with, filter_map}
 use Rattle.std.specs.Option.{option_map}
@@ -12,27 +12,27 @@ use Rattle.dropin_merge.specs.Places.{below, dropin_places}
 abbrev pub is_there : Files → List ℕ → Bool
 is_there files path = is_some (bytes_at files path)
 
--- a file that ends in `.conf` counts
+-- a file whose name ends in `.conf` is a drop-in
 abbrev pub ends_in_conf : List ℕ → Bool
 ends_in_conf name = ends_with nat_eq name (codes ".conf")
 
--- the name of a file, which is not empty and has no slash, that ends so
+-- a name of a file is not empty, has no slash, and ends in `.conf`
 abbrev pub is_conf : List ℕ → Bool
 is_conf name = is_some (as_name name) && ends_in_conf name
 
--- a file name in each of some places
+-- the path of a file name in each of some places
 abbrev pub paths_in : List (List ℕ) → List ℕ → List (List ℕ)
 paths_in places name = map (λ place. below place name) places
 
--- the winner of a file name among some places: the first path that is there
+-- the winner of a file name among some places is the first path that exists
 abbrev pub winner_among : Files → List (List ℕ) → List ℕ → Option (List ℕ)
 winner_among files places name = cond (is_conf name) (find (is_there files) (paths_in places name)) None
 
--- of all drop-ins of a unit with this file name, the one of least rank
+-- the winner of a file name is the drop-in of the unit with the least rank
 abbrev pub winner_of : Files → Name → List ℕ → Option (List ℕ)
 winner_of files unit name = winner_among files (dropin_places unit) name
 
--- a name among others in byte order, once
+-- puts a name among others in byte order, once
 abbrev pub with_name : List ℕ → List (List ℕ) → List (List ℕ)
 with_name name [] = name ∷ []
 with_name name (first ∷ names) = match_ordering (slice_cmp nat_cmp name first) (name ∷ first ∷ names) (first ∷ names)

@@ -1,4 +1,4 @@
-// The drop-ins of a unit, behind its fragment.
+// Reads the drop-ins of a unit after its fragment.
 ghost use Rattle.std.specs.Prelude.{◌≡◌, ◌∷◌, [], IfOk, IfSome, length, map};
 ghost use Rattle.std.specs.List.{Contains};
 ghost use Rattle.std.specs.String.{string_bytes};
@@ -23,7 +23,7 @@ use unit_names::UnitName;
 /// The most drop-ins of a unit.
 const MOST_DROPINS: usize = 256;
 
-// A fragment, and the drop-ins at these paths behind it.
+// Returns a fragment and, after it, the drop-ins at these paths.
 fn read_dropins<S: Shelf>(
     alloc: Global,
     shelf: &mut S,
@@ -48,7 +48,7 @@ fn read_dropins<S: Shelf>(
     Ok(files)
 }
 
-/// The files in force of a unit whose fragment this is.
+/// Returns the files in force of a unit, given its fragment.
 pub fn read_files<S: Shelf>(
     alloc: Global,
     shelf: &mut S,

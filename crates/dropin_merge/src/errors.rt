@@ -1,4 +1,4 @@
-// Why a unit has no files in force.
+// Defines why a unit has no files in force.
 ghost use Rattle.std.specs.Prelude.{◌≡◌};
 ghost use Rattle.dropin_merge.specs.declared.errors.ResolveError.TheVariants.{Memory};
 
@@ -24,10 +24,10 @@ pub enum ResolveError {
     /// The file at this path has more than 1 MiB.
     #[error("a file of the unit is too large")]
     TooLarge(Text),
-    /// The file at this path is refused for what it says.
+    /// The text of the file at this path is refused.
     #[error("a file of the unit is refused: {1}")]
     Text(Text, UnitError),
-    /// What lies outside failed, and the shelf's count of faults rose.
+    /// A read of the shelf failed, and its count of faults rose.
     #[error("a read failed")]
     ReadFault,
     /// Memory ran out.

@@ -1,4 +1,4 @@
-// A file of a unit, read from the shelf and judged.
+// Reads a file of a unit from the shelf and judges it.
 ghost use Rattle.std.specs.Prelude.{◌≡◌, ◌∷◌, [], IfOk, IfSome, IsErrOf};
 ghost use Rattle.host_io.specs.Calls.{AsksExactly};
 ghost use Rattle.host_io.specs.Causes.{StaysUnless};
@@ -16,21 +16,21 @@ use host_io::{Shelf, ShelfError};
 use std::alloc::Global;
 use unit_grammar::{Text, UnitError, read_unit};
 
-/// What is found at a path.
+/// The finding at a path.
 #[derive(Drop)]
 pub enum Found {
     /// No file.
     Missing,
     /// A file of zero bytes.
     Empty,
-    /// A file that says something.
+    /// A file with a text.
     Says(UnitFile),
 }
 
 /// The most bytes of a file: 1 MiB.
 const MOST_BYTES: u64 = 1_048_576;
 
-// What the file at a path says that has these bytes.
+// Returns the file with this path and these bytes, if its text is accepted.
 fn judge_file(alloc: Global, path: &str, bytes: &[u8]) -> Result<UnitFile, ResolveError>
     ensures judges { IsUnlessFailed result (said path.now (unit_of bytes.now)) }
     ensures has_the_path { IfOk result (λ file. file.path ≡ path.now) }
@@ -45,7 +45,7 @@ fn judge_file(alloc: Global, path: &str, bytes: &[u8]) -> Result<UnitFile, Resol
     }
 }
 
-/// What is found at a path, where a file of a unit may lie.
+/// Reads the path of a file of a unit, which may be missing.
 pub fn file_at<S: Shelf>(alloc: Global, shelf: &mut S, path: &str) -> Result<Found, ResolveError>
     ensures has_the_path { IfOk result (LiesAt path.now) }
     ensures refuses_the_path { RefusesAt (λ p. p ≡ path.now) result }

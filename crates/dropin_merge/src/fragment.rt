@@ -1,4 +1,4 @@
-// The fragment of a unit.
+// Reads the fragment of a unit.
 ghost use Rattle.std.specs.Prelude.{◌≡◌, IfOk, IfSome, map};
 ghost use Rattle.std.specs.List.{Contains};
 ghost use Rattle.std.specs.String.{string_bytes};
@@ -16,7 +16,7 @@ use crate::resolved::UnitFile;
 use host_io::Shelf;
 use std::alloc::Global;
 
-/// What the first of these paths says that is there.
+/// Reads the first of these paths that exists.
 pub fn read_fragment<S: Shelf>(
     alloc: Global,
     shelf: &mut S,

@@ -3,7 +3,7 @@
 //! `resolve(alloc, &mut shelf, "web.service")?` has the files in force, in the order of use. They are the unit's fragment and the
 //! drop-ins that change it, from several locations (systemd.unit(5)). The crate reads them from a `host_io` shelf.
 //!
-//! - [`unit_values`]: the values of a key over all files of a unit, as booleans, words or lines.
+//! - [`unit_values`] reads the values of a key over all files of a unit, as booleans, words or lines.
 #![tactic(auto)]
 
 mod dropins;

@@ -1,4 +1,4 @@
-// The names in a folder of drop-ins.
+// Lists the names in a folder of drop-ins.
 ghost use Rattle.std.specs.Prelude.{◌≡◌, ◌∷◌, [], IfSome};
 ghost use Rattle.host_io.specs.Calls.{NamesIn, AsksExactly};
 ghost use Rattle.host_io.specs.Causes.{StaysUnless};
@@ -12,7 +12,7 @@ use crate::errors::ResolveError;
 use host_io::{Shelf, ShelfError};
 use std::alloc::Global;
 
-/// The names of the files directly in a folder.
+/// Returns the names of the files directly in a folder, or no names if the folder is missing.
 pub fn list_place<S: Shelf>(
     alloc: Global,
     shelf: &mut S,

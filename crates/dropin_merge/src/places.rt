@@ -1,4 +1,4 @@
-// Where the files of a unit may lie.
+// Lists the places where the files of a unit may lie.
 ghost use Rattle.std.specs.Prelude.{◌≡◌, ◌++◌, IfOk, OnOk, map};
 ghost use Rattle.std.specs.String.{string_bytes};
 ghost use Rattle.dropin_merge.specs.Places.{below, in_locations, fragment_paths, dropin_places};
@@ -6,21 +6,21 @@ ghost use Rattle.dropin_merge.specs.Places.{below, in_locations, fragment_paths,
 use std::alloc::{AllocError, Global};
 use unit_names::{UnitName, dropin_folders};
 
-/// The folders of unit files, the first that has a file before the others.
+/// The folders of unit files. A file in an earlier folder takes precedence.
 const LOCATIONS: [&str; 3] = [
     "etc/systemd/system",
     "run/systemd/system",
     "usr/lib/systemd/system",
 ];
 
-/// The path of a name directly in a folder.
+/// Returns the path of a name directly in a folder.
 pub fn path_below(alloc: Global, folder: &str, name: &str) -> Result<String, AllocError>
     ensures joined { IfOk result (λ path. string_bytes path ≡ below folder.now name.now) }
 {
     format!(in alloc; "{folder}/{name}")
 }
 
-// Puts a name in each of some folders behind some paths.
+// Appends the path of a name in each of some folders.
 fn push_paths(
     alloc: Global,
     paths: &mut Vec<String>,
@@ -35,14 +35,14 @@ fn push_paths(
     Ok(())
 }
 
-// Puts a name in each of the locations behind some paths.
+// Appends the path of a name in each of the locations.
 fn push_locations(alloc: Global, paths: &mut Vec<String>, name: &str) -> Result<(), AllocError>
     ensures { OnOk result (map string_bytes paths.new.items ≡ map string_bytes paths.old.items ++ in_locations name.now) }
 {
     push_paths(alloc, paths, &LOCATIONS, name)
 }
 
-/// Where the fragment of a unit is looked for, in this order.
+/// Returns the paths at which systemd looks for the fragment of a unit, in this order.
 pub fn fragment_paths(alloc: Global, unit: &UnitName) -> Result<Vec<String>, AllocError>
     ensures in_order { IfOk result (λ paths. map string_bytes paths.items ≡ fragment_paths unit.now) }
 {
@@ -54,7 +54,7 @@ pub fn fragment_paths(alloc: Global, unit: &UnitName) -> Result<Vec<String>, All
     Ok(paths)
 }
 
-/// The folders of a unit's drop-ins in the locations, by their rank.
+/// Returns the folders of a unit's drop-ins in the locations, by their rank.
 pub fn dropin_places(alloc: Global, unit: &UnitName) -> Result<Vec<String>, AllocError>
     ensures in_order { IfOk result (λ places. map string_bytes places.items ≡ dropin_places unit.now) }
 {

@@ -1,4 +1,4 @@
-// A unit that has been resolved: its name, its files in force, and the systemd that reads them.
+// Defines a unit that has been resolved: its name, its files in force, and the version of systemd that reads them.
 //
 // Contracts see the files as a list.
 ghost use Rattle.std.specs.Prelude.{◌≡◌, IfOk};
@@ -11,14 +11,14 @@ use unit_names::{UnitName, Version};
 /// A file in force.
 #[derive(Drop)]
 pub struct UnitFile {
-    /// Where it lies; empty for a file that was put behind those of a unit.
+    /// The path of the file. It is empty for a file that `extended` appended.
     pub path: Text,
-    /// What it says.
+    /// The text of the file.
     pub text: UnitText,
 }
 
 impl UnitFile {
-    // The same file once more.
+    // Returns a copy of the file.
     fn copy(&self, alloc: Global) -> Result<UnitFile, AllocError>
         ensures { IfOk result (λ copy. copy ≡ self.now) }
     {
@@ -32,7 +32,7 @@ impl UnitFile {
 /// Files in force, which contracts see as a list.
 pub type UnitFiles = ItemList<UnitFile>;
 
-// The same files once more.
+// Returns copies of the files.
 fn copied(alloc: Global, files: &[UnitFile]) -> Result<Vec<UnitFile>, AllocError>
     ensures { IfOk result (λ copies. copies.items ≡ files.now) }
 {
@@ -48,19 +48,19 @@ fn copied(alloc: Global, files: &[UnitFile]) -> Result<Vec<UnitFile>, AllocError
 pub struct Resolved {
     pub name: UnitName,
     pub files: UnitFiles,
-    /// The systemd by whose rules the files are read; with none they are read by the rules of the base profile.
+    /// The version of systemd by whose rules the files are read. Without a version, the rules of the base profile apply.
     pub systemd: Option<Version>,
 }
 
 impl Resolved {
-    /// Has the files read by the rules of this version of systemd.
+    /// Selects the rules of this version of systemd.
     pub fn read_by(&mut self, systemd: Option<Version>)
         ensures same_files { self.new ≡ read_by systemd self.old }
     {
         self.systemd = systemd;
     }
 
-    /// The same unit with one more file after its files, which has no path and says `more`.
+    /// Returns the same unit with one more file after its files. That file has no path and has the text `more`.
     pub fn extended(&self, alloc: Global, more: UnitText) -> Result<Resolved, AllocError>
         ensures one_more_file { IfOk result (λ longer. longer ≡ extended self.now more) }
     {

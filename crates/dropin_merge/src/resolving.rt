@@ -1,4 +1,4 @@
-// A unit, resolved over a shelf.
+// Resolves a unit over a shelf.
 ghost use Rattle.std.specs.Prelude.{◌≡◌, ◌↔◌, List, ℕ, Some, IfOk, IfSome};
 ghost use Rattle.host_io.specs.Calls.{AsksExactly};
 ghost use Rattle.host_io.specs.Causes.{StaysUnless};
@@ -21,7 +21,7 @@ use host_io::Shelf;
 use std::alloc::Global;
 use unit_names::{NameError, UnitName};
 
-// A unit with the files in force of its name.
+// Returns a unit with the files in force of its name.
 fn resolve_unit<S: Shelf>(
     alloc: Global,
     shelf: &mut S,
@@ -46,7 +46,7 @@ fn resolve_unit<S: Shelf>(
     })
 }
 
-// The unit that a text names.
+// Returns the unit that a text names.
 fn resolve_text<S: Shelf>(
     alloc: Global,
     shelf: &mut S,
@@ -67,20 +67,30 @@ fn resolve_text<S: Shelf>(
     }
 }
 
-/// Resolves a unit: finds its fragment and its drop-ins, and reads what they say.
+/// Resolves a unit: finds its fragment and its drop-ins, and reads them.
 ///
-/// systemd.unit(5), Unit File Load Path and Description: the fragment is the first file of the name, or else
-/// of its template, in `etc/systemd/system`, `run/systemd/system` and `usr/lib/systemd/system`. Drop-ins are
-/// the files that end in `.conf` in the folders that the name has, in each of these. Of two with one file name
-/// the one in the more specific folder wins, and then the one in the earlier location. They follow the
-/// fragment in byte order of file names; an empty one contributes nothing and hides the others all the same.
+/// systemd.unit(5), Unit File Load Path and Description, has the rules. The fragment is the first file of the name, or else
+/// of its template, in `etc/systemd/system`, `run/systemd/system` and `usr/lib/systemd/system`. Drop-ins are the files that
+/// end in `.conf` in the folders of the name, in each of these locations. If two drop-ins have the same file name, the more
+/// specific folder wins, and then the earlier location. Drop-ins follow the fragment in byte order of file names. An empty
+/// drop-in contributes nothing, but still hides the others of its name.
 ///
-/// The first of these refuses: `BadName`; `NotFound`; the fragment is `TooLarge` (above 1 MiB); it has zero
-/// bytes (`Masked`); `Text` of the fragment; `DropIns`, where a folder in one location has more than 4,096 files,
-/// or more than 256 drop-ins win; then `TooLarge` and `Text` of each drop-in in order. A file is judged before
-/// the next is read, so that what is asked of the shelf, over files that are told, is in this order: the paths of the fragment up to
-/// the first that is there, the folders, and the drop-ins that win, up to the first that is refused. `ReadFault` comes where the shelf's count of faults rose, and any other answer leaves it. A drop-in that a shelf lists
-/// and then answers `Missing` contributes nothing.
+/// The first of these faults refuses the unit:
+/// - `BadName`: the text is no name of a service;
+/// - `NotFound`: no location has a fragment of the name or of its template;
+/// - `TooLarge`: the fragment has more than 1 MiB;
+/// - `Masked`: the fragment has zero bytes;
+/// - `Text`: the text of the fragment is refused;
+/// - `DropIns`: a folder in one location has more than 4,096 files, or more than 256 drop-ins win;
+/// - `TooLarge` or `Text` of a drop-in, in order.
+///
+/// Each file is judged before the next is read. A shelf that shows its files is called for these, in this order:
+/// - the paths of the fragment, up to the first that exists;
+/// - the folders of drop-ins;
+/// - the winning drop-ins, up to the first that is refused.
+///
+/// `ReadFault` means that the shelf's count of faults rose; any other answer leaves the count. A drop-in contributes nothing
+/// if the shelf lists it and then answers `Missing`.
 pub fn resolve<S: Shelf>(alloc: Global, shelf: &mut S, name: &str) -> Result<Resolved, ResolveError>
     ensures resolves_by_the_files { IfSome (S.told shelf.old) (λ files. IsUnlessFailed result (resolved_of files name.now)) }
     ensures names_the_unit { NamesUnit name.now result }
@@ -89,7 +99,7 @@ pub fn resolve<S: Shelf>(alloc: Global, shelf: &mut S, name: &str) -> Result<Res
     ensures map_stays { S.told shelf.new ≡ S.told shelf.old }
     ensures fault_rose { HasCause (S.faults shelf.old) (S.faults shelf.new) result }
     ensures no_other_fault { StaysUnless ReadFault (S.faults shelf.old) (S.faults shelf.new) result }
-    // What winning means: of all drop-ins with a file name that the map has, the one of least rank.
+    // Of all drop-ins of the map with one file name, the drop-in of least rank wins.
     ensures winning_is_by_rank { (files : Files) (unit : Name) (winners : List (List ℕ × List ℕ)) → (winners_of files unit ≡ winners) ↔ AreWinners files unit winners }
 {
     resolve_text(alloc, shelf, name)

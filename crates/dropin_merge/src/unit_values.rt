@@ -1,11 +1,10 @@
-//! The values that a unit gives to a key, over all its files, and what keys of the common kinds say.
+//! Reads the values that a unit gives to a key, over all its files, and reads keys of the common kinds.
 //!
-//! Files are gone through in their order, each value is expanded, and one that cannot be expanded is noted and
-//! passed over; systemd.unit(5) and systemd.syntax(7) have the rules. It stands on `dropin_merge` for the files and
-//! on `unit_names` for the specifiers; settings are read from these values, by what booleans, words and lines of
-//! words mean. What is said comes with its notes.
+//! It takes the files in order and expands each value. It notes and skips a value that cannot be expanded. systemd.unit(5)
+//! and systemd.syntax(7) have the rules. `dropin_merge` provides the files, and `unit_names` expands the specifiers.
+//! Settings are read from these values, as booleans, words and lines of words. Each answer carries its notes.
 //!
-//! `flag_of_key(alloc, &unit, "NoNewPrivileges")?.what` is what a boolean key says.
+//! `flag_of_key(alloc, &unit, "NoNewPrivileges")?.what` is the value of a boolean key.
 
 mod assignments;
 mod flags;

@@ -1,6 +1,6 @@
-// The drop-ins that win their file names.
+// Finds the drop-ins that win their file names.
 //
-// Folders are looked through by their rank, so the first path of a file name wins it.
+// The folders are listed by their rank, so the first path of a file name wins it.
 ghost use Rattle.std.specs.Prelude.{◌≡◌, List, ℕ, IfSome, OnOk, IfOk, map};
 ghost use Rattle.std.specs.List.{Contains};
 ghost use Rattle.std.specs.Map.{values_of};
@@ -21,17 +21,17 @@ use host_io::Shelf;
 use std::alloc::{AllocError, Global};
 use std::collections::BTreeMap;
 
-/// File names with the paths that win them.
+/// The file names, each with the path that wins it.
 pub type Winners = BTreeMap<String, String>;
 
-// Whether a file of this name counts.
+// Returns whether a file of this name is a drop-in.
 fn counts(name: &str) -> bool
     ensures { result ≡ ends_in_conf name.now }
 {
     name.as_bytes().ends_with(b".conf")
 }
 
-// Takes a file of a place, unless its name has been won.
+// Adds a file of a place, unless an earlier one has won its name.
 fn take_name(
     alloc: Global,
     winners: &mut Winners,
@@ -48,7 +48,7 @@ fn take_name(
     Ok(())
 }
 
-// Takes the files of a place.
+// Adds the files of a place.
 fn take_names(
     alloc: Global,
     winners: &mut Winners,
@@ -64,7 +64,7 @@ fn take_names(
     Ok(())
 }
 
-/// The winners among the drop-ins of some places, which stand by their rank.
+/// Returns the winners among the drop-ins of some places, which are sorted by their rank.
 pub fn collect_winners<S: Shelf>(
     alloc: Global,
     shelf: &mut S,
@@ -86,7 +86,7 @@ pub fn collect_winners<S: Shelf>(
     Ok(winners)
 }
 
-/// The paths that win, in byte order of file names.
+/// Returns the winning paths, in byte order of file names.
 pub fn winning_paths(alloc: Global, winners: Winners) -> Result<Vec<String>, AllocError>
     ensures by_their_names { IfOk result (λ paths. paths.items ≡ values_of winners.entries) }
 {

@@ -1,4 +1,4 @@
--- Readers in turn: the calls of the one, and then those of the other.
+-- One reader follows another: its calls follow the calls of the first.
 use Rattle.std.proofs.Common.{◌≡◌, Bool, true, false, cond, List, [], ◌∷◌, ◌++◌, map, Result, Ok, Err, Option, Some, None, refl, sym, ap}
 use Rattle.std.proofs.Common.{◌∙◌, subst, append_assoc, append-nil}
 use Rattle.std.specs.Prelude.{IfSome}
@@ -23,14 +23,14 @@ module _ {S : Type 0} (asks : S → ShelfCall → S → Type 0) where
   one_call a b ask (Err Failed) made = ([], [], ask, refl, (b, made, refl))
   one_call a b ask (Err Memory) made = (ask ∷ [], [], refl, (b, made, refl))
 
-  -- memory may run out behind the last call
+  -- memory may run out after the last call
   pub went_cut : (a b : S) (x : List Ask) → AsksExactly asks a b x Whole → AsksExactly asks a b x Cut
   went_cut a b x made = (x, [], append-nil x, made)
 
   pub went_as : (a b : S) (x y : List Ask) (course : Course) → x ≡ y → AsksExactly asks a b x course → AsksExactly asks a b y course
   went_as a b x y course same made = subst (λ wanted. AsksExactly asks a b wanted course) same made
 
-  -- The lemma of composition: a reader behind one that went the whole way
+  -- The lemma of composition: a reader follows one that read everything
   pub went_behind : (a b c : S) (x y : List Ask) (course : Course) → AsksExactly asks a b x Whole → AsksExactly asks b c y course
       → AsksExactly asks a c (x ++ y) course
   went_behind a b c x y Whole first second = subst (Calls asks a c) (sym (map-append answers x y))
@@ -51,7 +51,7 @@ module _ {S : Type 0} (asks : S → ShelfCall → S → Type 0) where
     subst (Calls asks a c) (sym (map-append answers x front)) (calls_behind a b c (answered x) (answered front) first second),
   )
 
-  -- and one that did not go the whole way leaves the other
+  -- a reader that stopped early leaves the other without a call
   pub went_short : (a b : S) (x y : List Ask) (course : Course) → (course ≡ Whole → ⊥) → AsksExactly asks a b x course
       → AsksExactly asks a b (x ++ y) course
   went_short a b x y Whole short made = absurd (short refl)
@@ -59,7 +59,7 @@ module _ {S : Type 0} (asks : S → ShelfCall → S → Type 0) where
       (front, rest ++ y, ask, sym (append_assoc front (ask ∷ rest) y) ∙ ap (λ l. l ++ y) is, made)
   went_short a b x y Cut short (front, rest, is, made) = (front, rest ++ y, sym (append_assoc front rest y) ∙ ap (λ l. l ++ y) is, made)
 
-  -- a reader that has gone through a front of what it wants, and has these left
+  -- a reader has made a front of the calls that it needs, and has these left
   pub record Going (before now : S) (whole left : List Ask) : Type 0 where
     pub front : List Ask
     pub is : front ++ left ≡ whole
@@ -77,7 +77,7 @@ module _ {S : Type 0} (asks : S → ShelfCall → S → Type 0) where
   going_stops a b c whole left course going made = went_as a c (going.front ++ left) whole course going.is
       (went_behind a b c going.front left course going.made made)
 
-  -- through a list up to its first element of which something holds
+  -- the reader takes a list up to the first element with a property
   module _ {X : Type 0} (is_last : X → Bool) (ask : X → Ask) (a b c : S) (whole : List Ask) (x : X) (xs : List X) where
     pub goes_on : is_last x ≡ false → Going a b whole (map ask (up_to is_last (x ∷ xs))) → AsksExactly asks b c (ask x ∷ []) Whole
         → Going a c whole (map ask (up_to is_last xs))
@@ -97,13 +97,13 @@ module _ {S : Type 0} (asks : S → ShelfCall → S → Type 0) where
         going_stops a b c whole (ask x ∷ map ask (cond (is_last x) [] (up_to is_last xs))) Cut going
         (went_short b c (ask x ∷ []) (map ask (cond (is_last x) [] (up_to is_last xs))) Cut (λ e. cc) made)
 
--- what holds of the files that are told
+-- a property of the files that the shelf shows
 pub if_told : (P Q : Files → Type 0) (told : Option Files) → ((files : Files) → P files → Q files) → IfSome told P → IfSome told Q
 if_told P Q None by h = tt
 if_told P Q (Some files) by h = by files h
 
 module _ {S : Type 0} (asks : S → ShelfCall → S → Type 0) (told : Option Files) where
-  -- a reader behind one that went the whole way, where this is all that is wanted behind it
+  -- a reader follows one that read everything, and this is all that follows it
   pub told_behind : (a b c : S) (between : Option Files) (x y z : Files → List Ask) (course : Course) → between ≡ told
       → IfSome told (λ files. AsksExactly asks a b (x files) Whole) → IfSome between (λ files. AsksExactly asks b c (y files) course)
       → IfSome told (λ files. y files ≡ z files) → IfSome told (λ files. AsksExactly asks a c (x files ++ z files) course)
@@ -118,7 +118,7 @@ module _ {S : Type 0} (asks : S → ShelfCall → S → Type 0) (told : Option F
           went_as asks a c (x files ++ y files) (x files ++ z files) course (ap (λ l. x files ++ l) tails)
           (went_behind asks a b c (x files) (y files) course first second)
 
-  -- one that did not go the whole way, or behind which nothing is wanted
+  -- a reader stopped early, or nothing follows it
   pub told_short : (a b : S) (x z : Files → List Ask) (course : Course) → IfSome told (λ files. AsksExactly asks a b (x files) course)
       → IfSome told (λ files. course ≡ Whole → z files ≡ []) → IfSome told (λ files. AsksExactly asks a b (x files ++ z files) course)
   told_short a b x z course made none = by_told told made none
@@ -134,13 +134,13 @@ module _ {S : Type 0} (asks : S → ShelfCall → S → Type 0) (told : Option F
       by_told None made none = tt
       by_told (Some files) made none = by_course (x files) (z files) course none made
 
--- memory may run out behind the last call
+-- memory may run out after the last call
 pub told_cut : {S : Type 0} (asks : S → ShelfCall → S → Type 0) (told : Option Files) (a b : S) (x : Files → List Ask)
     → IfSome told (λ files. AsksExactly asks a b (x files) Whole) → IfSome told (λ files. AsksExactly asks a b (x files) Cut)
 told_cut asks told a b x made = if_told (λ files. AsksExactly asks a b (x files) Whole) (λ files. AsksExactly asks a b (x files) Cut) told
     (λ files whole. went_cut asks a b (x files) whole) made
 
--- what holds whatever the files are
+-- a property that holds of any files
 pub all_told : (P : Files → Type 0) (told : Option Files) → ((files : Files) → P files) → IfSome told P
 all_told P None by = tt
 all_told P (Some files) by = by files

@@ -1,4 +1,4 @@
--- The names of a folder are distinct where the files are a map.
+-- The names of a folder are distinct if the files are a map.
 use Rattle.std.proofs.Common.{◌≡◌, ℕ, Bool, true, false, cond, List, [], ◌∷◌, ◌++◌, length, drop, map, Option, Some, None, Ok, Vec, String}
 use Rattle.std.proofs.Common.{Global, ◌<◌, ◌≤◌, refl, sym, ap, ◌∙◌, subst}
 use Rattle.std.specs.Prelude.{◌&&◌, option_and_then, nat_eq, is_none, find, string_bytes}
@@ -14,7 +14,7 @@ use Rattle.host_io.specs.Files.{Files, bytes_at, is_new_path, is_file_map, behin
 use Rattle.host_io.specs.MemoryFiles.{told_files}
 use Rattle.host_io.specs.Reading.{Lists}
 
--- what a value that is there by a test is
+-- a value that a test lets through is that value
 pub some_if : {A : Type 0} (b : Bool) (x y : A) → cond b (Some x) None ≡ Some y → (b ≡ true) × (x ≡ y)
 some_if true x y e = (refl, cc)
 some_if false x y e = cc
@@ -39,7 +39,7 @@ path_of_name folder path name h =
     behind_is folder path rest.0 rest.1
     ∙ ap (λ r. folder ++ r) (behind_is (47 ∷ []) rest.0 found.0 found.1 ∙ ap (λ r. 47 ∷ r) same.1)
 
--- two paths with one name directly in the folder are one path
+-- two paths with the same name directly in the folder are the same path
 same_path : (folder first second name other : List ℕ) → name_in folder first ≡ Some name → name_in folder second ≡ Some other
     → bytes_eq name other ≡ true → bytes_eq second first ≡ true
 same_path folder first second name other f s e =
@@ -56,7 +56,7 @@ bool_cases : (b : Bool) → (b ≡ true → ⊥) → b ≡ false
 bool_cases true h = absurd (h refl)
 bool_cases false h = refl
 
--- the names of files of which none has the path differ from its name
+-- if no file has the path, the names of the files differ from its name
 module _ (folder path name : List ℕ) where
   differs_from : (file : List ℕ × List ℕ) (found : Option (List ℕ)) → name_in folder file.0 ≡ found → name_in folder path ≡ Some name
       → bytes_eq file.0 path ≡ false → (names : List (List ℕ)) → AllByRecursion (λ other. bytes_eq name other ≡ false) names

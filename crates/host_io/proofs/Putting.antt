@@ -1,4 +1,4 @@
--- A piece that is handed put by put.
+-- A piece is handed to a sink put by put.
 use Rattle.std.proofs.Common.{◌≡◌, ◌<◌, ◌≤◌, ◌+◌, ℕ, List, [], ◌∷◌, ◌++◌, length, drop, Result, Ok, Err, refl, ap, sym, subst}
 use Rattle.std.proofs.Common.{arith, drop-drop, length-drop}
 use Rattle.std.proofs.Math.ListN.{drop_of_length-le}
@@ -6,7 +6,7 @@ use Rattle.std.specs.Result.{IsErrAnd}
 use Rattle.host_io.specs.Puts.{Hands, HandsWhole, Leaves, Put, Puts, handed, put_of}
 use Rattle.host_io.specs.declared.writing.SinkError.{SinkError}
 
--- one more put took so many bytes of what was left
+-- one more put took so many bytes of the rest
 leaves_more : (piece counts left : List ℕ) (count : ℕ) → Leaves piece counts left → 0 < count → count ≤ length left
     → Leaves piece (counts ++ count ∷ []) (drop count left)
 leaves_more piece [] left count is some fits = (some, subst (λ l. count ≤ length l) is fits, ap (drop count) is)
@@ -24,7 +24,7 @@ module _ {S : Type 0} (puts : S → Put → S → Type 0) where
   puts_behind a b c [] y same behind = subst (λ s. Puts puts s c y) same behind
   puts_behind a b c (put ∷ x) y (next, made, rest) behind = (next, made, puts_behind next b c x y rest behind)
 
-  -- so many bytes of the piece were taken by puts, each of which was handed all that was left
+  -- puts took so many bytes of the piece, and each put got the whole rest
   pub record Going (before now : S) (piece : List ℕ) (at : ℕ) : Type 0 where
     pub counts : List ℕ
     pub leaves : Leaves piece counts (drop at piece)
@@ -45,7 +45,7 @@ module _ {S : Type 0} (puts : S → Put → S → Type 0) where
         (puts_behind a b c (handed piece going.counts) (put_of (drop at piece) (Ok count) ∷ []) going.made (c, put, refl));
   }
 
-  -- up to its end
+  -- the puts took the whole piece
   pub handed_all : (a b : S) (piece : List ℕ) (at : ℕ) → Going a b piece at → length piece ≤ at → HandsWhole puts a b piece
   handed_all a b piece at going past = record {
     counts = going.counts;
@@ -53,7 +53,7 @@ module _ {S : Type 0} (puts : S → Put → S → Type 0) where
     made = going.made;
   }
 
-  -- or up to a put that failed
+  -- the puts took the piece up to a put that failed
   pub handed_part : (a b c : S) (piece : List ℕ) (at : ℕ) (error : SinkError) (result : Result (Unit {0}) SinkError) → Going a b piece at
       → at < length piece → puts b (put_of (drop at piece) (Err error)) c → IsErrAnd result (λ own. own ≡ error)
       → Hands puts a c piece result

@@ -1,15 +1,15 @@
--- The calls that are made to a shelf, one after the other, and how far a reader went through those that it wants.
+-- A reader makes calls to a shelf, one after the other, and may stop before it has made all calls that it needs.
 use Rattle.std.specs.Prelude.{◌≡◌, ℕ, IsTrue, IsFalse, Bool, true, false, List, [], ◌∷◌, ◌++◌, cond, map, Result, Ok, Err}
 use Rattle.host_io.specs.Causes.{Rose}
 use Rattle.host_io.specs.declared.reading.ShelfError.{ShelfError}
 use Rattle.host_io.specs.declared.reading.ShelfError.TheVariants.{Missing, TooLarge, Failed, Memory}
 
--- what a shelf is asked for: the bytes of a file, of which there are at most so many, or the names in a folder
+-- a question to a shelf: the bytes of a file, at most this many, or the names in a folder
 pub data Ask : Type 0 where
   FileAt : (path : List ℕ) (limit : ℕ) → Ask
   NamesIn : (folder : List ℕ) → Ask
 
--- a call that was made: what was asked, and whether what lies outside failed
+-- a call that was made: its question, and whether the outside world failed
 pub record ShelfCall : Type 0 where
   pub ask : Ask
   pub failed : Bool
@@ -21,26 +21,26 @@ is_failed (Err TooLarge) = false
 is_failed (Err Failed) = true
 is_failed (Err Memory) = false
 
--- the call that asked so and was answered so
+-- the call with this question and this answer
 abbrev pub call_of : {T : Type 0} → Ask → Result T ShelfError → ShelfCall
 call_of ask result = record { ask = ask; failed = is_failed result }
 
--- what a call does to a count of faults: it rises where the call failed, and else it stays
+-- a call changes a count of faults: the count rises if the call failed, and stays otherwise
 abbrev pub AsksOutside : ℕ → ShelfCall → ℕ → Type 0
 AsksOutside before call now = (IsTrue call.failed → Rose before now) × (IsFalse call.failed → now ≡ before)
 
--- from one state of a shelf to another by these calls, in this order, and by no others
+-- exactly these calls, in this order, take a shelf from one state to another
 abbrev pub Calls : {S : Type 0} → (S → ShelfCall → S → Type 0) → S → S → List ShelfCall → Type 0
 Calls asks before now [] = now ≡ before
 Calls {S} asks before now (call ∷ calls) = (next : S) × asks before call next × Calls asks next now calls
 
--- how a reader ended: all that it wanted was read, or the last of it refused; a call failed; or memory ran out
+-- the end of a reader: it read everything or the last answer refused; a call failed; or memory ran out
 pub data Course : Type 0 where
   Whole : Course
   Faulted : Course
   Cut : Course
 
--- by the answer of one call
+-- the end of a reader after the answer of one call
 abbrev pub course_of : {T : Type 0} → Result T ShelfError → Course
 course_of (Ok value) = Whole
 course_of (Err Missing) = Whole
@@ -58,20 +58,20 @@ fails ask = record { ask = ask; failed = true }
 abbrev pub answered : List Ask → List ShelfCall
 answered asks = map answers asks
 
--- the calls that were made are those that are wanted, in their order: all of them; or up to the one that failed, with that; or,
--- where memory ran out, the first of them
+-- the reader made the calls that it needs, in their order: all of them, or all up to a failed one, or, if memory ran out, the
+-- first of them
 abbrev pub AsksExactly : {S : Type 0} → (S → ShelfCall → S → Type 0) → S → S → List Ask → Course → Type 0
 AsksExactly asks before now wanted Whole = Calls asks before now (answered wanted)
 AsksExactly asks before now wanted Faulted = (front rest : List Ask) × (ask : Ask) × (front ++ ask ∷ rest ≡ wanted) × Calls asks before now
     (answered front ++ fails ask ∷ [])
 AsksExactly asks before now wanted Cut = (front rest : List Ask) × (front ++ rest ≡ wanted) × Calls asks before now (answered front)
 
--- a list up to its first element of which this holds, and with that
+-- a list up to and including its first element with this property
 abbrev pub up_to : {X : Type 0} → (X → Bool) → List X → List X
 up_to is_last [] = []
 up_to is_last (x ∷ xs) = x ∷ cond (is_last x) [] (up_to is_last xs)
 
--- what is asked behind a reading: nothing where that is refused
+-- the questions after a reading; there are none if the reading is refused
 abbrev pub unless_refused : {T E : Type 0} → Result T E → List Ask → List Ask
 unless_refused (Ok value) asks = asks
 unless_refused (Err refusal) asks = []

@@ -1,11 +1,11 @@
--- When a count of faults shows that what lies outside has failed.
+-- A count of faults shows that the outside world has failed.
 use Rattle.std.specs.Prelude.{◌≡◌, ◌≢◌, ℕ, ◌+◌, ◌-◌, ◌^◌, ◌≤◌, min, Result, Ok, Err}
 
--- one more, where a count stands still at the last value of its type
+-- one more than the count, which stays at the last value of its type
 abbrev pub next_of : ℕ → ℕ
 next_of n = min (n + 1) (2 ^ 64 - 1)
 
--- the count has risen in a call, or stands at its last value
+-- the count has risen in a call, or is at its last value
 abbrev pub Rose : ℕ → ℕ → Type 0
 Rose before now = next_of before ≤ now
 

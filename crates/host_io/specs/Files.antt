@@ -1,4 +1,4 @@
--- The files that a shelf tells: a map from paths to bytes.
+-- The files of a shelf are a map from paths to bytes.
 use Rattle.std.specs.Prelude.{ℕ, List, [], ◌∷◌, length, drop, find, nat_eq, ◌==◌, option_and_then, ◌&&◌, not, cond, is_none, Bool, true}
 use Rattle.std.specs.Prelude.{Option, Some, None}
 use Rattle.std.specs.Option.{option_map}
@@ -20,12 +20,12 @@ begins_with_slash path = starts_with nat_eq path (47 ∷ [])
 abbrev pub is_new_path : List ℕ → Files → Bool
 is_new_path path files = not (begins_with_slash path) && is_none (bytes_at files path)
 
--- no path begins with a slash or stands twice
+-- no path begins with a slash or occurs twice
 abbrev pub is_file_map : Files → Bool
 is_file_map [] = true
 is_file_map (file ∷ files) = is_new_path file.0 files && is_file_map files
 
--- what comes behind a front of a text
+-- the text after a front, if the text begins with that front
 abbrev pub behind : List ℕ → List ℕ → Option (List ℕ)
 behind front text = cond (starts_with nat_eq text front) (Some (drop (length front) text)) None
 

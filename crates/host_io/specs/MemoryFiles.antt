@@ -1,4 +1,4 @@
--- A shelf in memory, and what it tells.
+-- A shelf in memory shows its files.
 use Rattle.std.specs.Prelude.{Vec, String, string_bytes, ℕ, ◌≡◌, List, cond, Bool, true, false, IsTrue, Option, Some, None, IfSome, refl}
 use Rattle.std.specs.declared.alloc.Global.{Global}
 use Rattle.host_io.specs.Files.{Files, is_file_map}
@@ -13,7 +13,7 @@ pub record MemFiles : Type 0 where
 abbrev pub file_of : (String Global × Vec ℕ Global) → (List ℕ × List ℕ)
 file_of file = (string_bytes file.0, file.1.items)
 
--- the files are told where they are a map, as those of every shelf in memory are
+-- the files are shown if they are a map, as the files of every shelf in memory are
 abbrev pub told_files : Files → Option Files
 told_files files = cond (is_file_map files) (Some files) None
 
@@ -24,6 +24,6 @@ told_by files false e = tt
 pub told_files-is_file_map : (files : Files) → IfSome (told_files files) (λ f. IsTrue (is_file_map f))
 told_files-is_file_map files = told_by files (is_file_map files) refl
 
--- a call counts as one more, and it fails where its number is one of those that fail
+-- a call is counted, and it fails if its number is one of the failing numbers
 abbrev pub AsksMemory : MemFiles → ShelfCall → MemFiles → Type 0
 AsksMemory before call now = (call.failed ≡ fails_now before.turns) × (now ≡ record before { turns = after_turn before.turns })

@@ -1,4 +1,4 @@
--- What a shelf answers, where it tells its files.
+-- A shelf that shows its files answers by them.
 use Rattle.std.specs.Prelude.{Vec, String, string_bytes, ◌≡◌, ◌<◌, ℕ, ◌≤◌, List, length, map, IsErrOf, Option, Some, None, Result, Ok, Err}
 use Rattle.std.specs.Prelude.{⊤}
 use Rattle.std.specs.List.{IsDistinct}
@@ -10,7 +10,7 @@ use Rattle.host_io.specs.declared.reading.ShelfError.TheVariants.{Missing, TooLa
 use Rattle.host_io.specs.Causes.{Rose}
 use Rattle.host_io.specs.Files.{Files, bytes_at, names_in}
 
--- what a shelf answers for a file that is there with these bytes, or is not there
+-- the answer of a shelf for a file with these bytes, or for a missing file
 abbrev pub AnswersFile : Option (List ℕ) → ℕ → Result (Vec ℕ Global) ShelfError → Type 0
 AnswersFile None limit (Ok v) = ⊥
 AnswersFile (Some bytes) limit (Ok v) = (v.items ≡ bytes) × (length bytes ≤ limit)
@@ -21,14 +21,14 @@ AnswersFile (Some bytes) limit (Err TooLarge) = limit < length bytes
 AnswersFile file limit (Err Failed) = ⊤
 AnswersFile file limit (Err Memory) = ⊤
 
--- a folder's names were answered: each of them once, in any order
+-- the answer has the names of a folder, each of them once, in any order
 pub record ListsNames (names answered : List (List ℕ)) : Type 0 where
   pub names_of_the_folder : IsPermutation names answered
   pub each_once : IsDistinct bytes_eq names
   pub some_name : 0 < length names
   pub not_too_many : length names ≤ 4096
 
--- what a shelf answers for a folder with these names in it
+-- the answer of a shelf for a folder with these names
 abbrev pub AnswersFolder : List (List ℕ) → Result (Vec (String Global) Global) ShelfError → Type 0
 AnswersFolder names (Ok v) = ListsNames names (map string_bytes v.items)
 AnswersFolder names (Err Missing) = length names ≡ 0
@@ -36,17 +36,17 @@ AnswersFolder names (Err TooLarge) = 4096 < length names
 AnswersFolder names (Err Failed) = ⊤
 AnswersFolder names (Err Memory) = ⊤
 
--- the answer of a read over the files that are told
+-- the answer of a read over the files that the shelf shows
 abbrev pub Reads : Option Files → List ℕ → ℕ → Result (Vec ℕ Global) ShelfError → Type 0
 Reads None path limit result = ⊤
 Reads (Some files) path limit result = AnswersFile (bytes_at files path) limit result
 
--- the answer of a listing over the files that are told
+-- the answer of a listing over the files that the shelf shows
 abbrev pub Lists : Option Files → List ℕ → Result (Vec (String Global) Global) ShelfError → Type 0
 Lists None folder result = ⊤
 Lists (Some files) folder result = AnswersFolder (names_in files folder) result
 
--- the count of faults does not fall, and `Failed` comes only where it rose
+-- the count of faults does not fall, and it rises if the answer is `Failed`
 pub record HasCause {T : Type 0} (before now : ℕ) (result : Result T ShelfError) : Type 0 where
   pub later : before ≤ now
   pub failed : IsErrOf result Failed → Rose before now

@@ -1,4 +1,4 @@
--- Calls that are counted, of which those of given numbers fail.
+-- Calls are counted, and the calls with given numbers fail.
 use Rattle.std.specs.Prelude.{ℕ, List, ◌==◌, cond, Bool}
 use Rattle.std.specs.List.{list_any}
 use Rattle.host_io.specs.Causes.{next_of}
@@ -9,10 +9,10 @@ pub record TurnCounts : Type 0 where
   pub made : ℕ
   pub faults : ℕ
 
--- the next call has one of the numbers that fail
+-- the next call has one of the failing numbers
 abbrev pub fails_now : TurnCounts → Bool
 fails_now turns = list_any (λ number. number == next_of turns.made) turns.failing
 
--- one more call was made, and it is a fault where it fails
+-- one more call was made, and it is counted as a fault if it fails
 abbrev pub after_turn : TurnCounts → TurnCounts
 after_turn turns = record turns { made = next_of turns.made; faults = cond (fails_now turns) (next_of turns.faults) turns.faults }

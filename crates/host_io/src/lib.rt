@@ -1,11 +1,11 @@
-//! The outside world: files that are read, and bytes that are written.
+//! Reads files from the outside world and writes bytes to it.
 //!
-//! A `Shelf` reads files and a `Sink` takes bytes. Both count the faults of what lies outside: where an
-//! answer is `Failed` that count rose, and any other answer leaves it. A shelf may tell the map from paths
-//! to bytes that it reads from, and a sink the bytes that it took: every promise on texts rests on these two.
+//! A `Shelf` reads files and a `Sink` takes bytes. Both count the faults of the outside world: the count rises with an answer
+//! `Failed`, and any other answer leaves it. A shelf may show the map from paths to bytes that it reads from, and a sink may
+//! show the bytes that it took. Every promise on texts rests on that map and those bytes.
 //!
-//! `DirShelf` and `StdSink` are the real folder and the real output, which tell nothing; `MemShelf` and
-//! `MemSink` are kept in memory and fail at the calls that they are told.
+//! `DirShelf` and `StdSink` are the real folder and the real output, which show nothing. `MemShelf` and `MemSink` are kept in
+//! memory, and their calls with given numbers fail.
 #![tactic(auto)]
 
 mod memory_files;

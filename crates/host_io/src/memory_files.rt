@@ -1,6 +1,6 @@
-//! A shelf in memory, whose calls of given numbers fail.
+//! Implements a shelf in memory. Its calls with given numbers fail.
 //!
-//! It tells its map. Its calls of `read` and `list` are numbered together from 1.
+//! The shelf shows its map. It numbers its calls of `read` and `list` together, from 1.
 ghost use Rattle.std.specs.Prelude.{◌≡◌, ◌≤◌, ◌↔◌, map, IfOk, IsTrue, IsErrOf, vec_len, string_bytes};
 ghost use Rattle.std.specs.Option.{option_map};
 ghost use Rattle.host_io.specs.declared.reading.ShelfError.TheVariants.{Failed};
@@ -35,7 +35,7 @@ impl Model for MemShelf {
     ghost invariant = { λ s. IsTrue (is_file_map (map file_of s.files.items)) };
 }
 
-/// Whether these can be the files of a shelf: no path begins with a slash or stands twice.
+/// Returns whether a shelf can have these files: no path begins with a slash or occurs twice.
 pub fn are_files(files: &[(String, Vec<u8>)]) -> bool
     ensures make_a_map { result ≡ is_file_map (map file_of files.now) }
 {
@@ -45,7 +45,7 @@ pub fn are_files(files: &[(String, Vec<u8>)]) -> bool
     }
 }
 
-// Whether the path has no slash at its front and none of these files has it.
+// Returns whether the path has no slash at its front and none of these files has it.
 fn is_path(path: &str, others: &[(String, Vec<u8>)]) -> bool
     ensures { result ≡ is_new_path path.now (map file_of others.now) }
 {
@@ -53,7 +53,7 @@ fn is_path(path: &str, others: &[(String, Vec<u8>)]) -> bool
 }
 
 impl MemShelf {
-    /// A shelf with these files, whose calls with the numbers in `failing` fail. `are_files` tests the condition.
+    /// Makes a shelf with these files. Its calls with the numbers in `failing` fail. `are_files` tests the condition.
     pub fn new(files: Vec<(String, Vec<u8>)>, failing: Vec<u64>) -> Self
         requires { IsTrue (is_file_map (map file_of files.items)) }
         ensures starts { result ≡ record { files = map file_of files.items; turns = record { failing = failing.items; made = 0; faults = 0 } } }
@@ -65,7 +65,7 @@ impl MemShelf {
     }
 }
 
-// The bytes of the file at the path.
+// Returns the bytes of the file at the path.
 fn find_file<'a>(files: &'a [(String, Vec<u8>)], path: &str) -> Option<&'a Vec<u8>>
     ensures { option_map (λ v. v.now.items) result ≡ bytes_at (map file_of files.now) path.now }
 {
@@ -77,14 +77,14 @@ fn find_file<'a>(files: &'a [(String, Vec<u8>)], path: &str) -> Option<&'a Vec<u
     None
 }
 
-// What comes after a front of the text.
+// Returns the text after this front, if the text begins with it.
 fn text_behind<'a>(front: &str, text: &'a str) -> Option<&'a str>
     ensures { option_map (λ rest. rest.now) result ≡ behind front.now text.now }
 {
     text.strip_prefix(front)
 }
 
-// The name of a path that lies directly in the folder.
+// Returns the name of a path that lies directly in the folder.
 fn name_of<'a>(folder: &str, path: &'a str) -> Option<&'a str>
     ensures { option_map (λ name. name.now) result ≡ name_in folder.now path.now }
 {
@@ -96,7 +96,7 @@ fn name_of<'a>(folder: &str, path: &'a str) -> Option<&'a str>
     }
 }
 
-// The names of the files directly in the folder.
+// Returns the names of the files directly in the folder.
 fn names_of(
     alloc: Global,
     files: &[(String, Vec<u8>)],

@@ -1,6 +1,6 @@
-//! A sink in memory, whose puts of given numbers fail.
+//! Implements a sink in memory. Its puts with given numbers fail.
 //!
-//! It tells the bytes that it took. Its puts are numbered from 1.
+//! The sink shows the bytes that it took. It numbers its puts from 1.
 ghost use Rattle.std.specs.Prelude.{◌≡◌, ◌<◌, ◌↔◌, [], ◌++◌, length, min, Some, IfOk, MatchResult, IsTrue, IsErrOf};
 ghost use Rattle.host_io.specs.declared.writing.SinkError.TheVariants.{Failed, Memory};
 ghost use Rattle.host_io.specs.Causes.{StaysUnless};
@@ -34,7 +34,7 @@ impl Model for MemSink {
 }
 
 impl MemSink {
-    /// A sink that takes at most `take` bytes a put, and whose puts with the numbers in `failing` fail.
+    /// Makes a sink that takes at most `take` bytes a put. Its puts with the numbers in `failing` fail.
     pub fn new(alloc: Global, take: u64, failing: Vec<u64>) -> Self
         requires { 0 < take }
         ensures starts { result ≡ record { limit = take; bytes = []; turns = record { failing = failing.items; made = 0; faults = 0 } } }
@@ -46,7 +46,7 @@ impl MemSink {
         }
     }
 
-    /// The bytes taken so far.
+    /// Returns the bytes taken so far.
     pub fn taken(&self) -> &[u8]
         ensures lends_the_bytes { result.now ≡ self.now.bytes }
     {

@@ -1,6 +1,6 @@
-//! Where files are read: the trait `Shelf` and its errors.
+//! Defines the trait `Shelf`, which reads files, and its errors.
 //!
-//! The meanings of a shelf are a count of faults, what a call does to it, and, where it tells it, a map from paths to bytes.
+//! Contracts describe a shelf by a count of faults, by its state after a call, and, if it shows one, by a map from paths to bytes.
 ghost use Rattle.std.specs.Prelude.{◌≡◌, ℕ, ◌≤◌, Option, IfOk, IfSome, IsTrue, vec_len};
 ghost use Rattle.host_io.specs.declared.reading.ShelfError.TheVariants.{Failed};
 ghost use Rattle.host_io.specs.Calls.{FileAt, NamesIn, ShelfCall, call_of};
@@ -17,10 +17,10 @@ pub enum ShelfError {
     /// No file has the path, or none lies directly in the folder.
     #[error("the file is missing")]
     Missing,
-    /// The file has more bytes than were asked for, or the folder more than 4,096 files.
+    /// The file has more bytes than the limit of the call, or the folder has more than 4,096 files.
     #[error("the file is too large")]
     TooLarge,
-    /// What lies outside failed, and the count of faults rose.
+    /// The outside world failed, and the count of faults rose.
     #[error("the read failed")]
     Failed,
     /// Memory ran out.
@@ -28,22 +28,25 @@ pub enum ShelfError {
     Memory,
 }
 
-/// Where files are read. Paths are relative: none begins with a slash.
+/// A reader of files. Paths are relative: none begins with a slash.
 pub trait Shelf {
-    /// The files, where the shelf tells them.
+    /// The files, if the shelf shows them.
     ghost told: { Self → Option Files };
 
-    /// How often what lies outside has failed.
+    /// How often the outside world has failed.
     ghost faults: { Self → ℕ };
 
-    /// From one state of the shelf to another by one call. A caller over any shelf shows by it which calls it made, in which
+    /// One call takes the shelf from one state to another. A caller over any shelf proves by it which calls it made, in which
     /// order.
     ghost asks: { Self → ShelfCall → Self → Type 0 };
 
-    /// The bytes of the file at `path`, of which there are at most `limit`.
+    /// Reads the file at `path`, which may have at most `limit` bytes.
     ///
-    /// `Missing` where no file has the path, `TooLarge` where it has more than `limit` bytes, `Failed`
-    /// where what lies outside failed, and only then does the count of faults rise, `Memory` for want of memory.
+    /// It fails with one of these errors:
+    /// - `Missing`: no file has the path;
+    /// - `TooLarge`: the file has more than `limit` bytes;
+    /// - `Failed`: the outside world failed, and only then the count of faults rises;
+    /// - `Memory`: memory ran out.
     fn read(&mut self, alloc: Global, path: &str, limit: u64) -> Result<Vec<u8>, ShelfError>
         ensures answers_by_the_map { Reads (told self.old) path.now limit result }
         ensures asks_for_it { asks self.old (call_of (FileAt path.now limit) result) self.new }
@@ -52,10 +55,13 @@ pub trait Shelf {
         ensures fault_rose { HasCause (faults self.old) (faults self.new) result }
         ensures no_other_fault { StaysUnless Failed (faults self.old) (faults self.new) result };
 
-    /// The names of the files directly in the folder `dir`, each once, in no promised order.
+    /// Returns the names of the files directly in the folder `dir`, each once, in no promised order.
     ///
-    /// `Missing` where there is none, `TooLarge` where there are more than 4,096, `Failed` where what lies
-    /// outside failed, and only then does the count of faults rise, `Memory` for want of memory.
+    /// It fails with one of these errors:
+    /// - `Missing`: no file lies directly in the folder;
+    /// - `TooLarge`: the folder has more than 4,096 files;
+    /// - `Failed`: the outside world failed, and only then the count of faults rises;
+    /// - `Memory`: memory ran out.
     fn list(&mut self, alloc: Global, dir: &str) -> Result<Vec<String>, ShelfError>
         ensures answers_by_the_map { Lists (told self.old) dir.now result }
         ensures asks_for_it { asks self.old (call_of (NamesIn dir.now) result) self.new }
@@ -64,6 +70,6 @@ pub trait Shelf {
         ensures fault_rose { HasCause (faults self.old) (faults self.new) result }
         ensures no_other_fault { StaysUnless Failed (faults self.old) (faults self.new) result };
 
-    /// No path of a told map begins with a slash or stands in it twice.
+    /// No path of the map that a shelf shows begins with a slash or occurs twice.
     ghost tells_a_map: { (shelf : Self) → IfSome (told shelf) (λ files. IsTrue (is_file_map files)) };
 }

@@ -1,7 +1,7 @@
-//! The folder that the program runs in, and its standard output: the trusted edge.
+//! Reads the folder that the program runs in, and writes its standard output: the trusted edge.
 //!
-//! Neither tells what it holds. A missing file, want of memory and a signal in the middle of a write are no
-//! faults; every other error of the system is one.
+//! Neither shows its contents. A missing file, exhausted memory and a signal in the middle of a write are no faults; every
+//! other error of the system is one.
 ghost use Rattle.std.specs.Prelude.{◌≡◌, ◌≢◌, ◌≤◌, None, Err, IfOk, IsTrue, length, vec_len};
 ghost use Rattle.host_io.specs.declared.reading.ShelfError.TheVariants.{Missing, Failed};
 ghost use Rattle.host_io.specs.Calls.{AsksOutside, FileAt, NamesIn, call_of};
@@ -20,7 +20,7 @@ use std::path::AsPath;
 use std::rt::Files;
 use std::{fs, io};
 
-/// The most names that a listing answers.
+/// The most names that a listing returns.
 const MOST_NAMES: usize = 4096;
 
 /// The device number of /dev/null, null(4).
@@ -28,8 +28,8 @@ const NULL_DEVICE: u64 = 0x103;
 
 /// Reads files below the current folder.
 ///
-/// A file is a regular file or the null device, or a link that leads to one: a pipe, a socket and a link
-/// that leads nowhere are none, and none of them is opened.
+/// A file is a regular file or the null device, or a link that leads to one. It opens no other file, such as a pipe, a socket
+/// or a link that leads nowhere.
 #[derive(Drop)]
 pub struct DirShelf<R: Files + AllocGlobal + Clone + Drop> {
     rt: R,
@@ -37,14 +37,14 @@ pub struct DirShelf<R: Files + AllocGlobal + Clone + Drop> {
 }
 
 impl<R: Files + AllocGlobal + Clone + Drop> DirShelf<R> {
-    /// The current folder, with no fault so far.
+    /// Makes a shelf over the current folder, with no fault so far.
     pub fn new(rt: R) -> Self
         ensures no_fault_so_far { result.faults ≡ 0 }
     {
         DirShelf { rt, faults: 0 }
     }
 
-    // The answer for an error of the system: want of memory, or a fault, which is counted.
+    // Returns the answer for an error of the system: out of memory, or a fault, which it counts.
     fn answer(&mut self, kind: ErrorKind) -> ShelfError
         ensures later { self.old.faults ≤ self.new.faults }
         ensures failed { result ≡ Failed → Rose self.old.faults self.new.faults }
@@ -58,8 +58,8 @@ impl<R: Files + AllocGlobal + Clone + Drop> DirShelf<R> {
     }
 }
 
-// What was found, or nothing where the system says that nothing can be there: no such entry, a part of the
-// path that is no folder, a name that is too long, or links in a circle.
+// Returns the entry, or nothing if nothing can be there. The system says so for a missing entry, a part of the path that is no
+// folder, a name that is too long, and links in a circle.
 fn if_there<T: Drop>(found: io::Result<T>) -> io::Result<Option<T>> {
     match found {
         Ok(found) => Ok(Some(found)),
@@ -73,12 +73,12 @@ fn if_there<T: Drop>(found: io::Result<T>) -> io::Result<Option<T>> {
     }
 }
 
-// Whether this is a regular file or the null device.
+// Returns whether this is a regular file or the null device.
 fn holds_bytes(found: &Metadata) -> bool {
     found.is_file() || (found.file_type().is_char_device() && found.rdev() == NULL_DEVICE)
 }
 
-// Whether a file is at the path, or a link that leads to one.
+// Returns whether the path has a file, or a link that leads to one.
 fn is_file<R: Files, P: AsPath>(rt: &R, path: P) -> io::Result<bool> {
     match if_there(fs::metadata(rt, path))? {
         Some(found) => Ok(holds_bytes(&found)),
@@ -86,7 +86,7 @@ fn is_file<R: Files, P: AsPath>(rt: &R, path: P) -> io::Result<bool> {
     }
 }
 
-// At most `limit` bytes of a file.
+// Reads at most `limit` bytes of a file.
 fn read_file<R: Files>(
     rt: &R,
     alloc: Global,
@@ -104,7 +104,7 @@ fn read_file<R: Files>(
     Ok(Some(bytes))
 }
 
-// At most `limit` names of files of a folder, none where no folder is there.
+// Reads at most `limit` names of files of a folder. A missing folder has no names.
 fn read_names<R: Files + AllocGlobal + Clone + Drop>(
     rt: &R,
     alloc: Global,
@@ -180,7 +180,7 @@ pub struct StdSink<R: Print + Clone + Drop> {
 }
 
 impl<R: Print + Clone + Drop> StdSink<R> {
-    /// Standard output, with no fault so far.
+    /// Makes a sink over standard output, with no fault so far.
     pub fn new(rt: R) -> Self
         ensures no_fault_so_far { result.faults ≡ 0 }
     {
@@ -188,7 +188,7 @@ impl<R: Print + Clone + Drop> StdSink<R> {
     }
 }
 
-// Writes once, and again where a signal came before a byte was taken (write(2), EINTR).
+// Writes once, and again if a signal interrupted the call before it took a byte (write(2), EINTR).
 fn write_some<R: Print>(rt: &R, piece: &[u8]) -> io::Result<usize>
     ensures takes_at_most_the_piece { IfOk result (λ count. count ≤ length piece.now) }
 {

@@ -1,6 +1,6 @@
-//! Calls that are counted, of which those of given numbers fail.
+//! Counts calls. The calls with given numbers fail.
 //!
-//! A shelf and a sink in memory count theirs so, from 1.
+//! A shelf and a sink in memory count their calls this way, from 1.
 ghost use Rattle.std.specs.Prelude.{◌≡◌, ◌≤◌, IsTrue, IsFalse};
 ghost use Rattle.host_io.specs.Causes.{Rose};
 ghost use Rattle.host_io.specs.Turns.{fails_now, after_turn};
@@ -24,7 +24,7 @@ impl Model for Turns {
 }
 
 impl Turns {
-    /// No call so far; those with the numbers in `failing` will fail.
+    /// Starts with no call. The calls with the numbers in `failing` will fail.
     pub fn new(failing: Vec<u64>) -> Self
         ensures starts { result ≡ record { failing = failing.items; made = 0; faults = 0 } }
     {
@@ -35,7 +35,7 @@ impl Turns {
         }
     }
 
-    /// Counts a call, and says whether it fails.
+    /// Counts a call, and returns whether it fails.
     pub fn next_fails(&mut self) -> bool
         ensures fails { result ≡ fails_now self.old }
         ensures counts { self.new ≡ after_turn self.old }

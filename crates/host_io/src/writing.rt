@@ -1,6 +1,6 @@
-//! Where bytes are written: the trait `Sink`, its errors, and writing a whole piece.
+//! Defines the trait `Sink`, which takes bytes, and its errors, and writes a whole piece.
 //!
-//! The meanings of a sink are a count of faults, what a put does to it, and, where it tells them, the bytes taken so far.
+//! Contracts describe a sink by a count of faults, by its state after a put, and, if it shows them, by the bytes taken so far.
 ghost use Rattle.std.specs.Prelude.{◌≡◌, ℕ, List, Option};
 ghost use Rattle.host_io.specs.declared.writing.SinkError.TheVariants.{Failed};
 ghost use Rattle.host_io.specs.Causes.{StaysUnless};
@@ -12,7 +12,7 @@ use thiserror::Error;
 /// Why bytes were not taken.
 #[derive(Clone, Copy, Debug, PartialEq, Eq, Error)]
 pub enum SinkError {
-    /// What lies outside failed, and the count of faults rose.
+    /// The outside world failed, and the count of faults rose.
     #[error("the write failed")]
     Failed,
     /// Memory ran out.
@@ -20,21 +20,21 @@ pub enum SinkError {
     Memory,
 }
 
-/// Where bytes are written.
+/// A writer of bytes.
 pub trait Sink {
-    /// The bytes taken so far, where the sink tells them.
+    /// The bytes taken so far, if the sink shows them.
     ghost taken: { Self → Option (List ℕ) };
 
-    /// How often what lies outside has failed.
+    /// How often the outside world has failed.
     ghost faults: { Self → ℕ };
 
-    /// From one state of the sink to another by one put. A caller over any sink shows by it which pieces it handed, in which order.
+    /// One put takes the sink from one state to another. A caller over any sink proves by it which pieces it handed, in which order.
     ghost puts: { Self → Put → Self → Type 0 };
 
-    /// Takes a prefix of the piece and answers its length, at least one byte of a piece that is not empty.
+    /// Takes a prefix of the piece and returns its length, at least one byte of a piece that is not empty.
     ///
-    /// At an error it has taken nothing: `Failed` comes where what lies outside failed, and only then does
-    /// the count of faults rise, `Memory` for want of memory.
+    /// At an error it has taken nothing. `Failed` means that the outside world failed, and only then the count of faults rises.
+    /// `Memory` means that memory ran out.
     fn put(&mut self, piece: &[u8]) -> Result<usize, SinkError>
         ensures takes_a_prefix { Takes (taken self.old) (taken self.new) piece.now result }
         ensures hands_it { puts self.old (put_of piece.now result) self.new }
@@ -44,9 +44,9 @@ pub trait Sink {
 
 /// Puts the whole piece, in at most as many turns as it has bytes.
 ///
-/// The first put is handed all of the piece, and each further one what is left of it. An empty piece makes no put.
-/// At an error a prefix was taken, and not the whole: `Failed` comes where a put failed, and only then does
-/// the count of faults rise, `Memory` for want of memory.
+/// The first put gets the whole piece, and each further put gets the rest of it. An empty piece makes no put. At an error the
+/// sink has taken a prefix, and not the whole piece. `Failed` means that a put failed, and only then the count of faults
+/// rises. `Memory` means that memory ran out.
 pub fn write_whole<K: Sink>(out: &mut K, piece: &[u8]) -> Result<(), SinkError>
     ensures takes_the_piece { TakesWhole (K.taken out.old) (K.taken out.new) piece.now result }
     ensures hands_the_piece { Hands K.puts out.old out.new piece.now result }

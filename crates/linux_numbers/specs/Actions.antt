@@ -1,11 +1,11 @@
 -- Actions of filters as 32-bit words (seccomp(2), <linux/seccomp.h>).
 use Rattle.std.specs.Prelude.{ℕ}
 
--- SECCOMP_RET_KILL_PROCESS: the process is ended
+-- SECCOMP_RET_KILL_PROCESS: the kernel ends the process
 abbrev pub kill_process : ℕ
 kill_process = 2147483648
 
--- SECCOMP_RET_KILL_THREAD: the thread is ended
+-- SECCOMP_RET_KILL_THREAD: the kernel ends the thread
 abbrev pub kill_thread : ℕ
 kill_thread = 0
 
@@ -13,23 +13,23 @@ kill_thread = 0
 abbrev pub trap : ℕ
 trap = 196608
 
--- SECCOMP_RET_ERRNO: the call is answered with the data as its error number
+-- SECCOMP_RET_ERRNO: the call fails with the data as its error number
 abbrev pub errno : ℕ
 errno = 327680
 
--- SECCOMP_RET_USER_NOTIF: a supervisor is asked
+-- SECCOMP_RET_USER_NOTIF: the kernel asks a supervisor
 abbrev pub user_notif : ℕ
 user_notif = 2143289344
 
--- SECCOMP_RET_TRACE: a tracer is asked
+-- SECCOMP_RET_TRACE: the kernel asks a tracer
 abbrev pub trace : ℕ
 trace = 2146435072
 
--- SECCOMP_RET_LOG: the call is logged and made
+-- SECCOMP_RET_LOG: the kernel logs the call and makes it
 abbrev pub log : ℕ
 log = 2147221504
 
--- SECCOMP_RET_ALLOW: the call is made
+-- SECCOMP_RET_ALLOW: the kernel makes the call
 abbrev pub allow : ℕ
 allow = 2147418112
 

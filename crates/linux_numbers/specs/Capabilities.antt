@@ -1,43 +1,43 @@
 -- Capabilities by their numbers (capabilities(7), <linux/capability.h>).
 use Rattle.std.specs.Prelude.{ℕ}
 
--- to take any group ids and groups
+-- allows taking any group ids and groups
 abbrev pub cap_setgid : ℕ
 cap_setgid = 6
 
--- to take any user ids
+-- allows taking any user ids
 abbrev pub cap_setuid : ℕ
 cap_setuid = 7
 
--- to drop from the bounding set, and to make any capability of it inheritable
+-- allows dropping capabilities from the bounding set, and making any of its capabilities inheritable
 abbrev pub cap_setpcap : ℕ
 cap_setpcap = 8
 
--- to load and unload kernel modules
+-- allows loading and unloading kernel modules
 abbrev pub cap_sys_module : ℕ
 cap_sys_module = 16
 
--- to do raw input and output
+-- allows raw input and output
 abbrev pub cap_sys_rawio : ℕ
 cap_sys_rawio = 17
 
--- to mount, to install filters, to make namespaces, and more
+-- allows mounting, installing filters, making namespaces, and more
 abbrev pub cap_sys_admin : ℕ
 cap_sys_admin = 21
 
--- to set the clock
+-- allows setting the clock
 abbrev pub cap_sys_time : ℕ
 cap_sys_time = 25
 
--- to make device files
+-- allows making device files
 abbrev pub cap_mknod : ℕ
 cap_mknod = 27
 
--- to use syslog(2)
+-- allows using syslog(2)
 abbrev pub cap_syslog : ℕ
 cap_syslog = 34
 
--- to wake the system by a timer
+-- allows waking the system by a timer
 abbrev pub cap_wake_alarm : ℕ
 cap_wake_alarm = 35
 

@@ -1,11 +1,11 @@
 -- Limits and special numbers.
 use Rattle.std.specs.Prelude.{ℕ}
 
--- the greatest number that a system call can answer as an error, <linux/err.h>
+-- the greatest number that a system call can return as an error, <linux/err.h>
 abbrev pub max_errno : ℕ
 max_errno = 4095
 
--- the id -1: none, or the one that is there, setresuid(2)
+-- the id -1: no id, or an unchanged id, setresuid(2)
 abbrev pub no_id : ℕ
 no_id = 4294967295
 

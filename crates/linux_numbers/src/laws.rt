@@ -1,4 +1,4 @@
-//! That the constants of the code are the numbers of the definitions, each law the contract of a function that does
+//! States that the constants of the code are the numbers of the definitions. Each law is the contract of a function that does
 //! nothing.
 
 ghost use Rattle.std.specs.Prelude.{◌≡◌};
@@ -22,7 +22,7 @@ use crate::errnos::{
 };
 use crate::limits::{BPF_MAXINSNS, MAX_ERRNO, MAX_INSNS_PER_PATH, MOUNT_MAX, NGROUPS_MAX, NO_ID};
 
-/// The error numbers.
+/// The code and the definitions have the same error numbers.
 pub fn error_numbers()
     ensures eperm { EPERM ≡ eperm }
     ensures enoent { ENOENT ≡ enoent }
@@ -60,7 +60,7 @@ pub fn error_numbers()
     ensures econnrefused { ECONNREFUSED ≡ econnrefused }
 {}
 
-/// The capabilities.
+/// The code and the definitions have the same capabilities.
 pub fn capability_numbers()
     ensures cap_setgid { CAP_SETGID ≡ cap_setgid }
     ensures cap_setuid { CAP_SETUID ≡ cap_setuid }
@@ -75,7 +75,7 @@ pub fn capability_numbers()
     ensures cap_last_cap { CAP_LAST_CAP ≡ cap_last_cap }
 {}
 
-/// The actions of filters.
+/// The code and the definitions have the same actions of filters.
 pub fn action_words()
     ensures kill_process { KILL_PROCESS ≡ kill_process }
     ensures kill_thread { KILL_THREAD ≡ kill_thread }
@@ -89,7 +89,7 @@ pub fn action_words()
     ensures data_bits { DATA ≡ data_bits }
 {}
 
-/// The limits.
+/// The code and the definitions have the same limits.
 pub fn limit_numbers()
     ensures max_errno { MAX_ERRNO ≡ max_errno }
     ensures no_id { NO_ID ≡ no_id }

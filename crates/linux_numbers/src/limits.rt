@@ -1,9 +1,9 @@
 //! Limits and special numbers.
 
-/// The greatest number that a system call can answer as an error, <linux/err.h>.
+/// The greatest number that a system call can return as an error, <linux/err.h>.
 pub const MAX_ERRNO: u32 = 4_095;
 
-/// The id -1: none, or the one that is there, setresuid(2).
+/// The id -1: no id, or an unchanged id, setresuid(2).
 pub const NO_ID: u32 = 0xffff_ffff;
 
 /// The most supplementary groups, setgroups(2).

@@ -1,4 +1,4 @@
--- Faults, and answers where there are none.
+-- There are faults, or an answer without faults.
 use Rattle.std.proofs.Common.{◌≡◌, ℕ, ◌+◌, List, [], ◌∷◌, ◌++◌, length, take, Option, Some, None, Ok, Err, refl, sym, ap, ◌∙◌, append_assoc}
 use Rattle.std.proofs.Common.{arith}
 use Rattle.std.specs.List.{AllByRecursion, filter_map, cons_option, enumerate_from}
@@ -11,19 +11,19 @@ use Rattle.site_table.specs.declared.error.SiteError.TheVariants.{Memory}
 use Rattle.site_table.specs.Reading.{faults_among, unless_fault, IsUnlessMemory}
 use Rattle.site_table.proofs.Faults.{Fault}
 
--- an answer, where there was no fault
+-- the answer is given if there is no fault
 pub accepted : {T : Type 0} (faults : List SiteError) (said answer : T) → unless_fault faults said ≡ Ok answer
     → (faults ≡ []) × (said ≡ answer)
 accepted [] said answer e = (refl, cc)
 accepted (fault ∷ faults) said answer e = absurd (cc)
 
--- a refusal is one whatever else is said
+-- a refusal is the same for any other value
 pub refused_also : {T V : Type 0} (faults : List SiteError) (said : T) (other : V) (error : SiteError)
     → unless_fault faults said ≡ Err error → unless_fault faults other ≡ Err error
 refused_also [] said other error e = absurd (cc)
 refused_also (fault ∷ faults) said other error e = let same : fault ≡ error = cc in ap Err same
 
--- a refusal by the first faults is one of all
+-- a refusal by the first faults is a refusal by all faults
 pub refused_first : {T V : Type 0} (faults more : List SiteError) (said : T) (other : V) (error : SiteError)
     → unless_fault faults said ≡ Err error → unless_fault (faults ++ more) other ≡ Err error
 refused_first [] more said other error e = absurd (cc)
@@ -51,7 +51,7 @@ stops_also see other_see faults said other (BadRow number cause) h = refused_als
 stops_also see other_see faults said other (BadUser number) h = refused_also faults said other (BadUser number) h
 stops_also see other_see faults said other (BadGroup number) h = refused_also faults said other (BadGroup number) h
 
--- none of the elements has a fault, each with those before it
+-- no element has a fault, given the elements before it
 abbrev pub NoFaults : Fault → List Data → List Data → Type 0
 NoFaults fault_at before [] = Unit {0}
 NoFaults fault_at before (one ∷ rest) = (fault_at (length before + 1) before one ≡ None) × NoFaults fault_at (before ++ one ∷ []) rest
@@ -76,7 +76,7 @@ no_faults_from fault_at all before (one ∷ rest) same e =
 pub no_faults : (fault_at : Fault) (all : List Data) → faults_among fault_at all ≡ [] → NoFaults fault_at [] all
 no_faults fault_at all e = no_faults_from fault_at all [] all refl e
 
--- what holds of an element without fault holds of each
+-- a property of each element without a fault holds of each element
 pub all_faultless : (fault_at : Fault) (P : Data → Type 0) (before rest : List Data)
     → ((number : ℕ) (before : List Data) (one : Data) → fault_at number before one ≡ None → P one) → NoFaults fault_at before rest
     → AllByRecursion P rest

@@ -1,4 +1,4 @@
--- Rows that come behind their folders.
+-- Rows may follow their folders.
 use Rattle.std.proofs.Common.{◌≡◌, ℕ, ◌+◌, Bool, true, false, cond, List, [], ◌∷◌, take, drop, Option, Some, None, refl, sym, ap, ◌∙◌}
 use Rattle.std.proofs.Common.{subst}
 use Rattle.std.specs.Prelude.{◌||◌, ◌&&◌, not, option_map}
@@ -43,11 +43,11 @@ has_listed (row ∷ rows) text = by (option_map_or is_dir (kind_of row) false) (
 knows_listed : (rows : List Data) → KnowsFolders rows (listed_texts rows)
 knows_listed rows = record { knows = has_listed rows }
 
--- where the row is a directory, one of its path is listed
+-- if the row is a directory, a directory of its path is listed
 abbrev pub IsListed : List Data → Row → Type 0
 IsListed rows row = (text : List ℕ) → (is_dir row.kind && bytes_eq text (tail_of row.path)) ≡ true → has_folder rows text ≡ true
 
--- the first i rows stand in their order, none has a fault, and their directories are listed
+-- the first i rows are in order, none has a fault, and their directories are listed
 pub record RowsBehind (rows : List Data) (i : ℕ) (ordered : List Row) : Type 0 where
   pub placed : RowsPlaced rows i ordered
   pub dirs : AllByRecursion (IsListed rows) ordered
@@ -82,7 +82,7 @@ or_into : (a b c : Bool) → (b ≡ true → c ≡ true) → (a || b) ≡ true �
 or_into true b c f h = refl
 or_into false b c f h = f h
 
--- a folder among the rows is one of the listed
+-- a folder among the rows is a listed one
 stands_listed : (rows : List Data) (ordered : List Row) (path : Path) → AllByRecursion (IsListed rows) ordered
     → stands_behind ordered path ≡ true → stands_in (listed_texts rows) path ≡ true
 stands_listed rows ordered path all h = by (option_map tail_of (parent_of path)) h

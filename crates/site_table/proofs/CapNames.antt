@@ -1,4 +1,4 @@
--- The capability of a name, and the set of several.
+-- A name has a capability, and several names have a set.
 use Rattle.std.proofs.Common.{◌≡◌, ℕ, ◌<◌, ◌≤◌, cond, ltb, List, [], get_or, Option, Some, None, refl, sym, ap, ◌∙◌, arith}
 use Rattle.std.specs.Str.{bytes_eq}
 use Rattle.std.specs.List.{position_or_len}

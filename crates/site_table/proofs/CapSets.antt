@@ -1,4 +1,4 @@
--- Which capabilities are in the set of a list of names.
+-- The set of a list of names has the named capabilities.
 use Rattle.std.proofs.Common.{◌≡◌, ℕ, ◌<◌, ◌≤◌, Bool, true, false, List, [], ◌∷◌, get_or, Option, Some, None, refl, sym, ap, ◌∙◌, arith}
 use Rattle.std.specs.Prelude.{◌||◌, ◌==◌, ◌↔◌, fold, option_and_then}
 use Rattle.std.specs.List.{list_any, filter_map, cons_option}

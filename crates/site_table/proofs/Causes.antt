@@ -3,13 +3,13 @@ use Rattle.std.proofs.Common.{◌≡◌, Bool, true, false, List, [], ◌∷◌,
 use Rattle.site_table.specs.declared.error.RowCause.{RowCause}
 use Rattle.site_table.specs.Rows.{first_of}
 
--- where the first causes do not apply, the others decide
+-- if the first causes do not apply, the others decide
 pub first_of-append : (causes more : List (Bool × RowCause)) → first_of causes ≡ None → first_of (causes ++ more) ≡ first_of more
 first_of-append [] more h = refl
 first_of-append ((true, cause) ∷ causes) more h = absurd (cc)
 first_of-append ((false, cause) ∷ causes) more h = first_of-append causes more h
 
--- where one of the first applies, the others do not matter
+-- if one of the first causes applies, the others do not matter
 pub first_of-found : (causes more : List (Bool × RowCause)) (cause : RowCause) → first_of causes ≡ Some cause
     → first_of (causes ++ more) ≡ Some cause
 first_of-found [] more cause h = absurd (cc)

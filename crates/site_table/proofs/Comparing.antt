@@ -1,4 +1,4 @@
--- Byte order of a text and of two others, one behind the other.
+-- A text is compared in byte order with two other texts, one after the other.
 use Rattle.std.proofs.Common.{◌≡◌, ℕ, ◌<◌, ◌≤◌, List, [], ◌∷◌, ◌++◌, length, take, drop, nat_cmp, Ordering, Less, Equal, Greater, refl, ap}
 use Rattle.std.proofs.Common.{◌∙◌, arith}
 use Rattle.std.specs.Ordering.{ordering_then}

@@ -1,4 +1,4 @@
--- The rows of a site are exactly those of its list.
+-- The rows of a site are exactly the rows of its list.
 use Rattle.std.proofs.Common.{◌≡◌, ℕ, zero, suc, ◌<◌, Bool, true, false, cond, List, [], ◌∷◌, map, length, get_or, Some, Ok, refl, sym, ap}
 use Rattle.std.proofs.Common.{◌∙◌, subst, arith}
 use Rattle.std.specs.Prelude.{◌||◌}
@@ -25,7 +25,7 @@ use Rattle.site_table.proofs.Placing.{has_placed, has_in_order, normal_in_order,
 use Rattle.site_table.proofs.RowsRead.{row_fault, has_path, own_faultless, cause_from_fault, listed_normal}
 use Rattle.site_table.proofs.SiteHolds.{apart_from, rows_faultless}
 
--- ---- one directory more
+-- ---- one more directory
 
 has_dir : (rows : List Row) (more path : Path) → is_normal more ≡ true → AreNormal rows
     → has_row (dir_placed more rows) path ≡ (is_same more path || has_row rows path)

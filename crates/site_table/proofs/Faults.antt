@@ -12,11 +12,11 @@ use Rattle.site_table.specs.Reading.{faults_among, unless_fault}
 abbrev pub Fault : Type 0
 Fault = ℕ → List Data → Data → Option SiteError
 
--- the faults from an element on
+-- the faults from this element on
 abbrev pub faults_from : Fault → List Data → ℕ → List SiteError
 faults_from fault_at all i = filter_map (λ one. fault_at (one.0 + 1) (take one.0 all) one.1) (enumerate_from i (drop i all))
 
--- the element at a place, and those before and after it
+-- an element at a place, with the elements before and after it
 pub record StandsAt (all : List Data) (i : ℕ) (one : Data) : Type 0 where
   pub after : drop i all ≡ one ∷ drop (i + 1) all
   pub before : take (i + 1) all ≡ take i all ++ one ∷ []
@@ -43,7 +43,7 @@ pub faultless_more : (fault_at : Fault) (all : List Data) (i : ℕ) (one : Data)
 faultless_more fault_at all i one at none e = ap (λ fault. cons_option fault (faults_from fault_at all (i + 1))) (sym none)
     ∙ sym (faults_step fault_at all i one at) ∙ e
 
--- an element with a fault behind others without one
+-- an element has a fault, and the elements before it have none
 pub fault_found : {T : Type 0} (fault_at : Fault) (all : List Data) (i : ℕ) (one : Data) (fault : SiteError) (answer : T)
     → StandsAt all i one → fault_at (i + 1) (take i all) one ≡ Some fault
     → faults_from fault_at all i ≡ faults_among fault_at all → unless_fault (faults_among fault_at all) answer ≡ Err fault

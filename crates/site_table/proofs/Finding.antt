@@ -1,4 +1,4 @@
--- What a search by text finds in rows in byte order.
+-- A search by text finds a row among rows in byte order.
 use Rattle.std.proofs.Common.{◌≡◌, ℕ, zero, suc, ◌+◌, ◌-◌, ◌<◌, ◌≤◌, inl, inr, Bool, true, false, cond, ltb, List, [], ◌∷◌, ◌++◌, map}
 use Rattle.std.proofs.Common.{length, get_or, insert, Option, Some, None, Result, Ok, Err, nat_cmp, Ordering, Less, Equal, Greater, refl}
 use Rattle.std.proofs.Common.{sym, ap, ◌∙◌, subst, append-nil, arith}
@@ -41,7 +41,7 @@ later_at path [] j d all lt = absurd (omega arith)
 later_at path (row ∷ rows) zero d all lt = all.0
 later_at path (row ∷ rows) (suc j) d all lt = later_at path rows j d all.1 (omega arith)
 
--- of two rows the one of the smaller number comes first
+-- of two rows, the one with the smaller number precedes the other
 ascending_at : (rows : List Row) (i j : ℕ) (d : Row) → AreAscending (paths_of rows) → i < j → j < length rows
     → is_before (get_or rows i d).path (get_or rows j d).path ≡ true
 ascending_at [] i j d up lt within = absurd (omega arith)
@@ -69,7 +69,7 @@ order_to text row = slice_cmp nat_cmp (tail_of row.path) text
 abbrev has_tail : List ℕ → Row → Bool
 has_tail text row = bytes_eq (tail_of row.path) text
 
--- ---- what is there
+-- ---- the text of a row
 
 pub found_place : (rows : List Row) (text : List ℕ) (at : ℕ) → AreAscending (paths_of rows) → IsAt rows text at
     → place_of_text rows text ≡ Some at
@@ -94,7 +94,7 @@ has_found rows path at normal clean here =
     (subst (λ (p : Path). is_same own p ≡ true) (same_tail own path (normal_at rows at d normal here.within) clean (here.here d))
     (same_itself own))
 
--- ---- what is not there
+-- ---- a text without a row
 
 apart : (rows : List Row) (text : List ℕ) (at k : ℕ) (d : Row) → IsGap rows text at → k < length rows
     → has_tail text (get_or rows k d) ≡ false
@@ -126,7 +126,7 @@ gap_later first rows text at gap = record {
   behind = λ k d le lt. gap.behind (suc k) d (omega arith) (omega arith);
 }
 
--- a row goes into the gap
+-- a row is put into the gap
 pub gap_placed : (rows : List Row) (row : Row) (at : ℕ) → IsGap rows (tail_of row.path) at → row_placed row rows ≡ insert rows at row
 gap_placed [] row zero gap = refl
 gap_placed [] row (suc at) gap = let le : suc at ≤ 0 = gap.within in absurd (omega arith)
@@ -144,7 +144,7 @@ gap_placed (first ∷ rows) row (suc at) gap =
 
 -- ---- the searches
 
--- rows of which the last comes before a text
+-- if the last row precedes a text, the gap is at the end
 pub ends_gap : (rows : List Row) (text : List ℕ) (last : Option Row) → AreAscending (paths_of rows)
     → last ≡ slice_get rows (length rows - 1) → option_map_or (λ row. is_lt (order_to text row)) last true ≡ true
     → IsGap rows text (length rows)
@@ -177,7 +177,7 @@ searched rows text (Err at) up within is =
     let sides = is (searchable_from_sorted nat_list_cmp_total (λ (row : Row). tail_of row.path) rows text sorted) in
     record { within = within; before = λ k d lt. sides.0 k d (omega arith) lt; behind = λ k d le lt. sides.1 k d le lt }
 
--- what is found is the place of the text
+-- the found place is the place of the text
 pub text_place : (rows : List Row) (text : List ℕ) (found : Result ℕ ℕ) → AreAscending (paths_of rows) → Searches rows text found
     → result_ok found ≡ place_of_text rows text
 text_place rows text (Ok at) up h = sym (found_place rows text at up h)
@@ -193,7 +193,7 @@ goes_at rows path at ordered clean gap = record {
   placed = λ row same. gap_placed rows row at (subst (λ (p : Path). IsGap rows (tail_of p) at) (sym same) gap);
 }
 
--- where a path goes, by what is found at its text
+-- the place for a path, by the search for its text
 pub place_searched : (rows : List Row) (path : Path) (found : Result ℕ ℕ) → AreOrdered rows → is_normal path ≡ true
     → Searches rows (tail_of path ++ []) found → MatchOption (result_err found) (has_row rows path ≡ true) (GoesAt rows path)
 place_searched rows path (Ok at) ordered clean here = has_found rows path at ordered.normal clean
@@ -231,7 +231,7 @@ joined_normal : (front rest : Path) → is_normal front ≡ true → is_normal r
 joined_normal [] rest h g = g
 joined_normal (part ∷ front) rest h g = let both = and_parts (is_part part) (is_normal front) h in and_from (is_part part) (is_normal (front ++ rest)) both.0 (joined_normal front rest both.1 g)
 
--- the place of the text of a front and a rest is that of the joined path
+-- the place of the text of a front and a rest is the place of the joined path
 pub joined_place : (rows : List Row) (front : Path) (rest : List ℕ) → AreNormal rows → is_normal front ≡ true → IsRest rest
     → place_of_text rows (tail_of front ++ rest) ≡ place_of rows (front ++ parts_of rest)
 joined_place rows front rest all clean h =

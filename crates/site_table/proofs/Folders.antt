@@ -1,4 +1,4 @@
--- The folder that a path is in, by the texts.
+-- The texts of paths give the folder of a path.
 use Rattle.std.proofs.Common.{◌≡◌, ◌≢◌, ℕ, ◌+◌, ◌-◌, ◌<◌, ◌≤◌, Bool, true, false, inl, inr, eqb, Some, None, List, [], ◌∷◌, ◌++◌, length}
 use Rattle.std.proofs.Common.{take, drop, get_or, zero, suc, refl, sym, ap, ◌∙◌, arith, lit<, append_assoc, append-nil}
 use Rattle.std.specs.List.{list_any}
@@ -23,7 +23,7 @@ normal_root (part ∷ parts) h = absurd (omega arith)
 part_slashless : (part : List ℕ) → is_part part ≡ true → list_any is_slash part ≡ false
 part_slashless part h = not-true _ (and_parts _ _ (and_parts _ _ h).0).0
 
--- a path that is not the root is its folder and one part more
+-- a path other than the root is its folder and one more part
 pub folder_and_last : (part : List ℕ) (parts : Path) → is_normal (part ∷ parts) ≡ true
     → (last : List ℕ) × (list_any is_slash last ≡ false) × (tail_of (part ∷ parts)
     ≡ tail_of (take (length parts) (part ∷ parts)) ++ 47 ∷ last)
@@ -47,7 +47,7 @@ none_at [] k clean lt = absurd (omega arith)
 none_at (x ∷ text) zero clean lt = λ e. false≢true (sym (or_parts (is_slash x) (list_any is_slash text) clean).0 ∙ eq-eqb x 47 e)
 none_at (x ∷ text) (suc k) clean lt = none_at text k (or_parts (is_slash x) (list_any is_slash text) clean).1 (omega arith)
 
--- the last slash stands where the last part without one begins
+-- the text before the last slash is the text before a last part without a slash
 last_slash : (front last : List ℕ) (i : ℕ) → list_any is_slash last ≡ false → get_or (front ++ 47 ∷ last) i 0 ≡ 47
     → i < length (front ++ 47 ∷ last)
     → ((k : ℕ) → i < k → k < length (front ++ 47 ∷ last) → get_or (front ++ 47 ∷ last) k 0 ≢ 47) → take i (front ++ 47 ∷ last) ≡ front
@@ -64,7 +64,7 @@ last_slash front last i clean here within after =
       ]
     ]
 
--- what `rsplit_once` answers at a slash
+-- `rsplit_once` cuts a path at its last slash
 pub before_last : (path : Path) (text : List ℕ) (front back : Bor (List ℕ)) → is_normal path ≡ true → text ≡ tail_of path
     → (i : ℕ) × (j : ℕ) × RFindsChar 47 text (Some (i, j)) × (front.now ≡ take i text) × (back.now ≡ drop j text) × (i ≤ j) ×
     (length front.now ≡ i) × (length back.now + j ≡ length text)

@@ -1,4 +1,4 @@
--- The place of a row and the row, and what holds of a site that is read.
+-- The place of a row gives the row, and a site that is read has its properties.
 use Rattle.std.proofs.Common.{◌≡◌, ℕ, Bool, true, false, cond, ltb, List, length, Option, Some, None, Ok, refl, sym, ap, ◌∙◌, subst}
 use Rattle.std.specs.List.{slice_get, position_or_len}
 use Rattle.std.proofs.lemmas.Bool.{ltb-false}

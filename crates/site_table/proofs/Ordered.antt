@@ -1,4 +1,4 @@
--- Paths by their texts.
+-- Paths are compared by their texts.
 use Rattle.std.proofs.Common.{◌≡◌, true, refl, sym, ap, ◌∙◌, subst}
 use Rattle.std.specs.Prelude.{◌||◌, codes}
 use Rattle.std.specs.Str.{bytes_eq}
@@ -11,7 +11,7 @@ use Rattle.site_table.specs.Paths.{root}
 use Rattle.site_table.specs.Rows.{is_always_dir}
 use Rattle.site_table.specs.RowSteps.{is_always_dir_text}
 
--- normal paths are the same where their texts are
+-- normal paths are equal if their texts are
 pub same_texts : (path own : Path) → is_normal path ≡ true → is_normal own ≡ true → bytes_eq (tail_of path) (tail_of own) ≡ is_same own path
 same_texts path own h g = same_test (bytes_eq (tail_of path) (tail_of own)) (is_same own path)
     (λ e. subst (λ (p : Path). is_same own p ≡ true) (same_tail own path g h (sym (same_part (tail_of path) (tail_of own) e)))

@@ -1,4 +1,4 @@
--- Users or groups that have been read.
+-- Users or groups have been read.
 use Rattle.std.proofs.Common.{◌≡◌, ℕ, ◌+◌, ◌≤◌, Bool, true, false, cond, List, [], ◌∷◌, ◌++◌, length, take, map, Some, None, Result, Ok}
 use Rattle.std.proofs.Common.{Err, refl, sym, ap, ◌∙◌, subst}
 use Rattle.std.specs.Prelude.{◌||◌}
@@ -25,7 +25,7 @@ map-append : {X Y : Type 0} (f : X → Y) (xs ys : List X) → map f (xs ++ ys) 
 map-append f [] ys = refl
 map-append f (x ∷ xs) ys = ap (λ rest. f x ∷ rest) (map-append f xs ys)
 
--- what was read has the names of its elements
+-- the owners that were read have the names of their elements
 module _ {T : Type 0} (said_of : Data → T) (called : T → List ℕ) (keeps : (owner : Data) → called (said_of owner) ≡ name_of owner) where
   names_kept : (name : List ℕ) (before : List Data) → list_any (λ one. bytes_eq name (called one)) (map said_of before)
       ≡ list_any (λ other. bytes_eq name (name_of other)) before
@@ -68,7 +68,7 @@ pub owners_none : {T : Type 0} (is_wrong : Data → Bool) (refusal : ℕ → Sit
     (read : List T) → read ≡ [] → OwnersRead is_wrong refusal said_of owners 0 read
 owners_none is_wrong refusal said_of owners read nothing = record { faultless = refl; said = nothing }
 
--- no name is doubled where the owner is not refused
+-- an owner that is not refused has a new name
 pub not_doubled : (wrong twice : Bool) → (wrong || twice) ≡ false → twice ≡ false
 not_doubled true twice e = cc
 not_doubled false twice e = e

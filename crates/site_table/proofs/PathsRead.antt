@@ -1,4 +1,4 @@
--- The paths of rows are normal and short, and stand in normal folders.
+-- The paths of rows are normal and short, and their folders are normal.
 use Rattle.std.proofs.Common.{◌≡◌, ℕ, Bool, true, false, cond, List, [], ◌∷◌, length, take, suc, zero, Option, Some, None, refl, sym, ap}
 use Rattle.std.proofs.Common.{◌∙◌}
 use Rattle.std.specs.Prelude.{◌&&◌, is_none, nat_lt, nat_le, nat_eq, codes, option_and_then}

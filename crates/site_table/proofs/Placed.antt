@@ -1,4 +1,4 @@
--- What is found among rows in byte order.
+-- A search finds rows among rows in byte order.
 use Rattle.std.proofs.Common.{◌≡◌, ◌+◌, ◌≤◌, Bool, true, false, cond, List, [], ◌∷◌, ◌++◌, map, length, Option, Some, None, refl, sym, ap}
 use Rattle.std.proofs.Common.{◌∙◌, subst, arith}
 use Rattle.std.specs.Prelude.{not, filter, fold, option_map}
@@ -51,7 +51,7 @@ paths-folded sorted (row ∷ rows) =
 pub rows_ascend : (rows : List Row) → AreAscending (paths_of (rows_in_order rows))
 rows_ascend rows = subst AreAscending (sym (paths-folded [] rows)) (in_byte_order_ascending (paths_of rows))
 
--- ---- each row, and how many
+-- ---- each row, and the number of rows
 
 all_folded : (P : Row → Type 0) (sorted rows : List Row) → AllByRecursion P sorted → AllByRecursion P rows
     → AllByRecursion P (fold (λ sorted row. row_placed row sorted) sorted rows)
@@ -62,7 +62,7 @@ all_append : (P : Row → Type 0) (xs ys : List Row) → AllByRecursion P xs →
 all_append P [] ys all more = more
 all_append P (x ∷ xs) ys all more = (all.0, all_append P xs ys all.1 more)
 
--- what holds of each listed row and of `/` and `/proc` holds of each row of the table
+-- a property of each listed row and of `/` and `/proc` holds of each row of the table
 pub all_in_order : (P : Row → Type 0) (listed : List Row) → AllByRecursion P listed → P (plain_dir root) → P (plain_dir proc)
     → AllByRecursion P (rows_in_order (with_fixed listed))
 all_in_order P listed all top below = all_folded P [] (with_fixed listed) tt
@@ -89,7 +89,7 @@ length-folded : (sorted rows : List Row) → length (fold (λ sorted row. row_pl
 length-folded sorted [] = omega arith
 length-folded sorted (row ∷ rows) = omega (arith, length-folded (row_placed row sorted) rows, length-placed row sorted)
 
--- no more rows than are listed, and two
+-- the table has at most two rows more than the list
 pub length_in_order : (listed : List Row) → length (rows_in_order (with_fixed listed)) ≤ length listed + 2
 length_in_order listed =
     let all = length-folded [] (with_fixed listed) in
@@ -106,7 +106,7 @@ length_in_order listed =
 
 -- ---- the row of a path
 
--- no two rows have one path
+-- no two rows have the same path
 abbrev pub AreApart : List Row → Type 0
 AreApart [] = Unit {0}
 AreApart (row ∷ rows) = (has_row rows row.path ≡ false) × AreApart rows
@@ -122,7 +122,7 @@ both_same : (one other path : Path) → is_same one other ≡ false → is_same 
 both_same one other path apart h g =
     false≢true (sym apart ∙ subst (λ (p : Path). is_same one p ≡ true) (sym (same_path other path g)) h)
 
--- a row of a new path among rows is found by it
+-- a row of a new path is found by its path
 pub row_at-placed : (row : Row) (rows : List Row) (path : Path) → is_normal row.path ≡ true → AreNormal rows → has_row rows row.path ≡ false
     → row_at (row_placed row rows) path ≡ cond (is_same row.path path) (Some row) (row_at rows path)
 row_at-placed row [] path here all absent = refl
@@ -157,7 +157,7 @@ none_of path [] h = tt
 none_of path (row ∷ rows) h =
     let both = or_parts (is_same row.path path) (has_row rows path) h in (is_same-swap path row.path ∙ both.0, none_of path rows both.1)
 
--- the paths of the later rows are new among those that stand and one more
+-- the paths of later rows are new among the rows so far and one more
 still_new : (row : Row) (sorted rows : List Row) → is_normal row.path ≡ true → AreNormal sorted
     → AllByRecursion (λ later. has_row sorted later.path ≡ false) rows → AllByRecursion (λ later. is_same row.path later.path ≡ false) rows
     → AllByRecursion (λ later. has_row (row_placed row sorted) later.path ≡ false) rows
@@ -203,7 +203,7 @@ kind_of-cond : (b : Bool) (row : Row) (rest : Option Row) → row.kind ≡ Dir �
 kind_of-cond true row rest here there = ap Some here
 kind_of-cond false row rest here there = there
 
--- a directory stays one when another is placed
+-- a directory stays a directory when another is placed
 pub dir_kept : (rows : List Row) (more path : Path) → is_normal more ≡ true → AreNormal rows → IsDirAt rows path
     → IsDirAt (dir_placed more rows) path
 dir_kept rows more path clean all dir = by (has_row rows more) refl
@@ -213,7 +213,7 @@ dir_kept rows more path clean all dir = by (has_row rows more) refl
     by false e = ap (option_map (λ r. r.kind)) (row_at-placed (plain_dir more) rows path clean all e)
         ∙ kind_of-cond (is_same more path) (plain_dir more) (row_at rows path) refl dir
 
--- a directory is where it is placed, if what stood there was one
+-- a placed directory is at its path, if an earlier row of the path was a directory
 pub dir_here : (rows : List Row) (path : Path) → is_normal path ≡ true → AreNormal rows → (has_row rows path ≡ true → IsDirAt rows path)
     → IsDirAt (dir_placed path rows) path
 dir_here rows path clean all dir = by (has_row rows path) refl
@@ -245,7 +245,7 @@ module _ (listed : List Row) (all : AreNormal listed) (apart : AreApart listed) 
   sorted_normal : AreNormal (rows_in_order listed)
   sorted_normal = normal_in_order listed all
 
-  -- a listed directory is one of the table
+  -- a listed directory is a directory of the table
   pub dir_of_table : (path : Path) → IsDirAt listed path → IsDirAt (fixed_placed (rows_in_order listed)) path
   dir_of_table path h =
       dir_kept (dir_placed root (rows_in_order listed)) proc path refl (normal_dir (rows_in_order listed) root refl sorted_normal)

@@ -1,4 +1,4 @@
--- Rows in byte order of their paths.
+-- Rows are put in byte order of their paths.
 use Rattle.std.proofs.Common.{◌≡◌, Bool, true, false, cond, List, [], ◌∷◌, refl, sym, ap, ◌∙◌}
 use Rattle.std.specs.Prelude.{◌||◌, not, filter, fold}
 use Rattle.std.specs.List.{AllByRecursion}
@@ -13,7 +13,7 @@ use Rattle.site_table.specs.Paths.{root}
 use Rattle.site_table.specs.RowSteps.{dir_placed, fixed_placed}
 use Rattle.site_table.specs.Table.{AreNormal}
 
--- what holds of a row and of others holds of all when it is placed among them
+-- a property of a row and of others holds of all after the row is placed among them
 pub all_placed : (P : Row → Type 0) (row : Row) (rows : List Row) → P row → AllByRecursion P rows → AllByRecursion P (row_placed row rows)
 all_placed P row [] here all = (here, tt)
 all_placed P row (first ∷ rows) here all = by (is_before row.path first.path) (is_before first.path row.path)
@@ -35,12 +35,12 @@ or_twice : (a c : Bool) → (a || c) ≡ (a || (a || c))
 or_twice true c = refl
 or_twice false c = refl
 
--- where neither of two rows comes first, they have one path
+-- if neither of two rows precedes the other, they have the same path
 pub one_path : (row first : Row) → is_normal row.path ≡ true → is_normal first.path ≡ true → is_before row.path first.path ≡ false
     → is_before first.path row.path ≡ false → first.path ≡ row.path
 one_path row first here there e f = neither_before first.path row.path there here f e
 
--- a row among rows: they have its path too
+-- after a row is placed among rows, they have its path too
 pub has_placed : (row : Row) (rows : List Row) (path : Path) → is_normal row.path ≡ true → AreNormal rows
     → has_row (row_placed row rows) path ≡ (is_same row.path path || has_row rows path)
 has_placed row [] path here all = refl
@@ -58,7 +58,7 @@ has_placed row (first ∷ rows) path here all = by (is_before row.path first.pat
         or_twice (is_same first.path path) (has_row rows path)
         ∙ ap (λ p. is_same p path || (is_same first.path path || has_row rows path)) (one_path row first here all.0 e f)
 
--- the same of several
+-- the same holds of several rows
 has_folded : (sorted rows : List Row) (path : Path) → AreNormal sorted → AreNormal rows
     → has_row (fold (λ sorted row. row_placed row sorted) sorted rows) path ≡ (has_row sorted path || has_row rows path)
 has_folded sorted [] path so_far all = or_none (has_row sorted path)

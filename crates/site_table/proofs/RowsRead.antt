@@ -1,4 +1,4 @@
--- Rows that have been read and placed.
+-- Rows have been read and placed.
 use Rattle.std.proofs.Common.{◌≡◌, ℕ, ◌+◌, ◌≤◌, Bool, true, false, List, [], ◌∷◌, ◌++◌, length, take, drop, map, Option, Some, None, Result}
 use Rattle.std.proofs.Common.{Ok, Err, refl, sym, ap, ◌∙◌, subst}
 use Rattle.std.specs.Prelude.{◌||◌, ◌&&◌, not, is_none, option_map, option_and_then, unwrap_or}
@@ -44,14 +44,14 @@ row_fault rows number before row = option_map (BadRow number) (cause_of rows bef
 pub record KnowsFolders (rows : List Data) (folders : List (List ℕ)) : Type 0 where
   pub knows : (text : List ℕ) → has_text folders text ≡ has_folder rows text
 
--- the first i rows stand in their order, and none has a fault
+-- the first i rows are in order, and none has a fault
 pub record RowsPlaced (rows : List Data) (i : ℕ) (ordered : List Row) : Type 0 where
   pub faultless : faults_from (row_fault rows) rows i ≡ row_faults rows
   pub said : ordered ≡ rows_in_order (map row_of (take i rows))
   pub normal : AreNormal ordered
   pub holds : (path : Path) → has_row ordered path ≡ list_any (is_row_at path) (take i rows)
 
--- a row without an own cause has the path that it says
+-- a row without a fault of its own has its path
 pub has_path : (row : Data) → first_of (own_causes row) ≡ None → path_of row ≡ Some (row_of row).path
 has_path row h = by (path_of row)
     (first_of-none (is_none (path_of row)) BadPath (drop 2 (own_causes row))
@@ -100,7 +100,7 @@ stands_by_text rows folders path normal knows = by (parent_of path) refl
         ap (λ b. b || has_text folders (tail_of parent)) (always_by_text parent clean)
         ∙ ap (λ b. is_always_dir parent || b) (knows.knows (tail_of parent) ∙ folders_by_text rows parent clean)
 
--- what may be wrong with the place of a row is the same in the words of the definition
+-- the faults of a row's place agree with the definition
 places_are : (rows : List Data) (folders : List (List ℕ)) (i : ℕ) (ordered : List Row) (row : Data) (path : Path)
     → KnowsFolders rows folders → RowsPlaced rows i ordered → path_of row ≡ Some path
     → causes_among folders ordered path ≡ place_causes rows (take i rows) row
@@ -161,7 +161,7 @@ module _ (rows : List Data) (folders : List (List ℕ)) (i : ℕ) (ordered : Lis
             ∙ sym (list_any-append (is_row_at path) (take i rows) (row ∷ [])) ∙ ap (list_any (is_row_at path)) (sym at.before);
       }
 
-  -- a cause that is found behind rows without fault
+  -- a fault is found after rows without faults
   found : {V : Type 0} (answer : V) (cause : RowCause) → RowsPlaced rows i ordered → StandsAt rows i row
       → cause_of rows (take i rows) row ≡ Some cause
       → unless_fault (row_faults rows) answer ≡ Err (BadRow (i + 1) cause)
@@ -237,7 +237,7 @@ map_all : (P : Row → Type 0) (rows : List Data) → AllByRecursion (λ row. P 
 map_all P [] h = tt
 map_all P (row ∷ rows) h = (h.0, map_all P rows h.1)
 
--- what a row without an own cause says, each row of the list says
+-- a property of each row without a fault of its own holds of each row of the list
 pub all_listed : (P : Row → Type 0) (rows : List Data) → ((row : Data) → first_of (own_causes row) ≡ None → P (row_of row))
     → row_faults rows ≡ [] → AllByRecursion P (map row_of rows)
 all_listed P rows each none =

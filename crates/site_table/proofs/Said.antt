@@ -1,4 +1,4 @@
--- What holds of a row without fault.
+-- A row without a fault has these properties.
 use Rattle.std.proofs.Common.{◌≡◌, ◌≢◌, ℕ, ◌≤◌, Bool, true, false, cond, List, [], ◌∷◌, drop, Option, Some, None, refl, sym, ap, ◌∙◌}
 use Rattle.std.proofs.Common.{ℤ}
 use Rattle.std.specs.Prelude.{◌||◌, ◌&&◌, not, codes, is_some, is_none, nat_le, fold, IsSome, option_and_then, unwrap_or, pos, negsuc}
@@ -22,7 +22,7 @@ use Rattle.site_table.specs.Table.{IsIdIfSome}
 use Rattle.toml_shapes.specs.Tree.{number_at, flag_at, elements_at, elements_of}
 use Rattle.site_table.proofs.Causes.{first_of-none}
 
--- none of the own causes applies
+-- no own fault of the row applies
 pub record IsRight (row : Data) : Type 0 where
   pub path : is_none (path_of row) ≡ false
   pub kind : has_wrong_kind row ≡ false
@@ -63,7 +63,7 @@ unwrapped_small (Some number) h = h
 
 -- ---- kinds
 
--- the kind that a row says is that of the definition, and may stand there
+-- the kind of a row is the kind of the definition, and the row may have it
 pub kind_is : (row : Data) → IsRight row → (kind_of row ≡ Some (row_of row).kind) × (may_be (row_of row).kind row ≡ true)
 kind_is row right = by (kind_of row) (not-false (option_map_or (λ kind. may_be kind row) (kind_of row) false) right.kind)
   where
@@ -79,7 +79,7 @@ dir_if File false h e = absurd (false≢true e)
 dir_if Exe true h e = absurd (false≢true h)
 dir_if Exe false h e = absurd (false≢true e)
 
--- `/` and `/proc` are directories where they are listed
+-- `/` and `/proc` are directories if they are listed
 pub always_is_dir : (row : Data) → IsRight row → path_of row ≡ Some (row_of row).path → is_always_dir (row_of row).path ≡ true
     → (row_of row).kind ≡ Dir
 always_is_dir row right here e =
@@ -89,7 +89,7 @@ always_is_dir row right here e =
     (is_dir (row_of row).kind || not (option_map_or is_always_dir (path_of row) false)) said.1).1
     (ap (λ path. option_map_or is_always_dir path false) here ∙ e)
 
--- ---- what only an executable has
+-- ---- the keys that only an executable has
 
 pub none_from : {X : Type 0} (found : Option X) → is_some found ≡ false → found ≡ None
 none_from None h = refl
@@ -142,7 +142,7 @@ empty_is : (names : List Data) → is_empty names ≡ true → names ≡ []
 empty_is [] h = refl
 empty_is (name ∷ names) h = absurd (false≢true h)
 
--- an owner's uid stands without capabilities
+-- a row with an owner's uid has no capabilities
 pub owner_or_caps : (row : Data) → IsRight row → IsSome (row_of row).setuid → (row_of row).caps ≡ none
 owner_or_caps row right owner =
     ap caps_of (empty_is (cap_names row)
@@ -153,7 +153,7 @@ owner_or_caps row right owner =
     by true false e h = absurd (false≢true (sym h))
     by false c e h = absurd (false≢true e)
 
--- what is in a set stays in it when others are added
+-- a set keeps its members when others are added
 stays : (set number : ℕ) (numbers : List ℕ) → has_cap set number ≡ true
     → has_cap (fold (λ set number. union set (single number)) set numbers) number ≡ true
 stays set number [] h = h

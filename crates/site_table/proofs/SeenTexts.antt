@@ -1,4 +1,4 @@
--- A set of texts, by its keys.
+-- A set of texts is known by its keys.
 use Rattle.std.proofs.Common.{◌≡◌, ℕ, Bool, true, false, cond, List, [], ◌∷◌, map, String, Global, string_bytes, string_cmp, nat_cmp, is_eq}
 use Rattle.std.proofs.Common.{refl, sym, ap, ◌∙◌}
 use Rattle.std.specs.Prelude.{◌||◌}

@@ -1,4 +1,4 @@
--- What holds of a site without fault.
+-- A site without a fault has these properties.
 use Rattle.std.proofs.Common.{◌≡◌, ◌≢◌, ℕ, ◌+◌, ◌≤◌, Bool, true, false, cond, List, [], ◌∷◌, ◌++◌, map, length, Option, Some, None, refl}
 use Rattle.std.proofs.Common.{sym, ap, ◌∙◌, subst, arith}
 use Rattle.std.specs.Prelude.{◌||◌, ◌&&◌, not, codes, ℤ, pos, negsuc, unwrap_or, nat_lt, nat_le, option_map, option_and_then, IfSome}
@@ -49,9 +49,9 @@ use Rattle.site_table.proofs.RowsRead.{row_fault, has_path, own_faultless, cause
 use Rattle.site_table.proofs.Said.{IsRight, is_right, id_small, unwrapped_small, small_if_some, kind_is, always_is_dir, exe_alone}
 use Rattle.site_table.proofs.Said.{owner_or_caps, effective_caps}
 
--- ---- elements without fault, each with those before it
+-- ---- elements without a fault, given the elements before them
 
--- a test that no element passes, this one does not
+-- an element does not pass a test that no element of its list passes
 abbrev IsAmong : Data → List Data → Type 0
 IsAmong one all = (test : Data → Bool) → list_any test all ≡ false → test one ≡ false
 
@@ -78,7 +78,7 @@ parent_from rows before row h =
     (first_of-none (is_duplicate before row) Duplicate ((not (has_parent rows row), NoParent) ∷ [])
     (sym (first_of-append (own_causes row) (place_causes rows before row) (own_faultless rows before row h)) ∙ h)).1).0
 
--- the path of a row is not that of a later one
+-- a later row has another path
 new_path : (rows before later : List Data) (row : Data) → path_of row ≡ Some (row_of row).path → IsAmong row before
     → NoFaults (row_fault rows) before later → has_row (map row_of later) (row_of row).path ≡ false
 new_path rows before [] row here among h = refl
@@ -100,7 +100,7 @@ apart_from rows before (row ∷ rest) h = (
   apart_from rows (before ++ row ∷ []) rest h.1,
 )
 
--- a listed directory, by the definition, is one by the listed rows
+-- a listed directory of the definition is a directory among the listed rows
 dir_listed : (rows before rest : List Data) (path : Path) → NoFaults (row_fault rows) before rest → AreApart (map row_of rest)
     → list_any (is_dir_at path) rest ≡ true → IsDirAt (map row_of rest) path
 dir_listed rows before [] path h apart some = absurd (false≢true some)
@@ -145,7 +145,7 @@ dir_listed rows before (row ∷ rest) path h apart some =
     by false e more =
         more (ap (λ b. (b && option_map_or is_dir (kind_of row) false) || list_any (is_dir_at path) rest) (sym (is_here ∙ e)) ∙ some)
 
--- `/` and `/proc` are directories where they are listed
+-- `/` and `/proc` are directories if they are listed
 always_listed : (listed : List Row) (path : Path) → is_always_dir path ≡ true
     → AllByRecursion (λ row. is_always_dir row.path ≡ true → row.kind ≡ Dir) listed → has_row listed path ≡ true → IsDirAt listed path
 always_listed [] path always all some = absurd (false≢true some)
@@ -336,7 +336,7 @@ not_too_large site h = by (is_too_large site) h
     by true h = absurd (cc)
     by false h = refl
 
--- a site without fault has no row with one
+-- a site without a fault has no row with a fault
 pub rows_faultless : (site : Data) → faults_of site ≡ [] → row_faults (rows_in site) ≡ []
 rows_faultless site h =
     let groups = none_of_both (((top_faults site ++ size_faults site) ++ row_faults (rows_in site)) ++ user_faults (users_in site)) (group_faults (groups_in site)) h in

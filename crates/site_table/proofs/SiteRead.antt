@@ -1,4 +1,4 @@
--- A site, part by part.
+-- A site is read part by part.
 use Rattle.std.proofs.Common.{◌≡◌, ◌≢◌, ℕ, Bool, true, false, cond, List, [], ◌∷◌, ◌++◌, map, Option, Some, None, Result, Ok, Err, refl, sym, ap}
 use Rattle.std.proofs.Common.{◌∙◌, subst, append-nil}
 use Rattle.std.specs.Prelude.{codes, unwrap_or, IfOk, IfErr}
@@ -24,7 +24,7 @@ use Rattle.unit_names.specs.declared.version.Version.{Version}
 use Rattle.site_table.proofs.Answering.{accepted, stops_first}
 use Rattle.site_table.proofs.SiteHolds.{site_holds}
 
--- nothing is wrong at the top, and the site is not too large
+-- the top has no fault, and the site is not too large
 pub record IsBegun (site : Data) (uid spaces : ℕ) (systemd : Option Version) : Type 0 where
   pub top : (top_faults site ≡ []) × (id_at (codes "dynamic_uid") site ≡ Some uid) × (spaces_at site ≡ Some spaces)
       × (systemd_at site ≡ Some systemd)
@@ -43,7 +43,7 @@ module _ (site : Data) (uid spaces : ℕ) (systemd : Option Version) (rows : Lis
       (begun_faults site uid spaces systemd begun)
       ∙ ap (λ faults. (faults ++ user_faults (users_in site)) ++ group_faults (groups_in site)) no_row
 
-  -- a user with a fault, or no memory
+  -- a user has a fault, or memory ran out
   pub users_stop : (error : SiteError) → IsUnlessMemory (λ (read : List User). read) (Err error)
       (unless_fault (user_faults (users_in site)) (map user_of (users_in site)))
       → IsUnlessMemory (λ (table : Site). table) (Err error) (unless_fault (faults_of site) (site_in site))
@@ -59,7 +59,7 @@ module _ (site : Data) (uid spaces : ℕ) (systemd : Option Version) (rows : Lis
         after_rows ∙ ap (λ faults. faults ++ group_faults (groups_in site))
         (accepted (user_faults (users_in site)) (map user_of (users_in site)) users users_read).0
 
-    -- a group with a fault, or no memory
+    -- a group has a fault, or memory ran out
     pub groups_stop : (error : SiteError) → IsUnlessMemory (λ (read : List Group). read) (Err error)
         (unless_fault (group_faults (groups_in site)) (map group_of (groups_in site)))
         → IsUnlessMemory (λ (table : Site). table) (Err error) (unless_fault (faults_of site) (site_in site))
@@ -69,7 +69,7 @@ module _ (site : Data) (uid spaces : ℕ) (systemd : Option Version) (rows : Lis
         (stops_first (λ (read : List Group). read) (λ (table : Site). table) (group_faults (groups_in site)) []
         (map group_of (groups_in site)) (site_in site) error h)
 
-    -- the whole, without fault
+    -- the whole site has no fault
     pub record IsRead (groups : List Group) : Type 0 where
       pub faultless : faults_of site ≡ []
       pub says : site_in site ≡ record { dynamic_uid = uid; user_namespaces = spaces; systemd = systemd; rows = rows; users = users; groups = groups }
@@ -100,13 +100,13 @@ is_false : (b : Bool) → (b ≡ true → ⊥) → b ≡ false
 is_false true h = absurd (h refl)
 is_false false h = refl
 
--- bytes that are a tree
+-- the bytes are a tree
 pub of_tree : (bytes : List ℕ) (tree : Members) → IsUtf8 bytes → parse_document bytes ≡ Some tree
     → site_of bytes ≡ unless_fault (faults_of (table tree)) (site_in (table tree))
 of_tree bytes tree text read =
     ap (λ b. site_of_tree (cond b (parse_document bytes) None)) (is_utf8-from_IsUtf8 bytes text) ∙ ap site_of_tree read
 
--- bytes that are none
+-- the bytes are no tree
 pub no_tree : (bytes : List ℕ) → (IsUtf8 bytes → parse_document bytes ≡ None) → site_of bytes ≡ Err NotToml
 no_tree bytes h = by (is_utf8 bytes) refl
   where
@@ -114,7 +114,7 @@ no_tree bytes h = by (is_utf8 bytes) refl
     by true e = ap site_of_tree (h (IsUtf8-from_is_utf8 bytes e))
     by false e = refl
 
--- what the answer says of the bytes
+-- the answer about the bytes
 pub said_if_ok : (wanted : Result Site SiteError) (result : Result Site SiteError)
     → IsUnlessMemory (λ (table : Site). table) result wanted → IfOk result (λ site. wanted ≡ Ok site)
 said_if_ok wanted (Ok site) h = h

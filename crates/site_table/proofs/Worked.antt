@@ -1,4 +1,4 @@
--- Worked sites, computed from the definition.
+-- These sites are computed from the definition.
 use Rattle.std.proofs.Common.{◌≡◌, ℕ, List, [], ◌∷◌, codes, pos, map, refl}
 use Rattle.std.specs.Prelude.{true}
 use Rattle.toml.specs.Data.{Data, string, integer, boolean, array, table, Items, no_items, item, Members, no_members, member}
@@ -7,7 +7,7 @@ use Rattle.site_table.specs.declared.error.RowCause.TheVariants.{Key, Kind, Dupl
 use Rattle.site_table.specs.declared.error.SiteError.TheVariants.{Top, Row as BadRow}
 use Rattle.site_table.specs.Reading.{faults_of, site_in}
 
--- a row of the file with these further keys, which come before `path` in byte order or behind it
+-- a row of the file with these further keys, which are before `path` or after it in byte order
 row : List ℕ → List ℕ → Members → Data
 row path kind more = table (member (codes "kind") (string kind) (member (codes "path") (string path) more))
 
@@ -18,13 +18,13 @@ alone : faults_of (rows (item (row (codes "/a/b") (codes "dir") no_members) no_i
 unfolding row rows
 alone = refl
 
--- the parent may stand later, and counts by its path and kind alone
+-- the parent may be a later row, and only its path and its kind matter
 later : faults_of (rows (item (row (codes "/a/b") (codes "file") no_members)
     (item (row (codes "/a//") (codes "dir") (member (codes "x") (boolean true) no_members)) no_items))) ≡ BadRow 2 Key ∷ []
 unfolding row rows
 later = refl
 
--- each row with a fault is told by its first cause; the second row is a file and no folder of the third
+-- each faulty row is reported by its first fault; the second row is a file and so no folder of the third
 several : faults_of (rows
     (item (row (codes "/a") (codes "file") no_members)
     (item (row (codes "//a/.") (codes "dir") no_members) (item (row (codes "/b") (codes "link") no_members) no_items))))
@@ -32,7 +32,7 @@ several : faults_of (rows
 unfolding row rows
 several = refl
 
--- `/proc` and `/` are there, and byte order puts `/a-b` before `/a/c`
+-- the rows have `/proc` and `/`, and byte order puts `/a-b` before `/a/c`
 in_byte_order : map (λ (r : Row). r.path)
     (site_in (rows (item (row (codes "/a/c") (codes "file") no_members)
     (item (row (codes "/a-b") (codes "exe") no_members) (item (row (codes "/a") (codes "dir") no_members) no_items))))).rows

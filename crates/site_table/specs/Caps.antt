@@ -1,4 +1,4 @@
--- The capabilities that a list of names gives (capabilities(7)). The names are exact.
+-- A list of names gives capabilities (capabilities(7)). The names are exact.
 use Rattle.std.specs.Prelude.{◌≡◌, ℕ, Bool, is_some, List, Option, Some, option_and_then, position, fold}
 use Rattle.std.specs.List.{list_all, filter_map, Contains}
 use Rattle.std.specs.Str.{bytes_eq}
@@ -14,15 +14,15 @@ cap_of name = position (λ known. bytes_eq known name) names
 abbrev pub as_cap : Data → Option ℕ
 as_cap value = option_and_then cap_of (as_str value)
 
--- each is the name of a capability
+-- each value is the name of a capability
 abbrev pub are_caps : List Data → Bool
 are_caps values = list_all (λ value. is_some (as_cap value)) values
 
--- the set of the capabilities that are named
+-- the set of the named capabilities
 abbrev pub caps_of : List Data → ℕ
 caps_of values = fold (λ set number. union set (single number)) none (filter_map as_cap values)
 
--- a value of the list is the name of the capability of this number
+-- some value of the list is the name of the capability of this number
 pub record IsNamed (values : List Data) (number : ℕ) : Type 0 where
   pub value : Data
   pub listed : Contains values value

@@ -13,11 +13,11 @@ abbrev pub id_of : ℤ → Option ℕ
 id_of (pos number) = cond (nat_le number greatest_id) (Some number) None
 id_of (negsuc number) = None
 
--- the id at a key, if there is a number in range
+-- the id at a key, if the key has a number in range
 abbrev pub id_at : List ℕ → Data → Option ℕ
 id_at key value = option_and_then id_of (number_at key value)
 
--- there is a number out of range at a key
+-- the key has a number out of range
 abbrev pub is_out_of_range : List ℕ → Data → Bool
 is_out_of_range key value = option_map_or (λ number. not (is_some (id_of number))) (number_at key value) false
 
@@ -25,7 +25,7 @@ is_out_of_range key value = option_map_or (λ number. not (is_some (id_of number
 abbrev pub most_spaces : ℕ
 most_spaces = 64
 
--- so many, if it is no more
+-- the number, if a site may allow so many
 abbrev pub count_of : ℤ → Option ℕ
 count_of (pos number) = cond (nat_le number most_spaces) (Some number) None
 count_of (negsuc number) = None
@@ -34,11 +34,11 @@ abbrev pub count_by : Option ℤ → Option ℕ
 count_by None = Some 0
 count_by (Some number) = count_of number
 
--- the number of user namespaces that may be made, if the number at the key is in range; 0 if the key is missing
+-- the number of user namespaces that may be made, if the number at the key is in range; a missing key means 0
 abbrev pub spaces_at : Data → Option ℕ
 spaces_at site = count_by (number_at (codes "user_namespaces") site)
 
--- the id that a part of the tree is, if it is a number in range
+-- the id in a part of the tree, if it is a number in range
 abbrev pub as_id : Data → Option ℕ
 as_id value = option_and_then id_of (as_integer value)
 

@@ -1,4 +1,4 @@
--- The keys of site.toml: the name of each, the shape of its value, and whether it must be there.
+-- The keys of site.toml: each has a name and a shape of its value, and is required or optional.
 use Rattle.std.specs.Prelude.{codes, List, [], ◌∷◌}
 use Rattle.toml_shapes.specs.Keys.{KnownKey}
 use Rattle.toml_shapes.specs.declared.keys.Shape.TheVariants.{Text, Number, Flag, Texts, Numbers, Tables}

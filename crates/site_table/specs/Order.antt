@@ -14,7 +14,7 @@ use Rattle.site_table.specs.declared.kinds.RowKind.TheVariants.{Dir}
 use Rattle.site_table.specs.Paths.{root}
 use Rattle.site_table.specs.Table.{AreNormal}
 
--- a directory of which nothing else is said
+-- a directory without further properties
 abbrev pub plain_dir : Path → Row
 plain_dir path = record { path = path; kind = Dir; setuid = None; setgid = None; caps = none; effective = false }
 
@@ -22,11 +22,11 @@ plain_dir path = record { path = path; kind = Dir; setuid = None; setgid = None;
 abbrev pub has_row : List Row → Path → Bool
 has_row rows path = list_any (λ row. is_same row.path path) rows
 
--- the listed rows, with `/` and `/proc` where they are not listed
+-- the listed rows, with `/` and `/proc` if they are not listed
 abbrev pub with_fixed : List Row → List Row
 with_fixed listed = listed ++ filter (λ row. not (has_row listed row.path)) (plain_dir root ∷ plain_dir proc ∷ [])
 
--- rows in order with one more in its place, unless its path stands there
+-- the rows in order with one more row in its place, unless they have its path already
 abbrev pub row_placed : Row → List Row → List Row
 row_placed row [] = row ∷ []
 row_placed row (first ∷ rows) = cond (is_before row.path first.path) (row ∷ first ∷ rows)
@@ -35,7 +35,7 @@ row_placed row (first ∷ rows) = cond (is_before row.path first.path) (row ∷ 
 abbrev pub rows_in_order : List Row → List Row
 rows_in_order rows = fold (λ sorted row. row_placed row sorted) [] rows
 
--- rows of normal paths, each before the later ones
+-- the rows have normal paths, and each path precedes the later ones
 pub record AreOrdered (rows : List Row) : Type 0 where
   pub ascending : AreAscending (map (λ row. row.path) rows)
   pub normal : AreNormal rows
@@ -51,12 +51,12 @@ pub record IsGap (rows : List Row) (text : List ℕ) (at : ℕ) : Type 0 where
   pub before : (k : ℕ) (d : Row) → k < at → slice_cmp nat_cmp (tail_of (slice_index_or rows k d).path) text ≡ Less
   pub behind : (k : ℕ) (d : Row) → at ≤ k → k < length rows → slice_cmp nat_cmp (tail_of (slice_index_or rows k d).path) text ≡ Greater
 
--- what a search for the row of a text answers
+-- the answer of a search for the row of a text
 abbrev pub Searches : List Row → List ℕ → Result ℕ ℕ → Type 0
 Searches rows text (Ok at) = IsAt rows text at
 Searches rows text (Err at) = IsGap rows text at
 
--- a row of this path goes to a place among rows in order
+-- a row of this path has this place among rows in order
 pub record GoesAt (rows : List Row) (path : Path) (at : ℕ) : Type 0 where
   pub ordered : AreOrdered rows
   pub within : at ≤ length rows

@@ -1,4 +1,4 @@
--- Which site the bytes of a file describe, or why they are refused.
+-- The bytes of a file describe a site, or are refused.
 use Rattle.std.specs.Prelude.{◌≡◌, ⊤, ℕ, ◌+◌, nat_lt, ◌||◌, ◌&&◌, Bool, cond, codes, is_some, List, [], ◌∷◌, ◌++◌, map, length, take}
 use Rattle.std.specs.Prelude.{Option, Some, None, option_map, unwrap_or, Result, Ok, Err}
 use Rattle.std.specs.List.{filter_map, enumerate_from}
@@ -30,14 +30,14 @@ users_in site = elements_at (codes "user") site
 abbrev pub groups_in : Data → List Data
 groups_in site = elements_at (codes "group") site
 
--- the faults of a list, in order: each element is looked at with its number, from 1, and those before it
+-- the faults of a list, in order: each element is judged with its number, from 1, and the elements before it
 abbrev pub faults_among : (ℕ → List Data → Data → Option SiteError) → List Data → List SiteError
 faults_among fault_at all = filter_map (λ one. fault_at (one.0 + 1) (take one.0 all) one.1) (enumerate_from 0 all)
 
 abbrev pub row_faults : List Data → List SiteError
 row_faults rows = faults_among (λ number before row. option_map (BadRow number) (cause_of rows before row)) rows
 
--- an owner is a user or a group: it is wrong by itself, or an earlier one has its name
+-- an owner is a user or a group: it has a fault of its own, or an earlier owner has its name
 abbrev pub owner_faults : (Data → Bool) → (ℕ → SiteError) → List Data → List SiteError
 owner_faults is_wrong refusal owners =
     faults_among (λ number before owner. cond (is_wrong owner || has_doubled_name before owner) (Some (refusal number)) None) owners
@@ -48,24 +48,24 @@ user_faults users = owner_faults (is_wrong UserKind) BadUser users
 abbrev pub group_faults : List Data → List SiteError
 group_faults groups = owner_faults (is_wrong GroupKind) BadGroup groups
 
--- what is wrong at the top: the keys, the dynamic uid, the number of user namespaces, or the version of systemd
+-- the faults at the top: the keys, the dynamic uid, the number of user namespaces, or the version of systemd
 abbrev pub top_faults : Data → List SiteError
 top_faults site = cond (((has_keys top_keys site && is_some (id_at (codes "dynamic_uid") site)) && is_some (spaces_at site))
     && is_some (systemd_at site)) [] (Top ∷ [])
 
--- more rows, users or groups than a site may have
+-- the site has more rows, users or groups than a site may have
 abbrev pub is_too_large : Data → Bool
 is_too_large site = nat_lt 2048 (length (rows_in site)) || nat_lt 512 (length (users_in site)) || nat_lt 512 (length (groups_in site))
 
 abbrev pub size_faults : Data → List SiteError
 size_faults site = cond (is_too_large site) (TooMany ∷ []) []
 
--- all that is wrong with a site, in the order of the reports
+-- all faults of a site, in the order of the reports
 abbrev pub faults_of : Data → List SiteError
 faults_of site = top_faults site ++ size_faults site ++ row_faults (rows_in site) ++ user_faults (users_in site) ++ group_faults
     (groups_in site)
 
--- what a site says, where nothing is wrong with it
+-- the site that a tree describes, if it has no fault
 abbrev pub site_in : Data → Site
 site_in site = record {
   dynamic_uid = unwrap_or (id_at (codes "dynamic_uid") site) 0;
@@ -76,12 +76,12 @@ site_in site = record {
   groups = map group_of (groups_in site);
 }
 
--- the first fault, or the answer where there is none
+-- the first fault, or the answer without a fault
 abbrev pub unless_fault : {T : Type 0} → List SiteError → T → Result T SiteError
 unless_fault [] answer = Ok answer
 unless_fault (fault ∷ faults) answer = Err fault
 
--- the dynamic uid, the number of user namespaces and the version, where nothing is wrong at the top
+-- the dynamic uid, the number of user namespaces and the version, if the top has no fault
 abbrev pub SaysTop : Data → Option (ℕ × ℕ × Option Version) → Type 0
 SaysTop site (Some said) = (top_faults site ≡ []) × (id_at (codes "dynamic_uid") site ≡ Some said.0) × (spaces_at site ≡ Some said.1)
     × (systemd_at site ≡ Some said.2)
@@ -95,11 +95,11 @@ abbrev pub site_of_tree : Option Members → Result Site SiteError
 site_of_tree None = Err NotToml
 site_of_tree (Some members) = unless_fault (faults_of (table members)) (site_in (table members))
 
--- the site that the bytes of a file describe, or the first thing that is wrong with them
+-- the site that the bytes of a file describe, or their first fault
 abbrev pub site_of : List ℕ → Result Site SiteError
 site_of bytes = site_of_tree (tree_of bytes)
 
--- the answer is this one, seen as the definition has it, unless memory ran out
+-- the answer is this one, as definitions see it, unless memory ran out
 abbrev pub IsUnlessMemory : {T V : Type 0} → (T → V) → Result T SiteError → Result V SiteError → Type 0
 IsUnlessMemory see (Ok answer) wanted = wanted ≡ Ok (see answer)
 IsUnlessMemory see (Err Memory) wanted = ⊤

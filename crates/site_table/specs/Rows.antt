@@ -1,4 +1,4 @@
--- What a row of the file says, and what is wrong with it.
+-- A row of the file describes a file, or has a fault.
 use Rattle.std.specs.Prelude.{ℕ, Bool, true, false, not, ◌&&◌, ◌||◌, codes, is_some, is_none, List, [], ◌∷◌, ◌++◌, find, Option, option_map}
 use Rattle.std.specs.Prelude.{option_and_then, unwrap_or}
 use Rattle.std.specs.List.{list_any}
@@ -36,7 +36,7 @@ abbrev pub is_empty : List Data → Bool
 is_empty [] = true
 is_empty (value ∷ values) = false
 
--- a key that only an executable may have
+-- the row has a key that only an executable may have
 abbrev pub has_exe_key : Data → Bool
 has_exe_key row = has (codes "setuid") row || has (codes "setgid") row || has (codes "caps") row || has (codes "effective") row
 
@@ -44,7 +44,7 @@ has_exe_key row = has (codes "setuid") row || has (codes "setgid") row || has (c
 abbrev pub is_always_dir : Path → Bool
 is_always_dir path = is_same path root || is_same path proc
 
--- an executable, or a row without their keys; and `/` and `/proc` only as directories
+-- a row with a key of executables is an executable, and `/` and `/proc` are directories
 abbrev pub may_be : RowKind → Data → Bool
 may_be kind row = (is_exe kind || not (has_exe_key row)) && (is_dir kind || not (option_map_or is_always_dir (path_of row) false))
 
@@ -54,11 +54,11 @@ has_wrong_kind row = not (option_map_or (λ kind. may_be kind row) (kind_of row)
 abbrev pub has_wrong_number : Data → Bool
 has_wrong_number row = is_out_of_range (codes "setuid") row || is_out_of_range (codes "setgid") row
 
--- an unknown capability, or `effective` without capabilities
+-- the row has an unknown capability, or `effective` without capabilities
 abbrev pub has_wrong_caps : Data → Bool
 has_wrong_caps row = not (are_caps (cap_names row)) || (has (codes "effective") row && is_empty (cap_names row))
 
--- an owner's uid beside capabilities
+-- the row has both an owner's uid and capabilities
 abbrev pub has_both : Data → Bool
 has_both row = has (codes "setuid") row && not (is_empty (cap_names row))
 
@@ -66,23 +66,23 @@ has_both row = has (codes "setuid") row && not (is_empty (cap_names row))
 abbrev pub is_row_at : Path → Data → Bool
 is_row_at path row = option_map_or (λ own. is_same own path) (path_of row) false
 
--- the row has the path of one before it
+-- an earlier row has the path
 abbrev pub is_duplicate : List Data → Data → Bool
 is_duplicate before row = option_map_or (λ path. list_any (is_row_at path) before) (path_of row) false
 
--- the row is a directory of this path, whatever else is in it
+-- the row is a directory of this path, whatever else it has
 abbrev pub is_dir_at : Path → Data → Bool
 is_dir_at path row = is_row_at path row && option_map_or is_dir (kind_of row) false
 
--- a folder that a row may stand in: it is always a directory, or one is listed anywhere
+-- a row may be in this folder: it is always a directory, or a directory is listed for it
 abbrev pub is_folder : List Data → Path → Bool
 is_folder rows path = is_always_dir path || list_any (is_dir_at path) rows
 
--- the row is the root or stands in a folder
+-- the row is the root or is in a folder
 abbrev pub has_parent : List Data → Data → Bool
 has_parent rows row = option_map_or (is_folder rows) (option_and_then parent_of (path_of row)) true
 
--- what may be wrong with a row by itself, in the order of the reports
+-- the faults of a row on its own, in the order of the reports
 abbrev pub own_causes : Data → List (Bool × RowCause)
 own_causes row =
     (not (has_keys row_keys row), Key) ∷
@@ -92,19 +92,19 @@ own_causes row =
     (has_wrong_caps row, Caps) ∷
     (has_both row, Both) ∷ []
 
--- what may be wrong with its place among all rows, and those before it
+-- the faults of a row's place among all rows, and among the rows before it
 abbrev pub place_causes : List Data → List Data → Data → List (Bool × RowCause)
 place_causes rows before row = (is_duplicate before row, Duplicate) ∷ (not (has_parent rows row), NoParent) ∷ []
 
--- the first cause that applies
+-- the first fault that applies
 abbrev pub first_of : List (Bool × RowCause) → Option RowCause
 first_of causes = option_map (λ cause. cause.1) (find (λ cause. cause.0) causes)
 
--- the first thing that is wrong with a row
+-- the first fault of a row
 abbrev pub cause_of : List Data → List Data → Data → Option RowCause
 cause_of rows before row = first_of (own_causes row ++ place_causes rows before row)
 
--- what a row says, where nothing is wrong with it
+-- the file of a row that has no fault
 abbrev pub row_of : Data → Row
 row_of row = record {
   path = unwrap_or (path_of row) root;

@@ -1,4 +1,4 @@
--- A site: what its table holds, what holds of each, and what is found in it.
+-- A site has these parts and properties, and look-ups find rows, users and groups in it.
 use Rattle.std.specs.Prelude.{◌≡◌, ◌≢◌, ◌≤◌, ℕ, true, false, List, [], ◌∷◌, map, length, find, position, Option, Some, None, option_map}
 use Rattle.std.specs.Prelude.{IfSome, IsSome, ◌==◌}
 use Rattle.std.specs.List.{AllByRecursion}
@@ -36,7 +36,7 @@ row_at rows path = find (λ row. is_same row.path path) rows
 abbrev pub place_of : List Row → Path → Option ℕ
 place_of rows path = position (λ row. is_same row.path path) rows
 
--- the place of the row whose path has this text; nothing is the text of the root
+-- the place of the row whose path has this text; the root has an empty text
 abbrev pub place_of_text : List Row → List ℕ → Option ℕ
 place_of_text rows text = position (λ row. bytes_eq (tail_of row.path) text) rows
 
@@ -56,11 +56,11 @@ user_with users uid = find (λ user. user.uid == uid) users
 abbrev pub group_named : List Group → List ℕ → Option Group
 group_named groups name = find (λ group. bytes_eq group.name name) groups
 
--- an id, where there is one, is in range
+-- an id, if there is one, is in range
 abbrev pub IsIdIfSome : Option ℕ → Type 0
 IsIdIfSome id = IfSome id (λ number. number ≤ greatest_id)
 
--- what holds of each row of a table
+-- each row of a table has these properties
 pub record IsRowOf (rows : List Row) (row : Row) : Type 0 where
   pub normal : is_normal row.path ≡ true
   pub short : length (text_of row.path) ≤ 250
@@ -76,24 +76,24 @@ pub record IsRowOf (rows : List Row) (row : Row) : Type 0 where
 abbrev pub AreNormal : List Row → Type 0
 AreNormal rows = AllByRecursion (λ row. is_normal row.path ≡ true) rows
 
--- what holds of each user
+-- each user has these properties
 pub record IsUser (user : User) : Type 0 where
   pub name : user.name ≢ []
   pub uid : user.uid ≤ greatest_id
   pub gid : user.gid ≤ greatest_id
   pub groups : AllByRecursion (λ gid. gid ≤ greatest_id) user.groups
 
--- what holds of each group
+-- each group has these properties
 pub record IsGroup (group : Group) : Type 0 where
   pub name : group.name ≢ []
   pub gid : group.gid ≤ greatest_id
 
--- no two are equal
+-- no two names are equal
 abbrev pub AreDistinct : List (List ℕ) → Type 0
 AreDistinct [] = Unit {0}
 AreDistinct (name ∷ names) = AllByRecursion (λ other. name ≢ other) names × AreDistinct names
 
--- what holds of each site
+-- each site has these properties
 pub record IsSite (site : Site) : Type 0 where
   pub dynamic_uid : site.dynamic_uid ≤ greatest_id
   pub few_spaces : site.user_namespaces ≤ most_spaces

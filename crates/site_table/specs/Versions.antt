@@ -5,12 +5,12 @@ use Rattle.toml_shapes.specs.Tree.{number_at}
 use Rattle.unit_names.specs.declared.version.Version.{Version}
 use Rattle.unit_names.specs.declared.version.Version.TheVariants.{V252, V257}
 
--- the versions whose rules are known
+-- the rules of these versions are known
 abbrev pub version_of : ℤ → Option Version
 version_of (pos number) = cond (number == 252) (Some V252) (cond (number == 257) (Some V257) None)
 version_of (negsuc number) = None
 
--- without a number no version is said, and a number must be one of these
+-- without a number there is no version, and a number must be one of the known versions
 abbrev pub systemd_by : Option ℤ → Option (Option Version)
 systemd_by None = Some None
 systemd_by (Some number) = option_map Some (version_of number)

@@ -1,4 +1,4 @@
-//! Users and groups of a site.
+//! Defines users and groups of a site.
 
 use crate::texts::{Ids, Name};
 use name_table::Named;

@@ -1,4 +1,4 @@
-//! The capabilities that a list of names gives.
+//! Reads the capabilities in a list of names.
 
 ghost use Rattle.std.specs.Prelude.{◌≡◌, ◌≤◌, IfSome, map, is_some};
 ghost use Rattle.std.specs.List.{list_all};
@@ -8,7 +8,7 @@ ghost use Rattle.site_table.specs.Caps.{cap_of, as_cap, are_caps, caps_of};
 use cap_sets::CapSet;
 use toml::Value;
 
-// the number of the capability of exactly this name
+// returns the number of the capability of exactly this name
 fn cap_of(name: &str) -> Option<u8>
     ensures number { result ≡ cap_of name.now }
     ensures in_range { IfSome result (λ number. number ≤ 40) }
@@ -41,7 +41,7 @@ pub fn are_caps(values: &[Value]) -> bool
     all_caps(values)
 }
 
-/// The set of the capabilities that are named.
+/// Returns the set of the named capabilities.
 pub fn caps_of(values: &[Value]) -> CapSet
     ensures by_their_names { result ≡ caps_of (map view values.now) }
 {

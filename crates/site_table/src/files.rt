@@ -1,4 +1,4 @@
-//! Reads a row of the file by itself.
+//! Reads a row of the file on its own.
 
 ghost use Rattle.std.specs.Prelude.{◌≡◌, ◌&&◌, ◌||◌, not, false, Some, drop};
 ghost use Rattle.toml.specs.View.{view};
@@ -32,36 +32,36 @@ fn kind_of(row: &Value) -> Option<RowKind>
     RowKind::named(text_at(row, "kind")?)
 }
 
-// a key that only an executable may have
+// returns whether the row has a key that only an executable may have
 fn has_exe_key(row: &Value) -> bool
     ensures { result ≡ has_exe_key (view row.now) }
 {
     has(row, "setuid") || has(row, "setgid") || has(row, "caps") || has(row, "effective")
 }
 
-/// Returns whether the row is of kind dir, whatever else is in it.
+/// Returns whether the row is of kind dir, whatever else it has.
 pub fn is_dir(row: &Value) -> bool
     ensures by_its_kind { result ≡ option_map_or is_dir (kind_of (view row.now)) false }
 {
     matches!(kind_of(row), Some(RowKind::Dir))
 }
 
-/// Returns whether the text is that of `/` or `/proc`, which are directories even if they are not listed. The text of
-/// `/` is here the empty one.
+/// Returns whether the text belongs to `/` or `/proc`, which are directories even if they are not listed. The text of `/` is
+/// empty here.
 pub fn is_always_dir_text(text: &str) -> bool
     ensures root_or_proc { result ≡ is_always_dir_text text.now }
 {
     text == "" || text == "/proc"
 }
 
-// the same of a path
+// returns the same for a path
 fn is_always_dir(path: &AbsPath) -> bool
     ensures { result ≡ is_always_dir path.now }
 {
     is_always_dir_text(tail(path))
 }
 
-// whether the row at this path may be of this kind, which has a key that only an executable may have or not
+// returns whether the row at this path may be of this kind, given whether it has a key that only an executable may have
 fn may_be(kind: RowKind, has_exe_key: bool, path: &AbsPath) -> bool
     ensures { result ≡ ((is_exe kind || not has_exe_key) && (is_dir kind || not (is_always_dir path.now))) }
 {
@@ -78,7 +78,7 @@ fn has_wrong_number(row: &Value) -> bool
     is_out_of_range(row, "setuid") || is_out_of_range(row, "setgid")
 }
 
-// an unknown capability, or `effective` without capabilities
+// returns whether a capability is unknown, or `effective` has no capabilities
 fn has_wrong_caps(row: &Value) -> bool
     ensures { result ≡ has_wrong_caps (view row.now) }
 {
@@ -86,14 +86,14 @@ fn has_wrong_caps(row: &Value) -> bool
     !are_caps(names) || (has(row, "effective") && names.is_empty())
 }
 
-// an owner's uid beside capabilities
+// returns whether the row has both an owner's uid and capabilities
 fn has_both(row: &Value) -> bool
     ensures { result ≡ has_both (view row.now) }
 {
     has(row, "setuid") && !elements_at(row, "caps").is_empty()
 }
 
-// what is wrong with the keys that only an executable may have
+// returns the first fault of the keys that only an executable may have
 fn exe_cause(row: &Value) -> Option<RowCause>
     ensures { result ≡ first_of (drop 3 (own_causes (view row.now))) }
 {
@@ -123,7 +123,7 @@ pub fn plain_file(path: AbsPath, kind: RowKind) -> Row
     }
 }
 
-// what the row says of the file at its path, whatever keys it has
+// returns the file that the row describes at its path, whatever keys the row has
 fn whole_file(path: AbsPath, kind: RowKind, row: &Value) -> Row
     requires path { path_of (view row.now) ≡ Some path }
     requires kind { kind_of (view row.now) ≡ Some kind }
@@ -139,7 +139,7 @@ fn whole_file(path: AbsPath, kind: RowKind, row: &Value) -> Row
     }
 }
 
-// what the row says of the file at its path
+// returns the file that the row describes at its path, or the first fault of the row
 fn read_file(path: AbsPath, row: &Value) -> Result<Row, RowCause>
     requires { path_of (view row.now) ≡ Some path }
     ensures { SaysFile (view row.now) result }
@@ -160,7 +160,7 @@ fn read_file(path: AbsPath, row: &Value) -> Result<Row, RowCause>
     }
 }
 
-/// Returns the row of this number, or the first cause by which it is wrong by itself.
+/// Returns the row of this number, or the first fault of the row on its own.
 pub fn read_row(alloc: Global, number: u64, row: &Value) -> Result<Row, SiteError>
     ensures says_the_row { SaysRow number (view row.now) result }
 {

@@ -1,4 +1,4 @@
-//! Searches a row by the text of a path that is never built: a front and the rest after it.
+//! Finds a row by the text of a path that is never built: a front and the rest after it.
 
 ghost use Rattle.std.specs.Prelude.{◌≡◌, ◌++◌, IsTrue, length};
 ghost use Rattle.std.specs.Ordering.{nat_cmp};
@@ -11,7 +11,7 @@ use crate::row::Row;
 use abs_path::AbsPath;
 use std::cmp::Ordering;
 
-// byte order of a text and of two others, one after the other
+// compares a text in byte order with two other texts, one after the other
 fn order_of(text: &[u8], front: &[u8], rest: &[u8]) -> Ordering
     ensures { result ≡ slice_cmp nat_cmp text.now (front.now ++ rest.now) }
 {
@@ -23,7 +23,7 @@ fn order_of(text: &[u8], front: &[u8], rest: &[u8]) -> Ordering
     start.cmp(front).then(end.cmp(rest))
 }
 
-// byte order of the path of a row and of the two texts
+// compares the path of a row in byte order with the two texts
 fn row_order(row: &Row, front: &str, rest: &str) -> Ordering
     ensures { result ≡ slice_cmp nat_cmp (tail_of row.now.path) (front.now ++ rest.now) }
 {
@@ -34,7 +34,7 @@ fn row_order(row: &Row, front: &str, rest: &str) -> Ordering
     )
 }
 
-// whether all rows come before the two texts, which is seen at the last
+// returns whether the two texts follow all rows, by a look at the last row
 fn ends_before(rows: &[Row], front: &str, rest: &str) -> bool
     requires { AreOrdered rows.now }
     ensures { IsTrue result → IsGap rows.now (front.now ++ rest.now) (length rows.now) }
@@ -45,8 +45,8 @@ fn ends_before(rows: &[Row], front: &str, rest: &str) -> bool
     }
 }
 
-/// Returns the place of the row whose path has the text of the front with the rest after it, or the place for such a
-/// row. Rows that come in their order are placed at once.
+/// Returns the place of the row whose path is the front with the rest after it, or the place for such a row. A row after all
+/// others is placed at once.
 pub fn search_text(rows: &[Row], front: &str, rest: &str) -> Result<usize, usize>
     requires { AreOrdered rows.now }
     ensures searches { Searches rows.now (front.now ++ rest.now) result }
@@ -57,7 +57,7 @@ pub fn search_text(rows: &[Row], front: &str, rest: &str) -> Result<usize, usize
     rows.binary_search_by(|row| row_order(row, front, rest))
 }
 
-/// The same of the text of a path.
+/// Returns the same for a path as the front.
 pub fn search(rows: &[Row], front: &AbsPath, rest: &str) -> Result<usize, usize>
     requires { AreOrdered rows.now }
     ensures searches { Searches rows.now (tail_of front.now ++ rest.now) result }

@@ -1,4 +1,4 @@
-//! Ids of users and groups.
+//! Reads ids of users and groups.
 
 ghost use Rattle.std.specs.Prelude.{◌≡◌, IfOk, is_some};
 ghost use Rattle.std.specs.List.{filter_map, list_all};
@@ -10,7 +10,7 @@ use std::alloc::{AllocError, Global};
 use toml::Value;
 use toml_shapes::{elements_at, number_at};
 
-/// The greatest id. The next number means no id in setresuid(2) and the like.
+/// The greatest id. The next number means no id, for example in setresuid(2).
 const GREATEST_ID: i64 = 4_294_967_294;
 
 /// The most user namespaces that a site may allow.
@@ -26,21 +26,21 @@ fn id_of(number: i64) -> Option<u32>
     }
 }
 
-/// The id at a key, if there is a number in range.
+/// Returns the id at a key, if the key has a number in range.
 pub fn id_at(value: &Value, key: &str) -> Option<u32>
     ensures id_or_none { result ≡ id_at key.now (view value.now) }
 {
     id_of(number_at(value, key)?)
 }
 
-/// Returns whether there is a number out of range at a key.
+/// Returns whether the key has a number out of range.
 pub fn is_out_of_range(value: &Value, key: &str) -> bool
     ensures past_the_ids { result ≡ is_out_of_range key.now (view value.now) }
 {
     number_at(value, key).is_some_and(|number| id_of(number).is_none())
 }
 
-// so many, if it is no more than a site may allow
+// returns the number, if a site may allow so many
 fn count_of(number: i64) -> Option<u32>
     ensures { result ≡ count_of number }
 {
@@ -51,7 +51,7 @@ fn count_of(number: i64) -> Option<u32>
     }
 }
 
-/// Returns the number of user namespaces that may be made: 0 if the key is missing, and no answer if the number is
+/// Returns the number of user namespaces that may be made: 0 if the key is missing, and None if the number is
 /// out of range.
 pub fn spaces_at(site: &Value) -> Option<u32>
     ensures count_in_range { result ≡ spaces_at (view site.now) }
@@ -83,7 +83,7 @@ fn all_ids(values: &[Value]) -> bool
     values.iter().all(|value| as_id(value).is_some())
 }
 
-/// The ids of the array at a key.
+/// Returns the ids of the array at a key.
 pub fn ids_at(alloc: Global, value: &Value, key: &str) -> Result<Ids, AllocError>
     ensures listed_ids { IfOk result (λ ids. ids ≡ ids_at key.now (view value.now)) }
 {

@@ -1,9 +1,9 @@
-//! The kinds of rows.
+//! Defines the kinds of rows.
 
 ghost use Rattle.std.specs.Prelude.{◌≡◌};
 ghost use Rattle.site_table.specs.Kinds.{kind_named};
 
-/// What a row of a site is.
+/// The kind of a row of a site.
 #[derive(Clone, Copy, Debug, PartialEq, Eq)]
 pub enum RowKind {
     /// A directory.
@@ -15,7 +15,7 @@ pub enum RowKind {
 }
 
 impl RowKind {
-    // the kind of this name
+    // returns the kind of this name
     pub(crate) fn named(name: &str) -> Option<RowKind>
         ensures { result ≡ kind_named name.now }
     {

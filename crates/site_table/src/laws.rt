@@ -1,4 +1,4 @@
-//! The laws of sites. Each is the contract of a function that does nothing.
+//! States the laws of sites. Each is the contract of a function that does nothing.
 
 ghost use Rattle.std.specs.Prelude.{◌≡◌, ◌≤◌, ◌↔◌, ℕ, true, List, Some, None, Ok, slice_get};
 ghost use Rattle.toml.specs.Data.{Data, Members, table};
@@ -11,7 +11,7 @@ ghost use Rattle.site_table.specs.Reading.{rows_in, tree_of, site_of};
 ghost use Rattle.site_table.specs.Rows.{cap_names, row_of};
 ghost use Rattle.site_table.specs.Table.{Site, IsSite, row_at, place_of};
 
-/// The place of a path is that of its row.
+/// The place of a path is the place of its row.
 pub fn place_and_row()
     ensures row_of_the_place { (rows : List Row) (path : Path) (at : ℕ)
         → place_of rows path ≡ Some at → slice_get rows at ≡ row_at rows path }
@@ -19,8 +19,8 @@ pub fn place_and_row()
         → place_of rows path ≡ None → row_at rows path ≡ None }
 {}
 
-/// A site that is read has its rows in byte order, each with its folder, and all else that holds of each table. Its
-/// rows are exactly those of the list, and `/` and `/proc`.
+/// A site that is read has its rows in byte order, each with its folder, and has all other properties of a site. Its rows are
+/// exactly the listed rows, `/` and `/proc`.
 pub fn accepted_sites()
     ensures holds { (bytes : List ℕ) (site : Site) → site_of bytes ≡ Ok site → IsSite site }
     ensures exact_rows { (bytes : List ℕ) (members : Members) (site : Site) → tree_of bytes ≡ Some members

@@ -3,9 +3,9 @@
 //! A site is read exactly or refused with the first refusal: `read_site(alloc, b"dynamic_uid = 61184\n")?` has the
 //! two rows `/` and `/proc`.
 //!
-//! The crate `toml` promises what is TOML: TOML 1.1 in UTF-8, with integers of 64 bits, and with arrays, inline
-//! tables and dotted keys nested at most 80 deep. Other bytes are refused as `NotToml`, however long or deep they
-//! are, and no bytes make a call panic.
+//! The crate `toml` defines TOML: TOML 1.1 in UTF-8, with integers of 64 bits, and with arrays, inline tables and dotted keys
+//! nested at most 80 deep. `read_site` refuses other bytes as `NotToml`, however long or deep they are, and no bytes make a
+//! call panic.
 #![tactic(auto)]
 
 mod accounts;

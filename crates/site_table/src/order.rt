@@ -16,22 +16,22 @@ use abs_path::AbsPath;
 use std::alloc::AllocError;
 use text_forms::item_list::{Held, HeldList};
 
-// whether the row is a directory whose path has this text
+// returns whether the row is a directory whose path has this text
 fn is_dir_of(row: &Row, text: &str) -> bool
     ensures { result ≡ (is_dir row.now.kind && bytes_eq text.now (tail_of row.now.path)) }
 {
     matches!(row.kind, RowKind::Dir) && text == tail(&row.path)
 }
 
-// whether the row of this number is a directory whose path has this text
+// returns whether the row of this number is a directory whose path has this text
 fn is_dir_at(rows: &[Row], at: usize, text: &str) -> bool
     ensures { result ≡ true → has_dir_row rows.now text.now ≡ true }
 {
     rows.get(at).is_some_and(|row| is_dir_of(row, text))
 }
 
-// the number of a directory whose path has this text: first the row of a hint is looked at, then the
-// last row, which comes before what stands in it
+// returns the number of a directory whose path has this text: it looks at the row of a hint first, and then at the last row,
+// because a folder precedes its contents
 fn dir_place(rows: &[Row], hint: usize, text: &str) -> Option<usize>
     requires { AreOrdered rows.now }
     ensures { IfSome result (λ at. has_dir_row rows.now text.now ≡ true) }
@@ -56,15 +56,15 @@ impl Held for Row {
 /// Rows in byte order of their paths, each path once.
 pub type OrderedRows = HeldList<Row>;
 
-/// Returns the place for a row of this path, or None if there is one already.
+/// Returns the place for a row of this path, or None if the path has a row already.
 pub fn place_for(ordered: &OrderedRows, path: &AbsPath) -> Option<usize>
     ensures where_it_goes { MatchOption result (has_row ordered.now path.now ≡ true) (GoesAt ordered.now path.now) }
 {
     search(ordered.list(), path, "").err()
 }
 
-/// Returns the number of the row of the folder that a path is in, if that folder is among the rows or always there.
-/// The number is the hint for the next path. For the root it is any number.
+/// Returns the number of the row of the path's folder, if that folder is among the rows or always exists. The number is the
+/// hint for the next path. For the root it is any number.
 pub fn folder_of(ordered: &OrderedRows, hint: usize, path: &AbsPath) -> Option<usize>
     ensures folder_stands { IfSome result (λ at. stands_behind ordered.now path.now ≡ true) }
 {
@@ -82,7 +82,7 @@ pub fn put(ordered: &mut OrderedRows, at: usize, row: Row) -> Result<(), AllocEr
     ordered.insert(at, row)
 }
 
-/// Puts a directory of this path in its place, unless there is a row of the path.
+/// Puts a directory of this path in its place, unless the path has a row already.
 pub fn put_dir(ordered: &mut OrderedRows, path: AbsPath) -> Result<(), AllocError>
     ensures dir_placed { OnOk result (ordered.new ≡ dir_placed path ordered.old) }
 {

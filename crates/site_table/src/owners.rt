@@ -18,7 +18,7 @@ use std::alloc::{AllocError, Global};
 use toml::Value;
 use toml_shapes::{has_keys, text_at};
 
-/// Reads an owner from an element of the tree.
+/// A reader of owners, each from an element of the tree.
 trait Telling<L: Named + Drop> {
     ghost use Rattle.std.specs.Prelude.{◌≡◌, IfOk};
     ghost use Rattle.toml.specs.Data.{Data};
@@ -27,17 +27,17 @@ trait Telling<L: Named + Drop> {
 
     ghost said_of: { Data → L };
 
-    // Returns the owner of the element, if nothing is wrong with it.
+    // Returns the owner of the element, if the element has no fault.
     fn say(alloc: Global, owner: &Value) -> Result<L, AllocError>
         ensures { IfOk result (λ said. said ≡ said_of (view owner.now)) };
 
     ghost keeps_name: { (owner : Data) → L.Named.name_of (said_of owner) ≡ name_told owner };
 }
 
-/// Reads a user.
+/// The reader of users.
 struct UserTelling;
 
-/// Reads a group.
+/// The reader of groups.
 struct GroupTelling;
 
 impl Telling<User> for UserTelling {
@@ -74,7 +74,7 @@ impl Telling<Group> for GroupTelling {
     }
 }
 
-/// Who may own a file.
+/// The kind of an owner of files.
 #[derive(Clone, Copy)]
 pub enum OwnerKind {
     User,
@@ -82,7 +82,7 @@ pub enum OwnerKind {
 }
 
 impl OwnerKind {
-    // whether the owner has the keys of this kind
+    // returns whether the owner has the keys of this kind
     fn has_keys(self, owner: &Value) -> bool
         ensures { result ≡ has_keys (keys_of self) (view owner.now) }
     {
@@ -92,7 +92,7 @@ impl OwnerKind {
         }
     }
 
-    // the refusal of the owner of this number
+    // returns the refusal of the owner of this number
     fn refusal(self, number: u64) -> SiteError
         ensures { result ≡ refusal_of self number }
     {
@@ -109,7 +109,7 @@ fn name_of(owner: &Value) -> &str
     text_at(owner, "name").unwrap_or("")
 }
 
-// wrong keys, an id out of range or an empty name
+// returns whether the owner has wrong keys, an id out of range or an empty name
 fn is_wrong(kind: OwnerKind, owner: &Value) -> bool
     ensures { result ≡ is_wrong kind (view owner.now) }
 {
@@ -120,7 +120,7 @@ fn is_wrong(kind: OwnerKind, owner: &Value) -> bool
         || name_of(owner).is_empty()
 }
 
-// whether something is wrong with the owner, or one before it has the name
+// returns whether the owner has a fault, or an earlier one has its name
 fn is_refused<L: Named>(kind: OwnerKind, before: &NameTable<L>, owner: &Value) -> bool
     ensures { result ≡ (is_wrong kind (view owner.now)
         || list_any (λ other. bytes_eq (name_of (view owner.now)) (L.name_of other)) before.now) }
@@ -128,7 +128,7 @@ fn is_refused<L: Named>(kind: OwnerKind, before: &NameTable<L>, owner: &Value) -
     is_wrong(kind, owner) || before.has(name_of(owner))
 }
 
-// the owners that the elements of the tree describe, or the first that is wrong
+// returns the owners that the elements of the tree describe, or refuses the first faulty one
 fn read_owners<L: Named + Drop, T: Telling<L>>(
     alloc: Global,
     kind: OwnerKind,
@@ -147,7 +147,7 @@ fn read_owners<L: Named + Drop, T: Telling<L>>(
     Ok(read)
 }
 
-/// The users that the elements of the tree describe, or the first that is wrong.
+/// Returns the users that the elements of the tree describe, or refuses the first faulty one.
 pub fn read_users(alloc: Global, users: &[Value]) -> Result<NameTable<User>, SiteError>
     ensures reads_the_users { IsUnlessMemory (λ read. read) result
         (unless_fault (user_faults (map view users.now)) (map user_of (map view users.now))) }
@@ -155,7 +155,7 @@ pub fn read_users(alloc: Global, users: &[Value]) -> Result<NameTable<User>, Sit
     read_owners::<User, UserTelling>(alloc, OwnerKind::User, users)
 }
 
-/// The groups that the elements of the tree describe, or the first that is wrong.
+/// Returns the groups that the elements of the tree describe, or refuses the first faulty one.
 pub fn read_groups(alloc: Global, groups: &[Value]) -> Result<NameTable<Group>, SiteError>
     ensures reads_the_groups { IsUnlessMemory (λ read. read) result
         (unless_fault (group_faults (map view groups.now)) (map group_of (map view groups.now))) }

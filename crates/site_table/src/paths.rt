@@ -1,4 +1,4 @@
-//! The paths of rows.
+//! Reads the paths of rows.
 
 ghost use Rattle.std.specs.Prelude.{◌≡◌, IfOk, IsTrue, option_map};
 ghost use Rattle.toml.specs.View.{view};
@@ -11,10 +11,10 @@ use std::alloc::{AllocError, Global};
 use toml::Value;
 use toml_shapes::text_at;
 
-/// How many bytes the path of a row has at most.
+/// The most bytes of the path of a row.
 const LONGEST: usize = 250;
 
-// the path of a text, where it is one and short
+// returns the path of a text, if the text is a path and is short
 fn short_path(alloc: Global, text: &str) -> Result<Option<AbsPath>, AllocError>
     ensures { IfOk result (λ path. path ≡ short_path text.now) }
 {
@@ -25,7 +25,7 @@ fn short_path(alloc: Global, text: &str) -> Result<Option<AbsPath>, AllocError>
     }
 }
 
-/// The path of a row, where it has one.
+/// Returns the path of a row, if it has one.
 pub fn path_of(alloc: Global, row: &Value) -> Result<Option<AbsPath>, AllocError>
     ensures path_or_none { IfOk result (λ path. path ≡ path_of (view row.now)) }
 {
@@ -35,7 +35,7 @@ pub fn path_of(alloc: Global, row: &Value) -> Result<Option<AbsPath>, AllocError
     }
 }
 
-/// The text of a path, but nothing for the root.
+/// Returns the text of a path, which is empty for the root.
 pub fn tail(path: &AbsPath) -> &str
     ensures tail { result.now ≡ tail_of path.now }
     ensures normal { IsTrue (is_normal path.now) }
@@ -47,7 +47,7 @@ pub fn tail(path: &AbsPath) -> &str
     }
 }
 
-/// The text of the folder that a path is in, but nothing for the root; None for the root itself.
+/// Returns the text of the folder of a path, which is empty if that folder is the root. The root itself has no folder.
 pub fn parent(path: &AbsPath) -> Option<&str>
     ensures parent { option_map (λ text. text.now) result ≡ option_map tail_of (parent_of path.now) }
 {

@@ -19,12 +19,12 @@ use unit_names::Version;
 
 /// The most rows that a site may list.
 const MOST_ROWS: usize = 2048;
-/// The most users that it may list.
+/// The most users that a site may list.
 const MOST_USERS: usize = 512;
-/// The most groups that it may list.
+/// The most groups that a site may list.
 const MOST_GROUPS: usize = 512;
 
-// the dynamic uid, how many user namespaces may be made, and the version of systemd, where the top keys are right
+// returns the dynamic uid, the number of user namespaces, and the version of systemd, if the top keys have no fault
 fn read_top(site: &Value) -> Option<(u32, u32, Option<Version>)>
     ensures { SaysTop (view site.now) result }
 {
@@ -37,7 +37,7 @@ fn read_top(site: &Value) -> Option<(u32, u32, Option<Version>)>
     Some((uid, spaces, systemd))
 }
 
-// whether there are more rows, users or groups than a site may have
+// returns whether a site has too many rows, users or groups
 fn is_too_large(site: &Value) -> bool
     ensures { result ≡ is_too_large (view site.now) }
 {
@@ -46,7 +46,7 @@ fn is_too_large(site: &Value) -> bool
         || elements_at(site, "group").len() > MOST_GROUPS
 }
 
-// what the tree of a site says
+// returns the site that the tree describes
 fn read_tree(alloc: Global, site: &Value) -> Result<SiteTable, SiteError>
     ensures { IsUnlessMemory (λ table. table) result
         (unless_fault (faults_of (view site.now)) (site_in (view site.now))) }
@@ -63,7 +63,7 @@ fn read_tree(alloc: Global, site: &Value) -> Result<SiteTable, SiteError>
     Ok(SiteTable::new(dynamic_uid, user_namespaces, systemd, rows, users, groups))
 }
 
-// what the bytes of a site say
+// returns the site that the bytes describe
 fn read_bytes(alloc: Global, bytes: &[u8]) -> Result<SiteTable, SiteError>
     ensures { IsUnlessMemory (λ table. table) result (site_of bytes.now) }
 {
@@ -94,8 +94,8 @@ fn read_bytes(alloc: Global, bytes: &[u8]) -> Result<SiteTable, SiteError>
 /// `/` and `/proc` are rows of kind dir even if they are not listed. Each row is in a folder that is a row of kind
 /// dir, listed before or after it.
 ///
-/// `NotToml` comes if the bytes are no TOML. Otherwise the first in this order is reported: `Top`, `TooMany`, the
-/// first row with a fault, the first user and the first group with one. `Memory` may come for any bytes.
+/// It returns `NotToml` if the bytes are no TOML. Otherwise it returns the first of these: `Top`, `TooMany`, the first row with a
+/// fault, the first user with one, and the first group with one. It may return `Memory` for any bytes.
 pub fn read_site(alloc: Global, bytes: &[u8]) -> Result<SiteTable, SiteError>
     ensures reads_the_site { IfOk result (λ site. site_of bytes.now ≡ Ok site) }
     ensures first_fault { IfErr result (λ error. error ≢ Memory → site_of bytes.now ≡ Err error) }

@@ -1,4 +1,4 @@
-//! A row of a site.
+//! Defines a row of a site.
 
 use crate::kinds::RowKind;
 use abs_path::AbsPath;

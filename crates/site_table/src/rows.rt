@@ -1,4 +1,4 @@
-//! Reads the rows of a site: each by itself, and then its place among the others.
+//! Reads the rows of a site: each on its own, and then its place among the others.
 
 ghost use Rattle.std.specs.Prelude.{◌≡◌, ◌||◌, ℕ, List, map, Ok, OnOk, IfOk, IfSome};
 ghost use Rattle.toml.specs.View.{view};
@@ -19,7 +19,7 @@ use abs_path::AbsPath;
 use std::alloc::{AllocError, Global};
 use toml::Value;
 
-// takes up the text of the row's path, where the row is a directory
+// adds the text of the row's path, if the row is a directory
 fn add_folder(alloc: Global, folders: &mut Seen, row: &Value) -> Result<(), AllocError>
     ensures { OnOk result (TakesFolder folders.old (view row.now) folders.new) }
 {
@@ -32,7 +32,7 @@ fn add_folder(alloc: Global, folders: &mut Seen, row: &Value) -> Result<(), Allo
     }
 }
 
-// the texts of the paths of the directories that are listed
+// returns the texts of the paths of the listed directories
 fn listed_folders(alloc: Global, rows: &[Value]) -> Result<Seen, AllocError>
     ensures { IfOk result (λ folders. (text : List ℕ)
         → has_text folders text ≡ has_folder (map view rows.now) text) }
@@ -44,14 +44,14 @@ fn listed_folders(alloc: Global, rows: &[Value]) -> Result<Seen, AllocError>
     Ok(folders)
 }
 
-// whether the path is the root, or stands in a folder
+// returns whether the path is the root, or its folder is known
 fn stands_in(folders: &Seen, path: &AbsPath) -> bool
     ensures { result ≡ stands_in folders.now path.now }
 {
     parent(path).is_none_or(|folder| is_always_dir_text(folder) || folders.has(folder))
 }
 
-// puts the row of this number in its place
+// puts the row of this number in its place, or refuses it
 fn place(number: u64, folders: &Seen, ordered: &mut OrderedRows, row: Row) -> Result<(), SiteError>
     ensures { Places number folders.now ordered.old row ordered.new result }
 {
@@ -64,8 +64,8 @@ fn place(number: u64, folders: &Seen, ordered: &mut OrderedRows, row: Row) -> Re
     Ok(put(ordered, at, row)?)
 }
 
-// puts a row in its place, where it has no fault and its folder is among the rows before it; the number
-// of that folder's row comes back
+// puts a row in its place, if the row has no fault and its folder is among the rows before it; returns the number of that
+// folder's row
 fn place_behind(
     alloc: Global,
     ordered: &mut OrderedRows,
@@ -89,7 +89,7 @@ fn place_behind(
     Ok(Some(folder))
 }
 
-// the listed rows in their order, where none has a fault and each comes after its folder
+// returns the listed rows in their order, if no row has a fault and each follows its folder
 fn rows_behind_folders(alloc: Global, rows: &[Value]) -> Result<Option<OrderedRows>, AllocError>
     ensures { IfOk result (λ found. IfSome found (λ ordered.
         unless_fault (row_faults (map view rows.now)) (rows_in_order (map row_of (map view rows.now))) ≡ Ok ordered)) }
@@ -105,7 +105,7 @@ fn rows_behind_folders(alloc: Global, rows: &[Value]) -> Result<Option<OrderedRo
     Ok(Some(ordered))
 }
 
-// the listed rows in their order, wherever their folders are
+// returns the listed rows in their order, wherever their folders are
 fn all_rows(alloc: Global, rows: &[Value]) -> Result<OrderedRows, SiteError>
     ensures { IsUnlessMemory (λ ordered. ordered) result
         (unless_fault (row_faults (map view rows.now)) (rows_in_order (map row_of (map view rows.now)))) }
@@ -120,8 +120,8 @@ fn all_rows(alloc: Global, rows: &[Value]) -> Result<OrderedRows, SiteError>
     Ok(ordered)
 }
 
-// the listed rows in their order: in one pass where each comes after its folder, as in a sorted list; else the
-// folders are looked up first
+// returns the listed rows in their order: in one pass if each follows its folder, as in a sorted list, and otherwise with a
+// look-up of the folders first
 fn listed_rows(alloc: Global, rows: &[Value]) -> Result<OrderedRows, SiteError>
     ensures { IsUnlessMemory (λ ordered. ordered) result
         (unless_fault (row_faults (map view rows.now)) (rows_in_order (map row_of (map view rows.now)))) }
@@ -132,7 +132,7 @@ fn listed_rows(alloc: Global, rows: &[Value]) -> Result<OrderedRows, SiteError>
     }
 }
 
-// the rows, with `/` and `/proc` among them
+// adds `/` and `/proc` to the rows
 fn complete(alloc: Global, mut ordered: OrderedRows) -> Result<Vec<Row>, AllocError>
     ensures { IfOk result (λ rows. rows.items ≡ fixed_placed ordered) }
 {
@@ -142,7 +142,7 @@ fn complete(alloc: Global, mut ordered: OrderedRows) -> Result<Vec<Row>, AllocEr
 }
 
 /// Returns the rows that the elements of the tree describe, in byte order of their paths, with `/` and `/proc` among
-/// them; or the first fault of the first row that has one.
+/// them, or the first fault of the first faulty row.
 pub fn read_rows(alloc: Global, rows: &[Value]) -> Result<Vec<Row>, SiteError>
     ensures reads_the_rows { IsUnlessMemory (λ read. read.items) result
         (unless_fault (row_faults (map view rows.now))

@@ -1,4 +1,4 @@
-//! A set of texts that have been seen.
+//! Keeps a set of texts.
 
 ghost use Rattle.std.specs.Prelude.{◌≡◌, ◌||◌, ℕ, List, [], OnOk};
 ghost use Rattle.std.specs.Str.{bytes_eq};
@@ -8,7 +8,7 @@ use std::alloc::{AllocError, Global};
 use std::collections::BTreeSet;
 use std::marker::Model;
 
-/// A set of texts, which contracts see by what it has.
+/// A set of texts, which contracts see by the texts that it has.
 #[derive(Drop)]
 pub struct Seen {
     texts: BTreeSet<String>,
@@ -23,7 +23,7 @@ impl Model for Seen {
 }
 
 impl Seen {
-    /// No text.
+    /// Makes an empty set.
     pub fn new(alloc: Global) -> Seen
         ensures empty { result ≡ [] }
     {
@@ -32,14 +32,14 @@ impl Seen {
         }
     }
 
-    /// Returns whether the text is among them.
+    /// Returns whether the set has the text.
     pub fn has(&self, text: &str) -> bool
         ensures has_it { result ≡ has_text self.now text.now }
     {
         self.texts.contains(text)
     }
 
-    /// Takes a text up.
+    /// Adds a text to the set.
     pub fn add(&mut self, alloc: Global, text: &str) -> Result<(), AllocError>
         ensures takes_it_up { OnOk result ((other : List ℕ)
             → has_text self.new other ≡ (has_text self.old other || bytes_eq other text.now)) }

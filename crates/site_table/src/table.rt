@@ -1,4 +1,4 @@
-//! The type of a site, and what is found in it.
+//! Defines a site, and finds rows, users and groups in it.
 //!
 //! A contract sees a site as its numbers, its version of systemd, and the lists of its rows, users and groups.
 
@@ -18,8 +18,8 @@ use unit_names::Version;
 /// The files, users and groups of a site.
 ///
 /// The rows are in byte order of their paths, `/` and `/proc` among them, and are numbered from 0 in that order.
-/// Users and groups are in the order of the file. A row is found by binary search, and a user or a group by a map of
-/// their names. The user of a uid is found by going through the users, at most 512.
+/// Users and groups are in the order of the file. A binary search finds a row, and a map of names finds a user or a group. A
+/// search for the user of a uid reads the users one by one, at most 512.
 #[derive(Drop)]
 pub struct SiteTable {
     dynamic_uid: u32,
@@ -43,7 +43,7 @@ impl Model for SiteTable {
 }
 
 impl SiteTable {
-    // the table of what has been read
+    // makes the table of the parts that have been read
     pub(crate) fn new(
         dynamic_uid: u32,
         user_namespaces: u32,
@@ -65,7 +65,7 @@ impl SiteTable {
         }
     }
 
-    /// The uid and gid of services with a dynamic user, systemd.exec(5), DynamicUser=.
+    /// Returns the uid and gid of services with a dynamic user, systemd.exec(5), DynamicUser=.
     pub fn dynamic_uid(&self) -> u32
         ensures dynamic_uid { result ≡ self.now.dynamic_uid }
         ensures holds_of_each_site { IsSite self.now }
@@ -81,7 +81,7 @@ impl SiteTable {
         self.user_namespaces
     }
 
-    /// The version of systemd by whose rules units are read here; none if the site does not say one.
+    /// Returns the version of systemd by whose rules units are read here, or None if the site does not state one.
     pub fn systemd(&self) -> Option<Version>
         ensures systemd { result ≡ self.now.systemd }
         ensures holds_of_each_site { IsSite self.now }
@@ -96,7 +96,7 @@ impl SiteTable {
         self.rows.len()
     }
 
-    /// The rows in byte order of their paths.
+    /// Returns the rows in byte order of their paths.
     pub fn rows(&self) -> &[Row]
         ensures rows { result.now ≡ self.now.rows }
         ensures holds_of_each_site { IsSite self.now }
@@ -104,7 +104,7 @@ impl SiteTable {
         &self.rows
     }
 
-    /// The row of this number, below `len`.
+    /// Returns the row of this number, below `len`.
     pub fn row(&self, at: usize) -> &Row
         requires in_range { at < length self.now.rows }
         ensures row { slice_get self.now.rows at ≡ Some result.now }
@@ -112,9 +112,9 @@ impl SiteTable {
         &self.rows[at]
     }
 
-    /// Returns the number of the row whose text is that of `front` with `rest` after it, where the root has no text.
-    /// None if there is no such row. With a rest in the form that `AbsPath::rest` answers it is the row of the joined
-    /// path. No path is built.
+    /// Returns the number of the row whose text is `front` with `rest` after it, or None if no row has that text. The root has
+    /// an empty text here. With a rest in the form that `AbsPath::rest` returns, it is the row of the joined path. No path is
+    /// built.
     pub fn find(&self, front: &AbsPath, rest: &str) -> Option<usize>
         ensures place_of_the_text { result ≡ place_of_text self.now.rows (tail_of front.now ++ rest.now) }
         ensures place_of_the_path { IsRest rest.now → result ≡ place_of self.now.rows (front.now ++ parts_of rest.now) }
@@ -122,7 +122,7 @@ impl SiteTable {
         search(&self.rows, front, rest).ok()
     }
 
-    /// The row at the front with the rest after it, as `AbsPath::rest` answers it.
+    /// Returns the row at the front with the rest after it, in the form that `AbsPath::rest` returns.
     pub fn row_behind(&self, front: &AbsPath, rest: &str) -> Option<&Row>
         requires { IsRest rest.now }
         ensures the_row { option_map (λ row. row.now) result ≡ row_at self.now.rows (front.now ++ parts_of rest.now) }
@@ -133,7 +133,7 @@ impl SiteTable {
         }
     }
 
-    /// The row at the source with what the path has after the place, as a bind shows it (mount(2)). No path is built.
+    /// Returns the row at the source with the rest of the path after the place, as a bind mount shows it (mount(2)). No path is built.
     pub fn row_through(&self, source: &AbsPath, place: &AbsPath, path: &AbsPath) -> Option<&Row>
         requires { is_prefix place.now path.now ≡ true }
         ensures by_the_source { option_map (λ row. row.now) result ≡ row_at self.now.rows (source.now ++ rest_of place.now path.now) }
@@ -141,28 +141,28 @@ impl SiteTable {
         self.row_behind(source, place.rest(path)?)
     }
 
-    /// The user of this name.
+    /// Returns the user of this name.
     pub fn user(&self, name: &str) -> Option<&User>
         ensures user_of_the_name { option_copied result ≡ user_named self.now.users name.now }
     {
         self.users.get(name)
     }
 
-    /// The first user in the file with this uid.
+    /// Returns the first user in the file with this uid.
     pub fn user_of(&self, uid: u32) -> Option<&User>
         ensures first_user_with_the_uid { option_copied result ≡ user_with self.now.users uid }
     {
         self.users().iter().find(|user| user.uid == uid)
     }
 
-    /// The group of this name.
+    /// Returns the group of this name.
     pub fn group(&self, name: &str) -> Option<&Group>
         ensures group_of_the_name { option_copied result ≡ group_named self.now.groups name.now }
     {
         self.groups.get(name)
     }
 
-    /// The users in the order of the file.
+    /// Returns the users in the order of the file.
     pub fn users(&self) -> &[User]
         ensures users { result.now ≡ self.now.users }
         ensures holds_of_each_site { IsSite self.now }
@@ -170,7 +170,7 @@ impl SiteTable {
         self.users.lines()
     }
 
-    /// The groups in the order of the file.
+    /// Returns the groups in the order of the file.
     pub fn groups(&self) -> &[Group]
         ensures groups { result.now ≡ self.now.groups }
         ensures holds_of_each_site { IsSite self.now }

@@ -1,4 +1,4 @@
-//! Names and lists of ids, which contracts see as bytes and as numbers.
+//! Defines names and lists of ids, which contracts see as bytes and as numbers.
 
 ghost use Rattle.std.specs.Prelude.{◌≡◌, IfOk};
 
@@ -21,7 +21,7 @@ impl Model for Name {
 }
 
 impl Name {
-    /// A copy of a text.
+    /// Returns a copy of a text.
     pub fn new(alloc: Global, text: &str) -> Result<Name, AllocError>
         ensures same_text { IfOk result (λ name. name ≡ text.now) }
     {
@@ -30,7 +30,7 @@ impl Name {
         })
     }
 
-    /// The text.
+    /// Returns the text.
     pub fn as_str(&self) -> &str
         ensures same_text { result.now ≡ self.now }
     {

@@ -1,4 +1,4 @@
-//! The version of systemd of a site.
+//! Reads the version of systemd of a site.
 
 ghost use Rattle.std.specs.Prelude.{◌≡◌};
 ghost use Rattle.toml.specs.View.{view};
@@ -8,7 +8,7 @@ use toml::Value;
 use toml_shapes::number_at;
 use unit_names::Version;
 
-// The version with this number, where its rules are known.
+// Returns the version with this number, if its rules are known.
 fn version_of(number: i64) -> Option<Version>
     ensures { result ≡ version_of number }
 {
@@ -19,7 +19,7 @@ fn version_of(number: i64) -> Option<Version>
     }
 }
 
-/// Returns the version of systemd: none if the key is missing, and no answer if no rules of the number are known.
+/// Returns the known version of systemd, `Some(None)` if the key is missing, and None for any other number.
 pub fn systemd_at(site: &Value) -> Option<Option<Version>>
     ensures known_or_missing { result ≡ systemd_at (view site.now) }
 {

@@ -1,4 +1,4 @@
--- An error number that a text gives is one that a system call can answer.
+-- A system call can return every error number that a text gives.
 use Rattle.std.proofs.Common.{◌≡◌, ◌≤◌, ℕ, Bool, true, false, cond, Option, Some, None, List, [], ◌∷◌, refl, sym, ap, ◌∙◌, subst, arith}
 use Rattle.std.specs.Prelude.{nat_le, option_and_then, IfSome}
 use Rattle.std.specs.List.{list_all}

@@ -1,4 +1,4 @@
--- An escaped word read back, and its bytes.
+-- An escaped word is read back as its bytes.
 use Rattle.std.proofs.Common.{◌≡◌, ℕ, suc, ◌+◌, ◌-◌, ◌*◌, ◌/◌, ◌%◌, ◌<◌, ◌≤◌, Bool, true, false, cond, List, [], ◌∷◌, ◌++◌, Some, None}
 use Rattle.std.proofs.Common.{length, take, take_all, drop, get_or, refl, sym, ap, ◌∙◌, append-nil, length-drop, arith}
 use Rattle.std.specs.Prelude.{◌||◌, ◌==◌, not, nat_le, nat_lt, position}
@@ -71,7 +71,7 @@ all_show (byte ∷ text) = all_append (λ b. 32 < b) (escaped_byte byte) (escape
 pub no_white : (text : List ℕ) → All (λ byte. 32 < byte) (escaped_word text)
 no_white text = All-from_recursion (λ byte. 32 < byte) (escaped_word text) (all_show text)
 
--- ---- a run of bytes that stand as they are
+-- ---- a run of plain bytes
 
 plain : (byte : ℕ) → is_coded byte ≡ false → escaped_byte byte ≡ byte ∷ []
 unfolding escaped_byte
@@ -100,7 +100,7 @@ not_found : (b : Bool) (p : ℕ) → None ≡ cond b (Some p) None → b ≡ fal
 not_found true p e = cc
 not_found false p e = refl
 
--- where no byte is coded
+-- no byte is coded
 pub none_coded : (bytes : List ℕ) → None ≡ position is_coded bytes → escaped_word bytes ≡ bytes
 none_coded bytes e =
     let none = not_found (nat_lt (position_or_len is_coded bytes) (length bytes)) (position_or_len is_coded bytes) e in
@@ -110,7 +110,7 @@ none_coded bytes e =
     ∙ append-nil (take (position_or_len is_coded bytes) bytes)
     ∙ take_all (position_or_len is_coded bytes) bytes past
 
--- where the first that is coded stands here
+-- the first coded byte is here
 pub first_coded : (bytes : List ℕ) (i : ℕ) → Some i ≡ position is_coded bytes → is_coded (get_or bytes i 0) ≡ true
 first_coded bytes i e = (position-Some is_coded bytes i 0 (sym e)).1
 

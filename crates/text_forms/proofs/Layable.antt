@@ -16,7 +16,7 @@ use Rattle.text_forms.specs.Grammar.{Spells}
 use Rattle.text_forms.proofs.Spelling.{spells_from, spells_read}
 use Rattle.text_forms.proofs.Layouts.{laid_closed, laid_words}
 
--- parts of a word, and behind them the end of the word and further words
+-- the parts of a word, and after them the end of the word and further words
 record Begun (symbols : List Symbol) : Type 0 where
   parts : List Part
   rest : List Symbol
@@ -34,7 +34,7 @@ record Inside (quote : ℕ) (symbols : List Symbol) : Type 0 where
   good : AllByRecursion (IsNoEnd quote) inside
   begun : Begun rest
 
--- what is begun is laid out, as one word more where it has a part
+-- the symbols are laid out, with one more word if the word that has begun has a part
 laid_from : (symbols : List Symbol) → Begun symbols → (words : List (List ℕ)) × LaysOut symbols words
 laid_from symbols b = by b.parts b.whole b.good
   where
@@ -44,7 +44,7 @@ laid_from symbols b = by b.parts b.whole b.good
     by (part ∷ parts) whole good =
         (flat_map part_bytes (part ∷ parts) ∷ b.words, subst (λ (l : List Symbol). LaysOut l (flat_map part_bytes (part ∷ parts) ∷ b.words)) (sym whole) (word part parts b.rest b.words good b.ends b.laid))
 
--- one part more in front
+-- one more part is in front
 with_part : (part : Part) (symbols : List Symbol) → IsPart part → Begun symbols → Begun (part_symbols part ++ symbols)
 with_part part symbols h b = record {
   parts = part ∷ b.parts;
@@ -88,7 +88,7 @@ with_inside quote symbol symbols h i = record {
 at_quote : (quote byte : ℕ) (symbols : List Symbol) → byte ≡ quote → Begun symbols → Inside quote (Plain byte ∷ symbols)
 at_quote quote byte symbols same b = record { inside = []; rest = symbols; whole = ap (λ n. Plain n ∷ symbols) same; good = tt; begun = b }
 
--- a byte that stands as it is, where no quote is open
+-- a plain byte is in front, and no quote is open
 begun_at : (byte : ℕ) (symbols : List Symbol) (white' quote' : Bool) → is_white byte ≡ white' → is_quote byte ≡ quote'
     → open_at_end (cond quote' (Some byte) None) symbols ≡ None →
     (open_at_end None symbols ≡ None → Begun symbols)
@@ -170,7 +170,7 @@ escape_exactly text = (λ h symbols spelled. no_escape symbols (sym (ap words_by
     by never None e = ap words_by e
     by never (Some symbols) e = absurd (never symbols (spells_from text symbols e))
 
--- a layout's words are told as text or refused as none
+-- the words of a layout are returned as text or refused as no text
 laid_says : (text : List ℕ) (symbols : List Symbol) (words : List (List ℕ)) → Spells symbols text → LaysOut symbols words
     → words_of text ≡ text_only words
 unfolding words_of

@@ -190,7 +190,7 @@ gap_closed byte h = bare_open byte (dark byte h)
     dark : (byte : ℕ) → IsTrue (is_white byte) → is_quote byte ≡ false
     dark byte h = grind arith
 
--- words behind white space are the words
+-- the words after white space are the words
 behind_gap : (byte : ℕ) (symbols : List Symbol) → IsTrue (is_white byte)
     → words_in (marks_from None (Plain byte ∷ symbols)) ≡ words_in (marks_from None symbols)
 unfolding words_in
@@ -198,7 +198,7 @@ behind_gap byte symbols h =
     ap (λ mark. words_in (mark ∷ marks_from (open_after None (Plain byte)) symbols)) (gap_seen byte h)
     ∙ ap (λ o. words_in (Gap ∷ marks_from o symbols)) (gap_closed byte h)
 
--- a word in front of white space or the end is the first of the words
+-- a word before white space or the end is the first of the words
 in_front : (marks : List Mark) (rest : List Symbol) → AllByRecursion (λ mark. is_gap mark ≡ false) marks → 0 < length marks
     → EndsWord rest → words_in (marks ++ marks_from None rest) ≡ bytes_of marks ∷ words_in (marks_from None rest)
 unfolding words_in
@@ -236,7 +236,7 @@ laid_words _ _ (word part parts rest words good ends more) =
     ∙ ap (λ first. first ∷ words_in (marks_from None rest)) (parts_said (part ∷ parts))
     ∙ ap (λ more. flat_map part_bytes (part ∷ parts) ∷ more) (laid_words rest words more)
 
--- a text that is written and laid out so is split so
+-- a text that follows the grammar is split as the grammar says
 pub split_as_laid : (text : List ℕ) (symbols : List Symbol) (words : List (List ℕ)) → Spells symbols text → LaysOut symbols words
     → list_all is_utf8 words ≡ true → words_of text ≡ Ok words
 unfolding words_of closed_only

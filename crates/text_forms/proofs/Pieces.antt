@@ -1,4 +1,4 @@
--- What pieces make words, and which words are text.
+-- Some pieces make words, and some words are text.
 use Rattle.std.proofs.Common.{◌≡◌, ℕ, ◌<◌, Bool, true, false, cond, List, [], ◌∷◌, ◌++◌, length, Result, Ok, Err, refl, ap, ◌∙◌, arith}
 use Rattle.std.specs.Prelude.{◌&&◌}
 use Rattle.std.specs.List.{list_all}
@@ -26,7 +26,7 @@ not_all (word ∷ front) bad rest h = ap (λ b. is_utf8 word && b) (not_all fron
     by true = refl
     by false = refl
 
--- a word that is no text is told
+-- a word that is no text is reported
 pub no_text : (front : List (List ℕ)) (bad : List ℕ) (rest : List (List ℕ)) → is_utf8 bad ≡ false
     → text_only (front ++ bad ∷ rest) ≡ Err NotText
 unfolding text_only

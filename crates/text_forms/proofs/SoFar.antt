@@ -1,4 +1,4 @@
--- How a text goes on that is split as far as it is read.
+-- A text that has been split up to some symbol continues with the next one.
 use Rattle.std.proofs.Common.{◌≡◌, ℕ, true, false, cond, List, [], ◌∷◌, ◌++◌, map, Option, Some, None, Result, Ok, Err, length, refl, sym}
 use Rattle.std.proofs.Common.{ap, ◌∙◌, subst, append-nil, append_assoc, arith}
 use Rattle.std.specs.Prelude.{is_some, unwrap_or, Vec, String, string_bytes}
@@ -24,9 +24,9 @@ use Rattle.text_forms.specs.Answers.{MakesWords}
 use Rattle.text_forms.specs.SoFar.{begun_bytes, marks_of, found, comes_to, splits_on}
 use Rattle.text_forms.proofs.Pieces.{all_text, no_text}
 
--- ---- a word that is begun, before the marks that are left
+-- ---- a word that has begun, before the remaining marks
 
--- the words of pieces, the first of which goes on with a word of these bytes
+-- the words of pieces, the first of which continues a word of these bytes
 behind : List ℕ → List (List Mark) → List (List ℕ)
 behind bytes [] = bytes ∷ []
 behind bytes (piece ∷ pieces) = (bytes ++ bytes_of piece) ∷ words_between pieces
@@ -87,7 +87,7 @@ unfolding words_in behind
 none_left None = refl
 none_left (Some bytes) = begun bytes [] ∙ ap (λ word. word ∷ []) (append-nil bytes)
 
--- ---- one symbol more
+-- ---- one more symbol
 
 step : (old new : SoFar) (symbol : Symbol) (mark : Mark) → new.opened ≡ open_after old.opened symbol → mark ≡ mark_of old.opened symbol →
     ((marks : List Mark) → found new.whole (words_in (marks_of (begun_bytes new.begun) ++ marks))

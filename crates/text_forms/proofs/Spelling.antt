@@ -1,4 +1,4 @@
--- The symbols of a text are those that write it.
+-- The symbols of a text spell the text.
 use Rattle.std.proofs.Common.{◌≡◌, ◌≢◌, inl, inr, ℕ, ◌+◌, ◌*◌, Bool, true, false, cond, List, [], ◌∷◌, ◌++◌, Option, Some, None, refl, sym}
 use Rattle.std.proofs.Common.{ap, ◌∙◌, subst}
 use Rattle.std.specs.Prelude.{◌&&◌, ◌==◌}
@@ -10,13 +10,13 @@ use Rattle.text_forms.specs.Words.{is_backslash, escape_of, is_hex_digit, with_s
 use Rattle.text_forms.specs.Words.{coded_symbols}
 use Rattle.text_forms.specs.Grammar.{IsWritten, Spells}
 
--- what `with_symbol` made has that symbol in front
+-- a result of `with_symbol` has that symbol in front
 first_is : (symbol : Symbol) (rest : Option (List Symbol)) (symbols : List Symbol) → with_symbol symbol rest ≡ Some symbols
     → (more : List Symbol) × (rest ≡ Some more) × (symbols ≡ symbol ∷ more)
 first_is symbol None symbols e = absurd (cc)
 first_is symbol (Some more) symbols e = (more, refl, cc)
 
--- a symbol as written in front of a text that spells more
+-- a written symbol is in front of a text that spells more
 in_front : (symbol : Symbol) (written text : List ℕ) (rest : Option (List Symbol)) (symbols : List Symbol) → IsWritten symbol written
     → with_symbol symbol rest ≡ Some symbols →
     ((more : List Symbol) → rest ≡ Some more → Spells more text) → Spells symbols (written ++ text)
@@ -79,7 +79,7 @@ no_x : (letter byte : ℕ) → escape_of letter ≡ Some byte → letter ≢ 120
 unfolding escape_of
 no_x letter byte h e = let none : escape_of 120 ≡ Some byte = subst (λ (n : ℕ). escape_of n ≡ Some byte) e h in absurd (cc)
 
--- a symbol as written is read as that symbol
+-- a written symbol is read as that symbol
 written_read : (symbol : Symbol) (written rest : List ℕ) → IsWritten symbol written
     → symbols_of (written ++ rest) ≡ with_symbol symbol (symbols_of rest)
 unfolding symbols_of

@@ -1,4 +1,4 @@
--- systemd.syntax(7): the words of a boolean, in any ASCII case.
+-- systemd.syntax(7): a boolean is one of these words, in any ASCII case.
 use Rattle.std.specs.Prelude.{ℕ, Bool, true, false, if◌then◌else◌, List, [], ◌∷◌, codes, Option, Some, None}
 use Rattle.std.specs.Str.{str_eq_ignore_ascii_case}
 use Rattle.std.specs.List.{list_any}

@@ -5,7 +5,7 @@ use Rattle.std.specs.List.{flat_map}
 use Rattle.std.specs.Char.{is_digit, digit_value}
 use Rattle.std.specs.Str.{byte as ascii}
 
--- the bytes up to the space, the byte DEL and `%` are written by their numbers
+-- bytes up to the space, the byte DEL and `%` are written by their numbers
 abbrev pub is_coded : ℕ → Bool
 is_coded byte = (nat_le byte (ascii " ") || byte == 0x7f) || byte == ascii "%"
 
@@ -24,12 +24,12 @@ with_byte byte None = None
 with_byte byte (Some bytes) = Some (byte ∷ bytes)
 
 unfoldable mutual
-  -- an escaped word read back; None where `%` stands before anything but two hex digits of either case
+  -- an escaped word is read back; None where `%` precedes anything other than two hex digits of either case
   pub word_read : List ℕ → Option (List ℕ)
   word_read [] = Some []
   word_read (byte ∷ word) = cond (byte == ascii "%") (code_read word) (with_byte byte (word_read word))
 
-  -- the same after a `%`
+  -- the rest of an escaped word after a `%`
   pub code_read : List ℕ → Option (List ℕ)
   code_read [] = None
   code_read (high ∷ []) = None

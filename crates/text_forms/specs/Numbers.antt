@@ -4,7 +4,7 @@ use Rattle.std.specs.List.{list_all, starts_with}
 use Rattle.std.specs.Char.{is_digit}
 use Rattle.std.specs.Str.Parse.{digits_value}
 
--- one digit of the radix or more and nothing else, leading zeros among them; a letter in either case
+-- one or more digits of the radix and nothing else; leading zeros are allowed, and letters of either case
 abbrev pub is_numeral : ℕ → List ℕ → Bool
 is_numeral radix digits = not (length digits == 0) && list_all (λ digit. is_digit digit radix) digits
 

@@ -1,4 +1,4 @@
--- The words of a text that is split as far as it is read.
+-- A text is split up to some symbol.
 use Rattle.std.specs.Prelude.{ℕ, if◌then◌else◌, is_some, List, [], ◌∷◌, ◌++◌, map, Vec, String, string_bytes, Option, Some, None, Result}
 use Rattle.std.specs.Prelude.{Err}
 use Rattle.std.specs.declared.alloc.Global.{Global}
@@ -14,23 +14,23 @@ use Rattle.text_forms.specs.Words.{marks_from, open_at_end, words_in, text_only}
 abbrev pub begun_bytes : Option (Vec ℕ Global) → Option (List ℕ)
 begun_bytes begun = option_map (λ bytes. bytes.items) begun
 
--- a word that is begun, as marks
+-- the marks of the word that has begun
 abbrev pub marks_of : Option (List ℕ) → List Mark
 marks_of None = []
 marks_of (Some bytes) = Edge ∷ map Part bytes
 
--- the words that are whole, with those that come
+-- the whole words, followed by more words
 abbrev pub found : Option (Vec (String Global) Global) → List (List ℕ) → Result (List (List ℕ)) WordsError
 found None more = Err NotText
 found (Some words) more = text_only (map string_bytes words.items ++ more)
 
--- with these symbols after it
+-- the words of the text with these symbols after it
 abbrev pub comes_to : SoFar → List Symbol → Result (List (List ℕ)) WordsError
 comes_to so_far symbols =
     if is_some (open_at_end so_far.opened symbols) then Err Quote
     else found so_far.whole (words_in (marks_of (begun_bytes so_far.begun) ++ marks_from so_far.opened symbols))
 
--- with this text after it, as symbols if its escapes can be read
+-- the words of the text with this text after it, if its escapes can be read
 abbrev pub splits_on : SoFar → Option (List Symbol) → Result (List (List ℕ)) WordsError
 splits_on so_far None = Err Escape
 splits_on so_far (Some symbols) = comes_to so_far symbols

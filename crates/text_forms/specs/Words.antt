@@ -1,5 +1,5 @@
--- systemd.syntax(7), Quoting: a text is split into words at white space, with quotes and escapes.
--- First its escapes are read, then its quotes are seen, and then it is cut at the white space that is left.
+-- systemd.syntax(7), Quoting: a text is split into words at white space, with quotes and escapes. Escapes are read
+-- first, then quotes are found, and then the text is cut at the remaining white space.
 use Rattle.std.specs.Prelude.{ℕ, Bool, true, false, ◌==◌, ◌&&◌, ◌||◌, ◌+◌, ◌*◌, if◌then◌else◌, cond, is_some, List, [], ◌∷◌, map, filter}
 use Rattle.std.specs.Prelude.{fold, Option, Some, None, Result, Ok, Err}
 use Rattle.std.specs.Char.{is_digit, digit_value}
@@ -12,13 +12,13 @@ use Rattle.text_forms.specs.declared.splitting.symbols.Symbol.TheVariants.{Plain
 use Rattle.text_forms.specs.declared.splitting.marks.Mark.{Mark}
 use Rattle.text_forms.specs.declared.splitting.marks.Mark.TheVariants.{Part, Edge, Gap}
 
--- ---- escapes: a symbol is a byte as it stands, or a byte that an escape gives
+-- ---- escapes: a symbol is a plain byte, or a byte that an escape gives
 
 abbrev pub is_backslash : ℕ → Bool
 is_backslash byte = byte == ascii "\\"
 
--- the byte after a backslash, but for `x`: a backslash, a quote or a space is itself, and `s`, `n`, `t` are a space, a line feed (10), a
--- tab (9)
+-- the byte of the escape with this letter, except for `x`: a backslash, a quote or a space means itself, and `s`, `n`, `t` mean a
+-- space, a line feed (10), a tab (9)
 unfoldable pub escape_of : ℕ → Option ℕ
 escape_of letter =
     if (letter == ascii "\\" || letter == ascii "\"") || (letter == ascii "'" || letter == ascii " ") then Some letter
@@ -39,7 +39,7 @@ with_escaped None symbols = None
 with_escaped (Some byte) symbols = with_symbol (Escaped byte) symbols
 
 unfoldable mutual
-  -- the symbols of a text; None where a backslash precedes another byte, or is cut
+  -- the symbols of a text; None where an escape is unknown or cut
   pub symbols_of : List ℕ → Option (List Symbol)
   symbols_of [] = Some []
   symbols_of (byte ∷ text) = cond (is_backslash byte) (escaped_symbols text) (with_symbol (Plain byte) (symbols_of text))
@@ -66,13 +66,13 @@ is_white byte = (byte == ascii " " || byte == 9) || byte == 13
 abbrev pub is_quote : ℕ → Bool
 is_quote byte = byte == ascii "\"" || byte == ascii "'"
 
--- what a symbol is where this quote is open, or none: part of a word, the edge of a quoted part, or the gap between words
+-- the mark of a symbol while this quote is open, if any: part of a word, the edge of a quoted part, or the gap between words
 unfoldable pub mark_of : Option ℕ → Symbol → Mark
 mark_of opened (Escaped byte) = Part byte
 mark_of None (Plain byte) = if is_white byte then Gap else if is_quote byte then Edge else Part byte
 mark_of (Some quote) (Plain byte) = if byte == quote then Edge else Part byte
 
--- which quote is open after a symbol
+-- the quote that is open after a symbol
 unfoldable pub open_after : Option ℕ → Symbol → Option ℕ
 open_after opened (Escaped byte) = opened
 open_after None (Plain byte) = if is_quote byte then Some byte else None
@@ -82,11 +82,11 @@ abbrev pub marks_from : Option ℕ → List Symbol → List Mark
 marks_from opened [] = []
 marks_from opened (symbol ∷ symbols) = mark_of opened symbol ∷ marks_from (open_after opened symbol) symbols
 
--- which quote is open at the end
+-- the quote that is open at the end
 abbrev pub open_at_end : Option ℕ → List Symbol → Option ℕ
 open_at_end opened symbols = fold open_after opened symbols
 
--- ---- words: what is between gaps, but for nothing at all; two edges alone are an empty word
+-- ---- words: the stretches between gaps that are not empty; two edges alone are an empty word
 
 abbrev pub is_gap : Mark → Bool
 is_gap (Part byte) = false

@@ -1,4 +1,4 @@
-//! Booleans of settings (systemd.syntax(7)).
+//! Reads booleans of settings (systemd.syntax(7)).
 
 ghost use Rattle.std.specs.Prelude.{◌≡◌, map};
 ghost use Rattle.std.specs.Str.{str_eq_ignore_ascii_case};
@@ -20,14 +20,14 @@ fn words_of_false() -> &'static [&'static str]
     FALSE_WORDS
 }
 
-// the same word but for the case of ASCII letters
+// returns whether two words differ at most in the case of ASCII letters
 fn is_same_word(word: &str, text: &str) -> bool
     ensures { result ≡ str_eq_ignore_ascii_case word.now text.now }
 {
     word.eq_ignore_ascii_case(text)
 }
 
-// the text is one of the words, in any case
+// returns whether the text is one of the words, in any case
 #[tactic(auto, unfolding(crate::specs::Booleans::is_one_of))]
 fn is_one_of(words: &[&str], text: &str) -> bool
     ensures { result ≡ is_one_of (map (λ word. word.now) words.now) text.now }
@@ -40,7 +40,7 @@ fn is_one_of(words: &[&str], text: &str) -> bool
     false
 }
 
-/// True for `1 yes true on y t`, false for `0 no false off n f`, in any ASCII case; None for all else.
+/// Reads `1 yes true on y t` as true and `0 no false off n f` as false, in any ASCII case, and returns None for any other text.
 #[tactic(auto, unfolding(crate::specs::Booleans::bool_value))]
 pub fn read_bool(text: &str) -> Option<bool>
     ensures by_word { result ≡ bool_value text.now }

@@ -1,4 +1,4 @@
-//! Error numbers by name or in decimal (errno(3)).
+//! Reads error numbers by name or in decimal (errno(3)).
 
 ghost use Rattle.std.specs.Prelude.{◌≡◌, ◌≤◌, map, IfSome};
 ghost use Rattle.linux_numbers.specs.Limits.{max_errno};
@@ -8,7 +8,7 @@ use crate::numbers::read_decimal;
 use linux_numbers::errnos::errno_names;
 use linux_numbers::limits::MAX_ERRNO;
 
-// the number beside the first row of this name
+// returns the number beside the first row of this name
 #[tactic(auto, unfolding(crate::specs::Errnos::number_beside))]
 fn number_beside(rows: &[(&str, u32)], name: &str) -> Option<u32>
     ensures { result ≡ number_beside (map (λ row. (row.0.now, row.1)) rows.now) name.now }
@@ -21,7 +21,7 @@ fn number_beside(rows: &[(&str, u32)], name: &str) -> Option<u32>
     None
 }
 
-// a number that a system call can answer as an error
+// returns the number if a system call can return it as an error
 fn small_only(number: u64) -> Option<u32>
     ensures { result ≡ small_only number }
 {
@@ -32,7 +32,7 @@ fn small_only(number: u64) -> Option<u32>
     }
 }
 
-/// The error number of a name, as `EPERM`, or of a decimal text of 0 to 4095; else None.
+/// Returns the error number of a name, such as `EPERM`, or of a decimal text from 0 to 4095, and None for any other text.
 #[tactic(auto, using(crate::proofs::Bounded::errno_bounded), unfolding(crate::specs::Errnos::errno_value))]
 pub fn errno_number(text: &str) -> Option<u32>
     ensures named_or_decimal { result ≡ errno_value text.now }

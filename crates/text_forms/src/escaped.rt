@@ -1,4 +1,4 @@
-//! Escaped words: a text printed as one word without white space.
+//! Prints a text as one escaped word without white space.
 
 ghost use Rattle.std.specs.Prelude.{◌≡◌, ◌<◌, ◌++◌, IsTrue, IfSome, MatchOption, OnOk, OnErr, position, take, length};
 ghost use Rattle.text_forms.specs.Escaped.{is_coded, upper_digit, escaped_byte, escaped_word};
@@ -38,7 +38,7 @@ fn coded_at(bytes: &[u8]) -> Option<usize>
     bytes.iter().position(|byte| is_coded(*byte))
 }
 
-// the bytes before the first that is coded, that byte, and those after it
+// returns the bytes before the first coded byte, that byte, and the bytes after it
 fn split_at_coded(bytes: &[u8]) -> Option<(&[u8], u8, &[u8])>
     ensures coded { IfSome result (λ parts. IsTrue (is_coded parts.1)) }
     ensures escaped { MatchOption result (escaped_word bytes.now ≡ bytes.now)
@@ -49,7 +49,7 @@ fn split_at_coded(bytes: &[u8]) -> Option<(&[u8], u8, &[u8])>
     Some((&bytes[..at], bytes[at], &bytes[at + 1..]))
 }
 
-// appends the bytes as they are escaped, or a front of that
+// appends the escaped bytes; if memory runs out, it may have appended a part of them
 fn push_bytes(out: &mut Vec<u8>, bytes: &[u8]) -> Result<(), AllocError>
     ensures appends { OnOk result (out.new.items ≡ out.old.items ++ escaped_word bytes.now) }
     ensures keeps_the_front { take (length out.old.items) out.new.items ≡ out.old.items }

@@ -1,8 +1,8 @@
 //! Holds items in their order, which contracts see as a list.
 //!
-//! An alias names such a list: `pub type Notes = ItemList<Note>`. A type that a definition compares holds it in place
-//! of a plain `Vec`. `ItemList::new(notes).list()` lends the notes again. A `HeldList` also keeps a fact about its
-//! items, which their type states.
+//! An alias names such a list: `pub type Notes = ItemList<Note>`. A type that a definition compares holds such a list in place
+//! of a plain `Vec`. `ItemList::new(notes).list()` lends the notes again. A `HeldList` also keeps a fact about its items, which
+//! their type states.
 
 ghost use Rattle.std.specs.Prelude.{◌≡◌, ◌==◌, ◌++◌, ◌∷◌, [], IfOk, OnOk, OnErr};
 ghost use Rattle.std.specs.List.{list_any};
@@ -28,14 +28,14 @@ impl<T> Model for ItemList<T> {
 }
 
 impl<T> ItemList<T> {
-    /// These items.
+    /// Makes a list of these items.
     pub fn new(items: Vec<T>) -> Self
         ensures holds_them { result ≡ items.items }
     {
         ItemList { items }
     }
 
-    /// No items, for which memory comes from here.
+    /// Makes a list without items, which takes its memory from this allocator.
     pub fn empty(alloc: Global) -> Self
         ensures holds_nothing { result ≡ [] }
     {
@@ -44,7 +44,7 @@ impl<T> ItemList<T> {
         }
     }
 
-    /// The items in their order.
+    /// Returns the items in their order.
     pub fn list(&self) -> &[T]
         ensures all_in_order { result.now ≡ self.now }
     {
@@ -53,7 +53,7 @@ impl<T> ItemList<T> {
 }
 
 impl<T: Drop> ItemList<T> {
-    /// Adds an item after the others; if memory runs out, they stay as they were.
+    /// Adds an item after the others. If memory runs out, the items stay as they were.
     pub fn push(&mut self, item: T) -> Result<(), AllocError>
         ensures longer { OnOk result (self.new ≡ self.old ++ item ∷ []) }
         ensures unchanged { OnErr result (self.new ≡ self.old) }
@@ -62,7 +62,7 @@ impl<T: Drop> ItemList<T> {
         Ok(())
     }
 
-    /// These items, and after them those.
+    /// Returns these items, followed by the others.
     pub fn and(self, more: ItemList<T>) -> Result<ItemList<T>, AllocError>
         ensures appended { IfOk result (λ all. all ≡ self ++ more) }
     {
@@ -76,7 +76,7 @@ impl<T: Drop> ItemList<T> {
 }
 
 impl<T: Copy> ItemList<T> {
-    /// The same items once more.
+    /// Returns a copy of the items.
     pub fn copy(&self, alloc: Global) -> Result<ItemList<T>, AllocError>
         ensures same { IfOk result (λ copy. copy ≡ self.now) }
     {
@@ -89,7 +89,7 @@ impl<T: Copy> ItemList<T> {
 }
 
 impl ItemList<u32> {
-    /// Returns whether the number is among them.
+    /// Returns whether the number is among the items.
     pub fn contains(&self, number: u32) -> bool
         ensures is_among { result ≡ list_any (λ own. number == own) self.now }
     {

@@ -1,4 +1,4 @@
-//! The laws of the forms. Each is the contract of a function that does nothing.
+//! States the laws of the forms. Each is the contract of a function that does nothing.
 
 ghost use Rattle.std.specs.Prelude.{◌≡◌, ◌≢◌, ◌<◌, ◌^◌, ℕ, List, Some, Ok, Err, All, IsTrue, ◌↔◌, codes, decimal, slice_index, false};
 ghost use Rattle.text_forms.specs.Numbers.{number_value};
@@ -10,7 +10,7 @@ ghost use Rattle.text_forms.specs.Grammar.{Spells, LaysOut};
 ghost use Rattle.std.specs.List.{list_all};
 ghost use Rattle.std.specs.Str.{is_utf8};
 
-/// A number as it is printed is read again, and has no leading zero.
+/// A printed number is read back as the same number, and has no leading zero.
 pub fn printed_number_read()
     ensures read_again { (n : ℕ) → n < 2 ^ 64 → number_value (decimal n) ≡ Some n }
     ensures zero { decimal 0 ≡ codes "0" }
@@ -23,9 +23,8 @@ pub fn escaped_word_read()
     ensures no_white_space { (text : List ℕ) → All (λ byte. 32 < byte) (escaped_word text) }
 {}
 
-/// A text is split as the grammar of systemd.syntax(7) says, if it is written and laid out by that grammar. A text
-/// that cannot be written is Escape, one that cannot be laid out is Quote, and one with a word that is not UTF-8 is
-/// NotText.
+/// A text is split as the grammar of systemd.syntax(7) says, if its symbols and words follow that grammar. A text whose symbols
+/// do not follow it is Escape, a text with an open quote is Quote, and a text with a word that is not UTF-8 is NotText.
 pub fn text_split_by_grammar()
     ensures symbols_as_written { (text : List ℕ) (symbols : List Symbol)
         → (symbols_of text ≡ Some symbols) ↔ Spells symbols text }

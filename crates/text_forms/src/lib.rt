@@ -2,9 +2,9 @@
 //!
 //! `read_u64("0x10")` is `Some(16)`. Words and booleans follow systemd.syntax(7), in the profile that Lentsheep supports.
 //!
-//! - [`item_list`]: lists of items, which contracts see as plain lists.
-//! - [`laws`]: printed numbers and escaped words are read back, and words are split as the grammar says.
-//! - [`line_text`]: texts that are read line by line.
+//! - [`item_list`] has lists of items, which contracts see as plain lists.
+//! - [`laws`] says that printed numbers and escaped words are read back, and that words are split as the grammar says.
+//! - [`line_text`] reads texts line by line.
 #![tactic(auto)]
 
 mod booleans;

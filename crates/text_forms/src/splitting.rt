@@ -1,6 +1,6 @@
-//! Splitting a text into words, with quotes and escapes (systemd.syntax(7), Quoting).
+//! Splits a text into words, with quotes and escapes (systemd.syntax(7), Quoting).
 //!
-//! The text is read symbol by symbol: escapes are read, quotes are seen, and what is between gaps is a word.
+//! It reads the text symbol by symbol: `symbols` reads escapes, `marks` finds quotes, and each stretch between gaps is a word.
 
 mod marks;
 mod symbols;
@@ -17,18 +17,18 @@ use marks::{Mark, mark_of};
 use std::alloc::{AllocError, Global};
 use symbols::{Symbol, first_symbol};
 
-// A text that is split as far as it is read.
+// A text that has been split up to some symbol.
 #[derive(Drop)]
 struct SoFar {
-    // the quote that is open
+    // the open quote, if there is one
     opened: Option<u8>,
-    // the bytes of the word that is begun
+    // the bytes of the word that has begun
     begun: Option<Vec<u8>>,
-    // the words that are whole, unless one is not UTF-8
+    // the whole words, unless one is not UTF-8
     whole: Option<Vec<String>>,
 }
 
-// puts a byte after the word that is begun, which it may begin
+// appends a byte to the word that has begun, or begins a word with it
 fn push_part(alloc: Global, begun: &mut Option<Vec<u8>>, byte: u8) -> Result<(), AllocError>
     ensures { OnOk result (begun_bytes begun.new ≡ Some (unwrap_or (begun_bytes begun.old) [] ++ byte ∷ [])) }
 {
@@ -36,7 +36,7 @@ fn push_part(alloc: Global, begun: &mut Option<Vec<u8>>, byte: u8) -> Result<(),
     Ok(())
 }
 
-// the words with one more, whose bytes may be no text
+// adds a word, whose bytes may be no text
 fn with_word(whole: Option<Vec<String>>, bytes: Vec<u8>) -> Result<Option<Vec<String>>, AllocError>
     ensures { IfOk result (λ next. (more : List (List ℕ)) → found next more ≡ found whole (bytes.items ∷ more)) }
 {
@@ -74,7 +74,7 @@ impl SoFar {
         Ok(())
     }
 
-    // goes past a symbol
+    // takes the next symbol
     fn pass(&mut self, alloc: Global, symbol: Symbol) -> Result<(), AllocError>
         ensures { OnOk result ((symbols : List Symbol) → comes_to self.new symbols ≡ comes_to self.old (symbol ∷ symbols)) }
     {
@@ -90,7 +90,7 @@ impl SoFar {
         }
     }
 
-    // the words, where nothing is left
+    // returns the words after the last symbol
     fn words(mut self) -> Result<Vec<String>, WordsError>
         ensures { MakesWords (comes_to self []) result }
     {
@@ -106,10 +106,9 @@ impl SoFar {
 
 /// Splits a text into words at spaces, tabs and carriage returns.
 ///
-/// `'..'` and `".."` quote, also within a word, and `''` is an empty word. A backslash, also within quotes, precedes
-/// `\`, `"`, `'`, a space, `s` for a space, `n`, `t` or `x` and two hex digits. The first other or cut escape is
-/// Escape; else a quote that is open at the end is Quote; else a word that is not UTF-8 is NotText. Memory may come
-/// for any text.
+/// `'..'` and `".."` quote, also within a word, and `''` is an empty word. A backslash, also within quotes, precedes `\`, `"`,
+/// `'`, a space, `s` for a space, `n`, `t` or `x` and two hex digits. Another or a cut escape is Escape. Otherwise a quote that
+/// is open at the end is Quote, and otherwise a word that is not UTF-8 is NotText. Any text may end in Memory.
 pub fn words(alloc: Global, text: &str) -> Result<Vec<String>, WordsError>
     ensures splits_or_first_fault { Splits text.now result }
 {

@@ -1,4 +1,4 @@
--- What an answer says of what is wanted.
+-- An answer says whether it is the wanted one.
 use Rattle.std.proofs.Common.{◌≡◌, ◌≢◌, Result, Ok, Err, refl}
 use Rattle.std.specs.Prelude.{IfOk, IfErr}
 use Rattle.unit_grammar.specs.Progress.{IsUnlessMemory}

@@ -1,4 +1,4 @@
--- Bytes that are text, and bytes that are not.
+-- Bytes may be text or no text.
 use Rattle.std.proofs.Common.{◌≡◌, ℕ, false, cond, eqb, Result, Err, List, sym, ap, ◌∙◌, subst}
 use Rattle.std.specs.Prelude.{◌&&◌, not}
 use Rattle.std.specs.List.{list_any}

@@ -1,4 +1,4 @@
--- Where a text may be cut: beside an ASCII byte.
+-- A text may be cut beside an ASCII byte.
 use Rattle.std.proofs.Common.{◌≡◌, ℕ, suc, zero, ◌-◌, ◌<◌, true, List, length, get_or, reverse, arith, subst}
 use Rattle.std.specs.List.{prefix_len, suffix_len}
 use Rattle.std.specs.Str.{IsUtf8, IsCharBoundary}
@@ -11,7 +11,7 @@ use Rattle.unit_grammar.specs.Spaces.{is_white}
 is_white-ascii : (b : ℕ) → is_white b ≡ true → b < 128
 is_white-ascii b e = grind (arith, nat_tests)
 
--- the text may be cut behind its leading white space
+-- the text may be cut after its leading white space
 pub leading_boundary : (bs : List ℕ) (n : ℕ) → IsUtf8 bs → n ≡ prefix_len is_white bs → IsCharBoundary bs n
 leading_boundary bs zero u e = IsCharBoundary-start bs u
 leading_boundary bs (suc k) u e =
@@ -20,7 +20,7 @@ leading_boundary bs (suc k) u e =
     subst (IsCharBoundary bs) (omega arith)
     (IsCharBoundary-after_ascii bs k u in_text (is_white-ascii _ (prefix_len_passes is_white bs k 0 lt)))
 
--- and before its trailing white space
+-- the text may be cut before its trailing white space
 pub trailing_boundary : (bs : List ℕ) (n : ℕ) → n ≡ suffix_len is_white bs → IsCharBoundary bs (length bs - n)
 trailing_boundary bs zero e = subst (IsCharBoundary bs) (omega arith) (IsCharBoundary-end bs)
 trailing_boundary bs (suc k) e =

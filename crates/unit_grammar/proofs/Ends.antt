@@ -1,4 +1,4 @@
--- What stands behind a first byte, and before a last.
+-- A text has a rest after a first byte, and a front before a last byte.
 use Rattle.std.proofs.Common.{◌≡◌, ◌≢◌, ℕ, true, false, cond, eqb, Option, Some, None, List, [], ◌∷◌, ◌++◌, reverse, refl, sym, ap, ◌∙◌}
 use Rattle.std.specs.Option.{option_map, MatchOption}
 use Rattle.std.proofs.lemmas.List.{reverse-append, reverse-reverse}

@@ -1,4 +1,4 @@
--- The parts of a file fall into stretches in one way, and these are what is joined.
+-- The parts of a file fall into stretches in one way, and these stretches are joined.
 use Rattle.std.proofs.Common.{◌≡◌, ℕ, true, false, cond, List, [], ◌∷◌, ◌++◌, map, refl, sym, ap, ◌∙◌}
 use Rattle.std.specs.Prelude.{◌↔◌, not, ◌&&◌, flat_map}
 use Rattle.std.specs.List.{onto_first}
@@ -18,7 +18,7 @@ all_of-onto_first : (part : Line) (groups : List (List Line)) → all_of (onto_f
 all_of-onto_first part [] = refl
 all_of-onto_first part (group ∷ groups) = refl
 
--- nothing is lost
+-- no part is lost
 all_of-groups_of : (parts : List Line) → parts ≡ all_of (groups_of parts)
 all_of-groups_of [] = refl
 all_of-groups_of (part ∷ parts) =
@@ -28,13 +28,13 @@ all_of-groups_of (part ∷ parts) =
       | false ↦ ap (λ rest. part ∷ rest) (all_of-groups_of parts)
     ]
 
--- a part that ends a stretch of its own
+-- a part ends a stretch of its own
 with_whole : (part : Line) (groups : List (List Line)) → continues part.text ≡ false → are_stretches groups ≡ true
     → are_stretches ((part ∷ []) ∷ groups) ≡ true
 with_whole part [] ends h = refl
 with_whole part (group ∷ groups) ends h = and_from (not (continues part.text)) (are_stretches (group ∷ groups)) (ap not ends) h
 
--- a part in front of a stretch
+-- a part is in front of a stretch
 longer_stretch : (part : Line) (group : List Line) → continues part.text ≡ true → is_stretch group ≡ true → is_stretch (part ∷ group) ≡ true
 longer_stretch part [] goes_on h = refl
 longer_stretch part (next ∷ group) goes_on h = and_from (continues part.text) (is_stretch (next ∷ group)) goes_on h
@@ -70,7 +70,7 @@ group_more : (part : Line) (parts : List Line) → continues part.text ≡ true 
 group_more part parts e =
     ap (λ b. cond (not b) ((part ∷ []) ∷ groups_of parts) (onto_first part (groups_of parts))) e
 
--- a stretch that the file ends with is one group
+-- a stretch at the end of the file is one group
 last_group : (stretch : List Line) → is_stretch stretch ≡ true → groups_of (stretch ++ []) ≡ stretch ∷ []
 last_group [] h = absurd (false≢true h)
 last_group (part ∷ []) h =
@@ -80,7 +80,7 @@ last_group (part ∷ next ∷ stretch) h =
     let both = and_parts (continues part.text) (is_stretch (next ∷ stretch)) h in
     group_more part ((next ∷ stretch) ++ []) both.0 ∙ ap (onto_first part) (last_group (next ∷ stretch) both.1)
 
--- and so is one that ends whole
+-- a stretch that ends whole is one group
 whole_group : (stretch rest : List Line) → is_stretch stretch ≡ true → ends_whole stretch ≡ true
     → groups_of (stretch ++ rest) ≡ stretch ∷ groups_of rest
 whole_group [] rest h ends = absurd (false≢true h)
@@ -100,7 +100,7 @@ groups_of-all_of (stretch ∷ next ∷ stretches) h =
     whole_group stretch (all_of (next ∷ stretches)) first.0 first.1
     ∙ ap (λ rest. stretch ∷ rest) (groups_of-all_of (next ∷ stretches) both.1)
 
--- the joined lines of a text, and its stretches
+-- the joined lines of a text are its stretches
 pub joining : (text : List ℕ) (lines : List Line) → (joined_lines text ≡ lines) ↔ Joins text lines
 joining text lines = (
   λ e. record {

@@ -1,4 +1,4 @@
--- A text is cut at each LF by taking off its first line, and a reader stands before it.
+-- A text is cut at each LF by taking off its first line, which the reader reads next.
 use Rattle.std.proofs.Common.{◌≡◌, ℕ, ◌+◌, ◌<◌, ◌≤◌, Bool, true, false, cond, eqb, ltb, Option, Some, Result, subst, None, List, [], ◌∷◌}
 use Rattle.std.proofs.Common.{length, get_or, refl, sym, ap, ◌∙◌, arith}
 use Rattle.std.specs.Prelude.{not}
@@ -29,7 +29,7 @@ place_of text = position_or_len is_lf text
 abbrev sides_of : List ℕ → List ℕ × List ℕ
 sides_of text = (before_first is_lf text, after_first is_lf text)
 
--- with an LF
+-- the text has an LF
 pub line_cut : (text : List ℕ) (sides : List ℕ × List ℕ) → cut_at 10 text ≡ Some sides
     → slice_split is_lf text ≡ sides.0 ∷ slice_split is_lf sides.1
 line_cut text sides e =
@@ -43,7 +43,7 @@ shorter text sides e =
     let split = split_at_first is_lf text 0 (ltb-true (place_of text) (length text) both.0) in
     omega (arith, ap length split, length-append (before_first is_lf text) (get_or text (place_of text) 0 ∷ after_first is_lf text), ap (λ (s : List ℕ × List ℕ). length s.1) both.1)
 
--- without one
+-- the text has no LF
 one_line : (text : List ℕ) → length text ≤ place_of text → slice_split is_lf text ≡ text ∷ []
 one_line [] h = refl
 one_line (byte ∷ text) h =
@@ -64,7 +64,7 @@ no_cut text e =
     ]
     refl e
 
--- where a reader stands before the first line, and before the last
+-- the reader is before the first line, and before the last line
 pub stands_before_line : (lines : List Line) (begun : Option Line) (number : ℕ) (text : List ℕ) (sides : List ℕ × List ℕ)
     (section : Option (List ℕ)) (assignments : List Assignment) (notes : List Note) → cut_at 10 text ≡ Some sides
     → StandsBefore lines begun (parts_from number (slice_split is_lf text)) section assignments notes
@@ -79,7 +79,7 @@ pub stands_before_last : (lines : List Line) (begun : Option Line) (number : ℕ
 stands_before_last lines begun number text section assignments notes e s =
     subst (λ ls. StandsBefore lines begun (parts_from number ls) section assignments notes) (no_cut text e) s
 
--- what the parts of a file say when they are joined
+-- the joined parts of a file give its contents
 pub of_joined : (text : List ℕ) (result : Result UnitText UnitError) → IsUnlessMemory result (unit_of_lines (joined (file_parts text)))
     → IsUnlessMemory result (unit_of_lines (joined_lines text))
 of_joined text result h = subst (λ ls. IsUnlessMemory result (unit_of_lines ls)) (joined_groups (file_parts text)) h

@@ -1,4 +1,4 @@
--- What a joined line is, and what it means.
+-- The kind of a joined line is its meaning.
 use Rattle.std.proofs.Common.{◌≡◌, ◌≢◌, ℕ, suc, ◌+◌, Bool, true, false, cond, eqb, ltb, Option, Some, None, List, [], ◌∷◌, ◌++◌, length}
 use Rattle.std.proofs.Common.{take, drop, reverse, refl, sym, ap, ◌∙◌, subst, arith}
 use Rattle.std.proofs.Math.Seq.{take-append_seam, drop-append-add}
@@ -15,7 +15,7 @@ use Rattle.unit_grammar.specs.Kinds.{assigned, filled, trimmed_kind, kind_of}
 use Rattle.unit_grammar.specs.Meaning.{opening, closing, equals, BeginsHeader, Assigns, Means}
 use Rattle.unit_grammar.proofs.Ends.{behind_some, behind_none}
 
--- what stands before a last byte
+-- the text before a last byte
 before_some : (byte : ℕ) (text front : List ℕ) → text ≡ front ++ byte ∷ [] → before byte text ≡ Some front
 before_some byte text front e =
     ap (option_map reverse) (behind_some byte (reverse text) (reverse front) (ap reverse e ∙ reverse-append front (byte ∷ [])))
@@ -36,7 +36,7 @@ before_whole byte text front (Some rest) h e =
     ∙ reverse-append (byte ∷ []) rest
     ∙ ap (λ f. f ++ byte ∷ []) (same_Some (reverse rest) front e)
 
--- what stands on the two sides of the first `=`
+-- the texts before and after the first `=`
 abbrev is_equals : ℕ → Bool
 is_equals byte = eqb byte equals
 
@@ -138,7 +138,7 @@ means_so (byte ∷ text) =
     ]
     refl
 
--- and back: a meaning is that of one kind
+-- conversely: a meaning belongs to one kind
 before_nothing : (byte : ℕ) (text : List ℕ) (front : Option (List ℕ)) → before byte text ≡ front
     → ((front : List ℕ) → text ≢ front ++ byte ∷ []) → before byte text ≡ None
 before_nothing byte text None e never = e
@@ -195,7 +195,7 @@ kind_from text (assigns key value) a =
     ∙ ap (keyed key) (sym a.value_is)
     ∙ has_key key value a.filled
 
--- what a line is, and what the text between the white space at its ends means
+-- the kind of a line is the meaning of the text between the white space at its ends
 pub meaning : (line : List ℕ) (kind : Kind) → (kind_of line ≡ kind) ↔ Means (trim line) kind
 meaning line kind =
     (λ e. subst (Means (trim line)) e (means_so (trim line)), kind_from (trim line) kind)

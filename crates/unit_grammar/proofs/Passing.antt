@@ -1,4 +1,4 @@
--- What passing over a line of the file does to where a reader stands.
+-- A line of the file moves the reader on.
 use Rattle.std.proofs.Common.{◌≡◌, ℕ, ◌+◌, false, cond, Option, Some, None, Result, Ok, Err, List, [], ◌∷◌, ◌++◌, refl, sym, ap, ◌∙◌, subst}
 use Rattle.std.proofs.Common.{append-nil, append_assoc}
 use Rattle.unit_grammar.specs.declared.joined.Line.{Line}
@@ -17,7 +17,7 @@ with_open-whole (Some front) part lines = refl
 joined_whole : (part : Line) (parts : List Line) → continues part.text ≡ false → joined (part ∷ parts) ≡ part ∷ joined parts
 joined_whole part parts e = ap (λ b. cond b (attached (opened part) (joined parts)) (part ∷ joined parts)) e
 
--- a part that ends a joined line
+-- a part ends a joined line
 line_ends : (lines : List Line) (begun : Option Line) (part : Line) (parts : List Line) (section : Option (List ℕ))
     (assignments : List Assignment) (notes : List Note) → continues part.text ≡ false
     → (s : StandsBefore lines begun (part ∷ parts) section assignments notes) → lines ≡ s.front ++ extended begun part ∷ joined parts
@@ -48,7 +48,7 @@ passes_whole lines begun begun' part line parts section section' assignments ass
     subst (λ b. Passes lines parts result b section' assignments' notes') (sym none)
     (passes_none lines begun part line parts section section' assignments assignments' notes notes' result e same s t)
 
--- the line that goes on where the file ends
+-- a line has begun when the file ends
 ends_none : (lines : List Line) (begun : Option Line) (line : Line) (section section' : Option (List ℕ))
     (assignments assignments' : List Assignment) (notes notes' : List Note) (result : Result (Unit {0}) UnitError) → begun ≡ Some line
     → (s : StandsBefore lines begun [] section assignments notes) → Takes s.front line result section' assignments' notes'

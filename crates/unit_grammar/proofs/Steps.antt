@@ -1,4 +1,4 @@
--- What one more line does to what has been read.
+-- One more line adds to the lines that have been read.
 use Rattle.std.proofs.Common.{◌≡◌, ℕ, cond, Option, Some, None, Result, Ok, Err, List, [], ◌∷◌, ◌++◌, length, refl, sym, ap, ◌∙◌}
 use Rattle.std.proofs.Common.{append-nil}
 use Rattle.std.specs.Prelude.{slice_get}
@@ -16,7 +16,7 @@ use Rattle.unit_grammar.specs.Reading.{header_name, section_of, assignment_in, a
 use Rattle.unit_grammar.specs.Reading.{fault_in, fault_at, fault_of, unless_fault, unit_of_lines}
 use Rattle.unit_grammar.specs.Progress.{HasRead, Takes, AddsNote, AddsAssignment, IsUnlessMemory}
 
--- what each line gives, with more lines
+-- the values of the lines, with more lines
 given-append : {X : Type 0} (f : List Line × Line → Option X) (lines more : List Line)
     → filter_map f (with_before [] (lines ++ more)) ≡ filter_map f (with_before [] lines) ++ filter_map f (with_before lines more)
 given-append f lines more = ap (filter_map f) (with_before-append [] lines more)
@@ -37,7 +37,7 @@ no_more : (faults : List UnitError) (o : Option UnitError) → slice_get faults 
 no_more [] o e f = ap (λ o. slice_get (cons_option o []) 0) f
 no_more (fault ∷ faults) o e f = e
 
--- the fault of a line, in the words of its kind
+-- the fault of a line, by its kind
 pub fault_known : (lines : List Line) (line : Line) (kind : Kind) (section : Option (List ℕ)) (assignments : List Assignment)
     (notes : List Note) → HasRead lines section assignments notes → kind ≡ kind_of line.text
     → fault_at (lines, line) ≡ fault_in section (length assignments) line.number kind

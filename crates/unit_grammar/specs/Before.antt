@@ -1,7 +1,7 @@
--- Each element of a list with those before it, and the last one.
+-- Each element of a list with the elements before it, and the last element.
 use Rattle.std.specs.Prelude.{Option, Some, None, List, [], ◌∷◌, ◌++◌}
 
--- each element with those before it, after some that went before
+-- each element with the elements before it, given the elements before the list
 abbrev pub with_before : {X : Type 0} → List X → List X → List (List X × X)
 with_before before [] = []
 with_before before (x ∷ xs) = (before, x) ∷ with_before (before ++ x ∷ []) xs

@@ -1,4 +1,4 @@
--- The words that are printed for the causes of notes.
+-- Each cause of a note has a printed word.
 use Rattle.std.specs.Prelude.{ℕ, List, codes}
 use Rattle.unit_grammar.specs.declared.notes.NoteCause.{NoteCause}
 use Rattle.unit_grammar.specs.declared.notes.NoteCause.TheVariants.{NoSection, NoEquals, Value, Unjudged, Specifier, UnknownName}

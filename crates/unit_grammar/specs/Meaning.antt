@@ -1,4 +1,4 @@
--- What a joined line means (systemd.syntax(7)), by the text between the white space at its ends.
+-- A joined line has its meaning from the text between the white space at its ends (systemd.syntax(7)).
 use Rattle.std.specs.Prelude.{◌≡◌, ◌≢◌, ℕ, ◌==◌, not, true, List, [], ◌∷◌, ◌++◌}
 use Rattle.std.specs.List.{list_all}
 use Rattle.unit_grammar.specs.Spaces.{trim}
@@ -20,7 +20,7 @@ equals = 61
 abbrev pub BeginsHeader : List ℕ → Type 0
 BeginsHeader text = (rest : List ℕ) × (text ≡ opening ∷ rest)
 
--- the text is no header, and its first `=` stands between a key, which is not empty, and a value
+-- the text is no header, and its first `=` separates a key, which is not empty, from a value
 pub record Assigns (text key value : List ℕ) : Type 0 where
   pub left : List ℕ
   pub right : List ℕ
@@ -31,7 +31,7 @@ pub record Assigns (text key value : List ℕ) : Type 0 where
   pub value_is : value ≡ trim right
   pub filled : key ≢ []
 
--- an empty text is skipped, a header stands between brackets, an assignment has its `=`, and any other text lacks one or the key before it
+-- an empty text is skipped, a header is between brackets, an assignment has its `=`, and any other text lacks `=` or the key before it
 abbrev pub Means : List ℕ → Kind → Type 0
 Means text skipped = text ≡ []
 Means text (header section) = text ≡ opening ∷ (section ++ closing ∷ [])

@@ -1,4 +1,4 @@
--- What has been read at the end of some lines, and what a further line does to it.
+-- A reader has read some lines, and reads one more.
 use Rattle.std.specs.Prelude.{◌≡◌, ℕ, nat_le, true, false, Option, Some, None, Result, Ok, Err, List, [], ◌∷◌, ◌++◌, length}
 use Rattle.unit_grammar.specs.Joining.{joined, with_open}
 use Rattle.unit_grammar.specs.Reading.{section_of, assignments_of, notes_of, fault_at, fault_of, unit_of_lines}
@@ -17,14 +17,14 @@ IsUnlessMemory (Err NotText) wanted = wanted ≡ Err NotText
 IsUnlessMemory (Err TooMany) wanted = wanted ≡ Err TooMany
 IsUnlessMemory (Err (BadHeader number)) wanted = wanted ≡ Err (BadHeader number)
 
--- what a reader has at the end of some lines without a fault
+-- the reader has read some lines without a fault
 pub record HasRead (lines : List Line) (section : Option (List ℕ)) (assignments : List Assignment) (notes : List Note) : Type 0 where
   pub faultless : fault_of lines ≡ None
   pub in_section : section ≡ section_of lines
   pub assigned : assignments ≡ assignments_of lines
   pub noted : notes ≡ notes_of lines
 
--- what a further line does to it
+-- the reader reads one more line, or refuses it for its fault
 abbrev pub Takes : List Line → Line → Result (Unit {0}) UnitError → Option (List ℕ) → List Assignment → List Note → Type 0
 Takes lines line (Ok done) section assignments notes = HasRead (lines ++ line ∷ []) section assignments notes
 Takes lines line (Err Memory) section assignments notes = Unit {0}
@@ -32,19 +32,19 @@ Takes lines line (Err NotText) section assignments notes = ⊥
 Takes lines line (Err TooMany) section assignments notes = fault_at (lines, line) ≡ Some TooMany
 Takes lines line (Err (BadHeader number)) section assignments notes = fault_at (lines, line) ≡ Some (BadHeader number)
 
--- the place of a reader in a file of some joined lines: after some of them, with a line that goes on or none, and before these parts
+-- the reader has read some joined lines of a file, may have begun another, and still has these parts to read
 pub record StandsBefore (lines : List Line) (begun : Option Line) (parts : List Line) (section : Option (List ℕ)) (assignments : List Assignment) (notes : List Note) : Type 0 where
   pub front : List Line
   pub read : HasRead front section assignments notes
   pub whole : lines ≡ front ++ with_open begun (joined parts)
 
--- what passing over a part does to it
+-- the reader passes over a part, or refuses the file
 abbrev pub Passes : List Line → List Line → Result (Unit {0}) UnitError → Option Line → Option (List ℕ) → List Assignment → List Note
     → Type 0
 Passes lines parts (Ok done) begun section assignments notes = StandsBefore lines begun parts section assignments notes
 Passes lines parts (Err error) begun section assignments notes = IsUnlessMemory (Err error) (unit_of_lines lines)
 
--- what a helper did to its list
+-- the helper appends a note to its list
 abbrev pub AddsNote : List Note → Note → Result (Unit {0}) UnitError → List Note → Type 0
 AddsNote old note (Ok done) new = new ≡ old ++ note ∷ []
 AddsNote old note (Err Memory) new = Unit {0}

@@ -1,6 +1,6 @@
-// A line that goes on in the next.
+// Joins a line that continues in the next.
 //
-// Only such a line has a text of its own; any other is read where it is in the file.
+// Only a joined line has a text of its own; any other line is read at its place in the file.
 ghost use Rattle.std.specs.Prelude.{◌≡◌, IfOk, true};
 ghost use Rattle.unit_grammar.specs.Spaces.{continues};
 ghost use Rattle.unit_grammar.specs.Joining.{opened, extended};
@@ -9,15 +9,15 @@ use crate::spaces::without_backslash;
 use crate::texts::Text;
 use std::alloc::{AllocError, Global};
 
-/// A line of the file, or several that are joined.
+/// A line of the file, or several joined lines.
 #[derive(Drop)]
 pub struct Line {
-    /// The number of the first, from 1.
+    /// The number of its first line, from 1.
     pub number: u64,
     pub text: Text,
 }
 
-// The line that has been begun, with a part after it, or the part alone.
+// Returns the line that has begun with a part after it, or the part alone if no line has begun.
 fn extend(alloc: Global, begun: Option<Line>, number: u64, text: &str) -> Result<Line, AllocError>
     ensures { IfOk result (λ line. line ≡ extended begun (record { number = number; text = text.now })) }
 {
@@ -33,7 +33,7 @@ fn extend(alloc: Global, begun: Option<Line>, number: u64, text: &str) -> Result
     }
 }
 
-/// The same for a part that goes on: its last backslash becomes a space.
+/// Returns the same for a part that continues in the next line, with a space in place of its last backslash.
 pub fn extend_open(
     alloc: Global,
     begun: Option<Line>,

@@ -1,22 +1,22 @@
-// What a joined line is.
+// Finds the kind of a joined line.
 //
-// A line is looked at without the white space at its ends; its header, key and value are lent.
+// It ignores white space at the ends of the line. The header, the key and the value are borrowed from it.
 ghost use Rattle.std.specs.Prelude.{◌≡◌};
 ghost use Rattle.std.specs.Option.{option_map};
 ghost use Rattle.unit_grammar.specs.Kinds.{behind, before, cut_at, named_header, keyed, assigned, filled, trimmed_kind, kind_of, seen};
 
 use crate::spaces::trimmed;
 
-/// What a joined line is.
+/// The kind of a joined line.
 #[derive(Clone, Copy)]
 pub enum Kind<'a> {
-    /// Nothing but white space.
+    /// The line has nothing but white space.
     Skipped,
     /// `[NAME]`, with the name.
     Header(&'a str),
-    /// It begins with `[` and does not end with `]`.
+    /// The line begins with `[` and does not end with `]`.
     BadHeader,
-    /// It has no `=`, or no key before it.
+    /// The line has no `=`, or no key before it.
     NoEquals,
     /// A key and a value.
     Assigns(&'a str, &'a str),

@@ -1,7 +1,7 @@
 //! Reads the assignments of a unit file.
 //!
-//! Lines are joined, and each joined line is skipped, a header, an assignment, or gets a note (systemd.syntax(7)).
-//! `dropin_merge` reads files by it.
+//! Lines are joined, and each joined line is skipped, a header, or an assignment, or gets a note (systemd.syntax(7)).
+//! `dropin_merge` uses the crate to read files.
 //!
 //! `read_unit(alloc, b"[Service]\nUser=web\n")?` has one assignment and no note.
 #![tactic(auto)]

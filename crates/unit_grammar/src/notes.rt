@@ -1,6 +1,6 @@
-// Notes on lines that have no effect.
+// Defines notes on lines that have no effect.
 //
-// The grammar makes two of the causes; the others are for the readers of the values.
+// The grammar makes two of the causes; the readers of the values make the others.
 ghost use Rattle.std.specs.Prelude.{◌≡◌};
 ghost use Rattle.unit_grammar.specs.Causes.{cause_text};
 
@@ -11,30 +11,30 @@ use text_forms::item_list::ItemList;
 /// Why a line, or a part of it, has no effect.
 #[derive(Clone, Copy, Debug, PartialEq, Eq)]
 pub enum NoteCause {
-    /// An assignment stands before any section header.
+    /// An assignment precedes the first section header.
     NoSection,
     /// A line has no `=`, or nothing before it.
     NoEquals,
     /// A value cannot be read.
     Value,
-    /// A setting is not judged.
+    /// Lentsheep does not judge a setting.
     Unjudged,
     /// A value has a specifier that cannot be expanded.
     Specifier,
-    /// A value has a name that is not known.
+    /// A value has an unknown name.
     UnknownName,
 }
 
 /// A note on a line of a file.
 #[derive(Clone, Copy)]
 pub struct Note {
-    /// The number of the line, from 1; of a joined line, that of its first.
+    /// The number of the line, from 1. A joined line has the number of its first line.
     pub line: u64,
     pub cause: NoteCause,
 }
 
 impl NoteCause {
-    /// The word that is printed for the cause.
+    /// Returns the printed word for the cause.
     pub fn text(self) -> &'static str
         ensures printed_word { result.now ≡ cause_text self }
     {

@@ -1,6 +1,6 @@
 // Reads a unit, line by line.
 //
-// Each joined line is read as soon as it is whole; `kinds` gives its kind.
+// It reads each joined line as soon as the line is whole; `kinds` gives the kind of the line.
 ghost use Rattle.std.specs.Prelude.{◌≡◌, ◌≢◌, ◌+◌, ◌∷◌, [], ℕ, List, IfOk, IfErr, Ok, Err, None};
 ghost use Rattle.std.specs.Option.{option_map};
 ghost use Rattle.unit_grammar.specs.declared.joined.Line.{Line};
@@ -51,8 +51,8 @@ fn add_assignment(
     })?)
 }
 
-// What has been read: the section of the last header, the assignments and notes of the joined lines so far, and the
-// line that goes on.
+// The state of the reader: the section of the last header, the assignments and notes of the joined lines so far, and the
+// line that continues.
 #[derive(Drop)]
 struct Reader {
     section: Option<Text>,
@@ -90,7 +90,7 @@ impl Reader {
         }
     }
 
-    // Takes the next part, which ends a joined line or goes on.
+    // Takes the next part, which ends a joined line or continues in the next line.
     fn take_part(&mut self, alloc: Global, number: u64, part: &str) -> Result<(), UnitError>
         ensures { (lines parts : List Line) → StandsBefore lines self.old.begun (record { number = number; text = part.now } ∷ parts) self.old.section self.old.assignments self.old.notes
             → Passes lines parts result self.new.begun self.new.section self.new.assignments self.new.notes }
@@ -121,7 +121,7 @@ impl Reader {
         self.take_part(alloc, number, part)
     }
 
-    // Takes the line that goes on, where the file ends.
+    // Takes the line that has begun but not ended when the file ends.
     fn take_begun(&mut self, alloc: Global) -> Result<(), UnitError>
         ensures passed { (lines : List Line) → StandsBefore lines self.old.begun [] self.old.section self.old.assignments self.old.notes
             → Passes lines [] result self.new.begun self.new.section self.new.assignments self.new.notes }
@@ -188,14 +188,14 @@ fn read_bytes(alloc: Global, bytes: &[u8]) -> Result<UnitText, UnitError>
     read_text(alloc, text)
 }
 
-/// Reads what a unit file assigns, as systemd.syntax(7) says.
+/// Reads the assignments of a unit file, as systemd.syntax(7) says.
 ///
 /// Lines are split at LF, and white space is space, tab and CR. A line whose first other character is `#` or `;` is
 /// skipped. A line that ends in an odd number of backslashes continues in the next, and its last backslash becomes a
 /// space. `[NAME]` is a header. Any other line that is not empty assigns the value after its first `=` to the key
 /// before it. A line without `=` or without a key gets a note, and so does an assignment before any header.
 ///
-/// `NotText` comes first, if the bytes are not UTF-8 or have a NUL. Then the earlier of two faults decides:
+/// `NotText` has precedence: the bytes are not UTF-8 or have a NUL. Then the earlier of two faults decides:
 /// `BadHeader` of the first header without its closing bracket, or `TooMany` at the 4,097th assignment under a
 /// header, in all sections together.
 pub fn read_unit(alloc: Global, bytes: &[u8]) -> Result<UnitText, UnitError>

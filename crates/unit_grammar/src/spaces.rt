@@ -1,6 +1,6 @@
-// White space at the ends of a text, and backslashes at its end.
+// Finds white space at the ends of a text, and backslashes at its end.
 //
-// A text is cut beside ASCII bytes only, so that what is left is text.
+// It cuts a text beside ASCII bytes only, so that the rest is still text.
 ghost use Rattle.std.specs.Prelude.{◌≡◌, ◌==◌, ◌%◌, true};
 ghost use Rattle.std.specs.List.{prefix_len, suffix_len};
 ghost use Rattle.unit_grammar.specs.Spaces.{is_white, is_backslash, trim_start, trim_end, trim, continues, without_last, is_comment};
@@ -32,35 +32,35 @@ fn trailing_backslashes(text: &[u8]) -> usize
     text.iter().rev().take_while(|byte| **byte == b'\\').count()
 }
 
-/// The text without its leading white space.
+/// Returns the text without its leading white space.
 pub fn trimmed_start(text: &str) -> &str
     ensures start_trimmed { result.now ≡ trim_start text.now }
 {
     &text[leading_white(text.as_bytes())..]
 }
 
-/// The text without its trailing white space.
+/// Returns the text without its trailing white space.
 pub fn trimmed_end(text: &str) -> &str
     ensures end_trimmed { result.now ≡ trim_end text.now }
 {
     &text[..text.len() - trailing_white(text.as_bytes())]
 }
 
-/// The text without white space at its ends.
+/// Returns the text without white space at its ends.
 pub fn trimmed(text: &str) -> &str
     ensures both_trimmed { result.now ≡ trim text.now }
 {
     trimmed_end(trimmed_start(text))
 }
 
-/// Returns whether a line goes on in the next.
+/// Returns whether a line continues in the next.
 pub fn continues_line(line: &str) -> bool
     ensures ends_open { result ≡ continues line.now }
 {
     trailing_backslashes(line.as_bytes()) % 2 == 1
 }
 
-/// The text without its last byte, which is a backslash.
+/// Returns the text without its last byte, which is a backslash.
 pub fn without_backslash(line: &str) -> &str
     requires { continues line.now ≡ true }
     ensures last_left_out { result.now ≡ without_last line.now }

@@ -1,6 +1,6 @@
-// A text, which contracts see as its bytes.
+// Defines a text that contracts see as its bytes.
 //
-// Records with such texts are records of lists in contracts, and can be compared there.
+// In contracts, records with such texts are records of lists and can be compared.
 ghost use Rattle.std.specs.Prelude.{◌≡◌, ◌++◌, IfOk, OnOk, OnErr};
 
 use std::alloc::{AllocError, Global};
@@ -33,7 +33,7 @@ impl From<String> for Text {
 }
 
 impl Text {
-    /// A copy of a text.
+    /// Returns a copy of a text.
     pub fn new(alloc: Global, text: &str) -> Result<Text, AllocError>
         ensures same_text { IfOk result (λ made. made ≡ text.now) }
     {
@@ -42,7 +42,7 @@ impl Text {
         })
     }
 
-    /// The text.
+    /// Returns the text.
     pub fn as_str(&self) -> &str
         ensures same_text { result.now ≡ self.now }
     {

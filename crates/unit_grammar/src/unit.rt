@@ -1,4 +1,4 @@
-// What a unit file says, and why it says nothing.
+// Defines the contents of a unit file, and why a file is refused.
 //
 // Contracts see the texts as bytes and the lists as lists; the notes come from `notes`.
 ghost use Rattle.std.specs.Prelude.{◌≡◌, IfOk};
@@ -10,19 +10,19 @@ use std::alloc::{AllocError, Global};
 use text_forms::item_list::ItemList;
 use thiserror::Error;
 
-/// A key of a section, and the value that it is given.
+/// A key of a section, and its value.
 #[derive(Drop)]
 pub struct Assignment {
     /// The text between the brackets of the last header before it.
     pub section: Text,
     pub key: Text,
     pub value: Text,
-    /// The number of the line, from 1; of a joined line, that of its first.
+    /// The number of the line, from 1. A joined line has the number of its first line.
     pub line: u64,
 }
 
 impl Assignment {
-    // The same assignment once more.
+    // Returns a copy of the assignment.
     fn copy(&self, alloc: Global) -> Result<Assignment, AllocError>
         ensures { IfOk result (λ copy. copy ≡ self.now) }
     {
@@ -38,7 +38,7 @@ impl Assignment {
 /// Assignments, which contracts see as a list.
 pub type Assignments = ItemList<Assignment>;
 
-// The same assignments once more.
+// Returns a copy of the assignments.
 fn copied(alloc: Global, assignments: &[Assignment]) -> Result<Assignments, AllocError>
     ensures { IfOk result (λ copies. copies ≡ assignments.now) }
 {
@@ -49,7 +49,7 @@ fn copied(alloc: Global, assignments: &[Assignment]) -> Result<Assignments, Allo
     Ok(Assignments::new(copies))
 }
 
-/// What a unit file says: its assignments, of all sections, and its notes, in the order of lines.
+/// The contents of a unit file: the assignments of all sections, and the notes, in the order of lines.
 #[derive(Drop)]
 pub struct UnitText {
     pub assignments: Assignments,
@@ -57,7 +57,7 @@ pub struct UnitText {
 }
 
 impl UnitText {
-    /// The same text once more.
+    /// Returns a copy of the contents.
     pub fn copy(&self, alloc: Global) -> Result<UnitText, AllocError>
         ensures same_text { IfOk result (λ copy. copy ≡ self.now) }
     {
@@ -77,10 +77,10 @@ pub enum UnitError {
     /// The line of this number begins with `[` and does not end with `]`.
     #[error("line {0} begins a header and does not end it")]
     BadHeader(u64),
-    /// More than 4,096 assignments stand under headers.
+    /// The file has more than 4,096 assignments under headers.
     #[error("too many assignments")]
     TooMany,
-    /// There is no memory left.
+    /// Memory ran out.
     #[error("out of memory")]
     Memory,
 }

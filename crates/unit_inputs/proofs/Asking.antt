@@ -1,4 +1,4 @@
--- Steps that read nothing, behind those that did.
+-- Some steps read nothing and follow steps that read.
 use Rattle.std.proofs.Common.{◌≡◌, ℕ, List, [], ◌∷◌, ◌++◌, Vec, Global, Option, Some, None, Result, Ok, Err, refl, sym, ap, ◌∙◌, subst}
 use Rattle.std.specs.Prelude.{IfSome, IsErrOf}
 use Rattle.std.specs.Result.{IsErrAnd}
@@ -13,19 +13,19 @@ use Rattle.unit_inputs.specs.declared.command_answers.error.CommandError.{Comman
 use Rattle.unit_inputs.specs.declared.command_answers.error.CommandError.TheVariants.{Refused, ReadFault, Memory}
 use Rattle.unit_inputs.proofs.FileCommands.{at_stop}
 
--- one call, by what the shelf answered
+-- one call has a course by the answer of the shelf
 pub call_ends : {S T : Type 0} (asks : S → ShelfCall → S → Type 0) (a b : S) (ask : Ask) (result end : Result T ShelfError) → result ≡ end
     → asks a (call_of ask result) b → AsksExactly asks a b (ask ∷ []) (course_of end)
 call_ends asks a b ask result end is made = subst (AsksExactly asks a b (ask ∷ [])) (ap course_of is) (one_call asks a b ask result made)
 
--- how it ended is the same whatever was wanted
+-- the course of an error is the same for every wanted value
 pub course_as : (T U : Type 0) (why : CommandError) → course {T = T} (Err why) ≡ course {T = U} (Err why)
 course_as T U (Refused line) = refl
 course_as T U ReadFault = refl
 course_as T U Memory = refl
 
 module _ {S : Type 0} (asks : S → ShelfCall → S → Type 0) (a b : S) where
-  -- what reads nothing leaves what was read
+  -- a step that reads nothing leaves the calls so far
   pub went_quiet : {T : Type 0} (x : List Ask) (result : Result T CommandError) → (IsErrOf result ReadFault → ⊥) → AsksExactly asks a b x Whole
       → AsksExactly asks a b x (course result)
   went_quiet x (Ok value) quiet made = made
@@ -38,7 +38,7 @@ module _ {S : Type 0} (asks : S → ShelfCall → S → Type 0) (a b : S) where
   told_quiet None x result quiet made = tt
   told_quiet (Some files) x result quiet made = went_quiet (x files) result quiet made
 
-  -- what stops is passed on
+  -- an error is passed on with its course
   pub went_stopped : (T : Type 0) {U : Type 0} (x : List Ask) (result : Result U CommandError) (why : CommandError)
       → IsErrAnd result (λ error. error ≡ why) → AsksExactly asks a b x (course {T = T} (Err why)) → AsksExactly asks a b x (course result)
   went_stopped T {U} x result why is made = at_stop (λ (r : Result U CommandError). AsksExactly asks a b x (course r)) result why is
@@ -56,7 +56,7 @@ module _ {S : Type 0} (asks : S → ShelfCall → S → Type 0) (a b : S) where
   told_quiet_stopped T told x result why is quiet made = told_stopped T told x result why is
       (told_quiet {T = T} told x (Err why) quiet made)
 
-  -- one reading behind another that is not refused
+  -- a reading follows another that is not refused
   pub answer_behind : {T V : Type 0} (c : S) (see : T → V) (told between : Option Files) (x y : Files → List Ask)
       (wanted : Files → Result V (List ℕ)) (value : T) (how : Course) → between ≡ told
       → IfSome told (λ files. IsAnswer see (Ok value) (wanted files)) → IfSome told (λ files. AsksExactly asks a b (x files) Whole)
@@ -70,7 +70,7 @@ module _ {S : Type 0} (asks : S → ShelfCall → S → Type 0) (a b : S) where
       by_told None is = tt
       by_told (Some files) is = sym (ap (λ r. unless_refused r (y files)) is)
 
-  -- and one that is refused leaves the other
+  -- after a refused reading the next one is not made
   pub answer_stops : {T V : Type 0} (see : T → V) (told : Option Files) (x y : Files → List Ask) (wanted : Files → Result V (List ℕ))
       (why : CommandError)
       → IfSome told (λ files. IsAnswer see (Err why) (wanted files))
@@ -90,7 +90,7 @@ module _ {S : Type 0} (asks : S → ShelfCall → S → Type 0) (a b : S) where
       by_told None is = tt
       by_told (Some files) is = by_why files why is
 
-  -- one reading behind others of which none is refused
+  -- a reading follows others of which none is refused
   pub prepared_behind : {T : Type 0} (c : S) (P : Files → T → Type 0) (told between : Option Files) (x y : Files → List Ask)
       (refusals : Files → List (Option (List ℕ))) (value : T) (how : Course) → between ≡ told
       → IfSome told (λ files. Prepares (P files) (refusals files) (Ok value)) → IfSome told (λ files. AsksExactly asks a b (x files) Whole)
@@ -125,7 +125,7 @@ module _ {S : Type 0} (asks : S → ShelfCall → S → Type 0) (a b : S) where
       by_told None is = tt
       by_told (Some files) is = by_why files why is
 
--- a line that is told is no fault
+-- a line that is printed is no fault
 pub told_line : {T : Type 0} (line : Result (Vec ℕ Global) AllocError) (why : CommandError) → why ≡ error_of_line line
     → IsErrOf {T = T} (Err why) ReadFault → ⊥
 told_line (Ok line) why is fault = (let same : Refused line ≡ ReadFault = (let passed : why ≡ ReadFault = cc in sym is ∙ passed) in cc)

@@ -1,4 +1,4 @@
--- How reading ended in a run, by how the run ended.
+-- The exit status of a run says how its reading ended.
 use Rattle.std.proofs.Common.{◌≡◌, ℕ, List, Result, Ok, Err, refl, sym, ◌∙◌, ap, subst}
 use Rattle.std.specs.Prelude.{IsTrue}
 use Rattle.exec_settings.specs.host_io.Calls.{Course, Whole, Faulted, Cut}
@@ -14,7 +14,7 @@ use Rattle.unit_inputs.specs.declared.command_answers.exit_status.ExitStatus.The
 use Rattle.unit_inputs.specs.declared.command_answers.error.CommandError.{CommandError}
 use Rattle.unit_inputs.specs.declared.command_answers.error.CommandError.TheVariants as stop
 
--- behind a whole text all was read
+-- everything was read before a whole text
 pub whole_read : (status : ExitStatus) → IsTrue (is_whole status) → course_of_run status ≡ Whole
 whole_read Done whole = refl
 whole_read AboveThreshold whole = refl
@@ -26,9 +26,9 @@ whole_read OutOfMemory whole = cc
 whole_read LaunchRefused whole = refl
 whole_read Differs whole = refl
 
--- of what holds where all was read, and then where memory ran out
+-- a property of complete reading, and then of exhausted memory
 module _ (C : Course → Type 0) (cut : C Whole → C Cut) where
-  -- by how the text was put
+  -- the property holds after the put of the text
   pub put_so : (status : ExitStatus) (put : Result (Unit {0}) SinkError) → IsTrue (is_whole status) → C Whole
       → C (course_of_run (status_of_put put status))
   put_so status (Ok u) whole held = subst C (sym (whole_read status whole)) held
@@ -40,14 +40,14 @@ module _ (C : Course → Type 0) (cut : C Whole → C Cut) where
   printed_so status text ended output whole printed held = subst (λ e. C (course_of_run e)) (sym printed.ends)
       (put_so status printed.put whole held)
 
-  -- by what stopped
+  -- the property holds after the error that stopped the command
   pub stopped_so : (T : Type 0) (why : CommandError) (ended : ExitStatus) (output : Output) → FinishesError why ended output
       → C (course {T = T} (Err why)) → C (course_of_run ended)
   stopped_so T (stop.Refused line) ended output finished held = printed_so Refused line.items ended output refl finished held
   stopped_so T stop.ReadFault ended output finished held = subst (λ e. C (course_of_run e)) (sym finished.0) held
   stopped_so T stop.Memory ended output finished held = subst (λ e. C (course_of_run e)) (sym finished.0) held
 
-  -- by what was prepared
+  -- the property holds after the preparation
   pub ended_so : (laws : Laws) (together : GoTogether laws) {R : Type 0} (behind : R → ExitStatus) (text : R → List ℕ)
       (prepared : Result R CommandError) (ended : ExitStatus) (output : Output)
       → IsAdmitted laws behind text prepared → Finishes behind text prepared ended output → C (course prepared) → C (course_of_run ended)

@@ -1,4 +1,4 @@
--- Calls in their order, by how a run ended behind what was prepared.
+-- The calls have their order in a run that ends after its preparation.
 use Rattle.std.proofs.Common.{◌≡◌, ℕ, List, Option, Result, Ok, Err, sym, subst}
 use Rattle.std.specs.Prelude.{IsTrue}
 use Rattle.exec_settings.specs.host_io.Calls.{Ask, ShelfCall, Whole}
@@ -15,7 +15,7 @@ use Rattle.unit_inputs.specs.Asking.{AsksInOrder}
 use Rattle.unit_inputs.proofs.Ordering.{order_cut}
 
 module _ {S : Type 0} (asks : S → ShelfCall → S → Type 0) (told : Option Files) (wanted : Files → List Ask) (a b : S) where
-  -- what was prepared is printed, or what stopped it
+  -- the run printed the prepared text, or the line of the error that stopped it
   pub order_finished : (laws : Laws) (together : GoTogether laws) {R : Type 0} (behind : R → ExitStatus) (text : R → List ℕ)
       (prepared : Result R CommandError) (ended : ExitStatus) (output : Output)
       → IsAdmitted laws behind text prepared → Finishes behind text prepared ended output
@@ -35,7 +35,7 @@ module _ {S : Type 0} (asks : S → ShelfCall → S → Type 0) (told : Option F
   order_printed status text ended output whole printed made =
       printed_so (λ how. AsksInOrder asks told wanted a b how) (order_cut asks told wanted a b) status text ended output whole printed made
 
-  -- or memory ran out before it
+  -- memory ran out before the printing
   pub order_out : (ended : ExitStatus) → ended ≡ OutOfMemory → AsksInOrder asks told wanted a b Whole
       → AsksInOrder asks told wanted a b (course_of_run ended)
   order_out ended out made = subst (λ own. AsksInOrder asks told wanted a b (course_of_run own)) (sym out)

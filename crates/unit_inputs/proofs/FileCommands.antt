@@ -1,4 +1,4 @@
--- Commands that read files: what they are ready with is admitted, and their laws go together.
+-- Commands that read files admit their texts, and their laws agree.
 use Rattle.std.proofs.Common.{◌≡◌, ℕ, List, Option, Some, None, Ok, Err, refl, sym, ◌∙◌, subst, inl, inr, Result}
 use Rattle.std.specs.Prelude.{IfSome, IsTrue}
 use Rattle.std.specs.Result.{IsErrAnd}
@@ -28,7 +28,7 @@ answer_is_whole Differs answer = refl
 refused_is_whole : (status : ExitStatus) → status ≡ Refused → IsTrue (is_whole status)
 refused_is_whole status e = subst (λ k. IsTrue (is_whole k)) (sym e) refl
 
--- what holds of an error holds of a result that passes it on
+-- a property of an error holds of the result that passes it on
 pub at_stop : {R : Type 0} (P : Result R CommandError → Type 0) (result : Result R CommandError) (stop : CommandError) → IsErrAnd result (λ error. error ≡ stop)
     → P (Err stop) → P result
 at_stop P (Ok ready) stop is holds = absurd is
@@ -36,7 +36,7 @@ at_stop P (Err error) stop is holds = subst (λ one. P (Err one)) (sym is) holds
 
 module _ (laws : FileLaws) where
   module _ {R : Type 0} (behind : R → ExitStatus) (text : R → List ℕ) where
-    -- a stop is admitted by its line
+    -- an error is admitted by its line
     pub stop_is_admitted : {T : Type 0} (P : T → Type 0) (told : Option Files) (stop : CommandError)
         → IfSome told (λ files. Prepares P (laws.refusals files) (Err stop)) → IsAdmitted (laws_over told laws) behind text (Err stop)
     stop_is_admitted P None (stop.Refused line) said = inl refl
@@ -44,7 +44,7 @@ module _ (laws : FileLaws) where
     stop_is_admitted P told stop.ReadFault said = tt
     stop_is_admitted P told stop.Memory said = tt
 
-    -- and so is what is ready
+    -- a prepared text is admitted
     pub ready_is_admitted : (told : Option Files) (ready : R) → laws.may_end (behind ready)
         → IfSome told (λ files. AcceptsFiles laws files × laws.prints files (behind ready) (text ready))
         → IsAdmitted (laws_over told laws) behind text (Ok ready)
@@ -65,7 +65,7 @@ module _ (laws : FileLaws) where
   answered files status answers accepts (inl refused) = absurd (refused.1 accepts)
   answered files status answers accepts (inr printed) = answers status printed.1
 
-  -- the laws go together where each ending behind what is asked is an answer
+  -- the laws agree if each status after the text is an answer
   pub go_together : (told : Option Files) → ((status : ExitStatus) → laws.may_end status → IsTrue (is_answer status))
       → GoTogether (laws_over told laws)
   go_together None answers = record {
@@ -83,7 +83,7 @@ module _ (laws : FileLaws) where
     answers = λ accepts status may. answered files status answers accepts may;
   }
 
--- a command with one text
+-- the laws of a command with one text agree
 pub fixed_go_together : (only : ExitStatus) (line : List ℕ) (accepted : Type 0) → IsTrue (is_whole only)
     → (accepted → IsTrue (is_answer only)) → GoTogether (fixed_laws only line accepted)
 fixed_go_together only line accepted is_so answers = record {

@@ -1,4 +1,4 @@
--- Lines that are handed one behind the other, each as one piece.
+-- Lines are handed to a sink one after the other, each as one piece.
 use Rattle.std.proofs.Common.{◌≡◌, ℕ, zero, suc, ◌+◌, ◌<◌, ◌≤◌, ◌==◌, Bool, true, false, cond, List, [], ◌∷◌, ◌++◌, length, get_or, take}
 use Rattle.std.proofs.Common.{Some, None, refl, sym, ap, ◌∙◌, subst, append_assoc, append-nil, arith, inl, inr}
 use Rattle.std.specs.List.{list_any, position, position_or_len}
@@ -24,7 +24,7 @@ ends_behind x y ends = record {
   ends_so = append_assoc x ends.front (10 ∷ []) ∙ ap (λ l. x ++ l) ends.ends_so;
 }
 
--- Texts of whole lines, one behind the other.
+-- Texts of whole lines, one after the other.
 pub of_lines_then : (x y : List ℕ) → IsOfLines x → IsOfLines y → IsOfLines (x ++ y)
 of_lines_then x y first (inl empty) = subst IsOfLines (sym (ap (λ l. x ++ l) empty ∙ append-nil x)) first
 of_lines_then x y first (inr ends) = inr (ends_behind x y ends)
@@ -68,7 +68,7 @@ none_is_line text none =
     past_it true e none = cc
     past_it false e none = grind (arith, nat_tests, e)
 
--- Nothing stands behind the last line feed of a text that ends in one.
+-- Nothing follows the last line feed of a text that ends in one.
 not_in_it : (words : List ℕ) → has_feed (words ++ 10 ∷ []) ≡ false → ⊥
 not_in_it words none =
     let e : has_feed (words ++ 10 ∷ []) ≡ true = list_any-append (λ byte. byte == 10) words (10 ∷ []) ∙ or_true (has_feed words) in
@@ -102,7 +102,7 @@ module _ {S : Type 0} (puts : S → Put → S → Type 0) where
   each_behind a b c [] y same behind = subst (λ s. HandsEach puts s c y) same behind
   each_behind a b c (line ∷ x) y (next, is, one, rest) behind = (next, is, one, each_behind next b c x y rest behind)
 
-  -- a text behind whole lines
+  -- a text follows whole lines
   pub lines_behind : (a b c : S) (x y : List ℕ) → HandsLines puts a b x → HandsLines puts b c y → HandsLines puts a c (x ++ y)
   lines_behind a b c x y first second = record {
     lines = first.lines ++ second.lines;
@@ -168,7 +168,7 @@ module _ {S : Type 0} (puts : S → Put → S → Type 0) where
     stops = inr (record { line = line; rest = []; are_left = append-nil line; is_line = is; part = part });
   }
 
-  -- a text of whole lines has nothing behind the last one
+  -- a text of whole lines has no unended last line
   pub as_text : (a b : S) (x : List ℕ) → HandsLines puts a b x → HandsText puts a b x
   as_text a b x lines = record {
     front = x;

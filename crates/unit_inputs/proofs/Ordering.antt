@@ -1,4 +1,4 @@
--- Calls in their order: steps that read nothing behind those that did, and one file behind another.
+-- Calls have their order: steps that read nothing follow steps that read, and one file follows another.
 use Rattle.std.proofs.Common.{◌≡◌, ℕ, Box, Global, List, [], ◌∷◌, ◌++◌, Option, Some, None, Result, Ok, Err, refl}
 use Rattle.std.specs.Prelude.{IfSome, IsErrOf}
 use Rattle.std.specs.Result.{IsErrAnd}
@@ -20,34 +20,34 @@ use Rattle.unit_inputs.specs.Inputs.{input_refusals, inputs_of, inputs_view}
 use Rattle.unit_inputs.specs.UnitRefusals.{unit_in}
 use Rattle.unit_inputs.specs.declared.inputs.UnitInputs.{UnitInputs}
 
--- whatever the files are
+-- the calls are in order for any files
 pub asked_so : {S : Type 0} (asks : S → ShelfCall → S → Type 0) (told : Option Files) (wanted : List Ask) (a b : S) (how : Course)
     → AsksExactly asks a b wanted how → AsksInOrder asks told (λ files. wanted) a b how
 asked_so asks told wanted a b how made = record { by_the_files = all_told (λ files. AsksExactly asks a b wanted how) told (λ files. made) }
 
 module _ {S : Type 0} (asks : S → ShelfCall → S → Type 0) (told : Option Files) (wanted : Files → List Ask) (a b : S) where
-  -- what reads nothing leaves what was read
+  -- a step that reads nothing leaves the calls so far
   pub order_quiet : {T : Type 0} (result : Result T CommandError) → (IsErrOf result ReadFault → ⊥) → AsksInOrder asks told wanted a b Whole
       → AsksInOrder asks told wanted a b (course result)
   order_quiet result quiet made = record { by_the_files = told_quiet asks a b told wanted result quiet made.by_the_files }
 
-  -- what stops is passed on
+  -- an error is passed on with its calls
   pub order_stopped : (T : Type 0) {U : Type 0} (result : Result U CommandError) (why : CommandError) → IsErrAnd result (λ error. error ≡ why)
       → AsksInOrder asks told wanted a b (course {T = T} (Err why)) → AsksInOrder asks told wanted a b (course result)
   order_stopped T result why is made = record { by_the_files = told_stopped asks a b T told wanted result why is made.by_the_files }
 
-  -- and so is a stop of what reads nothing
+  -- so is the error of a step that reads nothing
   pub order_quiet_stopped : (T : Type 0) {U : Type 0} (result : Result U CommandError) (why : CommandError) → IsErrAnd result (λ error. error ≡ why)
       → (IsErrOf {T = T} (Err why) ReadFault → ⊥) → AsksInOrder asks told wanted a b Whole
       → AsksInOrder asks told wanted a b (course result)
   order_quiet_stopped T result why is quiet made =
       record { by_the_files = told_quiet_stopped asks a b T told wanted result why is quiet made.by_the_files }
 
-  -- memory may run out behind the last call
+  -- memory may run out after the last call
   pub order_cut : AsksInOrder asks told wanted a b Whole → AsksInOrder asks told wanted a b Cut
   order_cut made = record { by_the_files = told_cut asks told a b wanted made.by_the_files }
 
-  -- one file behind others of which none is refused
+  -- a file follows others of which none is refused
   module _ {T : Type 0} (P : Files → T → Type 0) (refusals : Files → List (Option (List ℕ))) (more : Files → List Ask) where
     pub order_behind : (c : S) (between : Option Files) (value : T) (how : Course) → between ≡ told
         → IfSome told (λ files. Prepares (P files) (refusals files) (Ok value))
@@ -65,7 +65,7 @@ module _ {S : Type 0} (asks : S → ShelfCall → S → Type 0) (told : Option F
         (course {T = T} (Err why))
     order_stops why is made = record { by_the_files = prepared_stops asks a b P told wanted more refusals why is made.by_the_files }
 
-  -- one answer behind another that is not refused
+  -- an answer follows another that is not refused
   module _ {T V : Type 0} (see : T → V) (answer : Files → Result V (List ℕ)) (more : Files → List Ask) where
     pub order_answered : (c : S) (between : Option Files) (value : T) (how : Course) → between ≡ told
         → IfSome told (λ files. IsAnswer see (Ok value) (answer files))
@@ -83,7 +83,7 @@ module _ {S : Type 0} (asks : S → ShelfCall → S → Type 0) (told : Option F
     order_refused why is made = record { by_the_files = answer_stops asks a b see told wanted more answer why is made.by_the_files }
 
 module _ {S : Type 0} (asks : S → ShelfCall → S → Type 0) (told : Option Files) (unit : List ℕ) where
-  -- the inputs, one behind the other
+  -- the inputs are read one after the other
   module _ (a b : S) where
     pub stops_at_unit : (why : CommandError)
         → IfSome told (λ files. IsAnswer {T = Box Resolved Global} (λ own. own.value) (Err why) (unit_in files unit))
@@ -122,7 +122,7 @@ module _ {S : Type 0} (asks : S → ShelfCall → S → Type 0) (told : Option F
         (asked_so asks between site_asks c d how second)
 
   module _ (path : List ℕ) (a b : S) where
-    -- an input is refused, and the file behind them is not read
+    -- an input is refused, and the file after the inputs is not read
     pub stops_before_file : {U : Type 0} (result : Result U CommandError) (why : CommandError) → IsErrAnd result (λ error. error ≡ why)
         → IfSome told (λ files. Prepares (λ inputs. inputs_of files unit ≡ Some (inputs_view inputs)) (input_refusals files unit) (Err why))
         → AsksInOrder asks told (λ files. input_asks files unit) a b (course {T = UnitInputs} (Err why))
@@ -132,7 +132,7 @@ module _ {S : Type 0} (asks : S → ShelfCall → S → Type 0) (told : Option F
         (order_stops asks told (λ files. input_asks files unit) a b (λ files inputs. inputs_of files unit ≡ Some (inputs_view inputs))
         (λ files. input_refusals files unit) (λ files. input_file path ∷ []) why said made)
 
-    -- none is, and it is
+    -- no input is refused, and the file is read
     pub with_file : (c : S) (between : Option Files) (inputs : UnitInputs) (how : Course) → between ≡ told
         → IfSome told (λ files. (first_refusal (input_refusals files unit) ≡ None) × (inputs_of files unit ≡ Some (inputs_view inputs)))
         → AsksInOrder asks told (λ files. input_asks files unit) a b Whole → AsksExactly asks b c (input_file path ∷ []) how
@@ -142,7 +142,7 @@ module _ {S : Type 0} (asks : S → ShelfCall → S → Type 0) (told : Option F
         (λ files. input_refusals files unit) (λ files. input_file path ∷ [])
         c between inputs how same said first (asked_so asks between (input_file path ∷ []) b c how second)
 
-    -- it is refused, or a read failed, or memory ran out
+    -- the file is refused, or a read failed, or memory ran out
     pub stops_at_file : (T : Type 0) {U : Type 0} (c : S) (between : Option Files) (inputs : UnitInputs) (result : Result U CommandError)
         (why : CommandError) → IsErrAnd result (λ error. error ≡ why) → between ≡ told
         → IfSome told (λ files. (first_refusal (input_refusals files unit) ≡ None) × (inputs_of files unit ≡ Some (inputs_view inputs)))

@@ -1,4 +1,4 @@
--- Steps that read nothing, behind one that read for the unit.
+-- Some steps read nothing and follow a step that read for the unit.
 use Rattle.std.proofs.Common.{◌≡◌, ◌∙◌, ℕ, List, Option, Some, None, Result, Ok, Err, refl, ap}
 use Rattle.std.specs.Prelude.{IsErrOf, IsSome}
 use Rattle.std.specs.Result.{IsErrAnd}
@@ -12,7 +12,7 @@ use Rattle.exec_settings.specs.unit_names.Cutting.{name_of}
 use Rattle.unit_inputs.specs.ReadsFor.{ReadsFor}
 
 module _ {S T : Type 0} (told : S → Option Files) (faults : S → ℕ) (unit : List ℕ) (before now : S) (value : T) (reads : ReadsFor told faults unit before now (Ok value)) where
-  -- whatever they answer
+  -- the steps may answer anything
   pub read_then : {U : Type 0} (result : Result U CommandError) → (IsErrOf result ReadFault → ⊥) → ReadsFor told faults unit before now result
   read_then result nothing = record {
     reads_for_a_name = λ e. absurd (nothing e);
@@ -21,17 +21,17 @@ module _ {S T : Type 0} (told : S → Option Files) (faults : S → ℕ) (unit :
     fault_rose = quiet (faults before) (faults now) result reads.fault_rose.no_other_fault nothing;
   }
 
-  -- and where what stops them is passed on
+  -- the error of such a step is passed on
   pub read_then_stopped : {U V : Type 0} (result : Result V CommandError) (why : CommandError) → IsErrAnd result (λ error. error ≡ why)
       → (IsErrOf {T = U} (Err why) ReadFault → ⊥) → ReadsFor told faults unit before now result
   read_then_stopped result why is nothing = at_stop (ReadsFor told faults unit before now) result why is (read_then (Err why) (λ e. (let same : why ≡ ReadFault = cc in nothing (ap Err same))))
 
--- a name that is found is there
+-- a found name exists
 pub named : {X : Type 0} (found : Option X) (name : X) → found ≡ Some name → IsSome found
 named None name is = cc
 named (Some own) name is = refl
 
--- behind a file that was read for a unit with a name
+-- a step follows a file that was read for a unit with a name
 module _ {S T U : Type 0} (told : S → Option Files) (faults : S → ℕ) (unit : List ℕ) (before mid now : S) (value : T) (more : U) (reads : ReadsFor told faults unit before mid (Ok value)) (name : IsSome (name_of unit)) (stays : told now ≡ told mid) (cause : HasReadCause (faults mid) (faults now) (Ok more)) where
   pub read_behind : {V : Type 0} (result : Result V CommandError) → (IsErrOf result ReadFault → ⊥) → ReadsFor told faults unit before now result
   read_behind result nothing = record {

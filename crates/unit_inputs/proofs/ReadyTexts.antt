@@ -1,4 +1,4 @@
--- A text that is ready as a whole, and what comes in its place.
+-- A text is ready as a whole, or an error takes its place.
 use Rattle.std.proofs.Common.{ℕ, List, Result, Ok, Err}
 use Rattle.std.specs.Prelude.{IsErrOf}
 use Rattle.unit_inputs.specs.command_answers.ReadyTexts.{IsReadyWith}

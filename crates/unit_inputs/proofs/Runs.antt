@@ -1,4 +1,4 @@
--- What was prepared and what was printed, put together: the same for all commands.
+-- A run is put together from its preparation and its printing, in the same way for all commands.
 use Rattle.std.proofs.Common.{◌≡◌, ℕ, ◌≤◌, List, Result, Ok, Err, refl, sym, ap, subst, arith, inl, inr}
 use Rattle.std.specs.Prelude.{IsTrue, IsErrOf}
 use Rattle.exec_settings.specs.host_io.Causes.{Rose}
@@ -14,12 +14,12 @@ use Rattle.unit_inputs.specs.declared.command_answers.exit_status.ExitStatus.The
 use Rattle.unit_inputs.specs.declared.command_answers.error.CommandError.{CommandError}
 use Rattle.unit_inputs.specs.declared.command_answers.error.CommandError.TheVariants as stop
 
--- an ending that is whole is no fault
+-- a status after a whole text is no fault
 not_whole : (status : ExitStatus) (kind : ExitStatus) → IsTrue (is_whole status) → status ≡ kind → IsTrue (is_whole kind)
 not_whole status kind whole e = subst (λ k. IsTrue (is_whole k)) e whole
 
 module _ (laws : Laws) (together : GoTogether laws) (outside : Outside) where
-  -- a whole text that is admitted
+  -- the run printed a whole admitted text
   ran_whole : (status : ExitStatus) (text : List ℕ) → laws.admits status text
       → PutsText outside.sink.taken outside.sink.puts outside.sink.before outside.sink.after text (Ok tt)
       → outside.shelf_after ≡ outside.shelf_before → outside.sink.faults outside.sink.after ≡ outside.sink.faults outside.sink.before → IsRun laws status outside
@@ -42,7 +42,7 @@ module _ (laws : Laws) (together : GoTogether laws) (outside : Outside) where
         completes = λ accepted shelf_fault sink_fault. inl (together.answers accepted status ends);
       }
 
-  -- a write that failed
+  -- a write failed
   ran_cut : WrotePrefix laws.admits outside.sink → outside.shelf_after ≡ outside.shelf_before
       → outside.sink.faults outside.sink.before ≤ outside.sink.faults outside.sink.after
       → Rose (outside.sink.faults outside.sink.before) (outside.sink.faults outside.sink.after)
@@ -82,7 +82,7 @@ module _ (laws : Laws) (together : GoTogether laws) (outside : Outside) where
     completes = λ accepted shelf_fault sink_fault. inr refl;
   }
 
-  -- a read that failed
+  -- a read failed
   ran_unread : laws.reads → IsUntouched outside.sink → outside.shelf_before ≤ outside.shelf_after
       → Rose outside.shelf_before outside.shelf_after → IsRun laws ReadFault outside
   ran_unread reads untouched later rose = record {
@@ -101,7 +101,7 @@ module _ (laws : Laws) (together : GoTogether laws) (outside : Outside) where
     completes = λ accepted shelf_fault sink_fault. absurd (shelf_fault rose);
   }
 
-  -- by how the text was put
+  -- the run has its laws after the put of its text
   ran_by_put : (status : ExitStatus) (text : List ℕ) (put : Result (Unit {0}) SinkError) → laws.admits status text
       → PutsText outside.sink.taken outside.sink.puts outside.sink.before outside.sink.after text put → outside.shelf_after ≡ outside.shelf_before
       → HasWriteCause (outside.sink.faults outside.sink.before) (outside.sink.faults outside.sink.after) put

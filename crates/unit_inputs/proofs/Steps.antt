@@ -1,4 +1,4 @@
--- From inputs to settings.
+-- The settings follow from the inputs.
 use Rattle.std.proofs.Common.{◌≡◌, ℕ, Option, Some, None, List, ◌++◌, Result, Ok, Err, sym, ap, ◌∙◌}
 use Rattle.std.specs.Prelude.{IfSome}
 use Rattle.exec_settings.specs.host_io.Files.{Files}
@@ -15,7 +15,7 @@ use Rattle.unit_inputs.specs.declared.settling.SettledUnit.{SettledUnit}
 abbrev pub AreRead : Files → List ℕ → UnitInputs → Type 0
 AreRead files unit inputs = (first_refusal (input_refusals files unit) ≡ None) × (inputs_of files unit ≡ Some (inputs_view inputs))
 
--- with the inputs, what is refused behind others is what they are refused for
+-- if the inputs are read, the refusals after other refusals are the refusals for these inputs
 pub refusals_with : (files : Files) (unit : List ℕ) (some : List (Option (List ℕ))) (more : Inputs → List (Option (List ℕ)))
     (inputs : Inputs) → first_refusal some ≡ None → inputs_of files unit ≡ Some inputs
     → first_refusal (some ++ refusals_by more (inputs_of files unit)) ≡ first_refusal (more inputs)
@@ -23,7 +23,7 @@ refusals_with files unit some more inputs none is =
     behind_none some (refusals_by more (inputs_of files unit)) none
     ∙ ap (λ found. first_refusal (refusals_by more found)) is
 
--- inputs that are read, and then their settings
+-- the inputs are read, and then their settings
 pub settled : (told : Option Files) (unit : List ℕ) (inputs : UnitInputs) (result : Result SettledUnit CommandError)
     → IfSome told (λ files. AreRead files unit inputs) → Prepares
     (λ one. (one.inputs ≡ inputs) × AreSettled (inputs_view inputs) one.settings.value) (refusals_of unit (inputs_view inputs)) result
@@ -35,7 +35,7 @@ settled (Some files) unit inputs (Err (stop.Refused line)) read settles =
 settled (Some files) unit inputs (Err stop.ReadFault) read settles = tt
 settled (Some files) unit inputs (Err stop.Memory) read settles = tt
 
--- an input is refused, whatever may be refused behind them
+-- an input is refused, whatever refusals may follow
 pub stops_at_inputs : {U : Type 0} (P : Files → UnitInputs → Type 0) (Q : Files → U → Type 0) (told : Option Files) (unit : List ℕ)
     (more : Files → List (Option (List ℕ))) (why : CommandError)
     → IfSome told (λ files. Prepares (P files) (input_refusals files unit) (Err why))

@@ -1,4 +1,4 @@
--- What stopped a command over files, and was finished, ran by its laws.
+-- A command that stopped over files, and was finished, ran by its laws.
 use Rattle.std.proofs.Common.{ℕ, [], Option, Some, None, Err, refl}
 use Rattle.std.specs.Prelude.{IfSome, IsErrOf}
 use Rattle.exec_settings.specs.host_io.Files.{Files}
@@ -13,7 +13,7 @@ use Rattle.unit_inputs.proofs.FileCommands.{stop_is_admitted}
 use Rattle.unit_inputs.proofs.Refusing.{quiet}
 use Rattle.unit_inputs.proofs.Runs.{ran}
 
--- a cause of what stopped is one whatever was wanted
+-- the cause of an error is the same for every wanted value
 cause_of : {T U : Type 0} (before now : ℕ) (why : CommandError) → HasReadCause {T = T} before now (Err why)
     → HasReadCause {T = U} before now (Err why)
 cause_of before now (stop.Refused line) cause = quiet before now (Err (stop.Refused line)) (cause.no_other_fault (λ e. cc)) (λ e. cc)

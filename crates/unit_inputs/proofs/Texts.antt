@@ -1,4 +1,4 @@
--- Texts that are printed one behind the other.
+-- Texts are printed one after the other.
 use Rattle.std.proofs.Common.{◌≡◌, ℕ, suc, ◌+◌, ◌<◌, ◌≤◌, false, List, [], ◌∷◌, ◌++◌, length, get_or, take, drop, Option}
 use Rattle.std.proofs.Common.{Result, Ok, Err, refl, sym, ap, ◌∙◌, subst, append_assoc, append-nil, inl, inr}
 use Rattle.std.specs.Prelude.{flat_map}
@@ -51,14 +51,14 @@ module _ {S : Type 0} (taken : S → Option (List ℕ)) (puts : S → Put → S 
   printed_text a b x (Ok u) prints = record { takes = prints.takes; hands = as_text puts a b x prints.hands }
   printed_text a b x (Err error) prints = record { takes = prints.takes; hands = inl prints.hands }
 
-  -- and a text that is put is printed where it ends in a line feed
+  -- a text that is put is printed if it ends in a line feed
   pub text_of_lines : (a b : S) (x : List ℕ) (put : Result (Unit {0}) SinkError) → IsOfLines x → PutsText taken puts a b x put
       → PrintsLines taken puts a b x put
   text_of_lines a b x (Ok u) ends text = record { takes = text.takes; hands = whole_lines puts a b x ends text.hands }
   text_of_lines a b x (Err error) ends text = record { takes = text.takes; hands = some_lines puts a b x error ends text.hands }
 
 module _ {S : Type 0} {taken : S → Option (List ℕ)} {puts : S → Put → S → Type 0} where
-  -- The lemma of composition: a text that is printed behind a whole one makes one text with it
+  -- The lemma of composition: a text that is printed after a whole one makes one text with it
   pub text_then : (a b c : S) (x y : List ℕ) (put : Result (Unit {0}) SinkError) → PrintsAll taken puts a b x
       → PrintsLines taken puts b c y put → PrintsLines taken puts a c (x ++ y) put
   text_then a b c x y (Ok u) f g = record {
@@ -70,20 +70,20 @@ module _ {S : Type 0} {taken : S → Option (List ℕ)} {puts : S → Put → S 
     hands = some_behind puts a b c x y error f.hands g.hands;
   }
 
-  -- and one that is cut is so whatever was to come
+  -- a text that was cut stays cut, whatever was to follow
   pub text_cut : (a b : S) (x y : List ℕ) (error : SinkError) → PrintsSome taken puts a b x error → PrintsSome taken puts a b (x ++ y) error
   text_cut a b x y error f = record {
     takes = front_cut (taken a) (taken b) x y f.takes;
     hands = some_before puts a b x y error f.hands;
   }
 
-  -- by how the printing ended
+  -- a text was printed up to an error, with this result
   pub text_at_error : (a b : S) (x : List ℕ) (error : SinkError) (put : Result (Unit {0}) SinkError)
       → IsErrAnd put (λ own. own ≡ error) → PrintsSome taken puts a b x error → PrintsLines taken puts a b x put
   text_at_error a b x error (Ok u) is prints = absurd is
   text_at_error a b x error (Err own) is prints = subst (PrintsSome taken puts a b x) (sym is) prints
 
-  -- a text before whose last part an error came
+  -- an error occurred before the last part of a text
   pub text_short : (a b : S) (x y : List ℕ) (error : SinkError) (put : Result (Unit {0}) SinkError)
       → IsErrAnd put (λ own. own ≡ error) → PrintsSome taken puts a b x error → PrintsLines taken puts a b (x ++ y) put
   text_short a b x y error put is prints = text_at_error a b (x ++ y) error put is (text_cut a b x y error prints)
@@ -93,14 +93,14 @@ module _ {S : Type 0} {taken : S → Option (List ℕ)} {puts : S → Put → S 
   put_at_error a b x error (Ok u) is text = absurd is
   put_at_error a b x error (Err own) is text = subst (PutsSome taken puts a b x) (sym is) text
 
-  -- where nothing was put
+  -- nothing was put
   pub nothing_printed : (a : S) → PrintsAll taken puts a a []
   nothing_printed a = record { takes = sym (append_known-nil (taken a)); hands = no_lines puts a }
 
   pub not_printed : (a : S) (x : List ℕ) → PrintsSome taken puts a a x Memory
   not_printed a x = record { takes = ([], x, refl, sym (append_known-nil (taken a))); hands = not_begun puts a x }
 
-  -- what stands behind the last line
+  -- the unended last line is put
   pub last_put : (a b c : S) (front last text : List ℕ) (put : Result (Unit {0}) SinkError) → PrintsAll taken puts a b front
       → has_feed last ≡ false → front ++ last ≡ text → TakesWhole (taken b) (taken c) last put → Hands puts b c last put
       → PutsText taken puts a c text put
@@ -131,7 +131,7 @@ module _ {S : Type 0} {taken : S → Option (List ℕ)} {puts : S → Put → S 
     });
   }
 
--- the texts of items, up to one more
+-- the texts of items, up to one more item
 module _ {X : Type 0} (text : X → List ℕ) (xs : List X) (i : ℕ) (d x : X) where
   one_more : i < length xs → x ≡ get_or xs i d → flat_map text (take i xs) ++ text x ≡ flat_map text (take (i + 1) xs)
   one_more lt is =
@@ -163,7 +163,7 @@ module _ {S X : Type 0} {taken : S → Option (List ℕ)} {puts : S → Put → 
       (text_cut a c (flat_map text (take i xs) ++ text x) (flat_map text (drop (suc i) xs)) error
       (text_then a b c (flat_map text (take i xs)) (text x) (Err error) f prints))
 
--- and all of them
+-- the texts of all items
 pub items_all : {S X : Type 0} {taken : S → Option (List ℕ)} {puts : S → Put → S → Type 0} (text : X → List ℕ) (xs : List X) (i : ℕ)
     (a b : S) → length xs ≤ i → PrintsAll taken puts a b (flat_map text (take i xs)) → PrintsAll taken puts a b (flat_map text xs)
 items_all {S} {X} {taken} {puts} text xs i a b past f = subst (λ these. PrintsAll taken puts a b (flat_map text these))

@@ -1,4 +1,4 @@
--- The calls by which the inputs of a command on a unit are read, in their order. Each answer is judged before the next call.
+-- A command reads its inputs by these calls, in this order. Each answer is judged before the next call.
 use Rattle.std.specs.Prelude.{ℕ, List, [], ◌∷◌, ◌++◌, IfSome, Option}
 use Rattle.exec_settings.specs.host_io.Calls.{Ask, ShelfCall, Course, AsksExactly, unless_refused}
 use Rattle.exec_settings.specs.host_io.Files.{Files}
@@ -11,23 +11,23 @@ use Rattle.unit_inputs.specs.Inputs.{input_refusals}
 use Rattle.unit_inputs.specs.SiteRefusals.{site_path}
 use Rattle.unit_inputs.specs.UnitRefusals.{unit_in}
 
--- From one state of the shelf to another exactly the calls were made that the files want, in this order, as far as reading went;
--- where the shelf tells its files.
+-- the shelf got exactly the calls that its files call for, in this order, up to the end of the reading; this holds of a shelf
+-- that shows its files
 pub record AsksInOrder {S : Type 0} (asks : S → ShelfCall → S → Type 0) (told : Option Files) (wanted : Files → List Ask) (before now : S) (how : Course) : Type 0 where
   pub by_the_files : IfSome told (λ files. AsksExactly asks before now (wanted files) how)
 
--- calls.txt alone, and site.toml alone
+-- the call for calls.txt, and the call for site.toml
 abbrev pub table_asks : List Ask
 table_asks = input_file table_path ∷ []
 
 abbrev pub site_asks : List Ask
 site_asks = input_file site_path ∷ []
 
--- the unit, then calls.txt, then site.toml, each of them where nothing before it is refused
+-- the unit, then calls.txt, then site.toml; nothing is read after a refusal
 abbrev pub input_asks : Files → List ℕ → List Ask
 input_asks files unit = resolve_asks files unit ++ unless_refused (unit_in files unit)
     (table_asks ++ unless_refused (calls_in files) site_asks)
 
--- and then a file, where none of these is refused
+-- a file follows these inputs, if none of them is refused
 abbrev pub asks_with_file : Files → List ℕ → List ℕ → List Ask
 asks_with_file files unit path = input_asks files unit ++ unless_told (first_refusal (input_refusals files unit)) (input_file path ∷ [])

@@ -14,7 +14,7 @@ use Rattle.unit_inputs.specs.command_answers.Refusals.{refused_line}
 use Rattle.unit_inputs.specs.FileRefusals.{bytes_in}
 use Rattle.unit_inputs.specs.command_answers.CommandErrors.{and_then, or_line}
 
--- the first faulty line, from 1, and why
+-- the first faulty line, from 1, and its cause
 abbrev pub line_cause : ℕ → CallsCause → List ℕ
 line_cause line cause = codes "line " ++ decimal line ++ codes " " ++ cause_text cause
 
@@ -22,7 +22,7 @@ line_cause line cause = codes "line " ++ decimal line ++ codes " " ++ cause_text
 abbrev pub no_call : List ℕ → List ℕ
 no_call name = codes "no-call " ++ escaped_word name
 
--- why calls.txt is refused; want of memory has no line
+-- the cause of the refusal of calls.txt; `Memory` has no cause to print
 abbrev pub calls_cause : CallsError → List ℕ
 calls_cause NotText = codes "not-text"
 calls_cause (Line line cause) = line_cause line cause
@@ -33,10 +33,10 @@ calls_cause Memory = []
 abbrev pub calls_line : CallsError → List ℕ
 calls_line error = refused_line table_path (calls_cause error)
 
--- the table of some bytes, or the line
+-- the table of these bytes, or the line of the refusal
 abbrev pub calls_said : List ℕ → Result Table (List ℕ)
 calls_said bytes = or_line calls_line (table_of bytes)
 
--- the table of calls.txt over some files, or the line
+-- the table of calls.txt over these files, or the line of the refusal
 abbrev pub calls_in : Files → Result Table (List ℕ)
 calls_in files = and_then (bytes_in files table_path) calls_said

@@ -15,7 +15,7 @@ use Rattle.unit_inputs.specs.UnitRefusals.{unit_in}
 abbrev pub input_refusals : Files → List ℕ → List (Option (List ℕ))
 input_refusals files unit = refusal_in (unit_in files unit) ∷ refusal_in (calls_in files) ∷ refusal_in (site_in files) ∷ []
 
--- what a command on a unit reads
+-- the inputs of a command on a unit
 pub record Inputs : Type 0 where
   pub unit : Resolved
   pub calls : Table
@@ -24,13 +24,13 @@ pub record Inputs : Type 0 where
 abbrev pub inputs_view : UnitInputs → Inputs
 inputs_view inputs = record { unit = inputs.unit.value; calls = inputs.calls.value; site = inputs.site.value }
 
--- all three, where none is refused. The unit is read by the systemd that the site says
+-- all three inputs, if none is refused; the rules of the site's systemd apply to the unit
 abbrev pub all_three : Result Resolved (List ℕ) → Result Table (List ℕ) → Result Site (List ℕ) → Option Inputs
 all_three (Ok unit) (Ok calls) (Ok site) = Some (record { unit = read_by site.systemd unit; calls = calls; site = site })
 all_three (Err line) calls site = None
 all_three (Ok unit) (Err line) site = None
 all_three (Ok unit) (Ok calls) (Err line) = None
 
--- what the files give of a unit
+-- the inputs of a unit over these files
 abbrev pub inputs_of : Files → List ℕ → Option Inputs
 inputs_of files unit = all_three (unit_in files unit) (calls_in files) (site_in files)

@@ -1,4 +1,4 @@
--- How the files of a unit are read, whatever is taken from them.
+-- The files of a unit are read in this way, whatever is taken from them.
 use Rattle.std.specs.Prelude.{◌≡◌, ℕ, IsErrOf, IsSome, List, Option, Result}
 use Rattle.exec_settings.specs.host_io.Files.{Files}
 use Rattle.unit_inputs.specs.command_answers.CommandErrors.{HasReadCause}
@@ -6,8 +6,8 @@ use Rattle.unit_inputs.specs.declared.command_answers.error.CommandError.{Comman
 use Rattle.unit_inputs.specs.declared.command_answers.error.CommandError.TheVariants.{ReadFault}
 use Rattle.exec_settings.specs.unit_names.Cutting.{name_of}
 
--- a read fails only for the name of a service, and without one the shelf is not read; the files stay what they were; and a
--- fault comes where the shelf's count of them rose
+-- a read fails only for the name of a service, and another text leaves the shelf unread. The files stay as they were. A fault
+-- means that the shelf's count of faults rose
 pub record ReadsFor {S T : Type 0} (told : S → Option Files) (faults : S → ℕ) (unit : List ℕ) (before now : S) (result : Result T CommandError) : Type 0 where
   pub reads_for_a_name : IsErrOf result ReadFault → IsSome (name_of unit)
   pub unread_without_a_name : (IsSome (name_of unit) → ⊥) → now ≡ before

@@ -6,11 +6,11 @@ use Rattle.exec_settings.specs.declared.errors.SettingsError.{SettingsError}
 use Rattle.exec_settings.specs.declared.errors.SettingsError.TheVariants.{NoCommand, PrivilegedCommand, OutsideProfile, NoSuchUser}
 use Rattle.exec_settings.specs.declared.errors.SettingsError.TheVariants.{NoSuchGroup, MissingGroup, TooManyPaths, Memory}
 
--- why, and of what
+-- a cause with its subject
 abbrev pub cause_with : List ℕ → List ℕ → List ℕ
 cause_with cause what = cause ++ (codes " " ++ escaped_word what)
 
--- why there are no settings; want of memory has no line
+-- the cause of a refusal of settings; `Memory` has no cause to print
 abbrev pub settings_cause : SettingsError → List ℕ
 settings_cause NoCommand = codes "no-command"
 settings_cause PrivilegedCommand = codes "privileged-command"

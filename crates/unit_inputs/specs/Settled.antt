@@ -16,11 +16,11 @@ AreSettled inputs settings = AreSettings inputs.unit inputs.calls inputs.site se
 abbrev pub refusals_of : List ℕ → Inputs → List (Option (List ℕ))
 refusals_of unit inputs = option_map (settings_line unit) (refusal_of inputs.unit inputs.calls inputs.site) ∷ []
 
--- what is refused for inputs, where all of them are there
+-- the refusals for the inputs, if there are all inputs
 abbrev pub refusals_by : (Inputs → List (Option (List ℕ))) → Option Inputs → List (Option (List ℕ))
 refusals_by refusals None = []
 refusals_by refusals (Some inputs) = refusals inputs
 
--- the order of refusals of a unit: its inputs, then its settings
+-- the order of refusals of a unit: first its inputs, then its settings
 abbrev pub unit_refusals : Files → List ℕ → List (Option (List ℕ))
 unit_refusals files unit = input_refusals files unit ++ refusals_by (refusals_of unit) (inputs_of files unit)

@@ -15,7 +15,7 @@ use Rattle.unit_inputs.specs.command_answers.CommandErrors.{and_then, or_line}
 abbrev pub site_path : List ℕ
 site_path = codes "site.toml"
 
--- what is wrong with a row
+-- the printed word for the fault of a row
 abbrev pub cause_word : RowCause → List ℕ
 cause_word Key = codes "key"
 cause_word Path = codes "path"
@@ -26,11 +26,11 @@ cause_word Both = codes "both"
 cause_word Duplicate = codes "duplicate"
 cause_word NoParent = codes "no-parent"
 
--- the first faulty row, from 1, and why
+-- the first faulty row, from 1, and its cause
 abbrev pub row_cause : ℕ → RowCause → List ℕ
 row_cause row cause = codes "row " ++ decimal row ++ codes " " ++ cause_word cause
 
--- why site.toml is refused; users and groups are numbered from 1, and want of memory has no line
+-- the cause of the refusal of site.toml; users and groups are numbered from 1, and `Memory` has no cause to print
 abbrev pub site_cause : SiteError → List ℕ
 site_cause NotToml = codes "toml"
 site_cause Top = codes "top"
@@ -43,10 +43,10 @@ site_cause Memory = []
 abbrev pub site_line : SiteError → List ℕ
 site_line error = refused_line site_path (site_cause error)
 
--- the site of some bytes, or the line
+-- the site of these bytes, or the line of the refusal
 unfoldable pub site_said : List ℕ → Result Site (List ℕ)
 site_said bytes = or_line site_line (site_of bytes)
 
--- the site of site.toml over some files, or the line
+-- the site of site.toml over these files, or the line of the refusal
 abbrev pub site_in : Files → Result Site (List ℕ)
 site_in files = and_then (bytes_in files site_path) site_said

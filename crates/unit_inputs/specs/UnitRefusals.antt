@@ -15,14 +15,14 @@ use Rattle.unit_inputs.specs.declared.command_answers.error.CommandError.{Comman
 use Rattle.unit_inputs.specs.declared.command_answers.error.CommandError.TheVariants as stop
 use Rattle.exec_settings.specs.unit_names.Cutting.{name_of}
 
--- why the text of a file is refused
+-- the cause of the refusal of a text
 abbrev pub text_cause : UnitError → List ℕ
 text_cause text.NotText = codes "not-text"
 text_cause (text.BadHeader line) = codes "line " ++ decimal line ++ codes " header"
 text_cause text.TooMany = codes "too-many"
 text_cause text.Memory = []
 
--- the line of a unit that is not resolved; a fault and want of memory have none
+-- the line of a unit that is not resolved; it is empty for a fault and for exhausted memory
 abbrev pub unit_line : List ℕ → ResolveError → List ℕ
 unit_line unit BadName = refused_line unit (codes "bad-name")
 unit_line unit NotFound = refused_line unit (codes "not-found")
@@ -33,11 +33,11 @@ unit_line unit (Text path fault) = refused_line path (text_cause fault)
 unit_line unit ReadFault = []
 unit_line unit Memory = []
 
--- the unit over some files, or its line
+-- the unit over these files, or the line of its refusal
 abbrev pub unit_in : Files → List ℕ → Result Resolved (List ℕ)
 unit_in files unit = or_line (unit_line unit) (resolved_of files unit)
 
--- a text is a name, or it is told to be none
+-- the text is the name of a service, or the line refuses it as no name
 abbrev pub HasNameOrTells : List ℕ → Result (Unit {0}) CommandError → Type 0
 HasNameOrTells unit (Ok u) = IsSome (name_of unit)
 HasNameOrTells unit (Err (stop.Refused line)) = (name_of unit ≡ None) × (line.items ≡ refused_line unit (codes "bad-name"))

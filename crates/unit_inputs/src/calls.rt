@@ -1,4 +1,4 @@
-// The table of system calls, with the lines of its refusals.
+// Reads the table of system calls and writes the lines of its refusals.
 ghost use Rattle.std.specs.Prelude.{◌≡◌, IfOk, IfSome, IsErrOf};
 ghost use Rattle.exec_settings.specs.host_io.Calls.{AsksExactly};
 ghost use Rattle.unit_inputs.specs.command_answers.Asking.{course};
@@ -12,7 +12,7 @@ use exec_settings::{CallTable, CallsCause, CallsError, push_word, read_calls};
 use host_io::Shelf;
 use std::alloc::{AllocError, Global};
 
-// Which line is faulty, and why.
+// Writes which line is faulty, and why.
 fn line_cause(alloc: Global, line: u64, cause: CallsCause) -> Result<Vec<u8>, AllocError>
     ensures { IfOk result (λ why. why.items ≡ line_cause line cause) }
 {
@@ -20,7 +20,7 @@ fn line_cause(alloc: Global, line: u64, cause: CallsCause) -> Result<Vec<u8>, Al
     Ok(format!(in alloc; "line {line} {cause}")?.into_bytes())
 }
 
-// Which call is missing.
+// Writes which call is missing.
 fn no_call(alloc: Global, name: &str) -> Result<Vec<u8>, AllocError>
     ensures { IfOk result (λ why. why.items ≡ no_call name.now) }
 {
@@ -29,7 +29,7 @@ fn no_call(alloc: Global, name: &str) -> Result<Vec<u8>, AllocError>
     Ok(why)
 }
 
-// Why a table is refused.
+// Writes why a table is refused.
 fn calls_cause(alloc: Global, error: &CallsError) -> Result<Vec<u8>, AllocError>
     ensures { IfOk result (λ why. why.items ≡ calls_cause error.now) }
 {
@@ -42,7 +42,7 @@ fn calls_cause(alloc: Global, error: &CallsError) -> Result<Vec<u8>, AllocError>
     }
 }
 
-// The line of a table that is refused.
+// Returns the line of a refused table.
 fn calls_line(alloc: Global, error: &CallsError) -> Result<Vec<u8>, AllocError>
     ensures { IfOk result (λ line. line.items ≡ calls_line error.now) }
 {
@@ -50,7 +50,7 @@ fn calls_line(alloc: Global, error: &CallsError) -> Result<Vec<u8>, AllocError>
     refused_line(alloc, TABLE_PATH, why.as_slice())
 }
 
-// The table that the bytes of calls.txt give.
+// Returns the table from the bytes of calls.txt.
 fn table_of_bytes(alloc: Global, bytes: &[u8]) -> Result<Box<CallTable>, CommandError>
     ensures says { IsAnswer (λ table. table.value) result (calls_said bytes.now) }
     ensures reads_nothing { IsErrOf result CommandError.ReadFault → ⊥ }
@@ -62,7 +62,7 @@ fn table_of_bytes(alloc: Global, bytes: &[u8]) -> Result<Box<CallTable>, Command
     }
 }
 
-/// The table of calls.txt.
+/// Reads the table from calls.txt.
 pub fn read_table<S: Shelf>(alloc: Global, shelf: &mut S) -> Result<Box<CallTable>, CommandError>
     ensures reads_the_table { IfSome (S.told shelf.old) (λ files. IsAnswer (λ table. table.value) result (calls_in files)) }
     ensures asks_for_it { AsksExactly S.asks shelf.old shelf.new table_asks (course result) }

@@ -1,9 +1,9 @@
-//! What a command does, whatever it is: it is prepared, and then printed.
+//! Prepares and prints any command.
 //!
-//! Preparing reads files of a `host_io` shelf and finds every refusal; what is `Ready` then is printed line by line, each
-//! line one piece for the sink; a `ReadyText` has all its lines before the first is printed. The crates of the commands stand
-//! on it. A command whose text is made while it is printed, as a report is, is no `Ready`: it returns its exit status itself, by
-//! `finish_error` and `status_after`.
+//! Preparing reads files of a `host_io` shelf and finds every refusal. Then `Ready` prints the text line by line: each line is
+//! one piece for the sink. A `ReadyText` has all its lines before it prints the first. The crates of the commands use this
+//! module. A command that makes its text while it prints, such as a report, does not implement `Ready`: it returns its exit
+//! status itself, through `finish_error` and `status_after`.
 //!
 //! `put_line(out, line_of(alloc, item))?` prints a line; `CommandError::Refused(refused_line(alloc, "calls.txt", b"missing")?)`
 //! refuses a file.

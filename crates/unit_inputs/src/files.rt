@@ -1,4 +1,4 @@
-// The bytes of a file that has to be there.
+// Reads the bytes of a required file.
 ghost use Rattle.std.specs.Prelude.{◌≡◌, ◌∷◌, [], IfSome};
 ghost use Rattle.exec_settings.specs.host_io.Calls.{AsksExactly};
 ghost use Rattle.unit_inputs.specs.command_answers.Asking.{course, input_file};
@@ -9,7 +9,7 @@ use crate::command_answers::{CommandError, FileRead, read_file, refuse, refused_
 use host_io::Shelf;
 use std::alloc::Global;
 
-/// The bytes of a file, which is refused where it is missing or has more than 1 MiB.
+/// Returns the bytes of a file, which is refused if it is missing or has more than 1 MiB.
 pub fn read_input<S: Shelf>(
     alloc: Global,
     shelf: &mut S,

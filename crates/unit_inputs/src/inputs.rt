@@ -1,4 +1,4 @@
-// The inputs of a command on a unit.
+// Reads the inputs of a command on a unit.
 ghost use Rattle.std.specs.Prelude.{◌≡◌, IfOk, IfSome, Some};
 ghost use Rattle.unit_inputs.specs.command_answers.Asking.{course};
 ghost use Rattle.unit_inputs.specs.command_answers.CommandErrors.{Prepares};
@@ -15,23 +15,22 @@ use exec_settings::{CallTable, Resolved, SiteTable};
 use host_io::Shelf;
 use std::alloc::Global;
 
-/// What a command on a unit reads.
+/// The inputs of a command on a unit.
 #[derive(Drop)]
 pub struct UnitInputs {
-    /// The unit with its files in force, as the systemd of the site reads it.
+    /// The unit with its files in force, read by the rules of the site's systemd.
     pub unit: Box<Resolved>,
-    /// The table of system calls, of calls.txt.
+    /// The table of system calls from calls.txt.
     pub calls: Box<CallTable>,
-    /// The site, of site.toml.
+    /// The site from site.toml.
     pub site: Box<SiteTable>,
 }
 
 /// Reads the inputs of a command on a unit: the unit, as `dropin_merge` resolves it, then calls.txt and site.toml.
 ///
-/// The first that is refused decides, and the next is not read: what is asked of the shelf, over files that are told, is in this
-/// order, up to the first that is refused. Each of the two tables is refused where it is missing
-/// or has more than 1 MiB, and then for what it says. A fault comes only where the shelf's count of faults rose, and
-/// only for the name of a service; without one nothing is read.
+/// The first refusal decides, and nothing is read after it. A shelf that shows its files is called in this order, up to the
+/// first refusal. Each of the two tables is refused if it is missing or has more than 1 MiB, and then if its text is faulty.
+/// `ReadFault` means that the shelf's count of faults rose. A text that is no name of a service is refused without a read.
 pub fn read_inputs<S: Shelf>(
     alloc: Global,
     shelf: &mut S,

@@ -4,7 +4,7 @@
 //! The inputs are read in this order, and the first refusal ends the command with a line that says why. A command on all units
 //! reads only the tables.
 //!
-//! - [`command_answers`]: how a command reads, prints and ends.
+//! - [`command_answers`] reads, prints and ends a command.
 #![tactic(auto)]
 
 mod calls;

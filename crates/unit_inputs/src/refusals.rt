@@ -1,4 +1,4 @@
-//! The lines of units whose settings are refused.
+//! Writes the lines of units whose settings are refused.
 ghost use Rattle.std.specs.Prelude.{◌≡◌, IfOk};
 ghost use Rattle.unit_inputs.specs.SettingsRefusals.{cause_with, settings_cause, settings_line};
 
@@ -6,7 +6,7 @@ use crate::command_answers::refused_line;
 use exec_settings::{SettingsError, push_word};
 use std::alloc::{AllocError, Global};
 
-// A cause, and what it is about.
+// Writes a cause and its subject.
 fn cause_with(alloc: Global, cause: &[u8], what: &str) -> Result<Vec<u8>, AllocError>
     ensures { IfOk result (λ line. line.items ≡ cause_with cause.now what.now) }
 {
@@ -16,7 +16,7 @@ fn cause_with(alloc: Global, cause: &[u8], what: &str) -> Result<Vec<u8>, AllocE
     Ok(line)
 }
 
-// Why a unit has no settings, as it is printed.
+// Writes why a unit has no settings.
 fn settings_cause(alloc: Global, error: &SettingsError) -> Result<Vec<u8>, AllocError>
     ensures { IfOk result (λ cause. cause.items ≡ settings_cause error.now) }
 {
@@ -32,7 +32,7 @@ fn settings_cause(alloc: Global, error: &SettingsError) -> Result<Vec<u8>, Alloc
     }
 }
 
-/// The line of a unit whose settings are refused. Want of memory has none.
+/// Returns the line of a unit whose settings are refused. `Memory` has no cause to print.
 pub fn settings_line(
     alloc: Global,
     unit: &str,

@@ -1,4 +1,4 @@
-//! The inputs of a unit with its settings.
+//! Adds the settings of a unit to its inputs.
 ghost use Rattle.std.specs.Prelude.{◌≡◌, IfOk, IfSome, IsErrOf, Some};
 ghost use Rattle.unit_inputs.specs.command_answers.Asking.{course};
 ghost use Rattle.unit_inputs.specs.command_answers.CommandErrors.{Prepares};
@@ -23,7 +23,7 @@ pub struct SettledUnit {
     pub settings: Box<Settings>,
 }
 
-// The settings of a unit, or the first that is refused.
+// Returns the settings of the unit, or the line of the first setting that is refused.
 fn settings_in(
     alloc: Global,
     unit: &str,
@@ -39,8 +39,8 @@ fn settings_in(
     }
 }
 
-/// The settings of the unit of this name, whose inputs are read already, or the line of the first setting that is refused
-/// (`exec_settings`). Nothing is read for them.
+/// Adds the settings to the inputs of the unit of this name. The first setting that is refused (`exec_settings`) ends the
+/// command with its line. This step reads no file.
 pub fn settle(alloc: Global, unit: &str, inputs: UnitInputs) -> Result<SettledUnit, CommandError>
     ensures settles { Prepares (λ one. (one.inputs ≡ inputs) × AreSettled (inputs_view inputs) one.settings.value) (refusals_of unit.now (inputs_view inputs)) result }
     ensures reads_nothing { IsErrOf result CommandError.ReadFault → ⊥ }
@@ -49,10 +49,10 @@ pub fn settle(alloc: Global, unit: &str, inputs: UnitInputs) -> Result<SettledUn
     Ok(SettledUnit { inputs, settings })
 }
 
-/// Reads the inputs of a unit and takes its settings from them, for a command that reads nothing between the two.
+/// Reads the inputs of a unit and takes its settings from them, for a command that reads nothing in between.
 ///
-/// The first that is refused decides: an input (`read_inputs`), then a setting. A fault comes only where the shelf's count
-/// of faults rose, and only for the name of a service; without one nothing is read.
+/// The first refusal decides: of an input (`read_inputs`), and then of a setting. `ReadFault` means that the shelf's count of
+/// faults rose. A text that is no name of a service is refused without a read.
 pub fn settle_unit<S: Shelf>(
     alloc: Global,
     shelf: &mut S,

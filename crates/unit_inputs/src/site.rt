@@ -1,4 +1,4 @@
-// The site, with the lines of its refusals.
+// Reads the site and writes the lines of its refusals.
 ghost use Rattle.std.specs.Prelude.{◌≡◌, IfOk, IfSome, IsErrOf};
 ghost use Rattle.exec_settings.specs.host_io.Calls.{AsksExactly};
 ghost use Rattle.unit_inputs.specs.command_answers.Asking.{course};
@@ -12,10 +12,10 @@ use exec_settings::{RowCause, SiteError, SiteTable, read_site as read_bytes};
 use host_io::Shelf;
 use std::alloc::{AllocError, Global};
 
-/// Where the description of the site is.
+/// The path of the description of the site.
 const SITE_PATH: &str = "site.toml";
 
-// The word that is printed for what is wrong with a row.
+// Returns the printed word for the fault of a row.
 fn cause_word(cause: RowCause) -> &'static str
     ensures { result.now ≡ cause_word cause }
 {
@@ -31,7 +31,7 @@ fn cause_word(cause: RowCause) -> &'static str
     }
 }
 
-// Which row is faulty, and why.
+// Writes which row is faulty, and why.
 fn row_cause(alloc: Global, row: u64, cause: RowCause) -> Result<Vec<u8>, AllocError>
     ensures { IfOk result (λ why. why.items ≡ row_cause row cause) }
 {
@@ -39,7 +39,7 @@ fn row_cause(alloc: Global, row: u64, cause: RowCause) -> Result<Vec<u8>, AllocE
     Ok(format!(in alloc; "row {row} {cause}")?.into_bytes())
 }
 
-// Why a site is refused.
+// Writes why a site is refused.
 fn site_cause(alloc: Global, error: SiteError) -> Result<Vec<u8>, AllocError>
     ensures { IfOk result (λ why. why.items ≡ site_cause error) }
 {
@@ -54,7 +54,7 @@ fn site_cause(alloc: Global, error: SiteError) -> Result<Vec<u8>, AllocError>
     }
 }
 
-// The line of a site that is refused.
+// Returns the line of a refused site.
 fn site_line(alloc: Global, error: SiteError) -> Result<Vec<u8>, AllocError>
     ensures { IfOk result (λ line. line.items ≡ site_line error) }
 {
@@ -62,7 +62,7 @@ fn site_line(alloc: Global, error: SiteError) -> Result<Vec<u8>, AllocError>
     refused_line(alloc, SITE_PATH, why.as_slice())
 }
 
-// The site that the bytes of site.toml describe.
+// Returns the site from the bytes of site.toml.
 #[tactic(auto, unfolding(crate::specs::SiteRefusals::site_said))]
 fn site_of_bytes(alloc: Global, bytes: &[u8]) -> Result<Box<SiteTable>, CommandError>
     ensures says { IsAnswer (λ site. site.value) result (site_said bytes.now) }
@@ -75,7 +75,7 @@ fn site_of_bytes(alloc: Global, bytes: &[u8]) -> Result<Box<SiteTable>, CommandE
     }
 }
 
-/// The site of site.toml.
+/// Reads the site from site.toml.
 pub fn read_site<S: Shelf>(alloc: Global, shelf: &mut S) -> Result<Box<SiteTable>, CommandError>
     ensures reads_the_site { IfSome (S.told shelf.old) (λ files. IsAnswer (λ site. site.value) result (site_in files)) }
     ensures asks_for_it { AsksExactly S.asks shelf.old shelf.new site_asks (course result) }

@@ -1,4 +1,4 @@
-// The unit, with the lines of its refusals.
+// Reads the unit and writes the lines of its refusals.
 ghost use Rattle.std.specs.Prelude.{◌≡◌, IfOk, IfSome, Some};
 ghost use Rattle.exec_settings.specs.dropin_merge.Asking.{resolve_asks};
 ghost use Rattle.unit_inputs.specs.command_answers.Asking.{course};
@@ -14,7 +14,7 @@ use exec_settings::{NameError, ResolveError, Resolved, UnitError, UnitName, reso
 use host_io::Shelf;
 use std::alloc::{AllocError, Global};
 
-// Why the text of a file is refused.
+// Writes why the text of a file is refused.
 fn text_cause(alloc: Global, fault: UnitError) -> Result<Vec<u8>, AllocError>
     ensures { IfOk result (λ cause. cause.items ≡ text_cause fault) }
 {
@@ -26,7 +26,7 @@ fn text_cause(alloc: Global, fault: UnitError) -> Result<Vec<u8>, AllocError>
     }
 }
 
-// The line of a file that is refused for its text.
+// Returns the line of a file whose text is refused.
 fn text_refused(alloc: Global, path: &str, fault: UnitError) -> Result<Vec<u8>, AllocError>
     ensures { IfOk result (λ line. line.items ≡ refused_line path.now (text_cause fault)) }
 {
@@ -34,7 +34,7 @@ fn text_refused(alloc: Global, path: &str, fault: UnitError) -> Result<Vec<u8>, 
     refused_line(alloc, path, cause.as_slice())
 }
 
-/// The line of a unit that is not resolved. A failed read and want of memory have none.
+/// Returns the line of a unit that is not resolved. The line is empty for `ReadFault` and `Memory`.
 pub fn unit_line(alloc: Global, unit: &str, refusal: &ResolveError) -> Result<Vec<u8>, AllocError>
     ensures tells_the_refusal { IfOk result (λ line. line.items ≡ unit_line unit.now refusal.now) }
 {
@@ -49,7 +49,7 @@ pub fn unit_line(alloc: Global, unit: &str, refusal: &ResolveError) -> Result<Ve
     }
 }
 
-// Whether the text is the name of a service, which no file has to be read for.
+// Refuses a text that is no name of a service. This check reads no file.
 fn check_name(alloc: Global, unit: &str) -> Result<(), CommandError>
     ensures has_a_name_or_tells { HasNameOrTells unit.now result }
 {
@@ -60,7 +60,7 @@ fn check_name(alloc: Global, unit: &str) -> Result<(), CommandError>
     }
 }
 
-// The unit of a name, with its files in force.
+// Returns the unit of a name, with its files in force.
 fn read_files<S: Shelf>(
     alloc: Global,
     shelf: &mut S,
@@ -80,7 +80,7 @@ fn read_files<S: Shelf>(
     }
 }
 
-/// The unit of a name, with its files in force. A text that is no name is refused without a read.
+/// Returns the unit of a name, with its files in force. A text that is no name is refused without a read.
 pub fn read_unit<S: Shelf>(
     alloc: Global,
     shelf: &mut S,

@@ -1,4 +1,4 @@
--- What an answer says of the text that is wanted.
+-- An answer says whether there is a wanted text.
 use Rattle.std.proofs.Common.{◌≡◌, ℕ, cond, Option, Some, None, Result, Ok, Err, List, sym, ap, ◌∙◌}
 use Rattle.std.specs.Prelude.{String, string_bytes, IfOk}
 use Rattle.std.specs.declared.alloc.Global.{Global}
@@ -21,7 +21,7 @@ refuses_then wanted (Ok text) h e = cc
 refuses_then wanted (Err Refused) h e = h
 refuses_then wanted (Err Memory) h e = cc
 
--- bytes that are UTF-8, and bytes that are not
+-- bytes are a text exactly if they are UTF-8
 pub text_of_utf8 : (bytes text : List ℕ) → IsUtf8 text → text ≡ bytes → if_text bytes ≡ Some text
 text_of_utf8 bytes text utf8 e = ap if_text (sym e) ∙ ap (λ b. cond b (Some text) None) (is_utf8-from_IsUtf8 text utf8)
 

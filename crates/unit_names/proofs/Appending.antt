@@ -1,10 +1,10 @@
--- Texts put behind one another, where one of them may be missing.
+-- Texts are joined, and one of them may be missing.
 use Rattle.std.proofs.Common.{◌≡◌, ℕ, Option, Some, None, List, [], ◌∷◌, ◌++◌, refl, sym, ap, append_assoc}
 use Rattle.std.specs.Fmt.{option_append}
 use Rattle.std.proofs.lemmas.Option.{none-some}
 use Rattle.unit_names.specs.Unescaping.{onto}
 
--- a byte in front of what follows is a byte behind what stands already
+-- a byte in front of the following text is a byte at the end of the preceding text
 pub option_append-onto : (old : List ℕ) (byte : ℕ) (more : Option (List ℕ))
     → option_append (Some old) (onto (Some byte) more) ≡ option_append (Some (old ++ byte ∷ [])) more
 option_append-onto old byte None = refl
@@ -20,7 +20,7 @@ pub option_append_none : (middle : Option (List ℕ)) → option_append middle N
 option_append_none None = refl
 option_append_none (Some middle) = refl
 
--- only what is missing makes the whole missing
+-- the whole is missing only if the added text is missing
 pub missing_more : (old : List ℕ) (more : Option (List ℕ)) → option_append (Some old) more ≡ None → more ≡ None
 missing_more old None e = refl
 missing_more old (Some more) e = absurd (none-some (old ++ more) (sym e))

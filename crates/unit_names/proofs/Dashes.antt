@@ -15,7 +15,7 @@ use Rattle.unit_names.specs.Folders.{is_inner_dash}
 use Rattle.unit_names.specs.Specifiers.{last_part}
 use denote.Ref.{Bor}
 
--- a prefix may be cut behind a dash
+-- a prefix may be cut after a dash
 pub behind_dash : (prefix : List ℕ) (place : ℕ) → IsUtf8 prefix → is_inner_dash prefix place ≡ true → IsCharBoundary prefix (place + 1)
 behind_dash prefix place utf8 h =
     let both = and_parts (ltb 0 place && ltb (place + 1) (length prefix)) (eqb (get_or prefix place 0) dash) h in
@@ -41,7 +41,7 @@ without_dash prefix none =
     (suffix_len_is is_no_dash prefix 0 0 (omega arith)
     (λ k low high. passes_for (get_or prefix k 0) (NoCharPasses-char dash prefix k none (lit< tt) high)) (λ h. absurd (omega arith)))
 
--- what `rsplit_once` answers at a dash
+-- `rsplit_once` cuts a prefix at its last dash
 pub behind_last : (prefix : List ℕ) (front back : Bor (List ℕ))
     → (i : ℕ) × (j : ℕ) × RFindsChar dash prefix (Some (i, j)) × (front.now ≡ take i prefix) × (back.now ≡ drop j prefix) × (i ≤ j) ×
     (length front.now ≡ i) × (length back.now + j ≡ length prefix) → back.now ≡ last_part prefix

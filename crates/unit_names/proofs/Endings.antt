@@ -1,4 +1,4 @@
--- What stands before an ending.
+-- A text has an ending, and a text before it.
 use Rattle.std.proofs.Common.{◌≡◌, ◌≢◌, ℕ, ◌-◌, ◌+◌, Bool, true, false, cond, Option, Some, None, List, ◌++◌, length, take, drop, refl, sym}
 use Rattle.std.proofs.Common.{ap, ◌∙◌, arith}
 use Rattle.std.proofs.Math.Seq.{take-append_seam}
@@ -61,7 +61,7 @@ before_end_none text ending never =
     (told_no (EndsSo text ending) (ends_with nat_eq text ending) (ends_so text ending)
     (λ e. never (take (length text - length ending) text) (ends_whole text ending e)))
 
--- what `strip_suffix` answers at a text
+-- `strip_suffix` returns the text before an ending
 pub before_end_known : (ending text : List ℕ) (r : Option (Bor (List ℕ)))
     → MatchOption r (FindsTextSuffix ending text None)
     (λ x. (n : ℕ) × FindsTextSuffix ending text (Some n) × (x.now ≡ take (length text - n) text) × (length x.now + n ≡ length text))

@@ -1,4 +1,4 @@
--- An escaped text stands for something just where it consists of pieces.
+-- An escaped text has a plain text exactly if it consists of pieces.
 use Rattle.std.proofs.Common.{◌≡◌, ℕ, ◌+◌, ◌*◌, Bool, true, false, cond, eqb, Option, Some, None, List, [], ◌∷◌, map, refl, sym, ap, ◌∙◌}
 use Rattle.std.proofs.Common.{subst}
 use Rattle.std.specs.Prelude.{◌↔◌, not, ◌&&◌, flat_map}
@@ -12,7 +12,7 @@ use Rattle.unit_names.specs.Unescaping.{is_other, are_parts, Unescapes, onto, he
 abbrev escapes : ℕ → List ℕ → Bool
 escapes byte text = eqb byte backslash && begins_with letter_x text
 
--- a byte that begins none
+-- a byte that begins no escape means itself or a slash
 unescaped_plain : (byte : ℕ) (text : List ℕ) → escapes byte text ≡ false
     → unescaped (byte ∷ text) ≡ onto (Some (plain_byte byte)) (unescaped text)
 unescaped_plain a [] e = refl
@@ -21,7 +21,7 @@ unescaped_plain a (b ∷ c ∷ []) e = ap (λ v. cond v None (onto (Some (plain_
 unescaped_plain a (b ∷ c ∷ d ∷ text) e =
     ap (λ v. cond v (onto (hex_byte c d) (unescaped text)) (onto (Some (plain_byte a)) (unescaped (b ∷ c ∷ d ∷ text)))) e
 
--- the text of pieces stands for their bytes
+-- the text of pieces unescapes to their bytes
 parts_stand : (parts : List Part) → are_parts parts ≡ true → unescaped (flat_map part_text parts) ≡ Some (map part_byte parts)
 parts_stand [] h = refl
 parts_stand (dashed ∷ parts) h =
@@ -37,7 +37,7 @@ parts_stand (other byte ∷ parts) h =
     ∙ ap (λ v. onto (Some (cond v slash byte)) (unescaped (flat_map part_text parts))) (not-true (eqb byte dash) tests.0)
     ∙ ap (onto (Some byte)) (parts_stand parts both.1)
 
--- one more piece in front
+-- an escaped text may have one more piece in front
 with_coded : (high low : ℕ) (text plain : List ℕ) → (is_ascii_hexdigit high && is_ascii_hexdigit low) ≡ true → Unescapes text plain
     → Unescapes (backslash ∷ letter_x ∷ high ∷ low ∷ text) ((16 * digit_value high + digit_value low) ∷ plain)
 with_coded high low text plain digits u = record {
@@ -77,7 +77,7 @@ with_plain byte text plain begins u =
     ]
     refl
 
--- what a byte in front adds to what is known of the rest
+-- a text that consists of pieces does so with one more byte in front
 after_plain : (byte : ℕ) (text plain : List ℕ) (rest : Option (List ℕ)) → escapes byte text ≡ false
     → ((more : List ℕ) → rest ≡ Some more → Unescapes text more) → onto (Some (plain_byte byte)) rest ≡ Some plain
     → Unescapes (byte ∷ text) plain
@@ -132,7 +132,7 @@ parts_found (a ∷ b ∷ c ∷ d ∷ text) plain e =
     at_two a b (c ∷ d ∷ text) plain (onto (hex_byte c d) (unescaped text)) (λ more f. parts_found (b ∷ c ∷ d ∷ text) more f)
     (λ f. after_code c d text plain (unescaped text) (λ more g. parts_found text more g) f) e
 
--- what an escaped text stands for, and its pieces
+-- an escaped text has a plain text exactly if its pieces have it
 pub unescaping : (text plain : List ℕ) → (unescaped text ≡ Some plain) ↔ Unescapes text plain
 unescaping text plain =
     (parts_found text plain, λ u. ap unescaped u.spelled ∙ parts_stand u.parts u.well_formed ∙ ap Some (sym u.meant))

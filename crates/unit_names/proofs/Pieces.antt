@@ -1,4 +1,4 @@
--- A value is expanded just where it consists of pieces that stand for something.
+-- A value is expanded exactly if it consists of pieces that have texts.
 use Rattle.std.proofs.Common.{◌≡◌, ℕ, Bool, true, false, cond, eqb, leb, length, Option, Some, None, List, [], ◌∷◌, ◌++◌, refl, sym, ap}
 use Rattle.std.proofs.Common.{◌∙◌, subst}
 use Rattle.std.specs.Prelude.{◌↔◌, ◌&&◌, not, is_some, flat_map, find}
@@ -49,7 +49,7 @@ each_written GroupName = refl
 each_written GroupNumber = refl
 each_written Shell = refl
 
--- its letter finds it, where the unit has it
+-- the letter of a specifier finds the specifier, if the unit has it
 each_found : (systemd : Option Version) (specifier : Specifier) → is_some (specifier_at systemd (letter_of specifier)) ≡ true
     → specifier_at systemd (letter_of specifier) ≡ Some specifier
 each_found None Percent h = refl
@@ -99,7 +99,7 @@ each_found (Some version) GroupName h = refl
 each_found (Some version) GroupNumber h = refl
 each_found (Some version) Shell h = refl
 
--- what is found passes the test
+-- the item that a search finds passes its test
 found_passes : {X : Type 0} (test : X → Bool) (xs : List X) (x : X) → find test xs ≡ Some x → test x ≡ true
 found_passes test [] x e = absurd (none-some x e)
 found_passes test (first ∷ xs) x e =
@@ -138,7 +138,7 @@ known_at_end : (systemd : Option Version) (pieces : List Piece) → is_last syst
 known_at_end systemd [] h = h
 known_at_end systemd (piece ∷ pieces) h = absurd (false≢true h)
 
--- the text of pieces is read as these
+-- the text of pieces is read as these pieces
 pieces_read : (systemd : Option Version) (pieces : List Piece) → are_pieces systemd pieces ≡ true
     → pieces_of systemd (flat_map piece_text pieces) ≡ Some pieces
 pieces_read systemd [] h = refl
@@ -162,7 +162,7 @@ pieces_read systemd (last_percent ∷ pieces) h =
     ∙ ap (λ v. cond v (Some (last_percent ∷ [])) None) (known_at_end systemd pieces both.0)
     ∙ ap (λ more. Some (last_percent ∷ more)) (sym (nothing_there systemd pieces both.0))
 
--- pieces that spell a value
+-- these pieces spell a value
 pub record Spell (systemd : Option Version) (value : List ℕ) (pieces : List Piece) : Type 0 where
   pub well_formed : are_pieces systemd pieces ≡ true
   pub spelled : value ≡ flat_map piece_text pieces
@@ -202,7 +202,7 @@ after_literal systemd byte value pieces (Some more) apart known e =
     subst (Spell systemd (byte ∷ value)) (same_Some (literal byte ∷ more) pieces e)
     (with_literal systemd byte value more apart (known more refl))
 
--- a `%` with the character after it
+-- a `%` and the character after it spell a piece
 onto_some : (systemd : Option Version) (letter : ℕ) (value : List ℕ) (pieces : List Piece) (piece : Piece) (rest : Option (List Piece))
     → ((more : List Piece) → rest ≡ Some more → Spell systemd (percent ∷ letter ∷ value) (piece ∷ more))
     → onto_pieces (Some piece) rest ≡ Some pieces → Spell systemd (percent ∷ letter ∷ value) pieces
@@ -227,7 +227,7 @@ after_percent systemd letter value pieces None rest found known e =
     ]
     refl e
 
--- a last byte
+-- a last byte spells its pieces
 last_found : (systemd : Option Version) (byte : ℕ) (pieces : List Piece) → last_pieces systemd byte ≡ Some pieces
     → Spell systemd (byte ∷ []) pieces
 last_found systemd byte pieces e =
@@ -294,12 +294,12 @@ expansion_from systemd name value text x =
     ∙ ap (λ v. option_and_then if_text (cond v (Some text) None)) (le-leb (length text) longest_value x.short)
     ∙ ap (λ v. cond v (Some text) None) x.is_text
 
--- what a value is expanded to, and its pieces
+-- a value is expanded to the joined texts of its pieces
 pub expanding : (systemd : Option Version) (name : Name) (value text : List ℕ)
     → (expansion systemd name value ≡ Some text) ↔ Expands systemd name value text
 expanding systemd name value text = (expands_from systemd name value text, expansion_from systemd name value text)
 
--- the first piece taken off: a literal byte
+-- the first piece is taken off: a literal byte
 taken_literal : (name : Name) (byte : ℕ) (pieces : Option (List Piece))
     → option_and_then (pieces_meaning name) (onto_pieces (Some (literal byte)) pieces)
     ≡ onto (Some byte) (option_and_then (pieces_meaning name) pieces)
@@ -312,7 +312,7 @@ pub expanded_literal : (systemd : Option Version) (name : Name) (byte : ℕ) (va
 expanded_literal systemd name byte value e =
     ap (option_and_then (pieces_meaning name)) (pieces_of_literal systemd byte value e) ∙ taken_literal name byte (pieces_of systemd value)
 
--- or a `%` and the character after it
+-- the first piece is taken off: a `%` and the character after it
 taken_percent : (name : Name) (piece : Option Piece) (pieces : Option (List Piece))
     → option_and_then (pieces_meaning name) (onto_pieces piece pieces)
     ≡ option_append (option_and_then (piece_meaning name) piece) (option_and_then (pieces_meaning name) pieces)
@@ -325,7 +325,7 @@ pub expanded_letter : (systemd : Option Version) (name : Name) (letter : ℕ) (v
     ≡ option_append (letter_meaning systemd name letter) (expanded_bytes systemd name value)
 expanded_letter systemd name letter value = taken_percent name (percent_piece systemd letter) (pieces_of systemd value)
 
--- or a `%` at the end
+-- the first piece is taken off: a `%` at the end
 pub expanded_last : (systemd : Option Version) (name : Name)
     → expanded_bytes systemd name (percent ∷ []) ≡ option_append (last_meaning systemd) (expanded_bytes systemd name [])
 expanded_last None name = refl

@@ -1,4 +1,4 @@
--- A text is read as a name just where it is spelled so.
+-- A text is read as a name exactly if it spells that name.
 use Rattle.std.proofs.Common.{◌≡◌, ℕ, true, false, cond, eqb, ltb, leb, Option, Some, None, List, [], ◌∷◌, ◌++◌, length, refl, sym, ap, ◌∙◌}
 use Rattle.std.proofs.Common.{append-nil}
 use Rattle.std.specs.Prelude.{◌↔◌, not, codes, ◌&&◌}
@@ -64,6 +64,6 @@ name_from text name names =
     ∙ ap if_allowed (of_stem_spelled name.prefix name.instance (prefix_free name names.allowed))
     ∙ ap (λ b. cond b (Some name) None) names.allowed
 
--- what a text is read as, and what it spells
+-- a text is read as the name that it spells
 pub reading : (text : List ℕ) (name : Name) → (name_of text ≡ Some name) ↔ Names text name
 reading text name = (names_from text name, name_from text name)

@@ -1,4 +1,4 @@
--- What taking a piece off a text does to what has been expanded.
+-- A helper takes a piece off a text, and the joined text stays the same.
 use Rattle.std.proofs.Common.{◌≡◌, ◌≢◌, ℕ, Option, Some, None, Ok, Err, List, [], ◌∷◌, ◌++◌, sym, ap, ◌∙◌, subst}
 use Rattle.std.proofs.Common.{append_assoc}
 use Rattle.std.specs.Option.{option_map}
@@ -24,7 +24,7 @@ pub part_refused : (old new bytes text rest : List ℕ) (error : ExpandError)
 part_refused old new bytes text rest Refused e taken = missing_more old (unescaped text) (sym e ∙ ap (option_append (Some bytes)) taken)
 part_refused old new bytes text rest Memory e taken = tt
 
--- a piece that is taken gives a byte
+-- a piece that is taken gives its byte
 pub part_taken : (bytes new rest : List ℕ) (first : Option (ℕ × Bor (List ℕ))) (byte : ℕ) (behind : Bor (List ℕ))
     → TakesPart rest (Ok first) → first ≡ Some (byte, behind) → new ≡ bytes ++ byte ∷ []
     → option_append (Some new) (unescaped behind.now) ≡ option_append (Some bytes) (unescaped rest)
@@ -34,7 +34,7 @@ part_taken bytes new rest first byte behind taken is pushed =
     ∙ sym (option_append-onto bytes byte (unescaped behind.now))
     ∙ sym (ap (option_append (Some bytes)) one.0)
 
--- a `%` with its character that is taken gives what they stand for
+-- a `%` and its character that are taken give their text
 pub letter_taken : (systemd : Option Version) (name : Name) (old new behind rest : List ℕ) (letter : ℕ) → behind ≡ letter ∷ rest
     → option_append (Some old) (letter_meaning systemd name letter) ≡ Some new
     → option_append (Some old) (expanded_bytes systemd name (percent ∷ behind))
@@ -45,7 +45,7 @@ letter_taken systemd name old new behind rest letter split meant =
     ∙ option_append_assoc old (letter_meaning systemd name letter) (expanded_bytes systemd name rest)
     ∙ ap (λ o. option_append o (expanded_bytes systemd name rest)) meant
 
--- one that is refused makes the whole value refused
+-- a `%` and its character that are refused make the whole value refused
 pub letter_refused : (systemd : Option Version) (name : Name) (old new behind rest : List ℕ) (letter : ℕ) (error : ExpandError)
     → behind ≡ letter ∷ rest → AddsMeaning old (letter_meaning systemd name letter) (Err error) new
     → TakesPiece systemd name (percent ∷ behind) old (Err error) new
@@ -66,7 +66,7 @@ path_taken old begun middle new plain (Some text) empty e slashed pushed =
     ∙ ap (λ m. Some (m ++ behind_slashes plain)) (sym slashed)
     ∙ ap Some (sym pushed)
 
--- a `%` at the end that is taken stands for itself
+-- a `%` at the end that is taken gives itself
 pub last_taken : (systemd : Option Version) (name : Name) (old new behind : List ℕ) → behind ≡ []
     → option_append (Some old) (last_meaning systemd) ≡ Some new
     → option_append (Some old) (expanded_bytes systemd name (percent ∷ behind))
@@ -78,7 +78,7 @@ last_taken systemd name old new behind none meant =
     ∙ ap (λ o. option_append o (expanded_bytes systemd name [])) meant
     ∙ ap (λ b. option_append (Some new) (expanded_bytes systemd name b)) (sym none)
 
--- a byte that is taken stands for itself
+-- a byte that is taken gives itself
 pub literal_taken : (systemd : Option Version) (name : Name) (old new behind : List ℕ) (byte : ℕ) → byte ≢ percent
     → new ≡ old ++ byte ∷ []
     → option_append (Some old) (expanded_bytes systemd name (byte ∷ behind))

@@ -21,13 +21,13 @@ pub data Piece : Type 0 where
   kept : (letter : ℕ) → Piece
   last_percent : Piece
 
--- a `%` at the end stays where the systemd is known
+-- a `%` at the end stays if the version of systemd is known
 abbrev pub is_last : Option Version → List Piece → Bool
 is_last systemd [] = is_known systemd
 is_last systemd (piece ∷ pieces) = false
 
--- whether it is a piece before these: a specifier that the unit has, a byte that is no `%`; a `%` makes no specifier where systemd
--- is known alone
+-- whether a piece may precede these: a specifier that the unit has, or a byte other than `%`;
+-- a `%` that makes no specifier is a piece only if the version of systemd is known
 abbrev pub is_piece : Option Version → Piece → List Piece → Bool
 is_piece systemd (specified specifier) pieces = is_some (specifier_at systemd (letter_of specifier))
 is_piece systemd (literal byte) pieces = not (byte == percent)
@@ -45,19 +45,19 @@ piece_text (literal byte) = byte ∷ []
 piece_text (kept letter) = percent ∷ letter ∷ []
 piece_text last_percent = percent ∷ []
 
--- what a piece stands for: one that is no specifier stands for itself
+-- the text of a piece; a piece that is no specifier is its own text
 abbrev pub piece_meaning : Name → Piece → Option (List ℕ)
 piece_meaning name (specified specifier) = meaning name specifier
 piece_meaning name (literal byte) = Some (byte ∷ [])
 piece_meaning name (kept letter) = Some (percent ∷ letter ∷ [])
 piece_meaning name last_percent = Some (percent ∷ [])
 
--- what the pieces stand for, one after the other, or nothing where one of them stands for nothing
+-- the texts of the pieces, one after the other, or nothing if one of them has no text
 abbrev pub pieces_meaning : Name → List Piece → Option (List ℕ)
 pieces_meaning name [] = Some []
 pieces_meaning name (piece ∷ pieces) = option_append (piece_meaning name piece) (pieces_meaning name pieces)
 
--- the value consists of pieces, each stands for something, and together they stand for this text, which is UTF-8 and not too long
+-- the value consists of pieces, each has a text, and together they give this text, which is UTF-8 and not too long
 pub record Expands (systemd : Option Version) (name : Name) (value text : List ℕ) : Type 0 where
   pub pieces : List Piece
   pub well_formed : are_pieces systemd pieces ≡ true
@@ -66,55 +66,55 @@ pub record Expands (systemd : Option Version) (name : Name) (value text : List �
   pub is_text : is_utf8 text ≡ true
   pub short : length text ≤ longest_value
 
--- a piece in front, where all are there
+-- puts a piece in front of the others, if there are all of them
 abbrev pub onto_pieces : Option Piece → Option (List Piece) → Option (List Piece)
 onto_pieces None pieces = None
 onto_pieces (Some piece) pieces = option_map (λ others. piece ∷ others) pieces
 
--- the piece of a `%` and the character after it, which is None if it is no specifier
+-- the piece of a `%` and the character after it, given the specifier of that character, if it has one
 abbrev pub letter_piece : Option Version → ℕ → Option Specifier → Option Piece
 letter_piece systemd letter (Some specifier) = Some (specified specifier)
 letter_piece systemd letter None = cond (is_kept systemd letter) (Some (kept letter)) None
 
--- the piece that a `%` is with the character after it
+-- the piece of a `%` and the character after it
 abbrev pub percent_piece : Option Version → ℕ → Option Piece
 percent_piece systemd letter = letter_piece systemd letter (specifier_at systemd letter)
 
--- what these stand for
+-- the text of a `%` and the character after it
 abbrev pub letter_meaning : Option Version → Name → ℕ → Option (List ℕ)
 letter_meaning systemd name letter = option_and_then (piece_meaning name) (percent_piece systemd letter)
 
--- what a `%` at the end stands for
+-- the text of a `%` at the end
 abbrev pub last_meaning : Option Version → Option (List ℕ)
 last_meaning systemd = cond (is_known systemd) (Some (percent ∷ [])) None
 
--- the pieces of a last byte
+-- the pieces of the last byte of a value
 abbrev pub last_pieces : Option Version → ℕ → Option (List Piece)
 last_pieces systemd byte = cond (byte == percent) (cond (is_known systemd) (Some (last_percent ∷ [])) None) (Some (literal byte ∷ []))
 
--- the pieces of a value, or nothing where a `%` and the character after it, or its end, are none
+-- the pieces of a value, or nothing where a `%` makes no piece
 abbrev pub pieces_of : Option Version → List ℕ → Option (List Piece)
 pieces_of systemd [] = Some []
 pieces_of systemd (byte ∷ []) = last_pieces systemd byte
 pieces_of systemd (byte ∷ next ∷ value) = cond (byte == percent) (onto_pieces (percent_piece systemd next) (pieces_of systemd value))
     (onto_pieces (Some (literal byte)) (pieces_of systemd (next ∷ value)))
 
--- the bytes, where they are not too many
+-- the bytes, if they are not too many
 abbrev pub if_short : List ℕ → Option (List ℕ)
 if_short bytes = cond (nat_le (length bytes) longest_value) (Some bytes) None
 
--- the bytes, where they are UTF-8
+-- the bytes, if they are UTF-8
 abbrev pub if_text : List ℕ → Option (List ℕ)
 if_text bytes = cond (is_utf8 bytes) (Some bytes) None
 
--- what the pieces of a value stand for
+-- the bytes of an expanded value, however many they are
 abbrev pub expanded_bytes : Option Version → Name → List ℕ → Option (List ℕ)
 expanded_bytes systemd name value = option_and_then (pieces_meaning name) (pieces_of systemd value)
 
--- the same, where it is not too long
+-- the bytes of an expanded value, if they are not too many
 abbrev pub short_bytes : Option Version → Name → List ℕ → Option (List ℕ)
 short_bytes systemd name value = option_and_then if_short (expanded_bytes systemd name value)
 
--- the expanded value, or nothing where it cannot be expanded
+-- the expanded value, or nothing if it cannot be expanded
 abbrev pub expansion : Option Version → Name → List ℕ → Option (List ℕ)
 expansion systemd name value = option_and_then if_text (short_bytes systemd name value)

@@ -3,12 +3,12 @@ use Rattle.std.specs.Prelude.{◌≡◌, ℕ, ◌==◌, ◌&&◌, ◌||◌, nat_
 use Rattle.std.specs.List.{list_all, list_any}
 use Rattle.std.specs.Char.{is_ascii_alphanumeric}
 
--- what a name is made of: a prefix and, for an instance of a template, the instance
+-- a name has a prefix and, if it is an instance of a template, an instance
 pub record Name : Type 0 where
   pub prefix : List ℕ
   pub instance : Option (List ℕ)
 
--- `@`, which stands between a prefix and an instance
+-- `@` separates the prefix from the instance
 abbrev pub at_sign : ℕ
 at_sign = 64
 
@@ -16,20 +16,20 @@ at_sign = 64
 abbrev pub is_prefix_byte : ℕ → Bool
 is_prefix_byte byte = is_ascii_alphanumeric byte || list_any (λ mark. byte == mark) (codes ":-_.\\")
 
--- those of an instance: `@` too
+-- an instance may also have `@`
 abbrev pub is_instance_byte : ℕ → Bool
 is_instance_byte byte = is_prefix_byte byte || byte == at_sign
 
--- one or more characters that pass
+-- the text is not empty, and each character passes the test
 abbrev pub is_filled_by : (ℕ → Bool) → List ℕ → Bool
 is_filled_by test text = nat_lt 0 (length text) && list_all test text
 
--- a name has no instance, or one that is filled
+-- a name has no instance, or one that is not empty
 abbrev pub is_instance : Option (List ℕ) → Bool
 is_instance None = true
 is_instance (Some instance) = is_filled_by is_instance_byte instance
 
--- an instance is after an `@`
+-- an instance follows an `@`
 abbrev pub behind_prefix : Option (List ℕ) → List ℕ
 behind_prefix None = []
 behind_prefix (Some instance) = at_sign ∷ instance
@@ -47,16 +47,16 @@ abbrev pub is_unit_name : Name → Bool
 is_unit_name name =
     (is_filled_by is_prefix_byte name.prefix && is_instance name.instance) && nat_le (length (text_of name)) 255
 
--- the text is a unit name, and this is what it is made of
+-- the text is this name, and the name is allowed
 pub record Names (text : List ℕ) (name : Name) : Type 0 where
   pub spelled : text ≡ text_of name
   pub allowed : is_unit_name name ≡ true
 
--- where there is an instance
+-- a template has the prefix and `@.service`, and a name without an instance has no template
 abbrev pub template_at : List ℕ → Option (List ℕ) → Option (List ℕ)
 template_at prefix None = None
 template_at prefix (Some instance) = Some (prefix ++ codes "@.service")
 
--- the file that an instance is made from: PREFIX@.service
+-- systemd makes an instance from the file PREFIX@.service
 abbrev pub template_of : Name → Option (List ℕ)
 template_of name = template_at name.prefix name.instance

@@ -1,4 +1,4 @@
--- The specifiers that may stand in a value (systemd.unit(5), Specifiers).
+-- The specifiers that a value may have (systemd.unit(5), Specifiers).
 use Rattle.std.specs.Prelude.{ℕ, ◌==◌, ◌&&◌, not, Bool, true, false, cond, is_some, Option, Some, None, unwrap_or, List, [], ◌∷◌, ◌++◌}
 use Rattle.std.specs.Prelude.{slice_index, find, codes}
 use Rattle.std.specs.List.{after_last, list_any}
@@ -18,7 +18,7 @@ use Rattle.unit_names.specs.declared.specifier.Specifier.TheVariants.{GroupName,
 abbrev pub percent : ℕ
 percent = 37
 
--- how each is written: a percent sign and a letter
+-- a specifier is written as a percent sign and a letter
 abbrev pub spelling : Specifier → List ℕ
 spelling Percent = percent ∷ codes "%"
 spelling WholeName = percent ∷ codes "n"
@@ -44,15 +44,15 @@ spelling GroupName = percent ∷ codes "g"
 spelling GroupNumber = percent ∷ codes "G"
 spelling Shell = percent ∷ codes "s"
 
--- the prefix after its last dash, or all of it
+-- the prefix after its last dash, or the whole prefix if it has no dash
 abbrev pub last_part : List ℕ → List ℕ
 last_part prefix = after_last (λ byte. byte == dash) prefix
 
--- the instance, or nothing
+-- the instance, or an empty text without one
 abbrev pub instance_text : Name → List ℕ
 instance_text name = unwrap_or name.instance []
 
--- what each stands for in a unit that the system's manager runs, with uid 0, before it is unescaped
+-- the text of a specifier before unescaping, in a unit that the system's manager runs with uid 0
 abbrev pub specified_text : Name → Specifier → List ℕ
 specified_text name Percent = codes "%"
 specified_text name WholeName = text_of name
@@ -78,14 +78,14 @@ specified_text name GroupName = codes "root"
 specified_text name GroupNumber = codes "0"
 specified_text name Shell = codes "/bin/sh"
 
--- whether it stands for an unescaped text
+-- whether the text of a specifier is unescaped
 abbrev pub unescapes : Specifier → Bool
 unescapes PrefixUnescaped = true
 unescapes InstanceUnescaped = true
 unescapes LastPartUnescaped = true
 unescapes specifier = false
 
--- whether it stands for a path: a slash and an unescaped text
+-- whether a specifier is a path: a slash and an unescaped text
 abbrev pub is_path : Specifier → Bool
 is_path NamedPath = true
 is_path specifier = false
@@ -95,32 +95,32 @@ abbrev pub behind_slashes : List ℕ → List ℕ
 behind_slashes [] = []
 behind_slashes (byte ∷ text) = cond (byte == slash) (behind_slashes text) (byte ∷ text)
 
--- the path of a text: one slash in place of those at its front
+-- the path of a text has one slash in place of all slashes at the front
 abbrev pub rooted : List ℕ → List ℕ
 rooted text = slash ∷ behind_slashes text
 
--- what a specifier that is no path stands for, or nothing where the text cannot be unescaped
+-- the text of a specifier that is no path, or nothing if it cannot be unescaped
 abbrev pub plain_meaning : Name → Specifier → Option (List ℕ)
 plain_meaning name specifier =
     cond (unescapes specifier) (unescaped (specified_text name specifier)) (Some (specified_text name specifier))
 
--- what it stands for, or nothing where the text cannot be unescaped
+-- the text of a specifier, or nothing if it cannot be unescaped
 abbrev pub meaning : Name → Specifier → Option (List ℕ)
 meaning name specifier =
     cond (is_path specifier) (option_map rooted (unescaped (specified_text name specifier))) (plain_meaning name specifier)
 
--- those of each unit
+-- every unit has these specifiers
 abbrev pub base_specifiers : List Specifier
 base_specifiers =
     Percent ∷ WholeName ∷ Stem ∷ Prefix ∷ Instance ∷ LastPart ∷ PrefixUnescaped ∷ InstanceUnescaped ∷ LastPartUnescaped ∷ RuntimeFolder ∷
     StateFolder ∷ CacheFolder ∷ LogFolder ∷ ConfigFolder ∷ TemporaryFolder ∷ LastingTemporaryFolder ∷ UserName ∷ UserNumber ∷
     HomeFolder ∷ []
 
--- those that a unit of a known systemd has besides
+-- a unit has these too if its version of systemd is known
 abbrev pub further_specifiers : List Specifier
 further_specifiers = NamedPath ∷ GroupName ∷ GroupNumber ∷ Shell ∷ []
 
--- all of a unit's
+-- all specifiers of a unit
 abbrev pub specifiers : Option Version → List Specifier
 specifiers None = base_specifiers
 specifiers (Some version) = base_specifiers ++ further_specifiers
@@ -133,7 +133,7 @@ letter_of specifier = slice_index (spelling specifier) 1
 abbrev pub specifier_at : Option Version → ℕ → Option Specifier
 specifier_at systemd letter = find (λ specifier. letter_of specifier == letter) (specifiers systemd)
 
--- the letters of specifiers for what the running machine, its system and the unit's own files say
+-- the letters of specifiers whose text the running machine, its system or the unit's own files give
 abbrev pub host_letters : List ℕ
 host_letters = codes "aAbBcdDHlmMoqrRvwWyY"
 

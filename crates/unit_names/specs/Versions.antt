@@ -1,4 +1,4 @@
--- Which systemd reads a unit. A unit that is read without a version is read by the rules of the base profile.
+-- The version of systemd that reads a unit. Without a version, the rules of the base profile apply.
 use Rattle.std.specs.Prelude.{Bool, true, false, is_some, Option, Some, None}
 use Rattle.unit_names.specs.declared.version.Version.{Version}
 use Rattle.unit_names.specs.declared.version.Version.TheVariants.{V252, V257}

@@ -1,6 +1,6 @@
-// A name's text, cut into its prefix and its instance.
+// Cuts a name's text into its prefix and its instance.
 //
-// The parts are lent from the text; `name` tests them and keeps copies.
+// The parts borrow from the text; `name` keeps copies.
 ghost use Rattle.std.specs.Prelude.{◌≡◌, codes};
 ghost use Rattle.std.specs.List.{list_all};
 ghost use Rattle.std.specs.Option.{option_map, option_copied};
@@ -13,14 +13,14 @@ pub const SUFFIX: &str = ".service";
 /// The most bytes that a name has.
 const LONGEST_NAME: usize = 255;
 
-/// The parts of a name, lent from its text.
+/// The parts of a name, borrowed from its text.
 #[derive(Clone, Copy)]
 pub struct Parts<'a> {
     pub prefix: &'a str,
     pub instance: Option<&'a str>,
 }
 
-/// Returns the text before `.service`, if the text ends so.
+/// Returns the text before `.service`, if the text ends with it.
 pub fn stem_of(text: &str) -> Option<&str>
     ensures before_the_ending { option_map (λ stem. stem.now) result ≡ before_end (codes ".service") text.now }
 {
@@ -33,7 +33,7 @@ fn sides_of_at(stem: &str) -> Option<(&str, &str)>
     stem.split_once('@')
 }
 
-/// Returns the parts of the text before `.service`, which is cut at the first `@`.
+/// Cuts the text before `.service` at its first `@`, and returns the parts.
 pub fn parts_of(stem: &str) -> Parts<'_>
     ensures of_the_stem { borrowed_name result ≡ of_stem stem.now }
 {
@@ -86,7 +86,7 @@ fn is_instance(instance: Option<&str>) -> bool
     instance.is_none_or(|instance| is_instance_text(instance))
 }
 
-/// Returns the parts of a text that is a name, or nothing if it is none.
+/// Returns the parts of a text, or nothing if the text is no name of a service.
 pub fn name_parts(text: &str) -> Option<Parts<'_>>
     ensures of_a_name { option_map (λ parts. borrowed_name parts) result ≡ name_of text.now }
 {

@@ -1,6 +1,6 @@
 // Expands the specifiers of a value.
 //
-// The pieces of a value are taken one by one; `specifier` gives the text of each.
+// `expand` takes the pieces of a value one by one; `specifier` gives the text of each specifier.
 ghost use Rattle.std.specs.Prelude.{◌≡◌, ◌∷◌, IfOk, Some, None};
 ghost use Rattle.std.specs.String.{string_bytes};
 ghost use Rattle.std.specs.Option.{option_map};
@@ -51,7 +51,7 @@ fn behind_slashes(text: &[u8]) -> &[u8]
     rest
 }
 
-// Appends the path that an escaped text stands for.
+// Appends the path of an escaped text: a slash, and the unescaped text without the slashes at its front.
 fn push_path(alloc: Global, bytes: &mut Vec<u8>, text: &[u8]) -> Result<(), ExpandError>
     ensures { AddsMeaning bytes.old.items (option_map rooted (unescaped text.now)) result bytes.new.items }
 {
@@ -61,7 +61,7 @@ fn push_path(alloc: Global, bytes: &mut Vec<u8>, text: &[u8]) -> Result<(), Expa
     Ok(bytes.extend_from_slice(behind_slashes(path.as_slice()))?)
 }
 
-// Appends what a specifier stands for to the bytes.
+// Appends the text of a specifier to the bytes.
 fn push_meaning(
     alloc: Global,
     bytes: &mut Vec<u8>,
@@ -80,7 +80,7 @@ fn push_meaning(
     }
 }
 
-// Appends what a `%` and the character after it stand for to the bytes.
+// Appends the text of a `%` and the character after it to the bytes.
 fn push_letter(
     alloc: Global,
     bytes: &mut Vec<u8>,
@@ -97,7 +97,7 @@ fn push_letter(
     }
 }
 
-// Appends a `%` at the end of a value, which stays where the systemd is known.
+// Appends a `%` at the end of a value. It stays if the version of systemd is known, and is refused otherwise.
 fn push_last_percent(bytes: &mut Vec<u8>, systemd: Option<Version>) -> Result<(), ExpandError>
     ensures { AddsMeaning bytes.old.items (last_meaning systemd) result bytes.new.items }
 {
@@ -107,7 +107,7 @@ fn push_last_percent(bytes: &mut Vec<u8>, systemd: Option<Version>) -> Result<()
     Ok(bytes.extend_from_slice(b"%")?)
 }
 
-// Appends what a `%` and the character after it stand for to the bytes, and gives the text after that character.
+// Appends the text of a `%` and the character after it to the bytes, and returns the value after that character.
 fn push_specifier<'a>(
     alloc: Global,
     bytes: &mut Vec<u8>,
@@ -129,7 +129,7 @@ fn push_specifier<'a>(
     }
 }
 
-// Appends what a piece stands for to the bytes, and gives the text after the piece.
+// Appends the text of a piece to the bytes, and returns the value after the piece.
 fn push_piece<'a>(
     alloc: Global,
     bytes: &mut Vec<u8>,
@@ -148,7 +148,7 @@ fn push_piece<'a>(
     }
 }
 
-// The bytes of an expanded value, which is given up as soon as they are too many.
+// Returns the bytes of an expanded value, and gives up as soon as they are too many.
 fn expanded_bytes(
     alloc: Global,
     systemd: Option<Version>,
@@ -168,7 +168,7 @@ fn expanded_bytes(
     Ok(bytes)
 }
 
-// The bytes as a text.
+// Returns the bytes as a text, if they are UTF-8.
 fn text_of(bytes: Vec<u8>) -> Result<String, ExpandError>
     ensures { GivesText (if_text bytes.items) result }
 {
@@ -178,7 +178,7 @@ fn text_of(bytes: Vec<u8>) -> Result<String, ExpandError>
     }
 }
 
-// The expanded value.
+// Returns the expanded value.
 fn expanded(
     alloc: Global,
     systemd: Option<Version>,
@@ -191,13 +191,13 @@ fn expanded(
     text_of(bytes)
 }
 
-/// Expands the specifiers of a value as this systemd does. `Specifier` comes exactly if that cannot be done.
+/// Expands the specifiers of a value as this systemd does. It returns `Specifier` exactly if the value cannot be expanded.
 ///
 /// The specifiers are `%%`, `%n`, `%N`, `%p`, `%i`, `%j`, `%P`, `%I`, `%J`, `%t`, `%S`, `%C`, `%L`, `%E`, `%T`, `%V`,
 /// `%u`, `%U` and `%h`, and with a version `%f`, `%g`, `%G` and `%s` too (systemd.unit(5), Specifiers). With a version, a
-/// specifier for what the running machine says is refused, and any other `%` stays as it is written. Without one, a `%`
-/// that makes no specifier is refused. So is an unescaped text whose `\x` lacks its two digits. A result is refused if it
-/// is not UTF-8 or has more than 1,048,576 bytes, the longest line that systemd reads.
+/// specifier whose text the running machine gives is refused, and any other `%` stays as it is written. Without one, a
+/// `%` that makes no specifier is refused. An unescaped text is refused if a `\x` lacks its two digits. A result is
+/// refused if it is not UTF-8 or has more than 1,048,576 bytes, the longest line that systemd reads.
 pub fn expand(
     alloc: Global,
     systemd: Option<Version>,

@@ -9,14 +9,14 @@ ghost use Rattle.unit_names.specs.Names.{template_of};
 use crate::name::UnitName;
 use std::alloc::{AllocError, Global};
 
-// The folder of a unit.
+// Returns the folder of a unit.
 fn folder_of(alloc: Global, unit: &str) -> Result<String, AllocError>
     ensures { IfOk result (λ folder. string_bytes folder ≡ folder_of unit.now) }
 {
     format!(in alloc; "{unit}.d")
 }
 
-// Returns whether a dash stands at a place of a prefix, with text on both sides.
+// Returns whether the prefix has a dash at this place, with text on both sides.
 fn is_inner_dash(prefix: &[u8], place: usize) -> bool
     requires { place < length prefix.now }
     ensures { result ≡ is_inner_dash prefix.now place }
@@ -24,7 +24,7 @@ fn is_inner_dash(prefix: &[u8], place: usize) -> bool
     0 < place && place + 1 < prefix.len() && prefix[place] == b'-'
 }
 
-// The folder of a dash of a prefix.
+// Returns the folder of a dash of a prefix.
 fn dash_folder(alloc: Global, prefix: &str, place: usize) -> Result<String, AllocError>
     requires { is_inner_dash prefix.now place ≡ true }
     ensures { IfOk result (λ folder. string_bytes folder ≡ dash_folder prefix.now place) }
@@ -33,7 +33,7 @@ fn dash_folder(alloc: Global, prefix: &str, place: usize) -> Result<String, Allo
     format!(in alloc; "{front}.service.d")
 }
 
-// The folders of the dashes of a prefix, from the last to the first.
+// Appends the folders of the dashes of a prefix, from the last dash to the first.
 fn push_dash_folders(
     alloc: Global,
     folders: &mut Vec<String>,
@@ -49,7 +49,7 @@ fn push_dash_folders(
     Ok(())
 }
 
-// The folder of the template, where there is one.
+// Appends the folder of the template, if the name has one.
 fn push_template_folder(
     alloc: Global,
     folders: &mut Vec<String>,
@@ -68,8 +68,8 @@ fn push_template_folder(
 /// They are, in this order:
 /// - `NAME.d`;
 /// - for an instance, `PREFIX@.service.d`;
-/// - for each dash of the prefix that has text on both sides, from the last dash to the first, the prefix up to and
-///   with that dash and then `.service.d`;
+/// - for each dash of the prefix that has text on both sides, from the last dash to the first, the prefix up to that
+///   dash, the dash and `.service.d`;
 /// - `service.d`.
 pub fn dropin_folders(alloc: Global, name: &UnitName) -> Result<Vec<String>, AllocError>
     ensures most_specific_first { IfOk result (λ folders. map string_bytes folders.items ≡ folders_of name.now) }

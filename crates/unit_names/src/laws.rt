@@ -1,4 +1,4 @@
-//! Laws of names, each the contract of a function that does nothing.
+//! States laws of names. Each is the contract of a function that does nothing.
 ghost use Rattle.std.specs.Prelude.{◌≡◌, ◌↔◌, List, ℕ, Option, Some};
 ghost use Rattle.unit_names.specs.Cutting.{name_of};
 ghost use Rattle.unit_names.specs.Expansion.{expansion, Expands};
@@ -6,13 +6,13 @@ ghost use Rattle.unit_names.specs.Names.{Name, Names};
 ghost use Rattle.unit_names.specs.Unescaping.{unescaped, Unescapes};
 ghost use Rattle.unit_names.specs.declared.version.Version.{Version};
 
-/// Says what `UnitName::read` answers: the name that the text spells, if its parts are allowed.
+/// `UnitName::read` returns the name that the text spells, if its parts are allowed.
 pub fn names_are_spelled()
     ensures reading_is_spelling { (text : List ℕ) (name : Name) → (name_of text ≡ Some name) ↔ Names text name }
 {}
 
-/// Says what `expand` answers: the pieces of a value, and what they stand for together. So it is with the pieces of an escaped
-/// text, which some specifiers stand for.
+/// `expand` returns the joined texts of the pieces of a value. An escaped text, which some specifiers have, also consists of pieces
+/// and unescapes to their bytes.
 pub fn values_are_in_pieces()
     ensures expanding_is_by_pieces { (systemd : Option Version) (name : Name) (value text : List ℕ) →
         (expansion systemd name value ≡ Some text) ↔ Expands systemd name value text }

@@ -1,8 +1,8 @@
-//! Reads names of services, lists the folders of their drop-ins, and expands the specifiers in their settings. Says which
-//! versions of systemd there are.
+//! Reads names of services, lists the folders of their drop-ins, and expands the specifiers in their settings. It also lists
+//! the known versions of systemd.
 //!
-//! A name is read once, and then has its prefix and its instance (systemd.unit(5)). `dropin_merge` looks for the
-//! folders, and `unit_values` expands the values.
+//! `UnitName::read` reads a name once and keeps its prefix and its instance (systemd.unit(5)). `dropin_merge` looks for the
+//! folders, and its `unit_values` expands the values.
 //!
 //! `dropin_folders(alloc, &UnitName::read(alloc, "web@1.service")?)` begins with `web@1.service.d`.
 #![tactic(auto)]

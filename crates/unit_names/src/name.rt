@@ -45,7 +45,7 @@ pub enum NameError {
 }
 
 impl UnitName {
-    /// Reads a name. `BadName` comes exactly if the text is none.
+    /// Reads a name. It returns `BadName` exactly if the text is no name of a service.
     ///
     /// A name is a prefix and `.service`, or for an instance a prefix, `@`, the instance and `.service`
     /// (systemd.unit(5), Description). The prefix has ASCII letters, digits, `:`, `-`, `_`, `.` and `\`, and the
@@ -60,7 +60,7 @@ impl UnitName {
         }
     }
 
-    // Keeps a text and the parts that it has.
+    // Keeps a text and its parts.
     fn with_parts(alloc: Global, text: &str, parts: Parts<'_>) -> Result<UnitName, AllocError>
         requires { Names text.now (borrowed_name parts) }
         ensures { IfOk result (λ name. name ≡ borrowed_name parts.entry) }
@@ -76,7 +76,7 @@ impl UnitName {
         })
     }
 
-    /// The same name once more.
+    /// Returns a copy of the name.
     pub fn copy(&self, alloc: Global) -> Result<UnitName, AllocError>
         ensures same_name { IfOk result (λ copy. copy ≡ self.now) }
     {
@@ -87,7 +87,7 @@ impl UnitName {
         UnitName::with_parts(alloc, self.text(), parts)
     }
 
-    /// The whole name.
+    /// Returns the whole name.
     pub fn text(&self) -> &str
         ensures whole_text { result.now ≡ text_of self.now }
         ensures allowed { is_unit_name self.now ≡ true }
@@ -116,8 +116,8 @@ impl UnitName {
         self.text.strip_suffix(SUFFIX).unwrap()
     }
 
-    /// Returns the name of the file that an instance is made from, `PREFIX@.service`. `None` exactly if the name has
-    /// no instance.
+    /// Returns the name of the template from which systemd makes the instance, `PREFIX@.service`. `None` exactly if the
+    /// name has no instance.
     pub fn template(&self, alloc: Global) -> Result<Option<String>, AllocError>
         ensures without_instance { IfOk result (λ template. option_map (λ t. string_bytes t) template ≡ template_of self.now) }
     {

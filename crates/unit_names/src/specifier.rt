@@ -1,4 +1,4 @@
-// The specifiers, their letters and the texts that they stand for.
+// Defines the specifiers, their letters and their texts.
 //
 // systemd.unit(5), Specifiers, has the table; `expand` puts the texts into a value.
 ghost use Rattle.std.specs.Prelude.{◌≡◌};
@@ -7,10 +7,10 @@ ghost use Rattle.unit_names.specs.Specifiers.{specifier_at, specified_text, unes
 use crate::name::UnitName;
 use crate::version::Version;
 
-/// The letters of specifiers for what the running machine, its system and the files of the unit say.
+/// The letters of specifiers whose text the running machine, its system or the files of the unit give.
 const HOST_LETTERS: &[u8] = b"aAbBcdDHlmMoqrRvwWyY";
 
-/// A specifier: `%` and a letter. The values are those of the system's manager, which runs as root.
+/// A specifier: `%` and a letter. The system's manager, which runs as root, determines its text.
 #[derive(Clone, Copy)]
 pub enum Specifier {
     /// `%%`: one percent sign.
@@ -29,7 +29,7 @@ pub enum Specifier {
     PrefixUnescaped,
     /// `%I`: the instance, unescaped.
     InstanceUnescaped,
-    /// `%J`: what `%j` is, unescaped.
+    /// `%J`: the text of `%j`, unescaped.
     LastPartUnescaped,
     /// `%t`: `/run`.
     RuntimeFolder,
@@ -51,7 +51,7 @@ pub enum Specifier {
     UserNumber,
     /// `%h`: the home of that user, `/root`.
     HomeFolder,
-    /// `%f`: a slash and the unescaped instance, or without an instance the unescaped prefix; slashes at its front are one.
+    /// `%f`: the unescaped instance, or without an instance the unescaped prefix, with exactly one slash at its front.
     NamedPath,
     /// `%g`: the name of the group of the user of the manager, `root`.
     GroupName,
@@ -62,7 +62,7 @@ pub enum Specifier {
 }
 
 impl Specifier {
-    /// The specifier with this letter, if a unit of this systemd has one.
+    /// Returns the specifier with this letter, if a unit of this systemd has one.
     pub fn with_letter(systemd: Option<Version>, letter: u8) -> Option<Specifier>
         ensures by_letter { result ≡ specifier_at systemd letter }
     {
@@ -94,7 +94,7 @@ impl Specifier {
         })
     }
 
-    /// Returns whether it stands for an unescaped text.
+    /// Returns whether `text` gives an escaped text, which the specifier unescapes.
     pub fn unescapes(self) -> bool
         ensures by_kind { result ≡ unescapes self }
     {
@@ -104,14 +104,14 @@ impl Specifier {
         )
     }
 
-    /// Returns whether it stands for a path.
+    /// Returns whether the specifier is a path.
     pub fn is_path(self) -> bool
         ensures by_kind { result ≡ is_path self }
     {
         matches!(self, Specifier::NamedPath)
     }
 
-    /// The text that it stands for, before it is unescaped.
+    /// Returns the text of the specifier before unescaping.
     pub fn text<'a>(self, name: &'a UnitName) -> &'a str
         ensures its_text { result.now ≡ specified_text name.now self }
     {
@@ -149,14 +149,14 @@ pub fn is_kept(systemd: Option<Version>, letter: u8) -> bool
         && Specifier::with_letter(systemd, letter).is_none()
 }
 
-// The instance, or nothing.
+// Returns the instance, or an empty text without one.
 fn instance_text(name: &UnitName) -> &str
     ensures { result.now ≡ instance_text name.now }
 {
     name.instance().unwrap_or("")
 }
 
-// The prefix after its last dash, or all of it.
+// Returns the prefix after its last dash, or the whole prefix if it has no dash.
 fn last_part(prefix: &str) -> &str
     ensures { result.now ≡ last_part prefix.now }
 {

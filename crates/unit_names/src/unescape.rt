@@ -8,7 +8,7 @@ ghost use Rattle.unit_names.specs.Taking.{TakesPart, AddsMeaning};
 
 use crate::expansion::ExpandError;
 
-// The value of a hexadecimal digit.
+// Returns the value of a hexadecimal digit.
 fn digit_value(digit: u8) -> u8
     requires { is_ascii_hexdigit digit ≡ true }
     ensures value { result ≡ digit_value digit }
@@ -21,7 +21,7 @@ fn digit_value(digit: u8) -> u8
     }
 }
 
-// The byte of two hexadecimal digits, or nothing where they are none.
+// Returns the byte of two hexadecimal digits, or nothing if one of them is no such digit.
 fn hex_byte(high: u8, low: u8) -> Option<u8>
     ensures { result ≡ hex_byte high low }
 {
@@ -32,14 +32,14 @@ fn hex_byte(high: u8, low: u8) -> Option<u8>
     }
 }
 
-// Returns the byte that a byte without `\x` stands for.
+// Unescapes a byte outside `\x`: a dash becomes a slash, and another byte stays.
 fn plain_byte(byte: u8) -> u8
     ensures { result ≡ plain_byte byte }
 {
     if byte == b'-' { b'/' } else { byte }
 }
 
-// Returns the byte that the first piece of a text stands for, and the text after the piece.
+// Returns the unescaped byte of the first piece of a text, and the text after the piece.
 fn first_byte(text: &[u8]) -> Result<Option<(u8, &[u8])>, ExpandError>
     ensures { TakesPart text.now result }
 {
@@ -54,7 +54,7 @@ fn first_byte(text: &[u8]) -> Result<Option<(u8, &[u8])>, ExpandError>
     }
 }
 
-/// Appends the bytes that an escaped text stands for.
+/// Unescapes a text and appends its bytes.
 pub fn push_unescaped(bytes: &mut Vec<u8>, text: &[u8]) -> Result<(), ExpandError>
     ensures adds_its_meaning { AddsMeaning bytes.old.items (unescaped text.now) result bytes.new.items }
 {

@@ -2,8 +2,8 @@
 
 /// The version of systemd by whose rules the files of a unit are read.
 ///
-/// Versions differ in the words of some keys and in what some keys imply (systemd.exec(5), systemd.service(5)). A unit
-/// that is read without a version is read by the rules of the base profile.
+/// Versions differ in the words of some keys and in what some keys imply (systemd.exec(5), systemd.service(5)). Without
+/// a version, the rules of the base profile apply to a unit.
 #[derive(Clone, Copy)]
 pub enum Version {
     /// systemd 252.

@@ -7,11 +7,11 @@ use Rattle.abs_path.specs.Paths.{Path}
 use Rattle.abs_path.specs.declared.place_tree.node.Node.{Node}
 use Rattle.abs_path.specs.place_tree.Places.{last_at}
 
--- where a part leads to from the node of a number
+-- the node to which a part leads from the node of a number
 abbrev pub Ways : Type 0
 Ways = ℕ → List ℕ → Option ℕ
 
--- the node that a path leads to from the node of this number
+-- the node to which a path leads from the node of this number
 abbrev pub walk : Ways → ℕ → Path → Option ℕ
 walk ways at [] = Some at
 walk ways at (part ∷ path) = option_and_then (λ child. walk ways child path) (ways at part)
@@ -19,7 +19,7 @@ walk ways at (part ∷ path) = option_and_then (λ child. walk ways child path) 
 abbrev pub child_at : List Node → ℕ → List ℕ → Option ℕ
 child_at nodes at part = option_and_then (λ node. get_by_text node.children part) (slice_get nodes at)
 
--- the number that is kept at the node of this number
+-- the number at the node of this number
 abbrev pub number_at : List Node → ℕ → Option ℕ
 number_at nodes at = option_and_then (λ node. node.last) (slice_get nodes at)
 
@@ -27,32 +27,32 @@ number_at nodes at = option_and_then (λ node. node.last) (slice_get nodes at)
 abbrev pub node_at : List Node → Path → Option ℕ
 node_at nodes path = walk (child_at nodes) 0 path
 
--- the number that is kept at the node of a path
+-- the number at the node of a path
 abbrev pub kept_at : List Node → Path → Option ℕ
 kept_at nodes path = option_and_then (number_at nodes) (node_at nodes path)
 
--- the nodes are those of a tree: there is a root, each way leads to a node, and no two paths have one node
+-- the nodes form a tree: it has a root, each way leads to a node, and no two paths share a node
 pub record IsArena (nodes : List Node) : Type 0 where
   pub has_root : 0 < length nodes
   pub in_range : (at child : ℕ) (part : List ℕ) → child_at nodes at part ≡ Some child → child < length nodes
   pub apart : (one other : Path) (at : ℕ) → node_at nodes one ≡ Some at → node_at nodes other ≡ Some at → one ≡ other
 
--- each path keeps the number of the last place that is the path
+-- the node of each path keeps the number of the last place that is this path
 abbrev pub IsNumbered : List Node → List Path → Type 0
 IsNumbered nodes places = (path : Path) → kept_at nodes path ≡ last_at path places
 
--- the tree of a list of places
+-- the nodes are the tree of a list of places
 pub record IsTree (nodes : List Node) (places : List Path) : Type 0 where
   pub arena : IsArena nodes
   pub numbers : IsNumbered nodes places
 
--- there may be more nodes, and each path keeps its node and its number
+-- the tree may have more nodes, and each path keeps its node and its number
 pub record Grows (old new : List Node) : Type 0 where
   pub arena : IsArena new
   pub numbers_stay : (path : Path) → kept_at new path ≡ kept_at old path
   pub nodes_stay : (path : Path) (at : ℕ) → node_at old path ≡ Some at → node_at new path ≡ Some at
 
--- the same ways lead on
+-- the nodes have the same ways on
 abbrev pub HasSameWays : List Node → List Node → Type 0
 HasSameWays old new = (at : ℕ) (part : List ℕ) → child_at new at part ≡ child_at old at part
 

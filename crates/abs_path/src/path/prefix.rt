@@ -1,4 +1,4 @@
-//! Tests prefixes by whole parts, takes a path apart after one, and joins the two again.
+//! Tests prefixes by whole parts, takes the rest of a path after a prefix, and joins the two again.
 
 ghost use Rattle.std.specs.Prelude.{◌≡◌, ◌≤◌, ◌++◌, IfOk, IfSome, IsTrue, length, option_map, true};
 ghost use Rattle.abs_path.specs.Paths.{is_normal, parts_of, tail_of};
@@ -23,7 +23,7 @@ fn after<'a>(front: &str, text: &'a str) -> Option<&'a str>
     text.strip_prefix(front)
 }
 
-// the rest of the text after the front, if it ends there or goes on at a slash
+// returns the rest of the text after the front, if the text ends there or continues with a slash
 fn behind<'a>(front: &str, text: &'a str) -> Option<&'a str>
     ensures { option_map (λ rest. rest.now) result ≡ behind_text front.now text.now }
 {
@@ -60,10 +60,10 @@ impl AbsPath {
         behind(self.tail.as_str(), of.tail.as_str())
     }
 
-    /// Returns the path with a rest after it. `rest` answers such a rest: nothing, or normal parts, each after a
+    /// Returns the path with a rest after it. `rest` returns such a rest: nothing, or normal parts, each after a
     /// slash.
     ///
-    /// TooLong comes if the two have more than 512 bytes. Memory may come for any rest.
+    /// It returns TooLong if the two have more than 512 bytes together. It may return Memory for any rest.
     pub fn join(&self, alloc: Global, rest: &str) -> Result<AbsPath, JoinError>
         requires { IsRest rest.now }
         ensures joins_or_too_long { Joins self.now rest.now result }
@@ -74,7 +74,7 @@ impl AbsPath {
         self.with_rest(alloc, rest).or(Err(JoinError::Memory))
     }
 
-    // The path with a rest after it, where there is room for both.
+    // Returns the path with a rest after it. The two have at most 512 bytes together.
     fn with_rest(&self, alloc: Global, rest: &str) -> Result<AbsPath, AllocError>
         requires is_rest { IsRest rest.now }
         requires short { length (tail_of (self.now ++ parts_of rest.now)) ≤ 512 }
@@ -85,7 +85,7 @@ impl AbsPath {
     }
 
     /// Moves the path from a front that leads to it onto another path: the result is that path with the rest of this
-    /// one after the front.
+    /// path after the front.
     pub fn moved(
         &self,
         alloc: Global,

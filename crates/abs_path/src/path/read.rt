@@ -1,4 +1,4 @@
-//! Reading a path: the pieces of the text between its slashes, looked at and folded together.
+//! Reads a path: it looks at the pieces of the text between the slashes and folds them together.
 
 ghost use Rattle.std.specs.Prelude.{◌≡◌, ◌≤◌, ◌==◌, false, length, not, filter, map, codes, IfOk, string_bytes, nat_eq};
 ghost use Rattle.std.specs.List.{list_any, starts_with};
@@ -12,21 +12,21 @@ use crate::error::PathError;
 use crate::text::Text;
 use std::alloc::{AllocError, Global};
 
-// a piece that says nothing
+// returns whether a piece is empty or `.`
 fn is_idle(piece: &str) -> bool
     ensures { result ≡ is_idle piece.now }
 {
     piece == "" || piece == "."
 }
 
-// the pieces between the slashes
+// returns the pieces between the slashes
 fn pieces<'a>(alloc: Global, text: &'a str) -> Result<Vec<&'a str>, AllocError>
     ensures { IfOk result (λ found. map (λ piece. piece.now) found.items ≡ pieces_of text.now) }
 {
     text.split('/').collect(alloc)
 }
 
-// the pieces that say something, each after a slash
+// joins the pieces that are parts, each after a slash
 fn folded(alloc: Global, pieces: &[&str]) -> Result<String, AllocError>
     ensures { IfOk result (λ tail. string_bytes tail
         ≡ tail_of (filter (λ piece. not (is_idle piece)) (map (λ piece. piece.now) pieces.now))) }
@@ -59,8 +59,8 @@ fn climbs(pieces: &[&str]) -> bool
     pieces.iter().any(|piece| *piece == "..")
 }
 
-// whether nothing in the text folds away, where a slash is in front: no byte is NUL, and each slash has a byte after
-// it that is no slash and no dot
+// returns whether nothing in a text with a slash in front folds away: no byte is NUL, and a byte other than a slash or a dot
+// follows each slash
 fn is_plain(text: &str) -> bool
     ensures { result ≡ is_plain false text.now }
 {
@@ -75,7 +75,7 @@ fn is_plain(text: &str) -> bool
 }
 
 impl AbsPath {
-    /// The parts, from the root on.
+    /// Returns the parts, beginning at the root.
     pub fn parts(&self, alloc: Global) -> Result<Vec<&str>, AllocError>
         ensures lends_each { IfOk result (λ parts. map (λ part. part.now) parts.items ≡ self.now) }
     {
@@ -88,8 +88,8 @@ impl AbsPath {
 
     /// Reads a text: repeated slashes, `.` parts and a final slash fold away (path_resolution(7)).
     ///
-    /// The first fault in this order is reported: TooLong above 512 bytes, HasNul, Relative without a slash in front,
-    /// DotDot if a part is `..`. Memory may come for any text.
+    /// It returns the first of these faults: TooLong above 512 bytes, HasNul, Relative without a slash in front, and DotDot if a
+    /// part is `..`. It may return Memory for any text.
     pub fn read(alloc: Global, text: &str) -> Result<AbsPath, PathError>
         ensures reads_or_first_fault { Reads text.now result }
     {

@@ -1,4 +1,4 @@
-//! The nodes of a tree: the node of a path, found or made, and the numbers that are kept at nodes.
+//! Keeps the nodes of a tree: it finds or makes the node of a path, and keeps numbers at nodes.
 
 ghost use Rattle.std.specs.Prelude.{◌≡◌, ◌<◌, ℕ, List, length, Option, Some, None, IfOk, IfSome};
 ghost use Rattle.abs_path.specs.Paths.{Path};
@@ -10,7 +10,7 @@ use crate::place_tree::node::{Node, child, last};
 use crate::place_tree::parts::next_part;
 use std::alloc::{AllocError, Global};
 
-// The node of the path, if it has one.
+// Returns the node of the path, if it has one.
 pub(crate) fn node_of(nodes: &[Node], path: &AbsPath) -> Option<usize>
     requires { IsArena nodes.now }
     ensures node { result ≡ node_at nodes.now path.now }
@@ -25,7 +25,7 @@ pub(crate) fn node_of(nodes: &[Node], path: &AbsPath) -> Option<usize>
     Some(at)
 }
 
-// The greater of two numbers, or the one that there is.
+// Returns the greater of two numbers, or the only one, if any.
 fn later(one: Option<usize>, other: Option<usize>) -> Option<usize>
     ensures { result ≡ later one other }
 {
@@ -36,7 +36,7 @@ fn later(one: Option<usize>, other: Option<usize>) -> Option<usize>
     }
 }
 
-// The greatest number that is kept on the way to the path.
+// Returns the greatest number that a node on the way to the path keeps.
 pub(crate) fn greatest(nodes: &[Node], path: &AbsPath) -> Option<usize>
     requires { IsArena nodes.now }
     ensures { (places : List Path) → IsNumbered nodes.now places → IsLastLeading places path.now result }
@@ -55,7 +55,7 @@ pub(crate) fn greatest(nodes: &[Node], path: &AbsPath) -> Option<usize>
     found
 }
 
-// A new node that the part leads to from the node of this number.
+// Adds a node to which the part leads from the node of this number.
 fn add_child(
     alloc: Global,
     nodes: &mut Vec<Node>,
@@ -76,7 +76,7 @@ fn add_child(
     Ok(number)
 }
 
-// The node that the part leads to from the node of this number, made where there is none.
+// Returns the node to which the part leads from the node of this number, and makes it if it is missing.
 fn child_for(
     alloc: Global,
     nodes: &mut Vec<Node>,
@@ -95,7 +95,7 @@ fn child_for(
     }
 }
 
-// The node of the path, made where there is none.
+// Returns the node of the path, and makes it if it is missing.
 pub(crate) fn node_for(
     alloc: Global,
     nodes: &mut Vec<Node>,
@@ -115,7 +115,7 @@ pub(crate) fn node_for(
     Ok(at)
 }
 
-// Forgets each number.
+// Removes the numbers from all nodes.
 fn forget(nodes: &mut [Node])
     ensures same_ways { HasSameWays nodes.old nodes.new }
     ensures same_length { length nodes.new ≡ length nodes.old }
@@ -126,7 +126,7 @@ fn forget(nodes: &mut [Node])
     }
 }
 
-// Keeps at the node of each place the number of the place.
+// Keeps the number of each place at the node of that place.
 fn number(nodes: &mut [Node], places: &[AbsPath])
     requires arena { IsArena nodes.old }
     requires no_numbers { (at : ℕ) → number_at nodes.old at ≡ None }
@@ -140,7 +140,7 @@ fn number(nodes: &mut [Node], places: &[AbsPath])
     }
 }
 
-// Numbers the places anew. It takes no memory.
+// Numbers the places again. It takes no memory.
 pub(crate) fn renumber(nodes: &mut [Node], places: &[AbsPath])
     requires arena { IsArena nodes.old }
     requires has_nodes { HasNodes nodes.old places.now }

@@ -1,4 +1,4 @@
-//! A node of the tree, which stands for a path, and the ways from it to the paths with one more part.
+//! Defines a node of the tree, which represents a path, and the ways from it to the paths with one more part.
 
 ghost use Rattle.std.specs.Prelude.{◌≡◌, ◌<◌, None, ℕ, List, length};
 ghost use Rattle.std.specs.BTreeMap.{get_by_text};
@@ -17,7 +17,7 @@ pub(crate) struct Node {
 }
 
 impl Node {
-    // A path that is no place, and from which no way leads on.
+    // Makes the node of a path that is no place and has no way on.
     pub(crate) fn new(alloc: Global) -> Node
         ensures no_way { (part : List ℕ) → get_by_text result.children part ≡ None }
         ensures no_place { result.last ≡ None }
@@ -29,7 +29,7 @@ impl Node {
     }
 }
 
-// The node that the part leads to from the node of this number.
+// Returns the node to which the part leads from the node of this number.
 pub(crate) fn child(nodes: &[Node], at: usize, part: &str) -> Option<usize>
     requires in_range { at < length nodes.now }
     ensures way { result ≡ child_at nodes.now at part.now }
@@ -37,7 +37,7 @@ pub(crate) fn child(nodes: &[Node], at: usize, part: &str) -> Option<usize>
     nodes[at].children.get(part).copied()
 }
 
-// The number of the last place that is the path of this node.
+// Returns the number of the last place that is the path of this node.
 pub(crate) fn last(nodes: &[Node], at: usize) -> Option<usize>
     requires in_range { at < length nodes.now }
     ensures kept { result ≡ number_at nodes.now at }

@@ -1,4 +1,4 @@
-//! The parts of a path, one after the other, in the path's own text.
+//! Takes the parts of a path one after the other from the path's own text.
 
 ghost use Rattle.std.specs.Prelude.{◌≡◌, ◌∷◌, [], ◌<◌, length, MatchOption};
 ghost use Rattle.abs_path.specs.Paths.{parts_of, is_idle};
@@ -10,7 +10,7 @@ fn is_idle(piece: &str) -> bool
     piece == "" || piece == "."
 }
 
-// The first part of a text, and the text after it.
+// Returns the first part of a text, and the text after it.
 pub(crate) fn next_part(text: &str) -> Option<(&str, &str)>
     ensures first_and_rest { MatchOption result (parts_of text.now ≡ [])
         (λ both. parts_of text.now ≡ both.0.now ∷ parts_of both.1.now) }

@@ -1,7 +1,7 @@
-//! The type of a tree of places. It adds places after the others, keeps the first of them, and finds the last that
-//! leads to a path.
+//! Defines a tree of places. It adds places after the others, keeps the first of them, and finds the last place that leads to
+//! a path.
 //!
-//! A contract sees a tree as the list of its places. Nodes that no place is at may stay.
+//! A contract sees a tree as the list of its places. The tree may keep nodes without a place.
 
 ghost use Rattle.std.specs.Prelude.{◌≡◌, ◌++◌, ◌∷◌, [], take, IfOk, OnOk, OnErr};
 ghost use Rattle.abs_path.specs.place_tree.Places.{IsLastLeading};
@@ -32,7 +32,7 @@ impl Model for PlaceTree {
 }
 
 impl PlaceTree {
-    /// No places.
+    /// Makes a tree without places.
     pub fn new(alloc: Global) -> Result<PlaceTree, AllocError>
         ensures no_places { IfOk result (λ tree. tree ≡ []) }
     {
@@ -66,7 +66,7 @@ impl PlaceTree {
         Ok(())
     }
 
-    /// Keeps the first places, this many. It takes no memory.
+    /// Keeps this many places from the front. It takes no memory.
     pub fn truncate(&mut self, len: usize)
         ensures first_stay { self.new ≡ take len self.old }
     {
@@ -74,7 +74,7 @@ impl PlaceTree {
         renumber(&mut self.nodes, &self.places);
     }
 
-    /// The same places again.
+    /// Returns a copy of the tree.
     pub fn copy(&self) -> Result<PlaceTree, AllocError>
         ensures same { IfOk result (λ tree. tree ≡ self.now) }
     {

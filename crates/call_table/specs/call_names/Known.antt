@@ -1,4 +1,4 @@
--- The system calls that the modelled kernel knows by name, syscalls(2): the rule of each, or that the kernel lacks it.
+-- The modelled kernel knows some system calls by name, syscalls(2): it has a rule for each, or lacks it.
 use Rattle.std.specs.Prelude.{ℕ, Bool, List, [], ◌∷◌, codes, Option, is_some}
 use Rattle.std.specs.Map.{lookup}
 use Rattle.std.specs.Str.{bytes_eq}
@@ -19,7 +19,7 @@ abbrev pub place_of : Argument → ℕ
 place_of Second = 1
 place_of Third = 2
 
--- what each known name is
+-- each known name with its rule, or as a call that the kernel lacks
 abbrev pub known_calls : List (List ℕ × KnownCall)
 known_calls =
     (codes "stat", Modelled See) ∷
@@ -85,15 +85,15 @@ known_calls =
     (codes "prctl", Modelled Prctl) ∷
     (codes "seccomp", Modelled Seccomp) ∷ []
 
--- what is known of a name, or nothing
+-- the entry of a name, or nothing if the name is unknown
 unfoldable pub known_call : List ℕ → Option KnownCall
 known_call name = lookup (bytes_eq name) known_calls
 
--- a call that the kernel has a rule for or lacks
+-- the kernel has a rule for the call, or lacks it
 abbrev pub is_known : List ℕ → Bool
 is_known name = is_some (known_call name)
 
--- what a call of the rule carries beside its words
+-- the payload of a call of the rule
 abbrev pub form_of : CallRule → PayloadForm
 form_of See = OnePath
 form_of (Open flags) = OnePath

@@ -1,4 +1,4 @@
-//! The table of known calls, by their names.
+//! Defines the table of known calls, by their names.
 
 ghost use Rattle.std.specs.Prelude.{◌≡◌, map, find, option_copied};
 ghost use Rattle.std.specs.Str.{bytes_eq};
@@ -11,13 +11,13 @@ use KnownCall::{Absent, Modelled};
 /// The kernel's treatment of a call that it knows by name.
 #[derive(Clone, Copy)]
 pub enum KnownCall {
-    /// It has a rule of its own for it.
+    /// The kernel has a rule of its own for the call.
     Modelled(CallRule),
-    /// It lacks the call, and answers ENOSYS.
+    /// The kernel lacks the call, which fails with ENOSYS.
     Absent,
 }
 
-/// The names of syscalls(2) that the kernel knows.
+/// The calls that the kernel knows, by their names in syscalls(2).
 const KNOWN_CALLS: &[(&str, KnownCall)] = &[
     ("stat", Modelled(CallRule::See)),
     ("lstat", Modelled(CallRule::See)),
@@ -95,7 +95,7 @@ fn line_named<'a>(lines: &'a [(&'a str, KnownCall)], name: &str) -> Option<&'a (
     lines.iter().find(|line| name == line.0)
 }
 
-/// Returns the kernel's treatment of the call of this name, or None if the name is not among its known ones.
+/// Returns the kernel's treatment of the call of this name, or None if the kernel does not know the name.
 #[tactic(auto, unfolding(crate::specs::call_names::Known::known_call))]
 pub fn known_call(name: &str) -> Option<KnownCall>
     ensures by_the_table { result ≡ known_call name.now }

@@ -1,11 +1,11 @@
-//! The payloads of calls: what the pointers among a call's arguments point to, as far as a rule looks at it.
+//! Defines the payloads of calls: the data to which a call's arguments point, as far as a rule looks at it.
 
 ghost use Rattle.std.specs.Prelude.{◌≡◌};
 ghost use Rattle.call_table.specs.call_names.Known.{form_of};
 
 use crate::call_names::rule::CallRule;
 
-/// What a call carries beside its six words.
+/// The data of a call beside its six words.
 #[derive(Clone, Copy)]
 pub enum PayloadForm {
     /// Nothing.
@@ -18,13 +18,13 @@ pub enum PayloadForm {
     Sets,
     /// A list of ids.
     Ids,
-    /// The family of a socket, the first of the words that socketcall(2) points to.
+    /// The family of a socket, the first of the words to which socketcall(2) points.
     Family,
     /// The bytes of a program, seccomp(2).
     Program,
 }
 
-/// The form of the payload of the calls of a rule.
+/// Returns the form of the payload of the calls of a rule.
 pub fn form_of(rule: CallRule) -> PayloadForm
     ensures form_of_the_rule { result ≡ form_of rule }
 {

@@ -1,9 +1,9 @@
-//! The rules of the modelled kernel, and which argument of a call a rule looks at.
+//! Defines the rules of the modelled kernel, and which argument of a call a rule looks at.
 
 ghost use Rattle.std.specs.Prelude.{◌≡◌, ◌<◌};
 ghost use Rattle.call_table.specs.call_names.Known.{place_of};
 
-/// The argument with the flags or the mode of a call, syscall(2): some calls of a rule have it one further.
+/// The argument with the flags or the mode of a call, syscall(2). Some calls of a rule have it one argument further.
 #[derive(Clone, Copy)]
 pub enum Argument {
     /// Argument 1, after one path or descriptor.
@@ -13,7 +13,7 @@ pub enum Argument {
 }
 
 impl Argument {
-    /// Its place among the six words of a call.
+    /// Returns the place of the argument among the six words of a call.
     pub fn place(self) -> usize
         ensures place { result ≡ place_of self }
         ensures in_range { result < 6 }
@@ -25,10 +25,10 @@ impl Argument {
     }
 }
 
-/// A rule of the modelled kernel for the calls of one line of its table, and what is asked about them.
+/// A rule of the modelled kernel for the calls of one line of its table, and the question about them.
 #[derive(Clone, Copy)]
 pub enum CallRule {
-    /// stat(2), access(2) and their like find a path. Asked: which rows are seen.
+    /// stat(2), access(2) and similar calls find a path. Asked: which rows are seen.
     See,
     /// open(2) and openat(2), with their flags. Asked: which rows are read, and written.
     Open(Argument),
@@ -38,7 +38,7 @@ pub enum CallRule {
     Truncate,
     /// execve(2). Asked: which rows are executed.
     Execve,
-    /// chmod(2), mkdir(2), mknod(2) and their like, with the mode. Asked: whether a set-id bit is given.
+    /// chmod(2), mkdir(2), mknod(2) and similar calls, with the mode. Asked: whether a set-id bit is given.
     SetMode(Argument),
     /// mmap(2). Asked: whether memory is mapped writable and executable.
     Map,
@@ -52,7 +52,7 @@ pub enum CallRule {
     Personality,
     /// socket(2). Asked: which families have sockets.
     Socket,
-    /// socketcall(2), whose operation 1 is socket(2) with the family that it points to. Asked: which families have
+    /// socketcall(2), whose operation 1 is socket(2) with the family to which it points. Asked: which families have
     /// sockets.
     Socketcall,
     /// setns(2), which is refused.

@@ -7,7 +7,7 @@ use Rattle.dropin_merge.specs.declared.resolved.Resolved.{Resolved}
 use Rattle.dropin_merge.specs.declared.resolved.UnitFile.{UnitFile}
 use Rattle.dropin_merge.specs.declared.unit_values.value.Place.{Place}
 
--- the section of the service
+-- the service has the section `[Service]`
 abbrev pub is_of_service : Assignment → Bool
 is_of_service assignment = bytes_eq assignment.section (codes "Service")
 
@@ -18,15 +18,15 @@ placed file assignment = (record { file = file; line = assignment.line }, assign
 abbrev pub service_in : ℕ → List Assignment → List (Place × Assignment)
 service_in file assignments = map (placed file) (filter is_of_service assignments)
 
--- those of files that are numbered from here
+-- the assignments of files that are numbered from this number
 abbrev pub service_from : ℕ → List UnitFile → List (Place × Assignment)
 service_from number files = flat_map (λ file. service_in file.0 file.1.text.assignments) (enumerate_from number files)
 
--- over all files, in the order of files and lines
+-- the assignments of all files, in the order of files and lines
 unfoldable pub service_assignments : Resolved → List (Place × Assignment)
 service_assignments unit = service_from 0 unit.files
 
--- the unit without what its files assign in other sections
+-- the unit without the assignments of other sections
 abbrev pub without_others : UnitFile → UnitFile
 without_others file = record file { text = record file.text { assignments = filter is_of_service file.text.assignments } }
 

@@ -10,10 +10,10 @@ abbrev pub flag_value : List ℕ → Option Bool
 flag_value [] = Some false
 flag_value (byte ∷ text) = bool_value (byte ∷ text)
 
--- what the files of a unit say of a boolean key
+-- the boolean that the files of a unit give to a key
 abbrev pub unit_flag : Resolved → List ℕ → Bool
 unit_flag unit key = unit_last flag_value false unit key
 
--- and what is noted
+-- the notes on values that cannot be expanded or read
 abbrev pub unit_flag_notes : Resolved → List ℕ → List FileNote
 unit_flag_notes unit key = unit_last_notes flag_value unit key

@@ -1,4 +1,4 @@
--- Lines of words, of which one that begins with `~` is inverted (systemd.exec(5), SystemCallFilter=).
+-- A line of words that begins with `~` is inverted (systemd.exec(5), SystemCallFilter=).
 use Rattle.std.specs.Prelude.{ℕ, false, is_some, Option, Some, None, Result, Ok, Err, List, [], ◌∷◌, unwrap_or}
 use Rattle.std.specs.Option.{option_map}
 use Rattle.unit_grammar.specs.text_forms.Words.{words_of}
@@ -13,7 +13,7 @@ abbrev pub words_if : Result (List (List ℕ)) WordsError → Option (List (List
 words_if (Ok words) = Some words
 words_if (Err fault) = None
 
--- `~` is looked for at the front, and what is left is split into words; None where it cannot be split
+-- a `~` at the front is taken off, and the rest is split into words; None if it cannot be split
 unfoldable pub line_of : List ℕ → Option Line
 line_of text =
     option_map (λ words. record { is_inverted = is_some (behind tilde text); words = words })

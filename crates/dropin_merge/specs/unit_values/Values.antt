@@ -1,4 +1,4 @@
--- What the files of a unit give to a key (systemd.unit(5), systemd.syntax(7)).
+-- The values that the files of a unit give to a key (systemd.unit(5), systemd.syntax(7)).
 use Rattle.std.specs.Prelude.{ℕ, ◌==◌, not, Bool, cond, Option, Some, None, List, length}
 use Rattle.std.specs.List.{after_last, filter_map}
 use Rattle.std.specs.Option.{option_map}
@@ -18,7 +18,7 @@ use Rattle.dropin_merge.specs.unit_values.Assignments.{service_assignments}
 abbrev pub expanded_at : Option Version → Name → Place × Assignment → Option Value
 expanded_at systemd name one = option_map (λ text. record { place = one.0; text = text }) (expansion systemd name one.1.value)
 
--- the note on one that cannot
+-- the note on a value that cannot be expanded
 abbrev pub noted_unless : Option (List ℕ) → Place → Option FileNote
 noted_unless None place = Some (record { place = place; cause = Specifier })
 noted_unless (Some text) place = None
@@ -26,7 +26,7 @@ noted_unless (Some text) place = None
 abbrev pub unexpanded_at : Option Version → Name → Place × Assignment → Option FileNote
 unexpanded_at systemd name one = noted_unless (expansion systemd name one.1.value) one.0
 
--- what an assignment gives to the key, and what is noted of it
+-- an assignment to the key gives a value, or a note if the value cannot be expanded
 abbrev pub given_by : Option Version → Name → List ℕ → Place × Assignment → Option Value
 given_by systemd name key one = cond (bytes_eq one.1.key key) (expanded_at systemd name one) None
 
@@ -41,7 +41,7 @@ values_of unit key = filter_map (given_by unit.systemd unit.name key) (service_a
 abbrev pub notes_of : Resolved → List ℕ → List FileNote
 notes_of unit key = filter_map (note_of unit.systemd unit.name key) (service_assignments unit)
 
--- what an assignment gives to the key, as it is written
+-- the value that an assignment gives to the key, as it is written
 abbrev pub written_by : List ℕ → Place × Assignment → Option Value
 written_by key one = cond (bytes_eq one.1.key key) (Some (record { place = one.0; text = one.1.value })) None
 
@@ -52,6 +52,6 @@ written_values unit key = filter_map (written_by key) (service_assignments unit)
 abbrev pub is_filled : Value → Bool
 is_filled value = not (length value.text == 0)
 
--- an empty value resets what was assigned before it: those behind the last one are in force
+-- an empty value resets the values before it: the values after the last empty one are in force
 abbrev pub in_force : List Value → List Value
 in_force values = after_last (λ value. length value.text == 0) values

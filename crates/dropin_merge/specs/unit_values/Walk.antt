@@ -1,4 +1,4 @@
--- How the assignments of a service are gone through.
+-- The assignments of a service, one after the other.
 use Rattle.std.specs.Prelude.{List, ◌++◌, Option, drop}
 use Rattle.std.specs.Borrow.{Bor}
 use Rattle.std.specs.Iterator.{YieldsFirstBy}
@@ -7,7 +7,7 @@ use Rattle.dropin_merge.specs.declared.unit_values.value.Place.{Place}
 use Rattle.dropin_merge.specs.declared.unit_values.assignments.ServiceAssignments.{ServiceAssignments}
 use Rattle.dropin_merge.specs.unit_values.Assignments.{service_in, service_from}
 
--- those of the file in hand, and of the files behind it
+-- the rest of the assignments of the current file, and the assignments of the files after it
 abbrev pub assignments_left : ServiceAssignments → List (Place × Assignment)
 assignments_left walk = service_in walk.file walk.left.now ++ service_from walk.begun (drop walk.begun walk.files.now)
 

@@ -1,4 +1,4 @@
-//! The assignments of a unit's service, with their places (systemd.unit(5), systemd.service(5)).
+//! Iterates over the assignments of a unit's service, with their places (systemd.unit(5), systemd.service(5)).
 ghost use Rattle.std.specs.Prelude.{◌≡◌, ◌∷◌, [], MatchOption, filter};
 ghost use Rattle.dropin_merge.specs.unit_values.Assignments.{is_of_service, service_assignments};
 ghost use Rattle.dropin_merge.specs.unit_values.Walk.{assignments_left};
@@ -16,7 +16,7 @@ fn is_of_service(assignment: &Assignment) -> bool
     assignment.section.as_str() == SECTION
 }
 
-// The first assignment of the service, and what stands behind it.
+// Returns the first assignment of the service, and the assignments after it.
 fn split_first_of_service(assignments: &[Assignment]) -> Option<(&Assignment, &[Assignment])>
     ensures { MatchOption result (filter is_of_service assignments.now ≡ []) (λ found. filter is_of_service assignments.now ≡ found.0.now ∷ filter is_of_service found.1.now) }
 {
@@ -30,16 +30,16 @@ fn split_first_of_service(assignments: &[Assignment]) -> Option<(&Assignment, &[
     None
 }
 
-/// The assignments of a unit's service that are still to come.
+/// An iterator over the assignments of a unit's service that are left.
 #[derive(Drop)]
 pub struct ServiceAssignments<'a> {
     // All files.
     files: &'a [UnitFile],
-    // How many of them are begun.
+    // How many files have begun.
     begun: usize,
-    // The number of the last that is begun.
+    // The number of the last file that has begun.
     file: usize,
-    // What is left of it.
+    // The assignments of that file that are left.
     left: &'a [Assignment],
 }
 
@@ -73,7 +73,7 @@ impl<'a> Iterator for ServiceAssignments<'a> {
     }
 }
 
-/// The assignments of a unit's service, those of its section `[Service]`, in the order of files and lines.
+/// Returns the assignments in the section `[Service]` of a unit, in the order of files and lines.
 #[tactic(auto, unfolding(crate::specs::unit_values::Assignments::service_assignments))]
 pub fn service_assignments(unit: &Resolved) -> ServiceAssignments<'_>
     ensures all_in_order { assignments_left result ≡ service_assignments unit.now }

@@ -1,4 +1,4 @@
-//! Boolean keys (systemd.syntax(7)).
+//! Reads boolean keys (systemd.syntax(7)).
 ghost use Rattle.std.specs.Prelude.{◌≡◌, IfOk};
 ghost use Rattle.dropin_merge.specs.unit_values.Flags.{flag_value, unit_flag, unit_flag_notes};
 
@@ -21,8 +21,8 @@ impl KeyValue for bool {
     }
 }
 
-/// What the files of a unit say of a boolean key: the last value that can be read decides, and an empty one or none
-/// is false. Values that cannot be expanded are noted, and then those that cannot be read.
+/// Returns the boolean that the files of a unit give to a key. The last readable value decides; an empty value or no value is
+/// false. The notes list values that cannot be expanded, and then values that cannot be read.
 pub fn flag_of_key(alloc: Global, unit: &Resolved, key: &str) -> Result<Said<bool>, AllocError>
     ensures last_value_decides { IfOk result (λ said. said.what ≡ unit_flag unit.now key.now) }
     ensures notes_the_unread { IfOk result (λ said. said.notes.items ≡ unit_flag_notes unit.now key.now) }

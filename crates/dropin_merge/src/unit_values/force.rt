@@ -1,18 +1,18 @@
-// Which values of a list are in force.
+// Finds the values of a list that are in force.
 ghost use Rattle.std.specs.Prelude.{◌≡◌};
 ghost use Rattle.std.specs.List.{suffix_len};
 ghost use Rattle.dropin_merge.specs.unit_values.Values.{in_force, is_filled};
 
 use crate::unit_values::value::Value;
 
-// Whether a value is not empty.
+// Returns whether a value is not empty.
 fn is_filled(value: &Value) -> bool
     ensures { result ≡ is_filled value.now }
 {
     !value.text.as_str().is_empty()
 }
 
-// How many values stand behind the last empty one.
+// Counts the values after the last empty one.
 fn count_in_force(values: &[Value]) -> usize
     ensures { result ≡ suffix_len is_filled values.now }
 {
@@ -23,7 +23,7 @@ fn count_in_force(values: &[Value]) -> usize
         .count()
 }
 
-/// The values that are left in force: those behind the last empty one, which resets what was assigned before it.
+/// Returns the values in force: the values after the last empty one, which resets the values before it.
 pub fn in_force(values: &[Value]) -> &[Value]
     ensures behind_the_last_empty { result.now ≡ in_force values.now }
 {

@@ -1,4 +1,4 @@
-//! Keys of which the last value that can be read decides (systemd.syntax(7)).
+//! Reads keys whose last readable value decides (systemd.syntax(7)).
 ghost use Rattle.std.specs.Prelude.{◌≡◌, ◌++◌, ℕ, List, Option, [], IfOk, OnOk, option_and_then, unwrap_or};
 ghost use Rattle.std.specs.List.{cons_option};
 ghost use Rattle.std.specs.Option.{option_map};
@@ -13,17 +13,17 @@ use crate::unit_values::value::{FileNote, Said, Value};
 use std::alloc::{AllocError, Global};
 use unit_grammar::{NoteCause, Text};
 
-/// What a value of such a key says.
+/// A type that the value of such a key may have.
 pub trait KeyValue: Copy {
-    /// What a text says, if it can be read.
+    /// The value of a text, if the text can be read.
     ghost reads: { List ℕ → Option Self };
 
-    /// What a text says, if it can be read.
+    /// Returns the value of a text, if the text can be read.
     fn read(text: &str) -> Option<Self>
         ensures { result ≡ reads text.now };
 }
 
-// What is said behind what one more assignment gives.
+// Returns the value after one more assignment. An unreadable value is noted and leaves the last one.
 fn next_read<T: KeyValue>(
     last: T,
     value: Option<Value>,
@@ -44,8 +44,8 @@ fn next_read<T: KeyValue>(
     }
 }
 
-/// What the files of a unit say of such a key: the last value that can be read, and without one the default. Values
-/// that cannot be expanded are noted, and then those that cannot be read.
+/// Returns the last readable value that the files of a unit give to such a key, or the default without one. The notes list
+/// values that cannot be expanded, and then values that cannot be read.
 #[tactic(auto, unfolding(crate::specs::unit_values::Lasting::unit_last, crate::specs::unit_values::Lasting::unit_last_notes))]
 pub fn last_of_key<T: KeyValue>(
     alloc: Global,
@@ -78,7 +78,7 @@ pub fn last_of_key<T: KeyValue>(
     said.behind(notes)
 }
 
-// The text behind what one more assignment gives.
+// Returns the text after one more assignment.
 fn next_text(last: Text, value: Option<Value>) -> Text
     ensures { result ≡ unwrap_or (option_map (λ value. value.text) value) last }
 {
@@ -88,8 +88,8 @@ fn next_text(last: Text, value: Option<Value>) -> Text
     }
 }
 
-/// What the files of a unit say of a key of which each text is a value: the text of the last one, and without any an
-/// empty one. Values that cannot be expanded are noted.
+/// Returns the last text that the files of a unit give to a key, or an empty text without one. Every text is a value of such
+/// a key. The notes list values that cannot be expanded.
 #[tactic(auto, unfolding(crate::specs::unit_values::Lasting::unit_last_text))]
 pub fn last_text_of_key(alloc: Global, unit: &Resolved, key: &str) -> Result<Said<Text>, AllocError>
     ensures last_value_decides { IfOk result (λ said. said.what ≡ unit_last_text unit.now key.now) }

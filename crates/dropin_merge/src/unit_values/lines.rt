@@ -1,4 +1,4 @@
-//! Lines of words, of which one that begins with `~` is inverted (systemd.exec(5), SystemCallFilter=).
+//! Reads lines of words. A line that begins with `~` is inverted (systemd.exec(5), SystemCallFilter=).
 ghost use Rattle.std.specs.Prelude.{◌≡◌, ◌++◌, [], false, IfOk, OnOk, map, unwrap_or};
 ghost use Rattle.std.specs.String.{string_bytes};
 ghost use Rattle.std.specs.Option.{option_map};
@@ -22,7 +22,7 @@ pub struct Line {
 }
 
 impl Line {
-    // The line without words.
+    // Returns the line without words.
     pub(crate) fn empty(alloc: Global) -> Line
         ensures { result ≡ record { is_inverted = false; words = [] } }
     {
@@ -49,7 +49,7 @@ fn texts(alloc: Global, words: Vec<String>) -> Result<Vec<Text>, AllocError>
     Ok(texts)
 }
 
-/// The words of a value, where it can be split (systemd.syntax(7), Quoting).
+/// Returns the words of a value, if it can be split (systemd.syntax(7), Quoting).
 pub fn read_words(alloc: Global, text: &str) -> Result<Option<Words>, AllocError>
     ensures splits_where_it_can { IfOk result (λ words. words ≡ words_if (words_of text.now)) }
 {
@@ -60,7 +60,7 @@ pub fn read_words(alloc: Global, text: &str) -> Result<Option<Words>, AllocError
     }
 }
 
-// The line of these words, if there are any.
+// Returns the line of these words, if there are any.
 fn line_of_words(is_inverted: bool, words: Option<Words>) -> Option<Line>
     ensures { result ≡ option_map (λ words. record { is_inverted = is_inverted; words = words }) words }
 {
@@ -70,7 +70,7 @@ fn line_of_words(is_inverted: bool, words: Option<Words>) -> Option<Line>
     }
 }
 
-/// The line that a value is, where it can be split into words.
+/// Returns the line of a value, if it can be split into words.
 #[tactic(auto, unfolding(crate::specs::unit_values::Lines::line_of))]
 pub fn read_line(alloc: Global, text: &str) -> Result<Option<Line>, AllocError>
     ensures splits_behind_the_tilde { IfOk result (λ line. line ≡ line_of text.now) }

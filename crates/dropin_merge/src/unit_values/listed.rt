@@ -1,4 +1,4 @@
-//! Lists of lines, of which an empty value resets what was listed before it (systemd.exec(5), SystemCallFilter=).
+//! Reads lists of lines. An empty value resets the lines before it (systemd.exec(5), SystemCallFilter=).
 ghost use Rattle.std.specs.Prelude.{◌≡◌, ◌++◌, [], IfOk, OnOk};
 ghost use Rattle.std.specs.List.{cons_option, filter_map};
 ghost use Rattle.dropin_merge.specs.unit_values.Lasting.{unread_notes};
@@ -19,12 +19,12 @@ use unit_grammar::NoteCause;
 pub struct Listed {
     /// The value, with its place.
     pub value: Value,
-    /// The line that it is; of an empty value, one without words.
+    /// The line of the value. An empty value has a line without words.
     pub line: Line,
 }
 
 impl Listed {
-    /// Whether the value is empty, which resets what was listed before it.
+    /// Returns whether the value is empty, which resets the lines before it.
     pub fn is_reset(&self) -> bool
         ensures empty_value { result ≡ is_reset self.now }
     {
@@ -42,7 +42,7 @@ fn line_of(alloc: Global, text: &str) -> Result<Option<Line>, AllocError>
     }
 }
 
-// Puts what one more assignment gives behind those that are listed, or notes that it cannot be split.
+// Appends the line that one more assignment gives, or notes that its value cannot be split.
 fn add_listed(
     alloc: Global,
     value: Option<Value>,
@@ -64,9 +64,8 @@ fn add_listed(
     }
 }
 
-/// The lines that the files of a unit give to such a key, with their values, in their order; those that are reset
-/// later and what resets them are among them. Values that cannot be expanded are noted, and then those that cannot be
-/// split.
+/// Returns the lines that the files of a unit give to such a key, with their values, in order. They include empty values and
+/// the lines that these reset. The notes list values that cannot be expanded, and then values that cannot be split.
 #[tactic(auto, unfolding(crate::specs::unit_values::Listed::unit_listed, crate::specs::unit_values::Listed::unit_listed_notes))]
 pub fn lines_of_key(
     alloc: Global,

@@ -1,4 +1,4 @@
-//! Notes on values.
+//! Makes notes on values.
 ghost use Rattle.std.specs.Prelude.{◌≡◌, ◌++◌, ◌∷◌, [], OnOk};
 ghost use Rattle.dropin_merge.specs.unit_values.Notes.{note_at, notes_at};
 
@@ -6,7 +6,7 @@ use crate::unit_values::value::{FileNote, Value};
 use std::alloc::AllocError;
 use unit_grammar::NoteCause;
 
-/// Notes a value behind the notes that are there.
+/// Appends a note on a value.
 pub fn note_value(
     notes: &mut Vec<FileNote>,
     value: &Value,
@@ -21,7 +21,7 @@ pub fn note_value(
     Ok(())
 }
 
-/// Notes a value for each of these causes, behind the notes that are there.
+/// Appends a note on a value for each of these causes.
 pub fn note_causes(
     notes: &mut Vec<FileNote>,
     value: &Value,

@@ -1,4 +1,4 @@
-// The values of a key.
+// Reads the values of a key.
 ghost use Rattle.std.specs.Prelude.{◌≡◌, ◌++◌, [], IfOk, OnOk};
 ghost use Rattle.std.specs.List.{cons_option};
 ghost use Rattle.dropin_merge.specs.unit_values.Values.{expanded_at, unexpanded_at, given_by, note_of, notes_of, values_of};
@@ -10,7 +10,7 @@ use std::alloc::{AllocError, Global};
 use unit_grammar::{Assignment, NoteCause, Text};
 use unit_names::{ExpandError, UnitName, Version, expand};
 
-/// The expanded value of an assignment at this place. One that cannot be expanded is no value, and is noted.
+/// Returns the expanded value of an assignment at this place. A value that cannot be expanded is left out and noted.
 pub fn value_at(
     alloc: Global,
     systemd: Option<Version>,
@@ -39,7 +39,7 @@ pub fn value_at(
     Ok(Said { what, notes })
 }
 
-// What an assignment gives to the key. A value that cannot be expanded is none, and is noted.
+// Returns the value that an assignment gives to the key. A value that cannot be expanded is left out and noted.
 pub(crate) fn given_value(
     alloc: Global,
     systemd: Option<Version>,
@@ -58,7 +58,7 @@ pub(crate) fn given_value(
     value_at(alloc, systemd, name, place, assignment)?.noted_in(notes)
 }
 
-// Puts what an assignment gives behind the values that are there.
+// Appends the value that an assignment gives, if it gives one.
 pub(crate) fn add_given(values: &mut Vec<Value>, value: Option<Value>) -> Result<(), AllocError>
     ensures { OnOk result (values.new.items ≡ values.old.items ++ cons_option value []) }
 {
@@ -68,8 +68,8 @@ pub(crate) fn add_given(values: &mut Vec<Value>, value: Option<Value>) -> Result
     Ok(())
 }
 
-/// The values that the files of a unit give to a key of `[Service]`, in the order of files and lines, expanded. A
-/// value that cannot be expanded is no value, and is noted.
+/// Returns the values that the files of a unit give to a key of `[Service]`, expanded, in the order of files and lines. A
+/// value that cannot be expanded is left out and noted.
 pub fn values_of_key(
     alloc: Global,
     unit: &Resolved,

@@ -1,4 +1,4 @@
-// A value with its place, a note on a place, and what is said with its notes.
+// Defines a value with its place, a note on a place, and an answer with its notes.
 ghost use Rattle.std.specs.Prelude.{◌≡◌, ◌++◌, IfOk, OnOk, OnErr};
 
 use std::alloc::AllocError;
@@ -9,14 +9,14 @@ use unit_grammar::{NoteCause, Text};
 pub struct Place {
     /// The number of the file among those in force, from 0.
     pub file: usize,
-    /// The number of the line, from 1; of a joined line, that of its first.
+    /// The number of the line, from 1. A joined line has the number of its first line.
     pub line: u64,
 }
 
 /// A value that a file of a unit gives to a key, with its specifiers expanded.
 #[derive(Drop)]
 pub struct Value {
-    /// Where it is assigned.
+    /// The place of the assignment.
     pub place: Place,
     /// The expanded text.
     pub text: Text,
@@ -27,21 +27,21 @@ pub struct Value {
 pub struct FileNote {
     /// The line.
     pub place: Place,
-    /// What was passed over there, and why.
+    /// What was passed over in that line, and why.
     pub cause: NoteCause,
 }
 
-/// What the files of a unit say of something, and the notes on what could not be read.
+/// An answer from the files of a unit, and the notes on values that could not be read.
 #[derive(Drop)]
 pub struct Said<T> {
-    /// What they say.
+    /// The answer.
     pub what: T,
     /// The notes, in the order in which they were made.
     pub notes: Vec<FileNote>,
 }
 
 impl<T: Drop> Said<T> {
-    /// What is said; its notes are put behind those that are there.
+    /// Returns the answer, and appends its notes to `notes`.
     pub fn noted_in(self, notes: &mut Vec<FileNote>) -> Result<T, AllocError>
         ensures as_said { IfOk result (λ what. what ≡ self.what) }
         ensures notes_behind { OnOk result (notes.new.items ≡ notes.old.items ++ self.notes.items) }
@@ -52,7 +52,7 @@ impl<T: Drop> Said<T> {
         Ok(what)
     }
 
-    /// The same, with these notes before its own.
+    /// Returns the same answer, with these notes before its own.
     pub fn behind(self, mut notes: Vec<FileNote>) -> Result<Said<T>, AllocError>
         ensures as_said { IfOk result (λ said. said.what ≡ self.what) }
         ensures notes_before { IfOk result (λ said. said.notes.items ≡ notes.items ++ self.notes.items) }

@@ -1,4 +1,4 @@
-//! Keys that are lists of words (systemd.exec(5), systemd.syntax(7)).
+//! Reads keys that are lists of words (systemd.exec(5), systemd.syntax(7)).
 ghost use Rattle.std.specs.Prelude.{◌≡◌, ◌++◌, [], IfOk, OnOk, unwrap_or};
 ghost use Rattle.std.specs.List.{cons_option};
 ghost use Rattle.std.specs.Option.{option_map};
@@ -14,7 +14,7 @@ use crate::unit_values::value::{FileNote, Said, Value};
 use std::alloc::{AllocError, Global};
 use unit_grammar::NoteCause;
 
-// What the words are behind what one more assignment gives.
+// Returns the words after one more assignment. A value that cannot be split is noted and leaves the words.
 fn next_words(
     alloc: Global,
     words: Words,
@@ -39,8 +39,8 @@ fn next_words(
     }
 }
 
-/// The words that the files of a unit give to such a key: those of the values behind the last empty one. Values that
-/// cannot be expanded are noted, and then those that cannot be split.
+/// Returns the words that the files of a unit give to such a key in the values after the last empty one. The notes list
+/// values that cannot be expanded, and then values that cannot be split.
 #[tactic(auto, unfolding(crate::specs::unit_values::Words::unit_words, crate::specs::unit_values::Words::unit_words_notes))]
 pub fn words_of_key(alloc: Global, unit: &Resolved, key: &str) -> Result<Said<Words>, AllocError>
     ensures values_in_force { IfOk result (λ said. said.what ≡ unit_words unit.now key.now) }

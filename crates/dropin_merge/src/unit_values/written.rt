@@ -1,4 +1,4 @@
-// The values of a key as they are written.
+// Reads the values of a key as they are written.
 ghost use Rattle.std.specs.Prelude.{◌≡◌, IfOk};
 ghost use Rattle.dropin_merge.specs.unit_values.Values.{written_by, written_values};
 
@@ -9,7 +9,7 @@ use crate::unit_values::value::{Place, Value};
 use std::alloc::{AllocError, Global};
 use unit_grammar::{Assignment, Text};
 
-// What an assignment gives to the key.
+// Returns the value that an assignment gives to the key.
 fn written_value(
     alloc: Global,
     key: &str,
@@ -27,8 +27,8 @@ fn written_value(
     }))
 }
 
-/// The values that the files of a unit give to a key of `[Service]`, in the order of files and lines, as they are
-/// written: no specifier is expanded.
+/// Returns the values that the files of a unit give to a key of `[Service]`, in the order of files and lines, as they are
+/// written. It expands no specifier.
 pub fn written_values(alloc: Global, unit: &Resolved, key: &str) -> Result<Vec<Value>, AllocError>
     ensures all_values_in_order { IfOk result (λ values. values.items ≡ written_values unit.now key.now) }
 {

@@ -1,4 +1,4 @@
--- What the values of the code stand for.
+-- Contracts see the values of the code in this way.
 use Rattle.text_forms.specs.line_text.Lines.{Line}
 use Rattle.text_forms.specs.declared.line_text.lines.Line.{Line as ReadLine}
 

@@ -1,4 +1,4 @@
-//! The lines that count, and their words.
+//! Reads the lines that count, and their words.
 
 ghost use Rattle.std.specs.Prelude.{◌≡◌, ◌==◌, IfOk, map};
 ghost use Rattle.std.specs.List.{slice_split};
@@ -7,7 +7,7 @@ ghost use Rattle.text_forms.specs.line_text.Views.{line_view};
 
 use std::alloc::{AllocError, Global};
 
-/// A line of a text that is not passed over.
+/// A line of a text that is not skipped.
 #[derive(Clone, Copy)]
 pub struct Line<'a> {
     /// The number of the line, from 1.
@@ -46,7 +46,7 @@ fn counted_lines<'a>(alloc: Global, texts: &[&'a str]) -> Result<Vec<Line<'a>>, 
     Ok(lines)
 }
 
-/// The lines of a text that are not passed over: those that are not empty and do not begin with `#`.
+/// Returns the lines of a text that are not skipped: they are not empty and do not begin with `#`.
 pub fn read_lines(alloc: Global, text: &str) -> Result<Vec<Line<'_>>, AllocError>
     ensures counted { IfOk result (λ lines. map line_view lines.items ≡ lines_of text.now) }
 {
@@ -54,7 +54,7 @@ pub fn read_lines(alloc: Global, text: &str) -> Result<Vec<Line<'_>>, AllocError
     counted_lines(alloc, texts.as_slice())
 }
 
-/// The words of a line, which are between spaces.
+/// Returns the words of a line, which spaces separate.
 pub fn words(alloc: Global, line: &str) -> Result<Vec<&str>, AllocError>
     ensures between_spaces { IfOk result (λ words. map (λ word. word.now) words.items ≡ words_of line.now) }
 {

@@ -1,11 +1,11 @@
-//! Quotes: which symbols of a text are parts of words.
+//! Finds quotes, and the symbols of a text that are parts of words.
 
 ghost use Rattle.std.specs.Prelude.{◌≡◌};
 ghost use Rattle.text_forms.specs.Words.{is_white, is_quote, mark_of, open_after};
 
 use super::symbols::Symbol;
 
-/// What a symbol is in the list of words.
+/// The role of a symbol in the list of words.
 #[derive(Clone, Copy)]
 pub(crate) enum Mark {
     /// a byte of a word
@@ -28,7 +28,7 @@ fn is_quote(byte: u8) -> bool
     byte == b'"' || byte == b'\''
 }
 
-/// Returns the mark of a symbol while this quote is open, or none, and the quote that is open after it.
+/// Returns the mark of a symbol while this quote is open, and the quote that is open after it. None means no open quote.
 #[tactic(auto, unfolding(crate::specs::Words::mark_of, crate::specs::Words::open_after))]
 pub(crate) fn mark_of(opened: Option<u8>, symbol: Symbol) -> (Mark, Option<u8>)
     ensures mark { result.0 ≡ mark_of opened symbol }

@@ -1,4 +1,4 @@
-//! Escapes: a text as symbols, each a byte as it stands or a byte that an escape gives.
+//! Reads escapes: each symbol of a text is a plain byte or an escaped byte.
 
 ghost use Rattle.std.specs.Prelude.{◌≡◌, ◌<◌, length, MatchOption, IfSome, SomeIff, IsTrue};
 ghost use Rattle.std.specs.Char.{digit_value};
@@ -7,13 +7,13 @@ ghost use Rattle.text_forms.specs.Words.{escape_of, is_hex_digit, symbols_of, wi
 /// A byte of a text.
 #[derive(Clone, Copy)]
 pub(crate) enum Symbol {
-    /// as it stands
+    /// a byte that is no part of an escape
     Plain(u8),
-    /// by an escape, so that it is no quote and no white space
+    /// a byte that an escape gives, so that it is no quote and no white space
     Escaped(u8),
 }
 
-// the byte after a backslash, but for `x`
+// returns the byte of the escape with this letter, except for `x`
 #[tactic(auto, unfolding(crate::specs::Words::escape_of))]
 fn escape_of(letter: u8) -> Option<u8>
     ensures { result ≡ escape_of letter }
@@ -39,7 +39,7 @@ fn hex_value(digit: u8) -> Option<u8>
     }
 }
 
-/// Returns the first symbol, and the text after it; none if a backslash precedes another byte, or is cut.
+/// Returns the first symbol and the text after it, or None if its escape is unknown or cut.
 #[tactic(auto, unfolding(crate::specs::Words::symbols_of))]
 pub(crate) fn first_symbol(text: &[u8]) -> Option<(Symbol, &[u8])>
     requires { 0 < length text.now }

@@ -1,4 +1,4 @@
--- What is promised of a command, whatever it is.
+-- The promises about any command.
 use Rattle.std.specs.Prelude.{◌≡◌, ◌⊎◌, ℕ, List, IsTrue, Option, Some, None, Result, Ok, Err}
 use Rattle.exec_settings.specs.host_io.Files.{Files}
 use Rattle.unit_inputs.specs.command_answers.ExitStatuses.{is_answer, is_whole}
@@ -8,21 +8,21 @@ use Rattle.unit_inputs.specs.declared.command_answers.exit_status.ExitStatus.The
 use Rattle.unit_inputs.specs.declared.command_answers.error.CommandError.{CommandError}
 use Rattle.unit_inputs.specs.declared.command_answers.error.CommandError.TheVariants as stop
 
--- the texts that may be printed, each with the ending behind it; the endings that may come behind a whole text; whether
--- all that is asked is accepted; and whether files are read at all
+-- the texts that the command may print, each with the exit status after it; the statuses that may follow a whole text;
+-- whether everything is accepted; and whether the command reads files
 pub record Laws : Type 1 where
   pub admits : ExitStatus → List ℕ → Type 0
   pub may_end : ExitStatus → Type 0
   pub accepts : Type 0
   pub reads : Type 0
 
--- the laws go together: a text that is admitted ends as it may, behind a whole text, and with an answer where all is accepted
+-- the laws agree: an admitted text has a status that may follow a whole text, and the status is an answer if all is accepted
 pub record GoTogether (laws : Laws) : Type 0 where
   pub ends : (status : ExitStatus) (text : List ℕ) → laws.admits status text → laws.may_end status
   pub whole : (status : ExitStatus) → laws.may_end status → IsTrue (is_whole status)
   pub answers : laws.accepts → (status : ExitStatus) → laws.may_end status → IsTrue (is_answer status)
 
--- a command that prints one text, and reads nothing
+-- a command that prints one text and reads nothing
 abbrev pub fixed_laws : ExitStatus → List ℕ → Type 0 → Laws
 fixed_laws only line accepted = record {
   admits = λ status text. (status ≡ only) × (text ≡ line);
@@ -31,29 +31,29 @@ fixed_laws only line accepted = record {
   reads = ⊥;
 }
 
--- A command that reads files: what they refuse, in the order of refusals; and what it prints where they refuse nothing, with
--- the endings that may come then.
+-- A command that reads files has the refusals of those files, in their order. If they refuse nothing, it has a text to print,
+-- with the statuses that may follow.
 pub record FileLaws : Type 1 where
   pub refusals : Files → List (Option (List ℕ))
   pub prints : Files → ExitStatus → List ℕ → Type 0
   pub may_end : ExitStatus → Type 0
   pub reads : Type 0
 
--- nothing is refused
+-- the files refuse nothing
 abbrev pub AcceptsFiles : FileLaws → Files → Type 0
 AcceptsFiles laws files = first_refusal (laws.refusals files) ≡ None
 
--- the first refusal is printed, or what is asked
+-- the command prints the first refusal, or its text
 pub data Admits (laws : FileLaws) (files : Files) : ExitStatus → List ℕ → Type 0 where
   refuses : (line : List ℕ) → first_refusal (laws.refusals files) ≡ Some line → Admits laws files status.Refused line
   prints : (behind : ExitStatus) (text : List ℕ) → AcceptsFiles laws files → laws.may_end behind → laws.prints files behind text
       → Admits laws files behind text
 
--- refused exactly where something is
+-- the command may end as refused exactly if there is a refusal
 abbrev pub MayEnd : FileLaws → Files → ExitStatus → Type 0
 MayEnd laws files behind = ((behind ≡ status.Refused) × (AcceptsFiles laws files → ⊥)) ⊎ (AcceptsFiles laws files × laws.may_end behind)
 
--- where the files are told; where they are not, only the endings are known
+-- the texts over the files that a shelf shows; without such files only the statuses are known
 abbrev pub admits_over : FileLaws → Option Files → ExitStatus → List ℕ → Type 0
 admits_over laws None behind text = (behind ≡ status.Refused) ⊎ laws.may_end behind
 admits_over laws (Some files) behind text = Admits laws files behind text
@@ -70,7 +70,7 @@ abbrev pub laws_over : Option Files → FileLaws → Laws
 laws_over told laws = record
     { admits = admits_over laws told; may_end = may_end_over laws told; accepts = accepts_over laws told; reads = laws.reads }
 
--- what is ready, or the line of the refusal, is admitted
+-- the prepared text, or the line of the refusal, is admitted
 abbrev pub IsAdmitted : {R : Type 0} → Laws → (R → ExitStatus) → (R → List ℕ) → Result R CommandError → Type 0
 IsAdmitted laws behind text (Ok ready) = laws.admits (behind ready) (text ready)
 IsAdmitted laws behind text (Err (stop.Refused line)) = laws.admits status.Refused line.items

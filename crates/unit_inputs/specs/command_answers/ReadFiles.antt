@@ -1,31 +1,31 @@
--- Files of the shelf, as the commands read them.
+-- Commands read files of the shelf.
 use Rattle.std.specs.Prelude.{◌≡◌, ℕ, nat_le, cond, List, length, codes, Option, Some, None}
 use Rattle.exec_settings.specs.host_io.Files.{Files, bytes_at}
 use Rattle.unit_inputs.specs.declared.command_answers.files.FileRead.{FileRead}
 use Rattle.unit_inputs.specs.declared.command_answers.files.FileRead.TheVariants as read
 
--- what a file has: bytes, nothing where it is missing, or more than 1 MiB
+-- the contents of a file: it has bytes, is missing, or has more than 1 MiB
 pub data Content : Type 0 where
   Holds : (bytes : List ℕ) → Content
   IsMissing : Content
   IsTooLarge : Content
 
--- what a file has that is there with these bytes, or is not there
+-- the contents of a file with these bytes, or of a missing file
 abbrev pub content_of : Option (List ℕ) → Content
 content_of None = IsMissing
 content_of (Some bytes) = cond (nat_le (length bytes) 1048576) (Holds bytes) IsTooLarge
 
--- what the file at a path has
+-- the contents of the file at a path
 abbrev pub content_at : Files → List ℕ → Content
 content_at files path = content_of (bytes_at files path)
 
--- what was read of a file, as contracts see it
+-- the contents that were read, as contracts see them
 abbrev pub content_view : FileRead → Content
 content_view (read.Bytes bytes) = Holds bytes.items
 content_view read.Missing = IsMissing
 content_view read.TooLarge = IsTooLarge
 
--- what is read of a file, where the shelf tells its files
+-- the contents of the file are read, if the shelf shows its files
 abbrev pub ReadsContent : List ℕ → Option Files → FileRead → Type 0
 ReadsContent path None found = Unit {0}
 ReadsContent path (Some files) found = content_view found ≡ content_at files path

@@ -5,15 +5,15 @@ use Rattle.unit_inputs.specs.declared.command_answers.ready_text.ReadyText.{Read
 use Rattle.unit_inputs.specs.declared.command_answers.error.CommandError.{CommandError}
 use Rattle.unit_inputs.specs.declared.command_answers.error.CommandError.TheVariants as stop
 
--- what is printed of it
+-- the text to print
 abbrev pub text_of : ReadyText → List ℕ
 text_of ready = ready.text.items
 
--- how a run ends behind it
+-- the exit status after the text
 abbrev pub status_of : ReadyText → ExitStatus
 status_of ready = ready.status
 
--- what is ready is such, or memory ran out
+-- the ready text and its status have this property, or memory ran out
 abbrev pub IsReadyWith : (ExitStatus → List ℕ → Type 0) → Result ReadyText CommandError → Type 0
 IsReadyWith P (Ok ready) = P ready.status ready.text.items
 IsReadyWith P (Err (stop.Refused line)) = ⊥

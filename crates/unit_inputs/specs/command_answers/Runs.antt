@@ -1,4 +1,4 @@
--- What is promised of a run of a command, whatever the command is.
+-- The promises about a run of any command.
 use Rattle.std.specs.Prelude.{◌≡◌, ◌⊎◌, ℕ, ◌<◌, ◌≤◌, List, IsTrue, Result}
 use Rattle.exec_settings.specs.host_io.Causes.{Rose}
 use Rattle.exec_settings.specs.host_io.declared.writing.SinkError.{SinkError}
@@ -8,31 +8,31 @@ use Rattle.unit_inputs.specs.command_answers.Printing.{IsUntouched, Output, Puts
 use Rattle.unit_inputs.specs.declared.command_answers.exit_status.ExitStatus.{ExitStatus}
 use Rattle.unit_inputs.specs.declared.command_answers.exit_status.ExitStatus.TheVariants.{ReadFault, WriteFault, OutOfMemory}
 
--- the shelf and the sink around a run
+-- the shelf and the sink of a run
 pub record Outside : Type 1 where
   pub shelf_before : ℕ
   pub shelf_after : ℕ
   pub sink : Output
 
--- all of a text was written, one that is admitted, each line as one piece
+-- the run wrote the whole of an admitted text, each line as one piece
 abbrev pub WroteWhole : (List ℕ → Type 0) → Output → Type 0
 WroteWhole admits output = (text : List ℕ) × admits text × PutsAll output.taken output.puts output.before output.after text
 
--- nothing was put; or what was written is a text that is admitted for some ending, each line as one piece, all of it or its
--- front up to an error
+-- nothing was put; or the run wrote an admitted text of some status, each line as one piece, as a whole or up to an
+-- error
 abbrev pub WrotePrefix : (ExitStatus → List ℕ → Type 0) → Output → Type 0
 WrotePrefix admits output =
     IsUntouched output ⊎
     ((status : ExitStatus) × (text : List ℕ) × (put : Result (Unit {0}) SinkError) × admits status text ×
     PutsText output.taken output.puts output.before output.after text put)
 
--- behind a whole text a run ends only as the command may, and as a failed read only where it reads files
+-- after a whole text a run has a status that the command may have, and a failed read only if the command reads files
 pub record EndsBy (laws : Laws) (status : ExitStatus) : Type 0 where
   pub whole : IsTrue (is_whole status) → laws.may_end status
   pub failed_read : status ≡ ReadFault → laws.reads
 
--- faults have their causes, and none is passed over: the counts do not fall; a read fault comes only where the shelf's count
--- rose, and then nothing was put; a write fault comes only where the sink's rose; and where a count grew, its fault comes
+-- the counts do not fall. A read fault needs a risen count of the shelf, and then nothing was put. A write fault needs a risen
+-- count of the sink. A risen count gives its fault, so no fault is passed over
 pub record HasFaultCause (status : ExitStatus) (outside : Outside) : Type 0 where
   pub shelf_later : outside.shelf_before ≤ outside.shelf_after
   pub sink_later : outside.sink.faults outside.sink.before ≤ outside.sink.faults outside.sink.after
@@ -42,13 +42,13 @@ pub record HasFaultCause (status : ExitStatus) (outside : Outside) : Type 0 wher
   pub shelf_grew : outside.shelf_before < outside.shelf_after → status ≡ ReadFault
   pub sink_grew : outside.sink.faults outside.sink.before < outside.sink.faults outside.sink.after → status ≡ WriteFault
 
--- all that is asked is accepted and nothing failed: it is answered, or memory ran out
+-- if everything is accepted and nothing failed, the run answers, or memory ran out
 abbrev pub Completes : Type 0 → ExitStatus → Outside → Type 0
 Completes accepted status outside =
     accepted → (Rose outside.shelf_before outside.shelf_after → ⊥) → (Rose (outside.sink.faults outside.sink.before) (outside.sink.faults outside.sink.after) → ⊥)
     → IsTrue (is_answer status) ⊎ (status ≡ OutOfMemory)
 
--- a run of a command with these laws that ended so
+-- a command with these laws ran, and this is its status
 pub record IsRun (laws : Laws) (status : ExitStatus) (outside : Outside) : Type 0 where
   pub prints_the_whole_text : IsTrue (is_whole status) → WroteWhole (laws.admits status) outside.sink
   pub prints_a_prefix : WrotePrefix laws.admits outside.sink

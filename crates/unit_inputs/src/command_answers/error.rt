@@ -1,11 +1,11 @@
-// Why a command is prepared no further.
+// Defines why a command is not prepared.
 ghost use Rattle.std.specs.Prelude.{◌≡◌, IfOk, IsErrOf};
 ghost use Rattle.unit_inputs.specs.command_answers.CommandErrors.{RefusesNothing, error_of_line};
 ghost use Rattle.unit_inputs.specs.declared.command_answers.error.CommandError.TheVariants.{Memory};
 
 use std::alloc::{AllocError, AllocFailed, Global};
 
-/// Why a command is prepared no further.
+/// Why a command is not prepared.
 #[derive(Drop)]
 pub enum CommandError {
     /// An input is refused, with this line.
@@ -32,7 +32,7 @@ impl<T: Drop> From<AllocFailed<T>> for CommandError {
     }
 }
 
-/// The error that prints this line, if memory was found for the line.
+/// Returns the error that prints this line, or `Memory` if memory ran out for the line.
 pub fn refuse(line: Result<Vec<u8>, AllocError>) -> CommandError
     ensures tells_the_line { result ≡ error_of_line line }
 {
@@ -42,7 +42,7 @@ pub fn refuse(line: Result<Vec<u8>, AllocError>) -> CommandError
     }
 }
 
-/// A large value behind a pointer, so that a step that fails frees it at little cost.
+/// Puts a large value on the heap, so that a step that fails frees it at little cost.
 pub fn boxed<T: Drop>(alloc: Global, value: T) -> Result<Box<T>, CommandError>
     ensures holds_the_value { IfOk result (λ held. held.value ≡ value) }
     ensures refuses_nothing { RefusesNothing result }

@@ -1,4 +1,4 @@
-// The exit status of a run.
+// Defines the exit status of a run.
 
 /// The exit status of a run, with its reason.
 #[derive(Clone, Copy)]
@@ -7,9 +7,9 @@ pub enum ExitStatus {
     Done,
     /// The whole text was printed, and the exposure is above the threshold.
     AboveThreshold,
-    /// The words are no command, and that was printed.
+    /// The words are no command, and the program printed that.
     NoCommand,
-    /// An input is refused, and that was printed.
+    /// An input is refused, and the program printed that.
     Refused,
     /// A read failed, and nothing was printed.
     ReadFault,
@@ -17,8 +17,8 @@ pub enum ExitStatus {
     WriteFault,
     /// Memory ran out, and a prefix of the text was printed.
     OutOfMemory,
-    /// The launch is refused, and that was printed.
+    /// The launch is refused, and the program printed that.
     LaunchRefused,
-    /// Two filters differ, and that was printed.
+    /// Two filters differ, and the program printed that.
     Differs,
 }

@@ -1,4 +1,4 @@
-// Files of the shelf, as the commands read them.
+// Reads files of the shelf for the commands.
 ghost use Rattle.std.specs.Prelude.{◌≡◌, ◌∷◌, [], IfOk};
 ghost use Rattle.exec_settings.specs.host_io.Calls.{AsksExactly};
 ghost use Rattle.unit_inputs.specs.command_answers.Asking.{course, input_file};
@@ -12,21 +12,21 @@ use std::alloc::Global;
 /// The most bytes of a file: 1 MiB.
 const MOST_BYTES: u64 = 1_048_576;
 
-/// Where the table of system calls is.
+/// The path of the table of system calls.
 pub const TABLE_PATH: &str = "calls.txt";
 
-/// What a file has.
+/// The contents of a file.
 #[derive(Drop)]
 pub enum FileRead {
-    /// These bytes, at most 1 MiB of them.
+    /// The file has these bytes, at most 1 MiB.
     Bytes(Vec<u8>),
-    /// Nothing: no file has the path.
+    /// No file has the path.
     Missing,
-    /// More than 1 MiB.
+    /// The file has more than 1 MiB.
     TooLarge,
 }
 
-/// What the file at a path has.
+/// Reads the file at a path.
 pub fn read_file<S: Shelf>(
     alloc: Global,
     shelf: &mut S,

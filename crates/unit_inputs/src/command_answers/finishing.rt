@@ -1,4 +1,4 @@
-// How a run goes on behind what a command prepared.
+// Ends a run after a command was prepared.
 ghost use Rattle.std.specs.Prelude.{◌≡◌};
 ghost use Rattle.unit_inputs.specs.command_answers.Printing.{Finishes, FinishesError, status_of_put, output_of};
 
@@ -9,7 +9,7 @@ use crate::command_answers::ready::Ready;
 use host_io::{Sink, SinkError};
 use std::alloc::Global;
 
-/// How a run ends whose text was printed so, behind a whole text with this ending.
+/// Returns the exit status of a run that printed its text: this status after a whole text, or the fault of the sink.
 pub fn status_after(put: Result<(), SinkError>, status: ExitStatus) -> ExitStatus
     ensures as_it_was_put { result ≡ status_of_put put status }
 {
@@ -20,7 +20,7 @@ pub fn status_after(put: Result<(), SinkError>, status: ExitStatus) -> ExitStatu
     }
 }
 
-/// Prints the line of what stopped a command, if it has one, and says how the run ends.
+/// Prints the line of the error that stopped a command, if it has one, and returns the exit status.
 pub fn finish_error<K: Sink>(stop: CommandError, out: &mut K) -> ExitStatus
     ensures finishes { FinishesError stop result (output_of K.faults K.taken K.puts out.old out.new) }
 {
@@ -34,7 +34,7 @@ pub fn finish_error<K: Sink>(stop: CommandError, out: &mut K) -> ExitStatus
     }
 }
 
-/// Prints what a command has ready, or the line of its refusal, and says how the run ends.
+/// Prints the text that a command has ready, or the line of its refusal, and returns the exit status.
 pub fn finish<R: Ready, K: Sink>(
     alloc: Global,
     prepared: Result<R, CommandError>,

@@ -1,11 +1,11 @@
-// A text of lines, printed a line after the other.
+// Prints a text line by line.
 ghost use Rattle.std.specs.Prelude.{◌≡◌, ◌<◌, ◌++◌, ◌==◌, IfSome, MatchOption, false, length, position};
 ghost use Rattle.unit_inputs.specs.command_answers.Lines.{IsLine, has_feed};
 ghost use Rattle.unit_inputs.specs.command_answers.Printing.{HasWriteCause, PutsText};
 
 use host_io::{Sink, SinkError, write_whole};
 
-// Where the first line feed is.
+// Returns the place of the first line feed.
 fn feed_at(text: &[u8]) -> Option<usize>
     ensures first { result ≡ position (λ byte. byte == 10) text.now }
     ensures within { IfSome result (λ at. at < length text.now) }
@@ -13,7 +13,7 @@ fn feed_at(text: &[u8]) -> Option<usize>
     text.iter().position(|byte| *byte == b'\n')
 }
 
-// The first line of a text, with its line feed, and what stands behind it.
+// Returns the first line of a text, with its line feed, and the rest of the text.
 fn first_line(text: &[u8]) -> Option<(&[u8], &[u8])>
     ensures in_two { IfSome result (λ parts. parts.0.now ++ parts.1.now ≡ text.now) }
     ensures shorter { IfSome result (λ parts. length parts.1.now < length text.now) }
@@ -23,7 +23,7 @@ fn first_line(text: &[u8]) -> Option<(&[u8], &[u8])>
     Some(text.split_at(at + 1))
 }
 
-/// Prints a text: the sink is handed each line with its line feed as one piece, and so what stands behind the last one.
+/// Prints a text: each line with its line feed is one piece for the sink, and so is an unended last line.
 pub fn put_lines<K: Sink>(out: &mut K, text: &[u8]) -> Result<(), SinkError>
     ensures puts_the_text { PutsText K.taken K.puts out.old out.new text.now result }
     ensures fault_rose { HasWriteCause (K.faults out.old) (K.faults out.new) result }

@@ -1,16 +1,16 @@
-// A text that is ready as a whole.
+// Defines a text that is ready as a whole.
 use crate::command_answers::exit_status::ExitStatus;
 use crate::command_answers::lines::put_lines;
 use crate::command_answers::ready::Ready;
 use host_io::{Sink, SinkError};
 use std::alloc::Global;
 
-/// A text of lines that is ready as a whole, and how a run ends behind it. It is printed line by line.
+/// A text of lines that is ready as a whole, and the exit status after it. It is printed line by line.
 #[derive(Drop)]
 pub struct ReadyText {
     /// The text.
     pub text: Vec<u8>,
-    /// How a run ends behind it.
+    /// The exit status after the text.
     pub status: ExitStatus,
 }
 

@@ -1,11 +1,11 @@
-// The lines of refused inputs.
+// Writes the lines of refused inputs.
 ghost use Rattle.std.specs.Prelude.{◌≡◌, IfOk};
 ghost use Rattle.unit_inputs.specs.command_answers.Refusals.{refused_line};
 
 use exec_settings::push_word;
 use std::alloc::{AllocError, Global};
 
-/// The line of an input that is refused: what it is, as an escaped word, and why.
+/// Returns the line of a refused input: its name as an escaped word, and why it is refused.
 pub fn refused_line(alloc: Global, what: &str, why: &[u8]) -> Result<Vec<u8>, AllocError>
     ensures tells_what_and_why { IfOk result (λ line. line.items ≡ refused_line what.now why.now) }
 {
