@@ -1,4 +1,4 @@
-//! The laws of users, groups and capabilities. Each is the contract of a function that does nothing.
+//! States the laws of users, groups and capabilities. Each is the contract of a function that does nothing.
 ghost use Rattle.std.specs.Prelude.{◌≡◌, ◌≢◌, ℕ, ◌≤◌, ◌++◌, [], ◌∷◌, List, Bool, true, false, Ok, Err, Option};
 ghost use Rattle.std.specs.List.{list_any};
 ghost use Rattle.dropin_merge.specs.declared.unit_values.listed.Listed.{Listed};

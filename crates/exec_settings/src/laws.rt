@@ -1,4 +1,4 @@
-//! The laws of the settings. Each is the contract of a function that does nothing.
+//! States the laws of the settings. Each is the contract of a function that does nothing.
 ghost use Rattle.std.specs.Prelude.{◌≡◌, Option, true};
 ghost use Rattle.exec_settings.specs.Bare.{CommandAloneIsBare};
 ghost use Rattle.exec_settings.specs.OtherSites.{RefusalRestsOnFew, SettingsRestOnFew};

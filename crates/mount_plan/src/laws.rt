@@ -1,4 +1,4 @@
-//! The laws of plans. Each is the contract of a function that does nothing.
+//! States the laws of plans. Each is the contract of a function that does nothing.
 
 ghost use Rattle.mount_plan.specs.Form.{PlansHaveForm};
 ghost use Rattle.mount_plan.specs.Resting.{PlanIsBlind, PlanRestsOnItsPlaces};

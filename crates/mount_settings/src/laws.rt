@@ -1,4 +1,4 @@
-//! The laws of written and implied paths. Each is the contract of a function that does nothing.
+//! States the laws of written and implied paths. Each is the contract of a function that does nothing.
 
 ghost use Rattle.std.specs.Prelude.{◌≡◌, ◌+◌, ◌≤◌, true, None, List, [], length, flat_map, unwrap_or};
 ghost use Rattle.std.specs.List.{filter_map, list_all};

@@ -1,4 +1,4 @@
-//! The laws of views and of kept mentions. Each is the contract of a function that does nothing.
+//! States the laws of views and of kept mentions. Each is the contract of a function that does nothing.
 
 ghost use Rattle.std.specs.Prelude.{◌≡◌, List, map, Ok, IsTrue};
 ghost use Rattle.std.specs.List.{AllByRecursion, Contains};
