@@ -1,6 +1,6 @@
 """Prints the site.toml of a root folder: its files, folders, programs, users and groups, for judging the sandbox of units.
 
-The root is a running host, a container's tree or a build root. Nothing in it is written, links never lead out of it, and
+The root is a running host, a container's tree or a build root. The command writes nothing in it and follows no link out of it, and
 the same root gives the same text. A site has at most 2,048 rows, chosen in this order:
 
   1. `/` and `/proc`
@@ -33,7 +33,7 @@ from sites.site import Fault, make_site
 from sites.told import Told, shown
 
 STATUSES = """
-The exit status is 0 if the site was printed, 1 if there is none (the root is not a readable folder, or has no
+The exit status is 0 if the site was printed, 1 if it could not be made (the root is not a readable folder, or has no
 etc/passwd), and 2 for a usage error.
 """
 
@@ -73,10 +73,10 @@ def words(line: Sequence[str]) -> Site:
     )  # fmt: skip
     parser.add_argument("--fresh", action="store_true", help="make the site and the walk again, even if they are cached")
     parser.add_argument("--walk", metavar="FILE", default="", help="cache the walk over the root in FILE, for the sites of its other units")
-    parser.add_argument("--drop-in", metavar="FILE", default="", help="another drop-in of the units, whose paths and users the site has too")
+    parser.add_argument("--drop-in", metavar="FILE", default="", help="add the paths and users of another drop-in of the units")
     parser.add_argument("--modes", metavar="FILE", default="", help="write owners, groups and modes of the rows into FILE, for the views")
-    parser.add_argument("--short", action="store_true", help="print one line, and what concerns the answers of the named units")
-    parser.add_argument("--quiet", action="store_true", help="print only faults on standard error")
+    parser.add_argument("--short", action="store_true", help="print one line, and the lines that concern the answers of the named units")
+    parser.add_argument("--quiet", action="store_true", help="print only errors on standard error")
     found = parser.parse_args(line, namespace=Site())
     for path in found.also:
         if not path.startswith("/"):

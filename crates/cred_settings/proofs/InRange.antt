@@ -1,4 +1,4 @@
--- The ids that a unit of a site comes to are in range.
+-- The ids of a unit of a site are in range.
 use Rattle.std.proofs.Common.{◌≡◌, ℕ, ◌≤◌, Bool, true, false, cond, List, [], ◌∷◌, ◌++◌, Option, Some, None, Ok, refl, subst, arith}
 use Rattle.std.specs.Prelude.{◌==◌, ◌&&◌, not, nat_le, find, option_map, option_and_then, unwrap_or}
 use Rattle.std.specs.Option.{option_map_or, option_or}
@@ -44,7 +44,7 @@ number_small : (o : Option ℕ) (id : ℕ) → option_and_then id_in_range o ≡
 number_small None id e = none_some (id ≤ greatest_id) id e
 number_small (Some n) id e = id_small n id e
 
--- what holds of each holds of the one that is found
+-- if each element has a property, so has the one that is found
 found_holds : {X : Type 0} (P : X → Type 0) (p : X → Bool) (xs : List X) (x : X) → AllByRecursion P xs → find p xs ≡ Some x → P x
 found_holds P p [] x all e = none_some (P x) x e
 found_holds P p (y ∷ xs) x all e =

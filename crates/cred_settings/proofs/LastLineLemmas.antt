@@ -18,7 +18,7 @@ use Rattle.cred_settings.proofs.NamedMembers.{members_named}
 
 -- ---- one line
 
--- each of the 41 is one of all
+-- the full set has each of the 41 capabilities
 pub in_all : (number : ℕ) → number ≤ 40 → has all number ≡ true
 in_all number small = has_all number ∙ le-leb number 40 small
 
@@ -85,7 +85,7 @@ by_listed default number before one small = by (is_reset one)
 
 -- ---- the last that speaks
 
--- what stands last hides what is there without it
+-- if there is a last element, the default does not matter
 last_hides : {X : Type 0} (x : X) (xs : List X) (old other : X) → unwrap_or (last_of (x ∷ xs)) old ≡ unwrap_or (last_of (x ∷ xs)) other
 last_hides x [] old other = refl
 last_hides x (y ∷ xs) old other = last_hides y xs old other
@@ -96,7 +96,7 @@ last_behind None xs old = refl
 last_behind (Some x) [] old = refl
 last_behind (Some x) (y ∷ xs) old = last_hides y xs x old
 
--- behind some lines
+-- the lines after some lines
 later_lines : (default number : ℕ) → number ≤ 40 → (before lines : List Listed)
     → has (fold (with_listed default) (caps_by default before) lines) number
     ≡ unwrap_or (last_of (filter_map (says default number) (with_before before lines))) (has (caps_by default before) number)

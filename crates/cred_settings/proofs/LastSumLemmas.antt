@@ -17,7 +17,7 @@ use Rattle.cred_settings.proofs.NamedMembers.{members_named}
 
 -- ---- one line
 
--- all but a sum, of which an empty one leaves all
+-- all capabilities outside a sum; an empty sum leaves all
 but_sum : (sum number : ℕ) → number ≤ 40 → has (counted (all_but sum)) number ≡ not (has sum number)
 but_sum sum number small = by (sum == none) refl
   where

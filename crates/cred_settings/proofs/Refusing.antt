@@ -1,4 +1,4 @@
--- Words that name no group, and the refusal of the first.
+-- Words that name no group, and the refusal of the first such word.
 use Rattle.std.proofs.Common.{◌≡◌, ℕ, suc, ◌+◌, ◌<◌, Bool, true, false, cond, Option, Some, None, List, [], ◌∷◌, ◌++◌, length, take, drop, get_or}
 use Rattle.std.proofs.Common.{sym, ap, ◌∙◌}
 use Rattle.std.specs.Prelude.{find, not, is_some}

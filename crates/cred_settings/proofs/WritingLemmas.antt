@@ -1,4 +1,4 @@
--- What common writings of lists of capabilities mean.
+-- The meaning of common forms of lists of capabilities.
 use Rattle.std.proofs.Common.{◌≡◌, ◌≢◌, ℕ, Bool, true, false, cond, eqb, List, [], ◌∷◌, ◌++◌, refl, sym, ap, ◌∙◌}
 use Rattle.std.specs.Prelude.{fold, ◌||◌}
 use Rattle.std.proofs.lemmas.List.Sums.{fold-append}
@@ -43,7 +43,7 @@ pub tilde_alone : (default : ℕ) (before : List Listed) (value : Listed) → Is
     → caps_by default (before ++ value ∷ []) ≡ all
 tilde_alone default before value is = behind default before (value ∷ []) ∙ line_on default (caps_by default before) true [] value is
 
--- two plain lines, of which the second is put to the set of the first
+-- two plain lines, where the second changes the set of the first
 second_plain : (default : ℕ) (one other : Listed) (words more : List (List ℕ)) → IsLine false words one → IsLine false more other
     → caps_by default (one ∷ other ∷ []) ≡ with_plain default (named_caps words) (named_caps more)
 second_plain default one other words more first second =

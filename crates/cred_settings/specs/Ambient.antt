@@ -5,7 +5,7 @@ use Rattle.dropin_merge.specs.declared.unit_values.value.FileNote.{FileNote}
 use Rattle.site_table.specs.cap_sets.Sets.{none}
 use Rattle.cred_settings.specs.CapLists.{unit_caps, unit_caps_notes}
 
--- the default is none
+-- the set is empty by default
 abbrev pub ambient_of : Resolved → ℕ
 ambient_of unit = unit_caps unit (codes "AmbientCapabilities") (Some none)
 

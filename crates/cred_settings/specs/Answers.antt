@@ -1,4 +1,4 @@
--- Answers, unless memory runs out.
+-- Answers that are exact, unless memory runs out.
 use Rattle.std.specs.Prelude.{◌≡◌, ⊤, ℕ, List, Option, Some, Result, Ok, Err}
 use Rattle.cred_settings.specs.declared.accounts.Identity.{Identity}
 use Rattle.cred_settings.specs.declared.error.IdentityError.{IdentityError}
@@ -11,7 +11,7 @@ IsUnlessMemory (Err Memory) wanted = ⊤
 IsUnlessMemory (Err (NoSuchUser word)) wanted = wanted ≡ Err (NoSuchUser word)
 IsUnlessMemory (Err (NoSuchGroup word)) wanted = wanted ≡ Err (NoSuchGroup word)
 
--- the refusal is of this word, unless memory ran out
+-- the refusal names this word, unless memory ran out
 abbrev pub IsOfGroup : Option (List ℕ) → IdentityError → Type 0
 IsOfGroup bad Memory = ⊤
 IsOfGroup bad (NoSuchGroup word) = bad ≡ Some word

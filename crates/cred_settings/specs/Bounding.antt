@@ -4,7 +4,7 @@ use Rattle.dropin_merge.specs.declared.resolved.Resolved.{Resolved}
 use Rattle.dropin_merge.specs.declared.unit_values.value.FileNote.{FileNote}
 use Rattle.cred_settings.specs.CapLists.{unit_caps, unit_caps_notes}
 
--- it is unset by default, which counts as all
+-- the key is unset by default, which counts as all capabilities
 abbrev pub bounding_of : Resolved → ℕ
 bounding_of unit = unit_caps unit (codes "CapabilityBoundingSet") None
 

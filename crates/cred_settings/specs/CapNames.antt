@@ -17,6 +17,6 @@ cap_named word = position (λ name. bytes_eq (in_lower_case name) (in_lower_case
 abbrev pub named_caps : List (List ℕ) → ℕ
 named_caps words = fold (λ set number. union set (single number)) none (filter_map cap_named words)
 
--- a word of a value that names none is noted
+-- a word of a value that does not name a capability is noted
 abbrev pub word_notes : Value → List ℕ → List FileNote
 word_notes value word = cond (is_some (cap_named word)) [] (note_at value UnknownName ∷ [])

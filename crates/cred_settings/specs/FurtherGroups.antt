@@ -1,4 +1,4 @@
--- systemd.exec(5), SupplementaryGroups=: the further groups of a service.
+-- systemd.exec(5), SupplementaryGroups=: the supplementary groups of a service.
 use Rattle.std.specs.Prelude.{ℕ, ◌==◌, ◌&&◌, not, Bool, cond, codes, Option, List, [], ◌∷◌, ◌++◌}
 use Rattle.std.specs.List.{filter_map}
 use Rattle.dropin_merge.specs.declared.resolved.Resolved.{Resolved}
@@ -16,17 +16,17 @@ abbrev pub groups_of_account : Account → List ℕ
 groups_of_account Dynamic = []
 groups_of_account (Fixed identity) = identity.groups
 
--- a version of systemd gives a service with a user and another group than 0 the groups that initgroups(3) gives: those of the user, and
--- its group. Any other service has none
+-- in a version of systemd a service with a user, and with another group than 0, has the groups that initgroups(3) gives: the groups of the
+-- user, and its own group. Any other service has none
 abbrev pub initial_groups : Bool → ℕ → List ℕ → List ℕ
 initial_groups has_user gid groups = cond (has_user && not (gid == 0)) (groups ++ gid ∷ []) []
 
--- the groups that a service with this gid has by its account
+-- the groups that an account gives to a service with this gid
 abbrev pub account_groups : Option Version → Bool → ℕ → Account → List ℕ
 account_groups systemd has_user gid account =
     cond (is_known systemd) (initial_groups has_user gid (groups_of_account account)) (groups_of_account account)
 
--- the groups of the words come after them, in order and with doubles
+-- the groups of the words follow them, in order and with duplicates
 abbrev pub groups_of : Option Version → Site → Bool → ℕ → Account → List (List ℕ) → List ℕ
 groups_of systemd site has_user gid account words =
     account_groups systemd has_user gid account ++ filter_map (gid_meant systemd site) words

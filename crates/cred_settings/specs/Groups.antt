@@ -17,7 +17,7 @@ use Rattle.cred_settings.specs.Ids.{id_number}
 abbrev pub group_with : List Group → ℕ → Option Group
 group_with groups gid = find (λ group. group.gid == gid) groups
 
--- a number is a group by itself; a version of systemd asks for a group of the site that has the number
+-- a number is a group by itself; in a version of systemd a group of the site must have the number
 abbrev pub gid_numbered : Option Version → Site → Option ℕ → Option ℕ
 gid_numbered systemd site number =
     cond (is_known systemd) (option_map (λ group. group.gid) (option_and_then (group_with site.groups) number)) number
@@ -32,7 +32,7 @@ abbrev pub chosen_gid : Option Version → Site → List ℕ → Option ℕ
 chosen_gid systemd site [] = None
 chosen_gid systemd site (byte ∷ word) = gid_meant systemd site (byte ∷ word)
 
--- a chosen group takes the place of the user's group, and has no effect beside the dynamic uid
+-- the chosen group replaces the user's group, but has no effect beside the dynamic uid
 abbrev pub gid_of : Site → Option ℕ → Account → ℕ
 gid_of site chosen Dynamic = site.dynamic_uid
 gid_of site chosen (Fixed identity) = unwrap_or chosen identity.gid

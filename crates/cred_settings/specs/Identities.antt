@@ -18,7 +18,7 @@ uid_of site Dynamic = site.dynamic_uid
 uid_of site (Fixed identity) = identity.uid
 
 -- the ids of an account with this gid and the words of SupplementaryGroups=. A command with the prefix `!` (systemd.service(5),
--- ExecStart=) starts as the superuser, without the groups of the words
+-- ExecStart=) starts as the superuser, without the groups of these words
 abbrev pub identity_at : Option Version → Site → Bool → Bool → ℕ → Account → List (List ℕ) → Identity
 identity_at systemd site with_user leaves_ids gid account further = cond leaves_ids
     (record { uid = 0; gid = 0; groups = account_groups systemd with_user gid account })
@@ -32,7 +32,7 @@ identity_with systemd site with_user leaves_ids account group further =
 abbrev pub names_no_group : Option Version → Site → List ℕ → Bool
 names_no_group systemd site word = not (is_some (gid_meant systemd site word))
 
--- the first word that names no group: that of Group=, then those of SupplementaryGroups=
+-- the first word that names no group: the word of Group=, then the words of SupplementaryGroups=
 abbrev pub bad_group : Option Version → Site → List ℕ → List (List ℕ) → Option (List ℕ)
 bad_group systemd site group further = find (names_no_group systemd site) (filled group ++ further)
 
@@ -53,11 +53,11 @@ abbrev pub identity_from : Option Version → Site → Bool → Bool → List �
 identity_from systemd site is_dynamic leaves_ids user group further =
     identity_by systemd site is_dynamic leaves_ids user group further (account_of systemd site is_dynamic user)
 
--- what the files of a unit say of them. `is_dynamic` is whether DynamicUser= is on, `leaves_ids` whether the command has the prefix `!`
+-- the ids by the files of a unit. `is_dynamic` says if DynamicUser= is on, and `leaves_ids` if the command has the prefix `!`
 unfoldable pub identity_of : Resolved → Site → Bool → Bool → Result Identity IdentityError
 identity_of unit site is_dynamic leaves_ids =
     identity_from unit.systemd site is_dynamic leaves_ids (user_word unit) (group_word unit) (further_words unit)
 
--- and what is noted, key by key
+-- the notes, key by key
 unfoldable pub identity_notes : Resolved → List FileNote
 identity_notes unit = (user_notes unit ++ group_notes unit) ++ further_notes unit

@@ -1,4 +1,4 @@
--- Numbers of users and groups (credentials(7)): decimal, 0 to 4,294,967,294. The next number means no id in the calls that set ids.
+-- Numbers of users and groups (credentials(7)): decimal, 0 to 4,294,967,294. The calls that set ids read the next number as no id.
 use Rattle.std.specs.Prelude.{ℕ, nat_le, cond, List, Option, Some, None, option_and_then}
 use Rattle.dropin_merge.specs.text_forms.Numbers.{decimal_value}
 use Rattle.site_table.specs.Ids.{greatest_id}

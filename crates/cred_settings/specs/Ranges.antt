@@ -1,4 +1,4 @@
--- Ids that the kernel takes (credentials(7)): none is the number that stands for none.
+-- Ids that the kernel accepts (credentials(7)): none of them is the number that means no id.
 use Rattle.std.specs.Prelude.{ℕ, ◌≤◌, List}
 use Rattle.std.specs.List.{AllByRecursion}
 use Rattle.site_table.specs.Ids.{greatest_id}

@@ -9,10 +9,10 @@ use Rattle.cred_settings.specs.Groups.{gid_of}
 use Rattle.cred_settings.specs.FurtherGroups.{groups_of_account, initial_groups}
 use Rattle.cred_settings.specs.Identities.{uid_of}
 
--- the ids of an account with the group that is chosen, and with the further groups of its user
+-- the ids of an account with the chosen group, and with the further groups of its user
 abbrev pub begun : Site → Option ℕ → Account → Identity
 begun site chosen account = record { uid = uid_of site account; gid = gid_of site chosen account; groups = groups_of_account account }
 
--- the groups that the account of a user with these further groups gives
+-- the groups that the account gives if its user has these further groups
 abbrev pub groups_with : Option Version → Bool → ℕ → List ℕ → List ℕ
 groups_with systemd with_user gid groups = cond (is_known systemd) (initial_groups with_user gid groups) groups

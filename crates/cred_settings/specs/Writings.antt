@@ -1,4 +1,4 @@
--- Common writings of lists of capabilities (systemd.exec(5), CapabilityBoundingSet=).
+-- Common forms of lists of capabilities (systemd.exec(5), CapabilityBoundingSet=).
 use Rattle.std.specs.Prelude.{◌≡◌, ℕ, Bool, false, List}
 use Rattle.std.specs.Str.{bytes_eq}
 use Rattle.dropin_merge.specs.declared.unit_values.listed.Listed.{Listed}

@@ -8,8 +8,8 @@ use dropin_merge::unit_values::Said;
 use site_table::CapSet;
 use std::alloc::{AllocError, Global};
 
-/// Reads the ambient set that a service starts with, by AmbientCapabilities=; without that key it is empty. Lines are
-/// read as those of the bounding set are, with the same notes. For a version of systemd an empty ambient set is one
+/// Reads the ambient set that a service starts with from AmbientCapabilities=. The set is empty without this key. Lines are
+/// read as in CapabilityBoundingSet=, with the same notes. For a version of systemd an empty ambient set counts as one
 /// that no line has changed.
 pub fn ambient_set(alloc: Global, unit: &Resolved) -> Result<Said<CapSet>, AllocError>
     ensures line_by_line { IfOk result (λ said. said.what ≡ ambient_of unit.now) }

@@ -8,19 +8,19 @@ use dropin_merge::unit_values::Said;
 use site_table::CapSet;
 use std::alloc::{AllocError, Global};
 
-/// Reads the bounding set of a service, by CapabilityBoundingSet=; without that key it has all capabilities.
+/// Reads the bounding set of a service from CapabilityBoundingSet=. The set has all capabilities without this key.
 ///
-/// A plain line replaces a set that equals its default, and is united with any other. An inverted line is all but its
-/// names if the set equals its default, and takes its names off any other. `~` alone is all, and an empty value is
-/// the empty set. Names are read in any case.
+/// A plain line replaces a set that equals its default, and is united with any other set. An inverted line with names
+/// makes the set of all other capabilities if the set equals its default, and takes its names off any other set. `~`
+/// alone gives all capabilities, and an empty value gives none. Names are read in any case.
 ///
-/// A version of systemd goes by the capabilities that a line comes to. A line that names none, and a line on a set
-/// that is unset, begins anew: a plain one is its capabilities, and an inverted one all others. The set is unset
-/// before the first line, and after an inverted line that names no capability; it counts as all then. Any other plain
-/// line adds to the set, and any other inverted line takes off it.
+/// A version of systemd looks at the capabilities that a line names. A line begins anew if it names none, or if the set
+/// is unset: a plain line then gives its capabilities, and an inverted line all others. Otherwise a plain line adds its
+/// capabilities, and an inverted line removes them. The set is unset before the first line, and after an inverted line
+/// that names no capability. An unset set counts as all capabilities.
 ///
-/// Notes come first for values that cannot be expanded. Then come those for lines that cannot be split, which change
-/// nothing, and for names that are not known, which are skipped.
+/// Values that cannot be expanded get notes first. Then lines that cannot be split, which change nothing, and unknown
+/// names, which are skipped, get notes.
 pub fn bounding_set(alloc: Global, unit: &Resolved) -> Result<Said<CapSet>, AllocError>
     ensures line_by_line { IfOk result (λ said. said.what ≡ bounding_of unit.now) }
     ensures noted { IfOk result (λ said. said.notes.items ≡ bounding_notes unit.now) }

@@ -1,4 +1,4 @@
-//! Makes sets of capabilities by lines that add to them or take off (systemd.exec(5)).
+//! Makes sets of capabilities from lines that add to them or take off (systemd.exec(5)).
 ghost use Rattle.std.specs.Prelude.{◌≡◌, ◌++◌, IfOk, OnOk, flat_map};
 ghost use Rattle.cred_settings.specs.CapLists.{with_plain, with_inverted, with_listed, caps_by, caps_read, names_notes, unit_caps, unit_caps_notes};
 
@@ -31,7 +31,7 @@ fn with_inverted(default: CapSet, set: CapSet, words: &[Text]) -> CapSet
     base.minus(named_caps(words))
 }
 
-// Returns the set after one more value.
+// Returns the set after the next value.
 fn with_listed(default: CapSet, set: CapSet, one: &Listed) -> CapSet
     ensures { result ≡ with_listed default set one.now }
 {
@@ -45,7 +45,7 @@ fn with_listed(default: CapSet, set: CapSet, one: &Listed) -> CapSet
     }
 }
 
-// Returns the set that the lines of such a key make.
+// Returns the set that these lines make from the default.
 fn caps_by(default: CapSet, lines: &[Listed]) -> CapSet
     ensures { result ≡ caps_by default lines.now }
 {
@@ -56,7 +56,7 @@ fn caps_by(default: CapSet, lines: &[Listed]) -> CapSet
     set
 }
 
-// Returns the set that the lines of such a key make, by the rules of this version of systemd.
+// Returns the set that these lines make, by the rules of this version of systemd.
 fn caps_read(systemd: Option<Version>, default: &Option<CapSet>, lines: &[Listed]) -> CapSet
     ensures { result ≡ caps_read systemd default.now lines.now }
 {
@@ -67,7 +67,7 @@ fn caps_read(systemd: Option<Version>, default: &Option<CapSet>, lines: &[Listed
     }
 }
 
-// Notes the words of all lines that name no capability.
+// Notes the words of all lines that do not name a capability.
 fn note_names(notes: &mut Vec<FileNote>, lines: &[Listed]) -> Result<(), AllocError>
     ensures { OnOk result (notes.new.items ≡ notes.old.items ++ flat_map names_notes lines.now) }
 {
@@ -77,9 +77,8 @@ fn note_names(notes: &mut Vec<FileNote>, lines: &[Listed]) -> Result<(), AllocEr
     Ok(())
 }
 
-/// Returns the set that the files of a unit give to a key such as CapabilityBoundingSet, which is unset by default or
-/// has this set. Notes come for values that cannot be expanded, then for those that cannot be split, and then for names
-/// that are not known.
+/// Returns the set that the files of a unit give to a key such as CapabilityBoundingSet=. By default the key is unset or
+/// has this set. Notes name values that cannot be expanded, then values that cannot be split, and then unknown names.
 #[tactic(auto, unfolding(crate::specs::CapLists::unit_caps, crate::specs::CapLists::unit_caps_notes))]
 pub fn cap_set_of_key(
     alloc: Global,

@@ -1,4 +1,4 @@
-//! Names of capabilities in lists, in any case (capabilities(7)).
+//! Reads names of capabilities in lists, in any case (capabilities(7)).
 ghost use Rattle.std.specs.Prelude.{◌≡◌, ◌≤◌, ◌++◌, IfSome, OnOk, flat_map};
 ghost use Rattle.cred_settings.specs.CapNames.{cap_named, named_caps, word_notes};
 
@@ -14,7 +14,7 @@ fn cap_named(word: &str) -> Option<u8>
     CapSet::from_name(word)
 }
 
-/// The set of the capabilities that the words name; words that name none are passed over.
+/// Returns the set of the capabilities that the words name. It skips words that do not name a capability.
 pub fn named_caps(words: &[Text]) -> CapSet
     ensures all_named { result ≡ named_caps words.now }
 {
@@ -27,7 +27,7 @@ pub fn named_caps(words: &[Text]) -> CapSet
     set
 }
 
-/// Notes the words of a value that name no capability.
+/// Notes the words of a value that do not name a capability.
 pub fn note_words(
     notes: &mut Vec<FileNote>,
     value: &Value,

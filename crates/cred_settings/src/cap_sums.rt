@@ -1,4 +1,4 @@
-//! Makes sets of capabilities by the sums of lines, as a version of systemd does (systemd.exec(5)).
+//! Makes sets of capabilities from the sums of lines, as a version of systemd does (systemd.exec(5)).
 ghost use Rattle.std.specs.Prelude.{◌≡◌, fold};
 ghost use Rattle.cred_settings.specs.CapSums.{counted as counted_as, is_untouched, all_but, anew, changed, with_sum, with_value, summed};
 
@@ -6,7 +6,7 @@ use crate::cap_names::named_caps;
 use dropin_merge::unit_values::Listed;
 use site_table::CapSet;
 
-/// Returns the set, where an unset one counts as all.
+/// Returns the set. An unset set counts as all capabilities.
 pub fn counted(set: &Option<CapSet>) -> CapSet
     ensures unset_is_all { result ≡ counted_as set.now }
 {
@@ -37,7 +37,7 @@ fn is_untouched(default: &Option<CapSet>, set: &Option<CapSet>) -> bool
     }
 }
 
-// Returns all but the sum, and no set for the empty sum.
+// Returns all capabilities outside the sum. For an empty sum the set is unset.
 fn all_but(sum: CapSet) -> Option<CapSet>
     ensures { result ≡ all_but sum }
 {
@@ -82,7 +82,7 @@ fn with_sum(
     }
 }
 
-// Returns the set after one more value.
+// Returns the set after the next value.
 fn with_value(default: &Option<CapSet>, set: &Option<CapSet>, one: &Listed) -> Option<CapSet>
     ensures { result ≡ with_value default.now set.now one.now }
 {
@@ -94,8 +94,8 @@ fn with_value(default: &Option<CapSet>, set: &Option<CapSet>, one: &Listed) -> O
     )
 }
 
-/// Returns the set that the lines of a key make, of which each begins anew if it names no capability or if none before
-/// it changed the set. The key is unset by default or has this set.
+/// Returns the set that the lines of a key make. A line begins anew if it names no capability, or if the set is what
+/// it is without any line. By default the key is unset or has this set.
 pub fn summed(default: &Option<CapSet>, lines: &[Listed]) -> Option<CapSet>
     ensures line_by_line { result ≡ summed default.now lines.now }
 {

@@ -1,4 +1,4 @@
-//! Why the users and groups of a unit are refused.
+//! Says why the users and groups of a unit are refused.
 ghost use Rattle.std.specs.Prelude.{◌≡◌};
 ghost use Rattle.cred_settings.specs.declared.error.IdentityError.TheVariants.{Memory};
 
@@ -6,7 +6,7 @@ use dropin_merge::Text;
 use std::alloc::AllocError;
 use thiserror::Error;
 
-/// Why the users and groups of a unit are refused.
+/// Says why the users and groups of a unit are refused.
 #[derive(Debug, Drop, Error)]
 pub enum IdentityError {
     /// User= names neither a user of the site nor a number of its range.
@@ -15,7 +15,7 @@ pub enum IdentityError {
     /// A word of Group= or SupplementaryGroups= names neither a group of the site nor a number of its range.
     #[error("no group {}", .0.as_str())]
     NoSuchGroup(Text),
-    /// There is no memory left.
+    /// Memory ran out.
     #[error("out of memory")]
     Memory,
 }

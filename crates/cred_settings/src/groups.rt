@@ -5,14 +5,14 @@ ghost use Rattle.cred_settings.specs.Groups.{group_with, gid_meant, gid_numbered
 use crate::ids::read_id;
 use site_table::{Group, SiteTable, Version};
 
-// The first group of the site with this gid.
+// Returns the first group of the site with this gid.
 fn group_with(site: &SiteTable, gid: u32) -> Option<&Group>
     ensures { option_copied result ≡ group_with site.now.groups gid }
 {
     site.groups().iter().find(|group| group.gid == gid)
 }
 
-// The group that a number is. A version of systemd asks for a group of the site that has it.
+// Returns the group of a number. A version of systemd requires a group of the site with this number.
 fn gid_numbered(systemd: Option<Version>, site: &SiteTable, number: Option<u32>) -> Option<u32>
     ensures { result ≡ gid_numbered systemd site.now number }
 {
@@ -25,8 +25,8 @@ fn gid_numbered(systemd: Option<Version>, site: &SiteTable, number: Option<u32>)
     }
 }
 
-/// Returns the group that a word names: a group of the site by its name, else a number. For a version of systemd the
-/// number is that of a group of the site.
+/// Returns the group that a word names: a group of the site by its name, else a number. For a version of systemd a group
+/// of the site must have this number.
 pub fn gid_meant(systemd: Option<Version>, site: &SiteTable, word: &str) -> Option<u32>
     ensures gid_or_none { result ≡ gid_meant systemd site.now word.now }
 {

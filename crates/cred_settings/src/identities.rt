@@ -18,7 +18,7 @@ use dropin_merge::{Resolved, Text};
 use site_table::{SiteTable, Version};
 use std::alloc::{AllocError, Global};
 
-// The refusal of a user.
+// Makes the refusal of a user.
 fn no_such_user(alloc: Global, word: &str) -> IdentityError
     ensures { IsUnlessMemory (Err result) (Err (IdentityError.NoSuchUser word.now)) }
 {
@@ -28,7 +28,7 @@ fn no_such_user(alloc: Global, word: &str) -> IdentityError
     }
 }
 
-// The refusal of a group.
+// Makes the refusal of a group.
 fn no_such_group(alloc: Global, word: &str) -> IdentityError
     ensures { IsOfGroup (Some word.now) result }
 {
@@ -38,7 +38,7 @@ fn no_such_group(alloc: Global, word: &str) -> IdentityError
     }
 }
 
-// The group that the word of Group= chooses, if there is one.
+// Returns the group that the word of Group= chooses, if there is one.
 fn chosen_gid(
     alloc: Global,
     systemd: Option<Version>,
@@ -58,7 +58,7 @@ fn chosen_gid(
     }
 }
 
-// Adds the groups of the words after those that are there.
+// Adds the groups of the words after the others.
 fn add_groups(
     alloc: Global,
     systemd: Option<Version>,
@@ -79,7 +79,7 @@ fn add_groups(
     Ok(())
 }
 
-// The ids of an account with the group that is chosen, and with the further groups of its user.
+// Returns the ids of an account with the chosen group and with the further groups of its user.
 fn begun(alloc: Global, site: &SiteTable, account: Account, chosen: Option<u32>) -> Identity
     ensures { result ≡ begun site.now chosen account }
 {
@@ -97,7 +97,7 @@ fn begun(alloc: Global, site: &SiteTable, account: Account, chosen: Option<u32>)
     }
 }
 
-// The groups that a service with this gid has by its account, whose user has these further groups.
+// Returns the groups that an account gives to a service with this gid. The user of the account has these further groups.
 fn account_groups(
     alloc: Global,
     systemd: Option<Version>,
@@ -117,7 +117,7 @@ fn account_groups(
     Ok(groups)
 }
 
-// The ids of an account with its groups, or the refusal of the first word that names none.
+// Returns the ids of an account with its groups, or the refusal of the first word that names no group.
 fn with_groups(
     alloc: Global,
     systemd: Option<Version>,
@@ -146,7 +146,7 @@ fn with_groups(
     Ok(Identity { uid, gid, groups })
 }
 
-// The ids that the words of the keys give, or the first refusal.
+// Returns the ids that the words of the keys give, or the first refusal.
 fn identity_from(
     alloc: Global,
     systemd: Option<Version>,
@@ -169,7 +169,7 @@ fn identity_from(
     )
 }
 
-// The words that the files of a unit give to the keys.
+// The words that the files of a unit give to User=, Group= and SupplementaryGroups=.
 #[derive(Drop)]
 struct IdentityWords {
     user: Text,
@@ -177,7 +177,7 @@ struct IdentityWords {
     further: Words,
 }
 
-// The words of the keys, with their notes.
+// Reads the words of the keys, with their notes.
 #[tactic(auto, unfolding(crate::specs::Identities::identity_notes))]
 fn identity_words(alloc: Global, unit: &Resolved) -> Result<Said<IdentityWords>, AllocError>
     ensures user { IfOk result (λ said. said.what.user ≡ user_word unit.now) }
@@ -203,14 +203,14 @@ fn identity_words(alloc: Global, unit: &Resolved) -> Result<Said<IdentityWords>,
 /// `is_dynamic` says if DynamicUser= is on, and `leaves_ids` if the command has the prefix `!` (systemd.service(5)).
 ///
 /// A word is the name of a user or a group of the site, else a decimal number from 0 to 4,294,967,294. Without User=
-/// a service runs as the superuser. A number is the first user of the site that has it, and else itself, with itself
-/// as group. With DynamicUser= the dynamic uid of the site replaces a missing User= and one that names nobody, and
-/// then Group= has no effect. Group= replaces the user's group, and SupplementaryGroups= adds to the user's further
-/// groups. With the prefix `!` the service starts as the superuser, with the user's groups alone.
+/// a service runs as the superuser. A number means the first user of the site with this uid. Without such a
+/// user, the number is both uid and gid. With DynamicUser= the dynamic uid of the site replaces a missing User= and a User= that
+/// names nobody, and then Group= has no effect. Group= replaces the user's group, and SupplementaryGroups= adds to the
+/// user's further groups. With the prefix `!` the service starts as the superuser, with the groups of the user alone.
 ///
-/// `NoSuchUser` comes if User= names nobody and DynamicUser= is off. Then `NoSuchGroup` comes for the first word that
-/// names no group, of Group= and then of SupplementaryGroups=. `Memory` may come for any unit. Values that cannot be
-/// expanded, and lines that cannot be split, get notes key by key.
+/// The error is `NoSuchUser` if User= names nobody and DynamicUser= is off. Otherwise it is `NoSuchGroup` for the first
+/// word of Group=, and then of SupplementaryGroups=, that names no group. `Memory` is possible for any unit. Values that
+/// cannot be expanded, and lines that cannot be split, get notes key by key.
 #[tactic(auto, unfolding(crate::specs::Identities::identity_of))]
 pub fn identity_of_unit(
     alloc: Global,

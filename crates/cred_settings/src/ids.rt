@@ -1,10 +1,10 @@
-//! Numbers of users and groups (credentials(7)).
+//! Reads numbers of users and groups (credentials(7)).
 ghost use Rattle.std.specs.Prelude.{◌≡◌};
 ghost use Rattle.cred_settings.specs.Ids.{id_number};
 
 use dropin_merge::read_decimal;
 
-/// The greatest id. The next number means no id in setresuid(2) and the like.
+/// The greatest id. setresuid(2) and similar calls read the next number as no id.
 const GREATEST_ID: u64 = 4_294_967_294;
 
 /// Reads the id of a word: decimal, from 0 to 4,294,967,294.

@@ -1,8 +1,7 @@
 //! Reads what the keys of a unit say of users, groups and capabilities.
 //!
-//! The values that a unit gives to a key are read in their order (systemd.exec(5)). A value that cannot be read is
-//! skipped with a note. `unit_values` has the values, `site_table` the users and groups, and `cap_sets` the
-//! capabilities.
+//! The crate reads the values of each key in their order (systemd.exec(5)). It skips a value that it cannot read, with a
+//! note. `unit_values` has the values, `site_table` the users and groups, and `cap_sets` the capabilities.
 //!
 //! `identity_of_unit(alloc, &unit, &site, false)?.what` has the ids that a service runs with.
 #![tactic(auto)]

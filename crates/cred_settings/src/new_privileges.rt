@@ -8,11 +8,11 @@ use dropin_merge::unit_values::{Said, flag_of_key};
 use site_table::{CapSet, Version};
 use std::alloc::{AllocError, Global};
 
-/// Returns whether NoNewPrivileges= is in effect: it is set, or a filter is on for a service whose uid is not 0 and
-/// whose ambient set lacks CAP_SYS_ADMIN.
+/// Returns whether NoNewPrivileges= is in effect. It is if it is set, or if a filter is on for a service whose uid is not
+/// 0 and whose ambient set lacks CAP_SYS_ADMIN.
 ///
-/// In systemd 252 the ambient set does not matter, and `is_filtered` decides in place of `has_filter`: a filter is on,
-/// or a setting that this version counts as one.
+/// In systemd 252 the ambient set does not matter, and `is_filtered` decides instead of `has_filter`. It says that a
+/// filter is on, or a setting that this version counts as a filter.
 pub fn no_new_privs(
     systemd: Option<Version>,
     is_set: bool,
@@ -30,8 +30,8 @@ pub fn no_new_privs(
     is_set || is_implied && uid != 0
 }
 
-/// Reads whether NoNewPrivileges= is set. The last value that can be read decides; an empty one or none is false.
-/// Notes come for values that cannot be expanded, and then for those that cannot be read.
+/// Reads whether NoNewPrivileges= is set. The last value that can be read decides; an empty value means false, and so
+/// does a missing one. Notes name values that cannot be expanded, and then values that cannot be read.
 pub fn is_no_new_privileges_set(alloc: Global, unit: &Resolved) -> Result<Said<bool>, AllocError>
     ensures last_value_decides { IfOk result (λ said. said.what ≡ is_set_by unit.now) }
     ensures noted { IfOk result (λ said. said.notes.items ≡ new_privileges_notes unit.now) }

@@ -1,4 +1,4 @@
--- The settings of a unit whose service has a command alone.
+-- The settings of a unit whose service has just a command.
 use Rattle.mount_settings.specs.abs_path.Paths.{Path}
 use Rattle.std.specs.Option.{option_map, option_map_or}
 use Rattle.cred_settings.specs.unit_grammar.declared.notes.NoteCause.TheVariants.{Unjudged}
@@ -99,7 +99,7 @@ bare systemd = made false false false false false false false false false KillPr
 abbrev unswitched : Switches
 unswitched = record { private_devices = false; protect_kernel_modules = false; protect_kernel_logs = false; dynamic_user = false }
 
--- nothing of bare settings is installed
+-- no filter of bare settings is installed
 none_installed : (systemd : Option Version) (second : Option Abi) → filter (is_installed (bare systemd)) (all_programs second) ≡ []
 none_installed None None = refl
 none_installed None (Some second) = refl
@@ -153,7 +153,7 @@ later_alone unit value true = refl
 later_alone unit value false = refl
 
 module _ (unit : Resolved) (site : Site) (path : Path) where
-  -- a value by itself that is launched is in force and is not noted
+  -- the only value is launched, is in force and is not noted
   launched_value : (value : Value) (b : Bool) (reading : Reading)
       → program_path unit site (slice_get (cond b [] (cons_option (command_in reading) [])) 0) ≡ Some path
       → cons_option (cond b None (note_by value reading)) [] ≡ []
@@ -456,7 +456,7 @@ module _ (unit : Resolved) (h : HasCommandAlone unit) where
   unfolding text_notes
   text_by_grammar = still _ _ _ refl all_judged
 
-  -- the one value of ExecStart=, if it can be expanded
+  -- the only value of ExecStart=, if it can be expanded
   command_value : values_of unit (codes "ExecStart") ≡ cons_option
       (option_map (λ text. record { place = h.place; text = text }) (expansion unit.systemd unit.name h.assignment.value)) []
   command_value =
@@ -470,7 +470,7 @@ module _ (unit : Resolved) (h : HasCommandAlone unit) where
       ∙ ap (λ name. cons_option (cond (bytes_eq name (codes "ExecStart")) (unexpanded_at unit.systemd unit.name (h.place, h.assignment)) None) [])
       h.command
 
-  -- as it is written
+  -- the only value as it is written
   written_value : written_values unit (codes "ExecStart") ≡ record { place = h.place; text = h.assignment.value } ∷ []
   written_value =
       ap (filter_map (written_by (codes "ExecStart"))) h.alone

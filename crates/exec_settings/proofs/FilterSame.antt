@@ -1,4 +1,4 @@
--- Settings of filters that are the same part by part.
+-- Settings of filters that agree part by part.
 use Rattle.std.proofs.Common.{◌≡◌, Bool, Option}
 use Rattle.mount_settings.specs.unit_names.declared.version.Version.{Version}
 use Rattle.filter_settings.specs.call_rules.declared.actions.Action.{Action}

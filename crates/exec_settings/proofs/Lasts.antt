@@ -1,4 +1,4 @@
--- The last that says something, over what is left of a list.
+-- The last element that says something, over the rest of a list.
 use Rattle.std.proofs.Common.{◌≡◌, Option, Some, None, List, [], ◌∷◌, refl, sym, ap, ◌∙◌}
 use Rattle.std.specs.Prelude.{unwrap_or}
 use Rattle.std.specs.List.{cons_option, filter_map}
@@ -15,7 +15,7 @@ last_cons None xs first = refl
 last_cons (Some x) [] first = refl
 last_cons (Some x) (y ∷ xs) first = any_default y xs first x
 
--- what is left says the same with the next element, which may say something
+-- the rest says the same with its next element, which may say something
 pub last_left : {X Y : Type 0} (f : X → Option Y) (left more : List X) (x : X) (now next wanted : Y) → left ≡ x ∷ more
     → next ≡ unwrap_or (f x) now → unwrap_or (last_of (filter_map f left)) now ≡ wanted
     → unwrap_or (last_of (filter_map f more)) next ≡ wanted

@@ -1,4 +1,4 @@
--- Why the command of a unit is not launched.
+-- The reasons why the command of a unit is not launched.
 use Rattle.std.proofs.Common.{◌≡◌, true, false, cond, Option, Some, None, [], ◌∷◌, refl, ap, ◌∙◌}
 use Rattle.std.specs.Option.{option_map}
 use Rattle.cred_settings.specs.dropin_merge.declared.resolved.Resolved.{Resolved}
@@ -24,7 +24,7 @@ module _ (unit : Resolved) (site : Site) where
   pub none_is_first : unit_command unit ≡ None → command_refusal unit site ≡ Some NoCommand
   none_is_first is = by_command None is
 
-  -- by whether the command keeps privileges
+  -- the command keeps privileges, or not
   behind_command : (command : Command) → unit_command unit ≡ Some command
       → command_refusal unit site ≡ first_reason (cond command.is_privileged (Some PrivilegedCommand) None ∷ outside unit site (Some command) ∷ [])
   behind_command command is = by_command (Some command) is

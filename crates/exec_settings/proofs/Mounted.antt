@@ -1,4 +1,4 @@
--- The mentions of a unit by what its keys come to.
+-- The mentions of a unit, by the values of its keys.
 use Rattle.std.proofs.Common.{◌≡◌, ◌<◌, ◌≤◌, ℕ, Bool, cond, Some, None, Ok, Err, List, length, sym, ap, ◌∙◌, arith}
 use Rattle.std.specs.Prelude.{nat_lt}
 use Rattle.std.proofs.lemmas.Bool.{le-ltb, lt-ltb}
@@ -12,7 +12,7 @@ use Rattle.exec_settings.specs.Dynamic.{is_dynamic, unit_filters}
 use Rattle.exec_settings.specs.declared.errors.SettingsError.TheVariants.{TooManyPaths}
 use Rattle.exec_settings.specs.Mounts.{paths_refusal, switches_of, unit_switches}
 
--- the switches of the filters are those of the keys
+-- the switches of the filters are the values of the keys
 pub switches_are : (unit : Resolved) (table : Table) (dynamic : Bool) (found : FilterSettings) (switches : Switches)
     → dynamic ≡ is_dynamic unit → found ≡ unit_filters unit table → switches ≡ switches_of dynamic found → switches ≡ unit_switches unit
 unfolding unit_filters unit_switches
@@ -25,7 +25,7 @@ no_error value error is = cc
 not_more : (a b : ℕ) → (a < b → ⊥) → b ≤ a
 not_more a b few = omega (arith, few)
 
--- by how many paths are written
+-- there are too many written paths, or not
 module _ (unit : Resolved) (paths : List WrittenPath) (written : paths ≡ unit_written unit) where
   pub few_paths : (128 < length paths → ⊥) → paths_refusal unit ≡ None
   unfolding paths_refusal

@@ -1,4 +1,4 @@
--- Refusals and settings ask a site for accounts, for implied paths and for the paths of a program alone.
+-- Refusals and settings ask a site only for accounts, for implied paths and for the paths of a program.
 use Rattle.std.proofs.Common.{◌≡◌, ◌∙◌, ℕ, zero, suc, length, ltb, arith, Bool, true, false, cond, List, [], ◌∷◌, ◌++◌, Option, Some, None}
 use Rattle.std.proofs.Common.{refl, ap, sym}
 use Rattle.std.specs.Prelude.{◌&&◌, not, find, position, is_some, option_map, slice_get, filter, Result}
@@ -34,7 +34,7 @@ use Rattle.exec_settings.specs.Refusals.{outside, privileged, refusal_of}
 use Rattle.exec_settings.specs.RunsAs.{unit_identity}
 
 -- ---- implied paths
--- where a row is found it has a place
+-- a row that is found has a place
 get_within : (rows : List Row) (n : ℕ) → is_some (slice_get rows n) ≡ ltb n (length rows)
 get_within [] n = grind (arith, nat_tests)
 get_within (row ∷ rows) zero = grind (arith, nat_tests)
@@ -73,7 +73,7 @@ unfolding unit_mentions
 mentions_same unit site other same =
     same_for_sites site other unit (unit_switches unit) (unit_written unit) unit.systemd (each_stands site other (implied_by unit) same)
 
--- ---- ids ask a site for no row
+-- ---- ids do not depend on the rows of a site
 ids_same : (unit : Resolved) (site other : Site) → AreSameFor unit site other → unit_identity unit other ≡ unit_identity unit site
 unfolding identity_of
 ids_same unit site other agree =
@@ -84,7 +84,7 @@ ids_same unit site other agree =
     ∙ ap (λ (groups : _). unit_identity unit (site_with site.dynamic_uid other.user_namespaces other.systemd other.rows site.users groups))
     agree.groups
 
--- ---- the program is looked for at few paths
+-- ---- the program is looked up at few paths
 kind_same : (site other : Site) (path : Path) → kind_at other.rows path ≡ kind_at site.rows path → has_exe other path ≡ has_exe site path
 kind_same site other path same = ap (λ kind. option_map_or is_exe kind false) same
 

@@ -1,4 +1,4 @@
--- What is said by a unit without its other sections.
+-- A unit without its other sections says the same.
 use Rattle.std.proofs.Common.{◌≡◌, ℕ, ◌+◌, Bool, cond, Option, Some, None, List, [], ◌∷◌, ◌++◌, map, codes, refl, sym, ap, ◌∙◌, subst}
 use Rattle.std.specs.Prelude.{◌||◌, ◌&&◌, ◌==◌, not, is_some, false, length, nat_lt, find, flat_map, unwrap_or}
 use Rattle.std.specs.Option.{option_map, option_map_or}
@@ -390,7 +390,7 @@ module _ (unit : Resolved) where
       (outside_key_same (is_relative alone site launched.program)
       ∙ ap (λ path. outside_key unit (not (is_some path))) (path_same site launched.program))
 
-  -- why it is refused
+  -- the reason of its refusal
   command_refused : (site : Site) → command_refusal alone site ≡ command_refusal unit site
   unfolding command_refusal
   command_refused site =
@@ -422,7 +422,7 @@ module _ (unit : Resolved) where
       ∙ ap (λ reason. first_reason (command_refusal unit site ∷ identity_refusal unit site ∷ group_refusal unit table ∷ reason ∷ []))
       paths_refused
 
-  -- what is noted
+  -- the notes
   text_noted : text_notes alone ≡ text_notes unit
   unfolding text_notes grammar_notes unjudged_notes
   text_noted = both _ _ _ _ (same_grammar 0 unit.files) (ap (filter_map (unjudged_at unit.systemd)) (same_assignments unit))
@@ -432,7 +432,7 @@ module _ (unit : Resolved) where
   noted table = both _ _ _ _ (five _ _ _ _ _ _ _ _ _ _ text_noted paths_noted commands_noted credentials_noted (filters_noted table))
       protections_noted
 
-  -- what its settings are
+  -- the settings
   of_whole : (table : Table) (site : Site) (made : Settings) → AreSettings alone table site made → AreSettings unit table site made
   of_whole table site made are = record {
     launches_the_first_command = sym (program site) ∙ are.launches_the_first_command;

@@ -1,4 +1,4 @@
--- What holds where no key is outside of what is judged.
+-- The facts of a unit with no key outside of the model.
 use Rattle.std.specs.Option.{option_map}
 use Rattle.std.proofs.Common.{◌≡◌, ℕ, zero, suc, Bool, true, false, cond, Option, Some, None, List, [], ◌∷◌, refl, sym, ap, ◌∙◌, subst}
 use Rattle.std.specs.Prelude.{find, slice_get}
@@ -15,7 +15,7 @@ passed : {X : Type 0} (b : Bool) (x : X) (found : Option X) → cond b (Some x) 
 passed false x found none = (refl, none)
 passed true x found none = cc
 
--- where nothing passes, no element does
+-- if no element is found, none passes
 none_passes : {X : Type 0} (p : X → Bool) (xs : List X) (i : ℕ) (x : X) → slice_get xs i ≡ Some x → find p xs ≡ None → p x ≡ false
 none_passes p [] i x is none = cc
 none_passes p (y ∷ xs) zero x is none = let same : y ≡ x = cc in subst (λ z. p z ≡ false) same (passed (p y) y (find p xs) none).0
@@ -34,7 +34,7 @@ none_mapped f None e = refl
 none_mapped f (Some x) e = cc
 
 module _ (unit : Resolved) (relative : Bool) where
-  -- no row of such a table
+  -- no row of the table is outside
   abbrev AllUnused : Option Version → Type 0
   AllUnused systemd = find (is_outside unit relative) (keys systemd) ≡ None
 
@@ -66,6 +66,6 @@ module _ (unit : Resolved) (relative : Bool) where
     pub not_relative : relative ≡ false
     not_relative = absolute_by unit.systemd all_unused
 
-    -- and nothing stands in the place of the root
+    -- no key mounts something over the root
     pub no_root_key : root_key (unit_written unit) ≡ None
     no_root_key = rootless_by unit.systemd all_unused

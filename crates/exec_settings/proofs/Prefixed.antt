@@ -1,4 +1,4 @@
--- Where a word may be cut: behind its prefixes, which are ASCII.
+-- The place where a word may be cut: after its prefixes, which are ASCII.
 use Rattle.std.proofs.Common.{◌≡◌, ℕ, suc, zero, ◌<◌, ◌≤◌, Bool, true, false, cond, List, [], ◌∷◌, ◌++◌, length, get_or, arith, subst, refl, ap}
 use Rattle.std.specs.Prelude.{◌||◌, ◌&&◌, ◌==◌}
 use Rattle.std.specs.List.{prefix_len}
@@ -33,7 +33,7 @@ count_within before [] = omega arith
 count_within before (byte ∷ text) = within_one (count_behind (before ++ byte ∷ []) text) (length text) (may_follow before byte)
     (count_within (before ++ byte ∷ []) text)
 
--- a byte among those that may follow, with what is known of the rest
+-- a byte that may follow, and the rest
 first_or_later : (before : List ℕ) (byte : ℕ) (text : List ℕ) (k : ℕ) → may_follow before byte ≡ true
     → k < suc (count_behind (before ++ byte ∷ []) text)
     → ((n : ℕ) → n < count_behind (before ++ byte ∷ []) text → get_or text n 0 < 128) → get_or (byte ∷ text) k 0 < 128

@@ -1,4 +1,4 @@
--- Which reason is the first.
+-- The reason that is the first.
 use Rattle.std.specs.Prelude.{Result, IsErrAnd}
 use Rattle.std.proofs.lemmas.Result.{err_from_is_err_and}
 use Rattle.std.proofs.Common.{◌≡◌, Option, Some, None, [], ◌∷◌, refl, ap, ◌∙◌}
@@ -18,7 +18,7 @@ alone : (reason : Option SettingsError) → first_reason (reason ∷ []) ≡ rea
 alone None = refl
 alone (Some reason) = refl
 
--- an error that is handed on
+-- an error that is returned as it is
 pub handed_on : {X : Type 0} (reason : Option SettingsError) (error : SettingsError) (r : Result X SettingsError)
     → IsErrAnd r (λ told. told ≡ error) → IsReason reason error → RefusesFirst reason r
 handed_on reason error r told is = let p = err_from_is_err_and r told in rw (p.1, p.2) is
@@ -31,7 +31,7 @@ module _ (unit : Resolved) (table : Table) (site : Site) where
   unfolding refusal_of
   reasons = refl
 
-  -- an error that is the reason of a part is the whole reason
+  -- an error that is the reason of a part is the reason of the whole
   as_reason : (part : Option SettingsError) (error : SettingsError)
       → ((found : SettingsError) → part ≡ Some found → refusal_of unit table site ≡ Some found) → IsReason part error
       → IsReason (refusal_of unit table site) error
@@ -48,7 +48,7 @@ module _ (unit : Resolved) (table : Table) (site : Site) where
   command_first error is = as_reason (command_refusal unit site) error
       (λ found e. reasons ∙ ap (λ o. four o (identity_refusal unit site) missing (paths_refusal unit)) e) is
 
-  -- where the command is launched
+  -- if the command is launched
   module _ (launched : command_refusal unit site ≡ None) where
     behind_launched : refusal_of unit table site ≡ four None (identity_refusal unit site) missing (paths_refusal unit)
     behind_launched = reasons ∙ ap (λ o. four o (identity_refusal unit site) missing (paths_refusal unit)) launched
@@ -57,7 +57,7 @@ module _ (unit : Resolved) (table : Table) (site : Site) where
     identity_next error is = as_reason (identity_refusal unit site) error
         (λ found e. behind_launched ∙ ap (λ o. four None o missing (paths_refusal unit)) e) is
 
-    -- as somebody
+    -- and runs as somebody
     module _ (somebody : identity_refusal unit site ≡ None) where
       behind_somebody : refusal_of unit table site ≡ four None None missing (paths_refusal unit)
       behind_somebody = behind_launched ∙ ap (λ o. four None o missing (paths_refusal unit)) somebody
@@ -66,7 +66,7 @@ module _ (unit : Resolved) (table : Table) (site : Site) where
       missing_next error is = as_reason (group_refusal unit table) error
           (λ found e. behind_somebody ∙ ap (λ o. four None None o (paths_refusal unit)) e) is
 
-      -- with all groups of calls
+      -- and the table has all groups of calls
       module _ (grouped : group_refusal unit table ≡ None) where
         behind_groups : refusal_of unit table site ≡ paths_refusal unit
         behind_groups = behind_somebody ∙ ap (λ o. four None None o (paths_refusal unit)) grouped ∙ alone (paths_refusal unit)

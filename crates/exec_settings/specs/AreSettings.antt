@@ -27,9 +27,9 @@ use Rattle.exec_settings.specs.Settings.{unit_ambient, unit_bounding, unit_new_p
 abbrev pub HasWantedRules : FilterSettings → Table → Filter → Type 0
 HasWantedRules settings table one = (input : CallData) → case_action one.rules input ≡ wanted_action one.name settings table one.abi input
 
--- exactly the filters that are on, in the order in which they are installed. Each can be compiled, and all programs fit into one stack.
--- At most eight cases stand for a call, or each of them for one whole value of one argument. A refused call ends the process or answers
--- an error number
+-- the filters are exactly the filters that are on, in the order in which they are installed. Each can be compiled, and all programs fit
+-- into one stack. A call has at most eight cases, or each of its cases tests one whole value of the same argument. A refused call ends
+-- the process or returns an error number
 pub record AreFilters (settings : FilterSettings) (table : Table) (filters : List Filter) : Type 0 where
   pub exactly_those_on : map place_of filters ≡ installed settings table
   pub do_as_wanted : All (HasWantedRules settings table) filters

@@ -1,4 +1,4 @@
--- A unit whose service has a command alone.
+-- A unit whose service has just a command.
 use Rattle.std.specs.Prelude.{◌≡◌, false, [], ◌∷◌, codes}
 use Rattle.cred_settings.specs.unit_grammar.declared.unit.Assignment.{Assignment}
 use Rattle.cred_settings.specs.dropin_merge.declared.resolved.Resolved.{Resolved}
@@ -13,15 +13,15 @@ use Rattle.exec_settings.specs.Notes.{grammar_notes}
 use Rattle.exec_settings.specs.Order.{AreInOrder}
 use Rattle.exec_settings.specs.Refusals.{command_refusal, refusal_of}
 
--- the section of the service has one assignment, to ExecStart=
+-- the only assignment of the section `[Service]` is to ExecStart=
 pub record HasCommandAlone (unit : Resolved) : Type 0 where
   pub place : Place
   pub assignment : Assignment
   pub alone : service_assignments unit ≡ (place, assignment) ∷ []
   pub command : assignment.key ≡ codes "ExecStart"
 
--- the superuser without further groups, whose bounding set has all capabilities. None is ambient, no filter is on, and no path is
--- mentioned. The notes are those of the grammar of unit files
+-- the service runs as the superuser without further groups, and its bounding set has all capabilities. No capability is ambient, no filter
+-- is on, and no path is mentioned. All notes are of the grammar of unit files
 pub record AreBare (unit : Resolved) (made : Settings) : Type 0 where
   pub uid : made.uid ≡ 0
   pub gid : made.gid ≡ 0
@@ -33,7 +33,7 @@ pub record AreBare (unit : Resolved) (made : Settings) : Type 0 where
   pub mentions : made.mentions ≡ []
   pub notes : AreInOrder (grammar_notes unit) made.notes.items
 
--- it is refused by its command alone, and has these settings where it is not
+-- only its command can refuse the unit; otherwise it has these settings
 pub record MeansItsCommand (unit : Resolved) (table : Table) (site : Site) : Type 0 where
   pub refused_by_the_command : refusal_of unit table site ≡ command_refusal unit site
   pub bare : (made : Settings) → AreSettings unit table site made → AreBare unit made

@@ -23,12 +23,12 @@ module_caps = union none (single cap_sys_module)
 abbrev pub log_caps : ℕ
 log_caps = union none (single cap_syslog)
 
--- all that are taken
+-- all capabilities that the settings take
 unfoldable pub taken_caps : FilterSettings → ℕ
 taken_caps settings =
     union (union (only_if settings.protect_clock clock_caps) (only_if settings.private_devices device_caps))
     (union (only_if settings.protect_kernel_modules module_caps) (only_if settings.protect_kernel_logs log_caps))
 
--- what is left of a bounding set
+-- the capabilities that are left of a bounding set
 abbrev pub left_of : ℕ → FilterSettings → ℕ
 left_of bounding settings = minus bounding (taken_caps settings)

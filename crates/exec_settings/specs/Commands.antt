@@ -1,4 +1,4 @@
--- What a value of ExecStart= says by the rules of the base profile (systemd.service(5)).
+-- The values of ExecStart= by the rules of the base profile (systemd.service(5)).
 use Rattle.std.specs.Prelude.{ℕ, ◌==◌, ◌||◌, nat_le, cond, false, Bool, Option, Some, None, List, length, drop, take, slice_get, option_and_then}
 use Rattle.std.specs.List.{list_any, prefix_len}
 use Rattle.std.specs.Option.{option_map}
@@ -13,7 +13,7 @@ use Rattle.exec_settings.specs.declared.commands.Command.{Command}
 use Rattle.exec_settings.specs.declared.commands.Program.{Program}
 use Rattle.exec_settings.specs.declared.commands.Program.TheVariants.{Absolute, Relative}
 
--- special executable prefixes: `+` and `!`, by which a command keeps privileges, and `-`, `:` and `@`
+-- special executable prefixes: `+` and `!`, with which a command keeps privileges, and `-`, `:` and `@`
 abbrev pub keeps_privileges : ℕ → Bool
 keeps_privileges byte = byte == ascii "+" || byte == ascii "!"
 
@@ -26,7 +26,7 @@ prefixes_of word = take (prefix_len is_prefix word) word
 abbrev pub behind_prefixes : List ℕ → List ℕ
 behind_prefixes word = drop (prefix_len is_prefix word) word
 
--- a program is a path of at most 250 bytes once folded, or no absolute path; any other text is none
+-- a program is an absolute path of at most 250 bytes once it is folded, or a text that is not an absolute path; any other text is none
 abbrev pub program_by : Option PathError → List ℕ → Option Program
 program_by None text = cond (nat_le (length (text_of (parts_of text))) 250) (Some (Absolute (parts_of text))) None
 program_by (Some IsRelative) text = Some Relative
@@ -38,7 +38,7 @@ program_by (Some Memory) text = None
 unfoldable pub program_of : List ℕ → Option Program
 program_of text = program_by (fault_of text) text
 
--- what the first word of a command says
+-- the command that begins with this word
 abbrev pub command_of_word : List ℕ → Option Command
 command_of_word word =
     option_map (λ program. record {
@@ -51,6 +51,6 @@ command_of_word word =
 abbrev pub first_word : List ℕ → Option (List ℕ)
 first_word text = option_and_then (λ words. slice_get words 0) (words_if (words_of text))
 
--- the command that a value is, where it can be read
+-- the command of a value, if it can be read
 unfoldable pub command_of : List ℕ → Option Command
 command_of text = option_and_then command_of_word (first_word text)

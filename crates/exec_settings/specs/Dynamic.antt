@@ -1,4 +1,4 @@
--- What a dynamic user brings (systemd.exec(5), DynamicUser=).
+-- The settings that DynamicUser= implies (systemd.exec(5), DynamicUser=).
 use Rattle.std.specs.Prelude.{◌||◌, Bool, List, codes}
 use Rattle.filter_settings.specs.call_table.Table.{Table}
 use Rattle.cred_settings.specs.dropin_merge.declared.resolved.Resolved.{Resolved}
@@ -14,7 +14,7 @@ is_dynamic unit = unit_flag unit (codes "DynamicUser")
 unfoldable pub dynamic_notes : Resolved → List FileNote
 dynamic_notes unit = unit_flag_notes unit (codes "DynamicUser")
 
--- RestrictSUIDSGID= is on with a dynamic user, whatever it says itself
+-- DynamicUser= implies RestrictSUIDSGID=, whatever its own value is
 abbrev pub with_dynamic_user : Bool → FilterSettings → FilterSettings
 with_dynamic_user dynamic said = record {
   calls = said.calls;
@@ -39,6 +39,6 @@ with_dynamic_user dynamic said = record {
 unfoldable pub unit_filters : Resolved → Table → FilterSettings
 unit_filters unit table = with_dynamic_user (is_dynamic unit) (settings_of unit table)
 
--- and NoNewPrivileges= is
+-- DynamicUser= implies NoNewPrivileges=
 abbrev pub sets_new_privileges : Resolved → Bool
 sets_new_privileges unit = is_set_by unit || is_dynamic unit

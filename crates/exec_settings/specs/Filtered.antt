@@ -1,5 +1,5 @@
 -- Settings that restrict the system calls of a service (systemd.exec(5), Sandboxing, System Call Filtering), as systemd 252 counts them
--- where it decides about NoNewPrivileges=.
+-- to decide about NoNewPrivileges=.
 use Rattle.std.specs.Prelude.{ℕ, ◌==◌, ◌||◌, not, Bool, List, codes, length}
 use Rattle.cred_settings.specs.dropin_merge.declared.resolved.Resolved.{Resolved}
 use Rattle.cred_settings.specs.dropin_merge.unit_values.Flags.{unit_flag}
@@ -16,7 +16,7 @@ has_filter settings table = not (length (installed settings table) == 0)
 abbrev pub has_value : Resolved → List ℕ → Bool
 has_value unit key = not (length (in_force (values_of unit key)) == 0)
 
--- settings that count as a filter, whether or not the model has a filter for them
+-- a setting is on that counts as a filter, even if the model has no filter for it
 unfoldable pub counts_as_filter : Resolved → Bool
 counts_as_filter unit = unit_flag unit (codes "ProtectKernelTunables")
     || (has_value unit (codes "SystemCallArchitectures") || has_value unit (codes "SystemCallLog"))

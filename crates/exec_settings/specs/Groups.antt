@@ -19,7 +19,7 @@ begins_with_default calls = option_map_or (λ list. is_allowing list.mode) calls
 abbrev pub only_if : Bool → List ℕ → List (List ℕ)
 only_if on name = cond on (name ∷ []) []
 
--- the groups that the settings need, in the order in which they are looked for
+-- the groups that the settings need, in the order in which they are looked up
 abbrev pub needed_groups : FilterSettings → List (List ℕ)
 needed_groups settings =
     only_if (begins_with_default settings.calls) (codes "default") ++ only_if settings.private_devices (codes "raw-io")
@@ -28,6 +28,6 @@ needed_groups settings =
 abbrev pub is_missing : Table → List ℕ → Bool
 is_missing table name = not (is_some (group_named name table.groups))
 
--- the first of them that the table lacks
+-- the first needed group that the table lacks
 unfoldable pub missing_group : Table → FilterSettings → Option (List ℕ)
 missing_group table settings = find (is_missing table) (needed_groups settings)

@@ -1,4 +1,4 @@
--- The keys of `[Service]` that are judged, each with what it means (systemd.exec(5), systemd.service(5)).
+-- The keys of `[Service]` that are judged, each with its meaning (systemd.exec(5), systemd.service(5)).
 use Rattle.std.specs.Prelude.{ℕ, ◌&&◌, ◌||◌, Bool, true, codes, List, [], ◌∷◌, map, Option, Some, None}
 use Rattle.std.specs.List.{list_any, list_all}
 use Rattle.std.specs.Ordering.{is_lt, nat_cmp}
@@ -12,7 +12,7 @@ use Rattle.mount_settings.specs.unit_names.Versions.{is_known}
 use Rattle.exec_settings.specs.declared.keys.Meaning.{Meaning}
 use Rattle.exec_settings.specs.declared.keys.Meaning.TheVariants.{Command, Credentials, Filter, Protection, Path, Place, Refused}
 
--- in byte order; those of the base profile
+-- the keys of the base profile, in byte order
 abbrev pub base_keys : List (List ℕ × Meaning)
 base_keys =
     (codes "AmbientCapabilities", Credentials) ∷
@@ -63,7 +63,7 @@ base_keys =
     (codes "User", Credentials) ∷
     []
 
--- those of a known systemd: the former names of three keys are read too, and three keys are noted and not judged
+-- the keys of a known systemd: it also reads the former names of three keys, and notes three keys without judging them
 abbrev pub known_keys : List (List ℕ × Meaning)
 known_keys =
     (codes "AmbientCapabilities", Credentials) ∷
@@ -119,12 +119,12 @@ unfoldable pub keys : Option Version → List (List ℕ × Meaning)
 keys None = base_keys
 keys (Some version) = known_keys
 
--- a key that is a setting here, or that refuses the unit
+-- the key is a setting here, or refuses the unit
 abbrev pub is_judged : Option Version → List ℕ → Bool
 is_judged systemd key = list_any (λ row. bytes_eq row.0 key) (keys systemd)
 
--- keys of a known systemd that are noted, and of which it counts that they are set: for the files that the service finds, for
--- NoNewPrivileges=, for the personality, and for where its program is looked for
+-- the keys of a known systemd that are noted, and still read for whether they are set: they matter to the files that the service finds,
+-- to NoNewPrivileges=, to the personality, and to the folders in which its program is looked up
 abbrev pub noted_keys : List (List ℕ)
 noted_keys =
     codes "BindLogSockets" ∷
@@ -149,20 +149,20 @@ noted_keys =
     codes "SystemCallLog" ∷
     []
 
--- a key whose assignments bear on the service: one that is judged, or that is noted and counts
+-- the assignments to the key matter to the service: the key is judged, or it is noted and still read
 abbrev pub is_read : Option Version → List ℕ → Bool
 is_read systemd key = is_judged systemd key || (is_known systemd && list_any (λ name. bytes_eq name key) noted_keys)
 
--- each key comes before the next one in byte order
+-- each key precedes the next one in byte order
 abbrev pub ascend : List (List ℕ) → Bool
 ascend [] = true
 ascend (name ∷ []) = true
 ascend (name ∷ next ∷ names) = is_lt (slice_cmp nat_cmp name next) && ascend (next ∷ names)
 
--- so none occurs twice, and the first that a unit uses is the first in byte order
+-- the table is in byte order, so no key occurs twice, and the first key that a unit uses is the first in byte order
 unfoldable pub ascend_strictly : Option Version → Bool
 ascend_strictly systemd = ascend (map (λ row. row.0) (keys systemd))
 
--- all keys that speak of paths are among them, by each of their names
+-- the table has all keys that name paths, by each of their names
 unfoldable pub has_path_keys : Option Version → Bool
 has_path_keys systemd = list_all (λ key. list_all (is_judged systemd) (names_of (dialect_of systemd) key)) path_keys

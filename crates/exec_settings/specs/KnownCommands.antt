@@ -1,4 +1,4 @@
--- What a value of ExecStart= says to a known systemd (systemd.service(5), Command lines, Special executable prefixes).
+-- The values of ExecStart= as a known systemd reads them (systemd.service(5), Command lines, Special executable prefixes).
 use Rattle.std.specs.Prelude.{ℕ, suc, zero, ◌==◌, ◌||◌, ◌&&◌, not, nat_lt, cond, Bool, Option, Some, None, List, [], ◌∷◌, ◌++◌, length, filter}
 use Rattle.std.specs.Prelude.{drop, take}
 use Rattle.std.specs.List.{list_any}
@@ -14,25 +14,25 @@ use Rattle.exec_settings.specs.declared.commands.Program.TheVariants.{Absolute, 
 use Rattle.exec_settings.specs.declared.commands.Reading.{Reading}
 use Rattle.exec_settings.specs.declared.commands.Reading.TheVariants.{Launches, Noted}
 
--- how often a byte stands in a text
+-- how often a byte occurs in a text
 abbrev pub times : ℕ → List ℕ → ℕ
 times byte text = length (filter (λ other. other == byte) text)
 
 abbrev pub has_byte : ℕ → List ℕ → Bool
 has_byte byte text = list_any (λ other. other == byte) text
 
--- `-`, `@` and `:` each stand at most once
+-- `-`, `@` and `:` may each occur once
 abbrev pub stands_once : ℕ → Bool
 stands_once byte = byte == ascii "-" || (byte == ascii "@" || byte == ascii ":")
 
--- a prefix may stand after these: one that has not stood yet; of `+`, `!` and `!!` there is at most one, and two `!` are one `!!`
+-- the byte is a prefix after these: one that has not occurred yet. Only one of `+`, `!` and `!!` may occur, and two `!` are one `!!`
 abbrev pub may_follow : List ℕ → ℕ → Bool
 may_follow before byte =
     (stands_once byte && not (has_byte byte before))
     || ((byte == ascii "+" && not (list_any keeps_privileges before))
     || (byte == ascii "!" && (not (has_byte (ascii "+") before) && nat_lt (times (ascii "!") before) 2)))
 
--- as many of a text as may follow these: the first other character begins the program
+-- the number of prefixes at the start of a text, after these prefixes: the first other character begins the program
 abbrev pub count_behind : List ℕ → List ℕ → ℕ
 count_behind before [] = zero
 count_behind before (byte ∷ text) = cond (may_follow before byte) (suc (count_behind (before ++ byte ∷ []) text)) zero
@@ -46,7 +46,7 @@ known_prefixes word = take (known_count word) word
 abbrev pub behind_known : List ℕ → List ℕ
 behind_known word = drop (known_count word) word
 
--- a text that is no absolute path: one without a slash is the name of a program, one with a slash is none
+-- the program of a text that is not an absolute path: without a slash it is a name, and with a slash it is none
 abbrev pub named : List ℕ → Option Program
 named [] = Some Relative
 named (byte ∷ name) = cond (has_byte (ascii "/") (byte ∷ name)) None (Some (Named (byte ∷ name)))
@@ -60,7 +60,7 @@ or_named text (Some Relative) = named text
 unfoldable pub known_program_of : List ℕ → Option Program
 known_program_of text = or_named text (program_of text)
 
--- `+` keeps all privileges; one `!` leaves the ids, and `!!` changes nothing
+-- `+` keeps all privileges, `!` alone leaves the ids, and `!!` changes nothing
 abbrev pub known_command : List ℕ → Program → Command
 known_command prefixes program = record {
   is_privileged = has_byte (ascii "+") prefixes;
@@ -72,7 +72,7 @@ abbrev pub reading_by_program : List ℕ → Option Program → Reading
 reading_by_program prefixes None = Noted ValueCause
 reading_by_program prefixes (Some program) = Launches (known_command prefixes program)
 
--- by the expanded text after the prefixes, if it can be expanded
+-- the value is read by its expanded text after the prefixes, if this text can be expanded
 abbrev pub reading_by_text : List ℕ → Option (List ℕ) → Reading
 reading_by_text prefixes None = Noted Specifier
 reading_by_text prefixes (Some text) = reading_by_program prefixes (known_program_of text)

@@ -1,4 +1,4 @@
--- The mentions of a unit, and the limit of the paths that it may write (systemd.exec(5), Paths, Sandboxing).
+-- The mentions of a unit, and the greatest number of paths that it may write (systemd.exec(5), Paths, Sandboxing).
 use Rattle.std.specs.Prelude.{nat_lt, cond, Bool, List, length, Option, Some, None, codes}
 use Rattle.cred_settings.specs.dropin_merge.declared.resolved.Resolved.{Resolved}
 use Rattle.filter_settings.specs.declared.filter_rules.settings.FilterSettings.{FilterSettings}
@@ -12,7 +12,7 @@ use Rattle.exec_settings.specs.Dynamic.{is_dynamic}
 use Rattle.exec_settings.specs.declared.errors.SettingsError.{SettingsError}
 use Rattle.exec_settings.specs.declared.errors.SettingsError.TheVariants.{TooManyPaths}
 
--- keys that imply paths and do other things too
+-- the keys that imply paths and do other things too
 abbrev pub switches_of : Bool → FilterSettings → Switches
 switches_of dynamic filters = record {
   private_devices = filters.private_devices;
@@ -29,10 +29,10 @@ unit_switches unit = record {
   dynamic_user = is_dynamic unit;
 }
 
--- all mentions: the written ones, and after them those that are implied
+-- all mentions: the written ones, followed by the implied ones
 unfoldable pub unit_mentions : Resolved → Site → List Mention
 unit_mentions unit site = all_mentions unit site (unit_switches unit) (unit_written unit)
 
--- more than 128 written paths are refused
+-- a unit with more than 128 written paths is refused
 unfoldable pub paths_refusal : Resolved → Option SettingsError
 paths_refusal unit = cond (nat_lt 128 (length (unit_written unit))) (Some TooManyPaths) None

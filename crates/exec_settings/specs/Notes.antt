@@ -1,4 +1,4 @@
--- All that is noted of a unit.
+-- All notes on a unit.
 use Rattle.std.specs.Prelude.{ℕ, List, ◌++◌, flat_map, map}
 use Rattle.std.specs.List.{enumerate_from}
 use Rattle.cred_settings.specs.unit_grammar.declared.notes.Note.{Note}
@@ -24,20 +24,20 @@ in_file number note = record { place = record { file = number; line = note.line 
 abbrev pub grammar_notes_in : ℕ → UnitFile → List FileNote
 grammar_notes_in number file = map (in_file number) file.text.notes
 
--- over all files, whatever the section
+-- the notes over all files, whatever the section
 unfoldable pub grammar_notes : Resolved → List FileNote
 grammar_notes unit = flat_map (λ place. grammar_notes_in place.0 place.1) (enumerate_from 0 unit.files)
 
--- what is noted of the text: by the grammar, and of keys that are not judged
+-- the notes on the text: by the grammar, and on keys that are not judged
 unfoldable pub text_notes : Resolved → List FileNote
 text_notes unit = grammar_notes unit ++ unjudged_notes unit
 
--- of users, groups and capabilities
+-- the notes on users, groups and capabilities
 unfoldable pub credential_notes : Resolved → List FileNote
 credential_notes unit = dynamic_notes unit ++
     (bounding_notes unit ++ (ambient_notes unit ++ (new_privileges_notes unit ++ identity_notes unit)))
 
--- all that is noted; of one key in the order of its values and words
+-- all notes; the notes on one key are in the order of its values and words
 unfoldable pub all_notes : Resolved → Table → List FileNote
 all_notes unit table =
     ((((text_notes unit ++ written_notes unit) ++ unit_command_notes unit) ++ credential_notes unit) ++ filter_notes unit table)

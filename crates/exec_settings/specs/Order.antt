@@ -11,7 +11,7 @@ place_of note = (note.place.file, note.place.line)
 abbrev pub place_cmp : ℕ × ℕ → ℕ × ℕ → Ordering
 place_cmp one other = ordering_then (nat_cmp one.0 other.0) (nat_cmp one.1 other.1)
 
--- the same notes by files and lines, where those of one line stand as they stood
+-- the same notes sorted by files and lines, where the notes on one line keep their order
 pub record AreInOrder (notes ordered : List FileNote) : Type 0 where
   pub same : IsPermutation notes ordered
   pub by_place : IsSortedByKey place_of place_cmp ordered

@@ -1,4 +1,4 @@
--- The few facts of a site that decide about a unit: whether it is refused, and what its settings are.
+-- The few facts of a site that decide about a unit: about its refusal and its settings.
 use Rattle.std.specs.Prelude.{◌≡◌, List}
 use Rattle.std.specs.List.{AllByRecursion}
 use Rattle.filter_settings.specs.call_table.Table.{Table}
@@ -13,13 +13,13 @@ use Rattle.exec_settings.specs.Refusals.{refusal_of}
 use Rattle.exec_settings.specs.Search.{searched_by}
 use Rattle.exec_settings.specs.declared.service.Settings.{Settings}
 
--- the paths that keys in force imply, whether or not a site has them (systemd.exec(5), Sandboxing). Before them come written paths that
--- a version of systemd leaves as they are where a site has them
+-- the paths that keys in force imply, even if a site does not have them (systemd.exec(5), Sandboxing). Written paths that a version of
+-- systemd leaves as they are, if a site has them, precede them
 abbrev pub implied_by : Resolved → List Mention
 implied_by unit = deciding unit (unit_switches unit) (unit_written unit)
 
--- the same ids and accounts; and each path that a key in force implies, and each at which the program is looked for, is a row of one
--- kind in both or a row of neither
+-- both sites have the same ids and accounts. They have a row of the same kind, or no row, at each path that a key in force implies and
+-- at each path at which the program is looked up
 pub record AreSameFor (unit : Resolved) (site other : Site) : Type 0 where
   pub dynamic_uid : other.dynamic_uid ≡ site.dynamic_uid
   pub users : other.users ≡ site.users
@@ -27,12 +27,12 @@ pub record AreSameFor (unit : Resolved) (site other : Site) : Type 0 where
   pub implied : AllByRecursion (λ mention. kind_at other.rows mention.path ≡ kind_at site.rows mention.path) (implied_by unit)
   pub searched : AllByRecursion (λ path. kind_at other.rows path ≡ kind_at site.rows path) (searched_by unit)
 
--- such sites give a unit the same settings
+-- such sites give the unit the same settings
 abbrev pub SettingsRestOnFew : Type 0
 SettingsRestOnFew = (unit : Resolved) (table : Table) (site other : Site) (made : Settings) → AreSameFor unit site other
     → AreSettings unit table site made → AreSettings unit table other made
 
--- and refuse it for the same reason, or not at all
+-- such sites refuse the unit for the same reason, or not at all
 abbrev pub RefusalRestsOnFew : Type 0
 RefusalRestsOnFew = (unit : Resolved) (table : Table) (site other : Site) → AreSameFor unit site other
     → refusal_of unit table other ≡ refusal_of unit table site

@@ -14,7 +14,7 @@ use Rattle.exec_settings.specs.Keys.{keys}
 use Rattle.exec_settings.specs.declared.keys.Meaning.{Meaning}
 use Rattle.exec_settings.specs.declared.keys.Meaning.TheVariants as means
 
--- an empty text and a false boolean ask for nothing
+-- an empty text and a false boolean do not ask for the effect of a key
 abbrev pub is_false : Option Bool → Bool
 is_false None = false
 is_false (Some on) = not on
@@ -23,7 +23,7 @@ abbrev pub asks : List ℕ → Bool
 asks [] = false
 asks (byte ∷ text) = not (is_false (bool_value (byte ∷ text)))
 
--- what an assignment to the key asks, by its text as it is written
+-- an assignment to the key asks for its effect by its text as it is written
 abbrev pub asked_by : List ℕ → Assignment → Option Bool
 asked_by key assignment = cond (bytes_eq assignment.key key) (Some (asks assignment.value)) None
 
@@ -31,8 +31,8 @@ asked_by key assignment = cond (bytes_eq assignment.key key) (Some (asks assignm
 abbrev pub is_asked : Resolved → List ℕ → Bool
 is_asked unit key = unwrap_or (last_of (filter_map (λ one. asked_by key one.1) (service_assignments unit))) false
 
--- a unit uses a key of this meaning where it may not. A key that says which object is at a path may not say it of the root, a program
--- may not be relative, and some keys may not be used at all
+-- the unit uses a key of this meaning in a way that is outside of the model: a key that says which object is at a path says it of the
+-- root, the program is relative, or the key is always outside
 abbrev pub is_outside_by : Resolved → Bool → List ℕ → Meaning → Bool
 is_outside_by unit relative key (means.Place name) = mentions_root (unit_written unit) name
 is_outside_by unit relative key means.Command = relative

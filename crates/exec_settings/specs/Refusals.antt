@@ -19,7 +19,7 @@ use Rattle.exec_settings.specs.Profile.{outside_key}
 use Rattle.exec_settings.specs.Search.{is_relative}
 use Rattle.exec_settings.specs.RunsAs.{unit_identity}
 
--- the first of these reasons that there is
+-- the first of these reasons that exists
 abbrev pub first_reason : List (Option SettingsError) → Option SettingsError
 first_reason [] = None
 first_reason (None ∷ reasons) = first_reason reasons
@@ -38,12 +38,12 @@ abbrev pub outside : Resolved → Site → Option Command → Option SettingsErr
 outside unit site command =
     option_map OutsideProfile (option_and_then (λ one. outside_key unit (is_relative unit site one.program)) command)
 
--- why its command is not launched
+-- the reason why its command is not launched
 unfoldable pub command_refusal : Resolved → Site → Option SettingsError
 command_refusal unit site = first_reason
     (no_command (unit_command unit) ∷ privileged (unit_command unit) ∷ outside unit site (unit_command unit) ∷ [])
 
--- why its users and groups are refused
+-- the reason why its users and groups are refused
 abbrev pub identity_reason : Result Identity IdentityError → Option SettingsError
 identity_reason (Ok identity) = None
 identity_reason (Err (ids.NoSuchUser word)) = Some (NoSuchUser word)
@@ -57,12 +57,12 @@ identity_refusal unit site = identity_reason (unit_identity unit site)
 unfoldable pub group_refusal : Resolved → Table → Option SettingsError
 group_refusal unit table = option_map MissingGroup (missing_group table (unit_filters unit table))
 
--- the first of these: the command, users and groups, a group of calls that the table lacks, too many paths
+-- the first reason in this order: the command, users and groups, a group of calls that the table lacks, too many paths
 unfoldable pub refusal_of : Resolved → Table → Site → Option SettingsError
 refusal_of unit table site =
     first_reason (command_refusal unit site ∷ identity_refusal unit site ∷ group_refusal unit table ∷ paths_refusal unit ∷ [])
 
--- an error is this reason; it has none if memory ran out
+-- an error is this reason, unless memory ran out
 abbrev pub IsReason : Option SettingsError → SettingsError → Type 0
 IsReason reason Memory = Unit {0}
 IsReason reason NoCommand = reason ≡ Some NoCommand
@@ -73,7 +73,7 @@ IsReason reason (NoSuchUser word) = reason ≡ Some (NoSuchUser word)
 IsReason reason (NoSuchGroup word) = reason ≡ Some (NoSuchGroup word)
 IsReason reason (MissingGroup name) = reason ≡ Some (MissingGroup name)
 
--- an answer comes only if there is no reason, and each error is the first reason, unless memory ran out
+-- there is an answer only if there is no reason, and each error is the first reason, unless memory ran out
 abbrev pub RefusesFirst : {X : Type 0} → Option SettingsError → Result X SettingsError → Type 0
 RefusesFirst reason (Ok made) = reason ≡ None
 RefusesFirst reason (Err error) = IsReason reason error

@@ -8,6 +8,6 @@ use Rattle.cred_settings.specs.Identities.{identity_of}
 use Rattle.exec_settings.specs.Dynamic.{is_dynamic}
 use Rattle.exec_settings.specs.Launched.{unit_leaves_ids}
 
--- a command with the prefix `!` leaves the ids
+-- a command with the prefix `!` leaves the ids as they are
 abbrev pub unit_identity : Resolved → Site → Result Identity IdentityError
 unit_identity unit site = identity_of unit site (is_dynamic unit) (unit_leaves_ids unit)

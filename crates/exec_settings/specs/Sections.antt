@@ -1,4 +1,4 @@
--- Other sections than that of the service.
+-- Other sections than `[Service]`.
 use Rattle.std.specs.Prelude.{◌≡◌, ◌↔◌}
 use Rattle.cred_settings.specs.dropin_merge.declared.resolved.Resolved.{Resolved}
 use Rattle.cred_settings.specs.dropin_merge.unit_values.Assignments.{service_alone}
@@ -8,7 +8,7 @@ use Rattle.exec_settings.specs.declared.service.Settings.{Settings}
 use Rattle.exec_settings.specs.AreSettings.{AreSettings}
 use Rattle.exec_settings.specs.Refusals.{refusal_of}
 
--- a unit without it is refused for the same reason, and has the same settings
+-- without these sections the unit is refused for the same reason, and has the same settings
 pub record SameWithoutOthers (unit : Resolved) (table : Table) (site : Site) : Type 0 where
   pub refused : refusal_of (service_alone unit) table site ≡ refusal_of unit table site
   pub settles : (made : Settings) → AreSettings (service_alone unit) table site made ↔ AreSettings unit table site made

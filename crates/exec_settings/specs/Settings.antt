@@ -24,18 +24,18 @@ program_path unit site command = option_and_then (λ one. path_of unit site one.
 unfoldable pub unit_program : Resolved → Site → Option Path
 unit_program unit site = program_path unit site (unit_command unit)
 
--- the bounding set: that of CapabilityBoundingSet=, but for what other settings take
+-- the bounding set: the set of CapabilityBoundingSet=, without the capabilities that other settings take
 abbrev pub unit_bounding : Resolved → Table → ℕ
 unit_bounding unit table = left_of (bounding_of unit) (unit_filters unit table)
 
--- the ambient set: that of AmbientCapabilities=, of which a version of systemd takes what is in the bounding set
+-- the ambient set: the set of AmbientCapabilities=, from which a version of systemd takes only what is in the bounding set
 abbrev pub ambient_within : Option Version → ℕ → ℕ → ℕ
 ambient_within systemd ambient bounding = cond (is_known systemd) (cut ambient bounding) ambient
 
 abbrev pub unit_ambient : Resolved → Table → ℕ
 unit_ambient unit table = ambient_within unit.systemd (ambient_of unit) (unit_bounding unit table)
 
--- NoNewPrivileges= is in effect for a service with this uid. One whose command has the prefix `!` has the uid 0
+-- NoNewPrivileges= is in effect for a service with this uid. A service whose command has the prefix `!` has the uid 0
 abbrev pub unit_new_privileges : Resolved → Table → ℕ → Bool
 unit_new_privileges unit table uid =
     is_in_effect_in unit.systemd (sets_new_privileges unit) (has_filter (unit_filters unit table) table)

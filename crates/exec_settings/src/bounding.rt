@@ -1,4 +1,4 @@
-//! Capabilities that settings take from the bounding set (systemd.exec(5), Sandboxing; capabilities(7)).
+//! Finds the capabilities that settings take from the bounding set (systemd.exec(5), Sandboxing; capabilities(7)).
 ghost use Rattle.std.specs.Prelude.{◌≡◌};
 ghost use Rattle.exec_settings.specs.Bounding.{clock_caps, device_caps, log_caps, module_caps, only_if, taken_caps};
 
@@ -8,35 +8,35 @@ use cred_settings::linux_numbers::capabilities::{
 };
 use filter_settings::filter_rules::FilterSettings;
 
-// The set, where the setting that takes it is on.
+// Returns the set if the setting that takes it is on, and else the empty set.
 fn only_if(on: bool, set: CapSet) -> CapSet
     ensures { result ≡ only_if on set }
 {
     if on { set } else { CapSet::empty() }
 }
 
-// The capabilities that ProtectClock= takes.
+// Returns the capabilities that ProtectClock= takes.
 fn clock_caps() -> CapSet
     ensures { result ≡ clock_caps }
 {
     CapSet::empty().with(CAP_SYS_TIME).with(CAP_WAKE_ALARM)
 }
 
-// The capabilities that PrivateDevices= takes.
+// Returns the capabilities that PrivateDevices= takes.
 fn device_caps() -> CapSet
     ensures { result ≡ device_caps }
 {
     CapSet::empty().with(CAP_MKNOD).with(CAP_SYS_RAWIO)
 }
 
-// The capability that ProtectKernelModules= takes.
+// Returns the capability that ProtectKernelModules= takes.
 fn module_caps() -> CapSet
     ensures { result ≡ module_caps }
 {
     CapSet::empty().with(CAP_SYS_MODULE)
 }
 
-// The capability that ProtectKernelLogs= takes.
+// Returns the capability that ProtectKernelLogs= takes.
 fn log_caps() -> CapSet
     ensures { result ≡ log_caps }
 {

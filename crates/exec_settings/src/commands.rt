@@ -9,7 +9,7 @@ use abs_path::{AbsPath, PathError};
 use cred_settings::{NoteCause, Text, read_words};
 use std::alloc::{AllocError, Global};
 
-/// The most bytes that a path in a setting has.
+/// The greatest number of bytes in the path of a setting.
 const LONGEST: usize = 250;
 
 /// The program of a command.
@@ -17,29 +17,29 @@ const LONGEST: usize = 250;
 pub enum Program {
     /// The path of a program.
     Absolute(AbsPath),
-    /// A text that is no absolute path.
+    /// A text that is not an absolute path.
     Relative,
-    /// The name of a program, which is looked for.
+    /// The name of a program, which is looked up in the search path.
     Named(Text),
 }
 
 /// The first word of a command.
 #[derive(Drop)]
 pub struct Command {
-    /// Whether a prefix keeps privileges: `+`, and for a unit without a version `!` too.
+    /// Whether a prefix keeps privileges: `+`, and for a unit without a version also `!`.
     pub is_privileged: bool,
-    /// Whether the prefix `!` leaves the ids as they are, which comes with a version alone.
+    /// Whether the prefix `!` leaves the ids as they are. Only a version of systemd reads it so.
     pub leaves_ids: bool,
     /// The text after the prefixes.
     pub program: Program,
 }
 
-/// What a value is.
+/// Says whether a value is a command.
 #[derive(Drop)]
 pub enum Reading {
-    /// A command.
+    /// The value is this command.
     Launches(Command),
-    /// No command. It is noted for this cause.
+    /// The value is not a command, and is noted for this cause.
     Noted(NoteCause),
 }
 
@@ -84,7 +84,7 @@ fn is_privileged(word: &str) -> bool
     keep_privileges(&bytes[..count_prefixes(bytes)])
 }
 
-/// The program that a text names, where it can be read.
+/// Reads the program that a text names. None if it cannot be read.
 #[tactic(auto, unfolding(crate::specs::Commands::program_of))]
 pub(crate) fn read_program(alloc: Global, text: &str) -> Result<Option<Program>, AllocError>
     ensures { IfOk result (λ program. program ≡ program_of text.now) }
@@ -103,7 +103,7 @@ pub(crate) fn read_program(alloc: Global, text: &str) -> Result<Option<Program>,
     }
 }
 
-// The command that this first word makes, where it can be read.
+// Reads the command that begins with this word. None if it cannot be read.
 fn read_first_word(alloc: Global, word: &str) -> Result<Option<Command>, AllocError>
     ensures { IfOk result (λ command. command ≡ command_of_word word.now) }
 {
@@ -117,7 +117,7 @@ fn read_first_word(alloc: Global, word: &str) -> Result<Option<Command>, AllocEr
     }
 }
 
-/// The command that a value is, where it can be read.
+/// Reads a value as a command. None if it cannot be read.
 #[tactic(auto, unfolding(crate::specs::Commands::command_of))]
 pub(crate) fn read_command(alloc: Global, text: &str) -> Result<Option<Command>, AllocError>
     ensures { IfOk result (λ command. command ≡ command_of text.now) }

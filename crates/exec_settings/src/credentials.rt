@@ -1,4 +1,4 @@
-//! Reads users, groups and capabilities of a unit, or gives the reason why they are refused.
+//! Reads users, groups and capabilities of a unit, or says why they are refused.
 ghost use Rattle.std.specs.Prelude.{◌≡◌, ◌++◌, Ok, IfOk, OnOk};
 ghost use Rattle.cred_settings.specs.Ambient.{ambient_of};
 ghost use Rattle.cred_settings.specs.Bounding.{bounding_of};
@@ -29,7 +29,7 @@ pub struct Credentials {
     pub is_dynamic: bool,
 }
 
-// The ids that the keys of users and groups say.
+// Reads the ids from the keys of users and groups.
 #[tactic(auto, unfolding(crate::specs::Refusals::identity_refusal))]
 fn read_identity(
     alloc: Global,
@@ -53,7 +53,8 @@ fn read_identity(
     }
 }
 
-/// Reads the keys of users, groups and capabilities of a unit whose command leaves the ids or not, and adds their notes after those that are there.
+/// Reads the keys of users, groups and capabilities of a unit. `leaves_ids` says if its command leaves the ids. The
+/// function adds the notes on these keys after the others.
 #[tactic(auto, unfolding(crate::specs::Notes::credential_notes, crate::specs::Refusals::identity_refusal))]
 pub fn read_credentials(
     alloc: Global,

@@ -6,8 +6,8 @@ use cred_settings::{FileNote, Resolved, flag_of_key};
 use filter_settings::filter_rules::FilterSettings;
 use std::alloc::{AllocError, Global};
 
-/// Reads whether DynamicUser= is on. It adds notes after those that are there: for values that cannot be expanded,
-/// and then for those that cannot be read.
+/// Reads whether DynamicUser= is on. It adds notes after the others, first on values that cannot be expanded, and then
+/// on values that cannot be read.
 #[tactic(auto, unfolding(crate::specs::Dynamic::is_dynamic, crate::specs::Dynamic::dynamic_notes))]
 pub fn is_dynamic(
     alloc: Global,
@@ -20,7 +20,7 @@ pub fn is_dynamic(
     flag_of_key(alloc, unit, "DynamicUser")?.noted_in(notes)
 }
 
-/// Returns the settings of the filters. With a dynamic user RestrictSUIDSGID= is on, whatever it says itself.
+/// Returns the settings of the filters. With a dynamic user RestrictSUIDSGID= is on, whatever its own value is.
 pub fn with_dynamic_user(is_dynamic: bool, said: FilterSettings) -> FilterSettings
     ensures as_the_user_implies { result ≡ with_dynamic_user is_dynamic said }
 {

@@ -1,4 +1,4 @@
-//! Why a unit has no settings.
+//! Says why a unit has no settings.
 ghost use Rattle.std.specs.Prelude.{◌≡◌};
 ghost use Rattle.exec_settings.specs.declared.errors.SettingsError.TheVariants.{Memory};
 
@@ -6,7 +6,7 @@ use cred_settings::Text;
 use std::alloc::AllocError;
 use thiserror::Error;
 
-/// Why a unit has no settings. Of several reasons the first in this order is reported. Memory may run out at any
+/// Says why a unit has no settings. Of several reasons the first in this order is reported. Memory may run out for any
 /// unit.
 #[derive(Debug, Drop, Error)]
 pub enum SettingsError {
@@ -16,22 +16,22 @@ pub enum SettingsError {
     /// The command that is launched keeps privileges, by `+` or `!` before its program.
     #[error("the command keeps privileges")]
     PrivilegedCommand,
-    /// A key asks for what is not judged: the first such key in byte order.
+    /// A key asks for something that is not judged. Its name is the first such key in byte order.
     #[error("the setting {} is outside of what is judged", .0.as_str())]
     OutsideProfile(Text),
-    /// User= names nobody: its word.
+    /// User= names nobody. The text is its word.
     #[error("no user {}", .0.as_str())]
     NoSuchUser(Text),
-    /// Group= or SupplementaryGroups= names no group: the first such word.
+    /// Group= or SupplementaryGroups= names no group. The text is the first such word.
     #[error("no group {}", .0.as_str())]
     NoSuchGroup(Text),
     /// The table of calls lacks a group that a setting needs.
     #[error("the table has no group @{}", .0.as_str())]
     MissingGroup(Text),
-    /// More than 128 paths are written, those of folders, binds and temporary file systems among them.
+    /// More than 128 paths are written. Folders, binds and temporary file systems count too.
     #[error("more than 128 paths are written")]
     TooManyPaths,
-    /// There is no memory left.
+    /// Memory ran out.
     #[error("out of memory")]
     Memory,
 }

@@ -1,4 +1,4 @@
-//! Reads the keys of the filters of system calls, or gives the group of calls that the table lacks.
+//! Reads the keys of the filters of system calls, or names the group of calls that the table lacks.
 ghost use Rattle.std.specs.Prelude.{◌≡◌, ◌++◌, IfOk, OnOk};
 ghost use Rattle.filter_settings.specs.filter_rules.Known.{HasKnownFamilies};
 ghost use Rattle.filter_settings.specs.filter_rules.Refusing.{AreRefusing};
@@ -19,18 +19,18 @@ use filter_settings::{CallTable, filter_settings};
 use mount_settings::Switches;
 use std::alloc::Global;
 
-/// The filters, and what else their keys imply.
+/// The filters, and the other effects of their keys.
 #[derive(Drop)]
 pub struct Restrictions {
     /// The filters that are on, in the order in which they are installed.
     pub filters: Vec<Filter>,
     /// The capabilities that these keys take from the bounding set.
     pub taken: CapSet,
-    /// Those of these keys that imply paths.
+    /// The values of the keys that also imply paths.
     pub switches: Switches,
 }
 
-// The keys that imply paths and do other things too.
+// Returns the values of the keys that imply paths and do other things too.
 fn switches_of(is_dynamic: bool, filters: &FilterSettings) -> Switches
     ensures { result ≡ switches_of is_dynamic filters.now }
 {
@@ -42,7 +42,7 @@ fn switches_of(is_dynamic: bool, filters: &FilterSettings) -> Switches
     }
 }
 
-// Returns the settings of the filters.
+// Reads the settings of the filters.
 #[tactic(auto, unfolding(crate::specs::Dynamic::unit_filters, crate::specs::Refusals::group_refusal))]
 fn found_filters(
     alloc: Global,
@@ -66,8 +66,7 @@ fn found_filters(
     }
 }
 
-/// Reads the keys of the filters, and adds their notes after those that are there. `is_dynamic` says if DynamicUser=
-/// is on.
+/// Reads the keys of the filters, and adds their notes after the others. `is_dynamic` says if DynamicUser= is on.
 pub fn read_filters(
     alloc: Global,
     unit: &Resolved,

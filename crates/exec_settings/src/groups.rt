@@ -6,7 +6,7 @@ ghost use Rattle.exec_settings.specs.Groups.{begins_with_default, is_missing, mi
 use filter_settings::CallTable;
 use filter_settings::filter_rules::{CallList, FilterSettings, Mode};
 
-// Returns whether the list begins with `@default`, as one that allows does.
+// Returns whether the list begins with `@default`, as each list that allows does.
 fn begins_with_default(calls: &Option<CallList>) -> bool
     ensures { result ≡ begins_with_default calls.now }
 {
@@ -23,7 +23,7 @@ fn is_missing(table: &CallTable, name: &str) -> bool
 }
 
 /// Returns the first group that the settings need and that the table lacks. The order is `default` for a list that
-/// allows, `raw-io` for PrivateDevices=, `module` for ProtectKernelModules=, `clock` for ProtectClock=.
+/// allows, `raw-io` for PrivateDevices=, `module` for ProtectKernelModules=, and `clock` for ProtectClock=.
 #[tactic(auto, unfolding(crate::specs::Groups::missing_group))]
 pub fn missing_group(table: &CallTable, settings: &FilterSettings) -> Option<&'static str>
     ensures first_that_is_missing { option_copied result ≡ missing_group table.now settings.now }

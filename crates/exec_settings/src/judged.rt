@@ -29,15 +29,15 @@ fn is_among(names: &[&str], key: &str) -> bool
     names.iter().any(|name| *name == key)
 }
 
-// Returns whether a key of a known systemd is noted, and it counts whether it is set.
+// Returns whether a key of a known systemd is noted, and still read for whether it is set.
 fn counts(key: &str) -> bool
     ensures { result ≡ list_any (λ name. bytes_eq name key.now) noted_keys }
 {
     is_among(noted_keys(), key)
 }
 
-/// Returns whether assignments to a key bear on a service for this systemd: the key is a setting or refuses the unit, or
-/// it is noted and it counts whether it is set.
+/// Returns whether assignments to a key matter to a service for this systemd. They do if the key is a setting or refuses
+/// the unit, or if the key is noted and still read for whether it is set.
 pub fn is_read(systemd: Option<Version>, key: &str) -> bool
     ensures by_the_keys { result ≡ is_read systemd key.now }
 {
@@ -62,7 +62,7 @@ fn note_if_unjudged(
     Ok(())
 }
 
-/// Notes the assignments to keys that are not judged, after the notes that are there.
+/// Notes the assignments to keys that are not judged, after the other notes.
 #[tactic(auto, unfolding(crate::specs::Judged::unjudged_notes))]
 pub fn note_unjudged(unit: &Resolved, notes: &mut Vec<FileNote>) -> Result<(), AllocError>
     ensures notes_each { OnOk result (notes.new.items ≡ notes.old.items ++ unjudged_notes unit.now) }

@@ -1,4 +1,4 @@
-//! The keys of `[Service]` that are judged, in one table: those that are read, and those that refuse a unit.
+//! Lists the keys of `[Service]` that are judged: the keys that are read, and the keys that refuse a unit.
 ghost use Rattle.std.specs.Prelude.{◌≡◌, map};
 ghost use Rattle.exec_settings.specs.Keys.{base_keys, known_keys, keys, noted_keys};
 
@@ -8,23 +8,23 @@ use mount_settings::{PathKey, Version};
 /// The meaning of a key here (systemd.exec(5), systemd.service(5)).
 #[derive(Clone, Copy)]
 pub enum Meaning {
-    /// It says what is launched. A program that is no absolute path refuses the unit.
+    /// It says what is launched. It refuses the unit if the program has no absolute path and is not found by its name.
     Command,
-    /// It says as whom, and with which capabilities.
+    /// It says as whom the service runs, and with which capabilities.
     Credentials,
     /// It restricts system calls.
     Filter,
-    /// It protects what the system has: its files, devices, kernel and clock.
+    /// It protects the files, devices, kernel and clock of the system.
     Protection,
-    /// It speaks of paths.
+    /// It names paths.
     Path,
-    /// It says which object is at a path. `/` there refuses the unit.
+    /// It says which object is at a path. If the path is `/`, it refuses the unit.
     Place(PathKey),
-    /// A unit that asks for it is refused.
+    /// It refuses a unit that asks for it.
     Refused,
 }
 
-// The keys of the base profile.
+// Returns the keys of the base profile.
 fn base_keys() -> &'static [(&'static str, Meaning)]
     ensures { map (λ row. (row.0.now, row.1)) result.now ≡ base_keys }
 {
@@ -78,7 +78,8 @@ fn base_keys() -> &'static [(&'static str, Meaning)]
     ]
 }
 
-// The keys of a known systemd: the former names of three keys are read too, and three keys are noted and not judged.
+// Returns the keys of a known systemd. It also reads the former names of three keys, and notes three keys without
+// judging them.
 fn known_keys() -> &'static [(&'static str, Meaning)]
     ensures { map (λ row. (row.0.now, row.1)) result.now ≡ known_keys }
 {
@@ -133,7 +134,7 @@ fn known_keys() -> &'static [(&'static str, Meaning)]
     ]
 }
 
-/// Returns the keys with their meanings, in byte order. Every other key of `[Service]` is skipped with a note.
+/// Returns the keys with their meanings, in byte order. The reader skips every other key of `[Service]` with a note.
 #[tactic(auto, unfolding(crate::specs::Keys::keys))]
 pub fn keys(systemd: Option<Version>) -> &'static [(&'static str, Meaning)]
     ensures all_that_are_judged { map (λ row. (row.0.now, row.1)) result.now ≡ keys systemd }
@@ -144,7 +145,7 @@ pub fn keys(systemd: Option<Version>) -> &'static [(&'static str, Meaning)]
     }
 }
 
-/// Returns the keys of a known systemd that are noted, and of which it counts that they are set.
+/// Returns the keys of a known systemd that are noted, and still read for whether they are set.
 pub fn noted_keys() -> &'static [&'static str]
     ensures each { map (λ name. name.now) result.now ≡ noted_keys }
 {

@@ -1,6 +1,6 @@
 //! Reads a value of ExecStart= as a known systemd does (systemd.service(5), Command lines).
 //!
-//! Each prefix is a prefix once, and specifiers are expanded in the first word alone.
+//! Each prefix may occur once, and specifiers are expanded in the first word alone.
 ghost use Rattle.std.specs.Prelude.{◌≡◌, ◌≤◌, length, IfOk};
 ghost use Rattle.std.specs.List.{list_any};
 ghost use Rattle.exec_settings.specs.Commands.{keeps_privileges};
@@ -11,7 +11,7 @@ use cred_settings::{NoteCause, Text, read_words};
 use mount_settings::{ExpandError, UnitName, Version, expand};
 use std::alloc::{AllocError, Global};
 
-// Returns how often a byte stands in a text.
+// Returns how often a byte occurs in a text.
 fn times(byte: u8, text: &[u8]) -> usize
     ensures { result ≡ times byte text.now }
 {
@@ -54,7 +54,7 @@ fn count_prefixes(word: &[u8]) -> usize
     count
 }
 
-// The text after the prefixes of a word, of which there are so many.
+// Returns the text after the prefixes of a word, which has this number of prefixes.
 fn behind_prefixes(word: &str, count: usize) -> &str
     requires { count ≡ known_count word.now }
     ensures { result.now ≡ behind_known word.now }
@@ -62,7 +62,7 @@ fn behind_prefixes(word: &str, count: usize) -> &str
     &word[count..]
 }
 
-// The program that a text without a leading slash names: one to be looked for, or none.
+// Returns the program that a text without a leading slash names: a name that is looked up, or none.
 fn named(alloc: Global, text: &str) -> Result<Option<Program>, AllocError>
     ensures { IfOk result (λ program. program ≡ named text.now) }
 {
@@ -75,7 +75,7 @@ fn named(alloc: Global, text: &str) -> Result<Option<Program>, AllocError>
     Ok(Some(Program::Named(Text::new(alloc, text)?)))
 }
 
-// The program that a text names, where it can be read.
+// Reads the program that a text names. None if it cannot be read.
 #[tactic(auto, unfolding(crate::specs::KnownCommands::known_program_of))]
 fn read_known_program(alloc: Global, text: &str) -> Result<Option<Program>, AllocError>
     ensures { IfOk result (λ program. program ≡ known_program_of text.now) }
@@ -86,7 +86,7 @@ fn read_known_program(alloc: Global, text: &str) -> Result<Option<Program>, Allo
     }
 }
 
-// The command with these prefixes.
+// Makes the command with these prefixes.
 fn command_with(prefixes: &[u8], program: Program) -> Command
     ensures { result ≡ known_command prefixes.now program }
 {
@@ -97,7 +97,7 @@ fn command_with(prefixes: &[u8], program: Program) -> Command
     }
 }
 
-// What the text after these prefixes says.
+// Reads the text after these prefixes.
 fn read_known_text(alloc: Global, prefixes: &[u8], text: &str) -> Result<Reading, AllocError>
     ensures { IfOk result (λ reading. reading ≡ reading_by_program prefixes.now (known_program_of text.now)) }
 {
@@ -107,7 +107,7 @@ fn read_known_text(alloc: Global, prefixes: &[u8], text: &str) -> Result<Reading
     })
 }
 
-// What this first word says.
+// Reads this first word.
 fn read_known_word(
     alloc: Global,
     systemd: Option<Version>,
@@ -125,7 +125,7 @@ fn read_known_word(
     }
 }
 
-/// What a value of ExecStart= says to this systemd.
+/// Reads a value of ExecStart= as this systemd does.
 #[tactic(auto, unfolding(crate::specs::KnownCommands::known_reading))]
 pub fn read_known(
     alloc: Global,

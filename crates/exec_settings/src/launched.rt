@@ -13,7 +13,7 @@ use cred_settings::{
 };
 use std::alloc::{AllocError, Global};
 
-// What a value of ExecStart= says by the rules of the base profile.
+// Reads a value of ExecStart= by the rules of the base profile.
 fn read_base(alloc: Global, text: &str) -> Result<Reading, AllocError>
     ensures { IfOk result (λ reading. reading ≡ base_reading (command_of text.now)) }
 {
@@ -23,7 +23,7 @@ fn read_base(alloc: Global, text: &str) -> Result<Reading, AllocError>
     })
 }
 
-// What a value of ExecStart= says.
+// Reads a value of ExecStart=.
 #[tactic(auto, unfolding(crate::specs::Launched::reading_of))]
 fn read_value(alloc: Global, unit: &Resolved, value: &Value) -> Result<Reading, AllocError>
     ensures { IfOk result (λ reading. reading ≡ reading_of unit.now value.now) }
@@ -34,7 +34,7 @@ fn read_value(alloc: Global, unit: &Resolved, value: &Value) -> Result<Reading, 
     }
 }
 
-// The command that a value is.
+// Returns the command of a value, if it is one.
 fn command_at(alloc: Global, unit: &Resolved, value: &Value) -> Result<Option<Command>, AllocError>
     ensures { IfOk result (λ command. command ≡ command_in (reading_of unit.now value.now)) }
 {
@@ -51,7 +51,7 @@ fn is_command(alloc: Global, unit: &Resolved, value: &Value) -> Result<bool, All
     Ok(command_at(alloc, unit, value)?.is_some())
 }
 
-// Notes a value that says something and is no command.
+// Notes a value that is neither empty nor a command.
 fn note_if_unread(
     alloc: Global,
     unit: &Resolved,
@@ -69,7 +69,7 @@ fn note_if_unread(
     Ok(())
 }
 
-// Notes each of these values that says something and is no command.
+// Notes each of these values that is neither empty nor a command.
 fn note_unread(
     alloc: Global,
     unit: &Resolved,
@@ -84,7 +84,7 @@ fn note_unread(
     Ok(())
 }
 
-// Notes a value that is a command, if another one was seen. Returns whether one is seen now.
+// Notes a value that is a command, if there was a command before. Returns whether there is one now.
 fn note_if_later(
     alloc: Global,
     unit: &Resolved,
@@ -120,7 +120,7 @@ fn note_later(
     Ok(())
 }
 
-// The first command among these values.
+// Returns the first command among these values.
 fn first_command(
     alloc: Global,
     unit: &Resolved,
@@ -137,7 +137,7 @@ fn first_command(
     Ok(None)
 }
 
-// The values of ExecStart=. Without a version they are expanded, and those that cannot be are noted.
+// Returns the values of ExecStart=. Without a version they are expanded, and values that cannot be expanded are noted.
 fn values(
     alloc: Global,
     unit: &Resolved,
@@ -152,9 +152,8 @@ fn values(
     }
 }
 
-/// Returns the command that a unit launches: the first of ExecStart= that is in force. It adds notes after those that
-/// are there: for values that cannot be expanded, then for those that cannot be read, and then for commands in force
-/// after the first.
+/// Returns the command that a unit launches: the first command of ExecStart= that is in force. It adds notes after the
+/// others: on values that cannot be expanded, then on values that cannot be read, and then on later commands in force.
 #[tactic(auto, unfolding(crate::specs::Launched::unit_command, crate::specs::Launched::unit_command_notes))]
 pub fn launched_command(
     alloc: Global,

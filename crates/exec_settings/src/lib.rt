@@ -1,8 +1,8 @@
 //! Reads the settings of a service from the files of its unit.
 //!
-//! Every key that bears on the sandbox is read (systemd.exec(5), systemd.service(5)). Values that cannot be read, and
-//! keys that are not judged, get notes. A unit that asks for something outside of the model is refused with the first
-//! reason.
+//! The crate reads every key that matters to the sandbox (systemd.exec(5), systemd.service(5)). Values that cannot be
+//! read, and keys that are not judged, get notes. A unit that asks for something outside of the model is refused with the
+//! first reason.
 //!
 //! `filter_settings` reads the filters of system calls, `cred_settings` users, groups and capabilities, and
 //! `mount_settings` paths.

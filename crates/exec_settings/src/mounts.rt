@@ -13,8 +13,8 @@ use cred_settings::{FileNote, Resolved, SiteTable};
 use mount_settings::{Mentions, MountSettingsError, Switches, WrittenPaths, mount_settings};
 use std::alloc::Global;
 
-/// Returns the mentions of a unit with these written paths. It adds the notes on the keys that protect the file
-/// system after those that are there.
+/// Returns the mentions of a unit with these written paths. It adds the notes on the keys that protect the file system
+/// after the others.
 #[tactic(auto, unfolding(crate::specs::Mounts::unit_mentions))]
 pub fn read_mentions(
     alloc: Global,

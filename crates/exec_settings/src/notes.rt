@@ -8,7 +8,7 @@ use crate::judged::note_unjudged;
 use cred_settings::{FileNote, Place, Resolved, UnitFile};
 use std::alloc::{AllocError, Global};
 
-// The notes of one file.
+// Adds the notes of the grammar on one file.
 fn add_notes_in(number: usize, file: &UnitFile, notes: &mut Vec<FileNote>) -> Result<(), AllocError>
     ensures { OnOk result (notes.new.items ≡ notes.old.items ++ grammar_notes_in number file.now) }
 {
@@ -37,7 +37,7 @@ fn add_grammar_notes(unit: &Resolved, notes: &mut Vec<FileNote>) -> Result<(), A
     Ok(())
 }
 
-/// Returns the notes on the text of a unit: those of the grammar, and those on keys that are not judged.
+/// Returns the notes on the text of a unit: first the notes of the grammar, then the notes on keys that are not judged.
 #[tactic(auto, unfolding(crate::specs::Notes::text_notes))]
 pub fn text_notes(alloc: Global, unit: &Resolved) -> Result<Vec<FileNote>, AllocError>
     ensures of_the_unit { IfOk result (λ notes. notes.items ≡ text_notes unit.now) }
@@ -48,7 +48,7 @@ pub fn text_notes(alloc: Global, unit: &Resolved) -> Result<Vec<FileNote>, Alloc
     Ok(notes)
 }
 
-/// Puts notes in the order of files and lines. Those of one line keep their order.
+/// Sorts notes by files and lines. Notes on one line keep their order.
 pub fn put_in_order(notes: &mut Vec<FileNote>) -> Result<(), AllocError>
     ensures the_same { IsPermutation notes.old.items notes.new.items }
     ensures by_files_and_lines { OnOk result (IsSortedByKey place_of place_cmp notes.new.items) }

@@ -1,4 +1,4 @@
-//! What AmbientCapabilities= and NoNewPrivileges= come to beside other settings (systemd.exec(5)).
+//! Decides what AmbientCapabilities= and NoNewPrivileges= do beside other settings (systemd.exec(5)).
 ghost use Rattle.std.specs.Prelude.{◌≡◌, ◌||◌, IfOk};
 ghost use Rattle.exec_settings.specs.Filtered.{counts_as_filter, has_value};
 ghost use Rattle.exec_settings.specs.Settings.{ambient_within};
@@ -6,7 +6,7 @@ ghost use Rattle.exec_settings.specs.Settings.{ambient_within};
 use cred_settings::{CapSet, Resolved, Version, flag_of_key, in_force, values_of_key};
 use std::alloc::{AllocError, Global};
 
-/// Returns the ambient set. A version of systemd takes those capabilities of AmbientCapabilities= that are in the
+/// Returns the ambient set. A version of systemd takes only the capabilities of AmbientCapabilities= that are in the
 /// bounding set.
 pub fn ambient_within(systemd: Option<Version>, ambient: CapSet, bounding: CapSet) -> CapSet
     ensures cut_to_the_bounding_set { result ≡ ambient_within systemd ambient bounding }
@@ -33,8 +33,8 @@ fn has_value(alloc: Global, unit: &Resolved, key: &str) -> Result<bool, AllocErr
     Ok(!in_force(values.as_slice()).is_empty())
 }
 
-/// Returns whether a setting is on that systemd 252 counts as a filter of system calls, whether or not the model has a
-/// filter for it: ProtectKernelTunables=, SystemCallArchitectures= or SystemCallLog=.
+/// Returns whether a setting is on that systemd 252 counts as a filter of system calls. These settings are
+/// ProtectKernelTunables=, SystemCallArchitectures= and SystemCallLog=. They count even if the model has no filter for them.
 #[tactic(auto, unfolding(crate::specs::Filtered::counts_as_filter))]
 pub fn counts_as_filter(alloc: Global, unit: &Resolved) -> Result<bool, AllocError>
     ensures one_of_three { IfOk result (λ counts. counts ≡ counts_as_filter unit.now) }

@@ -8,14 +8,14 @@ use crate::keys::{Meaning, keys};
 use cred_settings::{Assignment, Resolved, read_bool, service_assignments};
 use mount_settings::{WrittenPaths, mentions_root};
 
-// Returns whether a text asks for the effect of its key: an empty one and a false boolean do not.
+// Returns whether a text asks for the effect of its key. An empty text and a false boolean do not.
 fn asks(text: &str) -> bool
     ensures { result ≡ asks text.now }
 {
     !text.is_empty() && read_bool(text) != Some(false)
 }
 
-// Returns whether the last assignment to the key asks for its effect, with one more assignment.
+// Returns whether the last assignment to the key asks for its effect, after one more assignment.
 fn asked_behind(asked: bool, key: &str, assignment: &Assignment) -> bool
     ensures { result ≡ unwrap_or (asked_by key.now assignment.now) asked }
 {
@@ -37,7 +37,7 @@ fn is_asked(unit: &Resolved, key: &str) -> bool
     asked
 }
 
-// Returns whether the unit with these written paths uses a key of this meaning where it may not.
+// Returns whether the unit with these written paths uses a key with this meaning in a way that is outside of the model.
 fn is_outside(
     unit: &Resolved,
     paths: &WrittenPaths,
@@ -73,8 +73,8 @@ fn first_outside(
     None
 }
 
-/// Returns the first key in byte order by which a unit with these written paths, whose program is relative or not, asks
-/// for something outside of the model.
+/// Returns the first key in byte order by which a unit with these written paths asks for something outside of the model.
+/// `is_relative` says if its program is relative.
 #[tactic(auto, unfolding(crate::specs::Profile::outside_key))]
 pub fn outside_key(unit: &Resolved, paths: &WrittenPaths, is_relative: bool) -> Option<&'static str>
     requires of_the_unit { paths.now ≡ unit_written unit.now }

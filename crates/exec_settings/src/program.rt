@@ -1,4 +1,4 @@
-//! Finds the program that a unit launches, or the reason why none is launched.
+//! Finds the program that a unit launches, or the reason why it launches none.
 ghost use Rattle.std.specs.Prelude.{◌≡◌, ◌++◌, Some, None, IfOk, OnOk, option_map};
 ghost use Rattle.mount_settings.specs.Roots.{root_key};
 ghost use Rattle.mount_settings.specs.Written.{unit_written};
@@ -28,7 +28,7 @@ pub struct Launched {
     pub leaves_ids: bool,
 }
 
-// The path of a program, if the unit asks for nothing outside of the model.
+// Returns the path of a program, if the unit asks for nothing outside of the model.
 fn program_of(
     alloc: Global,
     unit: &Resolved,
@@ -51,8 +51,8 @@ fn program_of(
     }
 }
 
-/// Returns what a unit with these written paths launches. It adds notes on values that cannot be read, and on later
-/// commands, after those that are there.
+/// Returns what a unit with these written paths launches. It adds notes after the others, on values that cannot be read
+/// and on later commands.
 pub fn launched_program(
     alloc: Global,
     unit: &Resolved,

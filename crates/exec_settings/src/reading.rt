@@ -16,13 +16,12 @@ use filter_settings::CallTable;
 use mount_settings::written_paths;
 use std::alloc::Global;
 
-/// Reads the settings of a unit, or gives the first reason why there are none: the unit launches no program, or asks
-/// for something that cannot be judged.
+/// Reads the settings of a unit, or says why it has none: the unit launches no program, or asks for something that cannot
+/// be judged. Of several reasons the first is reported.
 ///
-/// The table of calls has the calls, groups and families; the site has the users, the groups of users, and the rows
-/// that implied paths need. The keys give the settings. These are the first command in force with its user and
-/// capabilities, and the filters that are on with their rules. With them come the mentions, none of which replaces
-/// the root, and all notes in order.
+/// The table of calls has the calls, groups and families. The site has the users, the groups of users, and the rows
+/// that implied paths need. The settings are the first command in force with its user and capabilities, the filters
+/// that are on with their rules, the mentions, none of which replaces the root, and all notes in order.
 pub fn settings(
     alloc: Global,
     unit: &Resolved,

@@ -1,4 +1,4 @@
-//! Looks for a program that has a name alone (systemd.service(5), Command lines; systemd.exec(5), ExecSearchPath=).
+//! Looks up a program by its name (systemd.service(5), Command lines; systemd.exec(5), ExecSearchPath=).
 ghost use Rattle.std.specs.Prelude.{◌≡◌, [], find, map, IfOk};
 ghost use Rattle.std.specs.List.{cons_option, filter_map};
 ghost use Rattle.exec_settings.specs.Search.{absolute, folders_of, has_exe, looked_up, path_in, path_of, searches_elsewhere, unit_folders};
@@ -9,7 +9,7 @@ use cred_settings::{Resolved, RowKind, SiteTable, in_force, written_values};
 use mount_settings::Version;
 use std::alloc::{AllocError, Global};
 
-// The search path that a systemd is built with.
+// Returns the search path that a systemd is built with.
 fn folders_of(systemd: Option<Version>) -> &'static [&'static str]
     ensures { map (λ folder. folder.now) result.now ≡ folders_of systemd }
 {
@@ -35,7 +35,7 @@ fn searches_elsewhere(alloc: Global, unit: &Resolved) -> Result<bool, AllocError
     Ok(!in_force(values.as_slice()).is_empty())
 }
 
-// The folders in which a unit's program is looked for.
+// Returns the folders in which the program of a unit is looked up.
 fn folders(alloc: Global, unit: &Resolved) -> Result<&'static [&'static str], AllocError>
     ensures { IfOk result (λ folders. map (λ folder. folder.now) folders.now ≡ unit_folders unit.now) }
 {
@@ -46,7 +46,7 @@ fn folders(alloc: Global, unit: &Resolved) -> Result<&'static [&'static str], Al
     }
 }
 
-// The path of a program that is one.
+// Returns the path of a program that is a path.
 fn absolute(program: Option<Program>) -> Option<AbsPath>
     ensures { result ≡ absolute program }
 {
@@ -56,7 +56,7 @@ fn absolute(program: Option<Program>) -> Option<AbsPath>
     }
 }
 
-// The path of this name in a folder, if it is one.
+// Returns the path of this name in a folder, if both together are a path.
 fn path_in(alloc: Global, name: &str, folder: &str) -> Result<Option<AbsPath>, AllocError>
     ensures { IfOk result (λ path. path ≡ path_in name.now folder.now) }
 {
@@ -74,7 +74,7 @@ fn has_exe(site: &SiteTable, path: &AbsPath) -> bool
     }
 }
 
-// The path of this name in a folder, if the site has an executable there.
+// Returns the path of this name in a folder, if the site has an executable there.
 fn exe_in(
     alloc: Global,
     site: &SiteTable,
@@ -89,7 +89,7 @@ fn exe_in(
     }
 }
 
-// The first path of this name in these folders at which the site has an executable.
+// Returns the first path of this name in these folders at which the site has an executable.
 fn first_exe(
     alloc: Global,
     site: &SiteTable,
@@ -107,7 +107,7 @@ fn first_exe(
     Ok(None)
 }
 
-// The path of the program of this name.
+// Returns the path of the program with this name.
 #[tactic(auto, unfolding(crate::specs::Search::looked_up))]
 fn looked_up(
     alloc: Global,
@@ -120,7 +120,8 @@ fn looked_up(
     first_exe(alloc, site, name, folders(alloc, unit)?)
 }
 
-/// The path of a program: its own, or of a name the first in the search path at which the site has an executable.
+/// Returns the path of a program. A name is looked up: its path is the first in the search path at which the site has an
+/// executable.
 pub fn path_of(
     alloc: Global,
     unit: &Resolved,

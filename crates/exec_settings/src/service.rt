@@ -1,4 +1,4 @@
-//! The type of the settings of a unit.
+//! Defines the settings of a unit.
 use abs_path::AbsPath;
 use cred_settings::{CapSet, FileNote, Gids};
 use filter_settings::filter_rules::Filter;

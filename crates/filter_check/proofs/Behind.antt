@@ -1,4 +1,4 @@
--- The ends behind a step are the ends at it.
+-- The ends after a step are the ends at it.
 use Rattle.std.proofs.Common.{◌≡◌, ℕ, Bool, true, false, append_assoc, length-append, zero, suc, ◌+◌, ◌-◌, ◌<◌, ◌≤◌, List, [], ◌∷◌, ◌++◌}
 use Rattle.std.proofs.Common.{map, length, Some, Ok, Err, ◌⊎◌, inl, inr, refl, sym, ap, ◌∙◌, subst, arith}
 use Rattle.std.specs.Prelude.{Result, IfOk, slice_get, slice_index_or, ◌≢◌, Any}
@@ -14,7 +14,7 @@ use Rattle.filter_check.specs.filter_paths.Covered.{Comes, EndsAt, HasLeast, Lea
 use Rattle.filter_check.specs.declared.filter_paths.states.State.{State}
 use Rattle.filter_check.specs.declared.filter_paths.states.End.{End}
 
--- one step in front of a path
+-- one more step at the front of a path
 lead_more : (code : List Insn) (state to : State) (end : End) (path : List ℕ) → LeadsOn code state to → LeadsTo code to end path
     → LeadsTo code state end (state.at ∷ path)
 lead_more code state to end path on lead = λ input fits within.
@@ -38,7 +38,7 @@ lead_all code state to (end ∷ ends) (path ∷ paths) on lead =
 some_path : (x y : List ℕ) → Some x ≡ Some y → x ≡ y
 some_path x y e = cc
 
--- paths stay apart behind one position
+-- distinct paths stay distinct after one position
 get_behind : (at : ℕ) (paths : List (List ℕ)) (place : ℕ) (path : List ℕ) → slice_get (map (λ path. at ∷ path) paths) place ≡ Some path
     → (rest : List ℕ) × (slice_get paths place ≡ Some rest) × (path ≡ at ∷ rest)
 get_behind at [] place path e = cc
@@ -70,7 +70,7 @@ all_more code state to ends on on_data all = record {
   all_data = λ input comes. all.all_data input (on_data input comes);
 }
 
--- the paths of the ends behind a state begin at its position
+-- the paths of the ends at a state begin at its position
 begins : (code : List Insn) (state : State) (end : End) (path : List ℕ) (regs : Regs) → LeadsTo code state end path → HasLeast end
     → first_position (state.at + 1) path ≡ state.at
 begins code state end path regs lead one =
@@ -88,7 +88,7 @@ all_begin code state regs (end ∷ ends) (one ∷ paths) lead some zero path e =
 all_begin code state regs (end ∷ ends) (one ∷ paths) lead some (suc place) path e =
     all_begin code state regs ends paths lead.1 some.1 place path e
 
--- a place of two lists is one of the first or of the second
+-- an element of two joined lists is in the first or in the second
 get_append : {X : Type 0} (xs ys : List X) (place : ℕ) (x : X) → slice_get (xs ++ ys) place ≡ Some x
     → (slice_get xs place ≡ Some x) ⊎ ((at : ℕ) × (place ≡ length xs + at) × (slice_get ys at ≡ Some x))
 get_append [] ys place x e = inr (place, omega arith, e)
@@ -207,7 +207,7 @@ all_two code state first second regs ends others on other_on ne either a b = rec
     by input (inl h) = any_left (λ end. IsWithin end.region input) ends others (a.all_data input h)
     by input (inr h) = any_right (λ end. IsWithin end.region input) ends others (b.all_data input h)
 
--- what is added
+-- the ends that are added
 pub adds_more : (code : List Insn) (state to : State) (most : ℕ) (old new : List End) (all : Bool) → LeadsOn code state to
     → ((input : CallData) → Comes state input → Comes to input) → AddsEnds code to most old new all → AddsEnds code state most old new all
 adds_more code state to most old new true on on_data (more, e, ends) = (more, e, all_more code state to more on on_data ends)

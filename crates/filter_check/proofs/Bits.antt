@@ -25,7 +25,7 @@ min_zero a b e = omega arith
 min_one : (a b : ℕ) → a < 2 → b ≡ 1 → min a b ≡ a
 min_one a b lt e = omega arith
 
--- the bits that are known are those of the word
+-- the known bits are the bits of the word
 pub known_bit : (word known bits place : ℕ) → bit_and word known ≡ bits → bit_at known place ≡ 1 → bit_at word place ≡ bit_at bits place
 known_bit word known bits place h one =
     sym (min_one (bit_at word place) (bit_at known place) (bit_at-lt word place) one) ∙ sym (bit_at_and word known place)
@@ -35,7 +35,7 @@ pub clear_bit : (known bits place : ℕ) → bit_and bits known ≡ bits → bit
 clear_bit known bits place h e =
     ap (λ n. bit_at n place) (sym h) ∙ bit_at_and bits known place ∙ min_zero (bit_at bits place) (bit_at known place) e
 
--- one place more is known, and its bit is v
+-- one more place is known, and its bit is v
 pub record Wider (known bits wide more place v : ℕ) : Type 0 where
   pub unknown : bit_at known place ≡ 0
   pub clear : bit_and bits known ≡ bits
@@ -121,7 +121,7 @@ not_same true false h = refl
 not_same false false h = sym h
 not_same false true h = refl
 
--- what a bit is as a number
+-- a bit as a number
 abbrev pub bit_of : Bool → ℕ
 bit_of true = 1
 bit_of false = 0
@@ -165,7 +165,7 @@ pub false_unless : (b : Bool) → (b ≡ true → ⊥) → b ≡ false
 false_unless true f = absurd (f refl)
 false_unless false f = refl
 
--- where one place more is known, the known bits are a greater number
+-- if one more place is known, the known bits are a greater number
 pub wider_more : (known bits wide more place v : ℕ) → Wider known bits wide more place v → known < wide
 wider_more known bits wide more place v w =
     let inside : bit_and known wide ≡ known = same_from_bits _ _ (λ i.
@@ -191,7 +191,7 @@ wider_more known bits wide more place v w =
     apart : (a b : ℕ) → a ≡ 0 → b ≡ 1 → a ≡ b → ⊥
     apart a b e f g = omega (arith, e, f, g)
 
--- the words of a cube have no bits but those that are known to be 1 or are not known
+-- the words of a cube have only bits that are known to be 1 or are not known
 pub within_greatest : (known bits word : ℕ) → known < 2 ^ 32 → word < 2 ^ 32 → bit_and word known ≡ bits
     → bit_and word (bit_or bits (bit_not w32 known)) ≡ word
 within_greatest known bits word small lt h = same_from_bits _ _ (λ i.
@@ -212,7 +212,7 @@ within_greatest known bits word small lt h = same_from_bits _ _ (λ i.
     none : (w o : ℕ) → w ≡ 0 → min w o ≡ w
     none w o e = omega (arith, e)
 
--- a bit that is free under a mask is not known
+-- a free bit under a mask is not known
 pub free_unknown : (mask known place : ℕ) → known < 2 ^ 32 → place < 32 → is_set (bit_and mask (bit_not w32 known)) place ≡ true
     → is_set known place ≡ false
 free_unknown mask known place small lt set = set_from known place false
@@ -223,7 +223,7 @@ free_unknown mask known place small lt set = set_from known place false
     by : (m o k f : ℕ) → f ≡ min m o → o ≡ 1 - k → f ≡ 1 → k ≡ 0
     by m o k f e n one = omega (arith, e, n, one)
 
--- where none is, the words of a cube are one word under the mask
+-- if no bit under a mask is free, the words of a cube are one word under the mask
 pub none_free : (mask known word bits : ℕ) → mask < 2 ^ 32 → known < 2 ^ 32 → bit_and mask (bit_not w32 known) ≡ 0
     → bit_and word known ≡ bits → bit_and word mask ≡ bit_and bits mask
 none_free mask known word bits small known_small free h = same_from_bits _ _ (λ i.

@@ -1,4 +1,4 @@
--- Which words of a cube can meet a condition, and all of some conditions.
+-- The words of a cube that can meet one condition, or all of several.
 use Rattle.std.proofs.Common.{◌≡◌, ℕ, ◌+◌, ◌^◌, ◌<◌, ◌≤◌, Bool, true, false, not, ◌&&◌, List, [], ◌∷◌, ◌++◌, take, length, get_or, refl, sym, ap, ◌∙◌, subst, arith, inl, inr}
 use Rattle.std.proofs.lemmas.List.{take_more}
 use Rattle.std.specs.Prelude.{◌==◌, bit_and, if◌then◌else◌}
@@ -27,12 +27,12 @@ pub wants_above : (orders : Orders) (a b : ℕ) → b ≤ a → (a ≡ b → ⊥
 wants_above orders a b le ne = ap (λ t. if t then orders.below else (if a == b then orders.equal else orders.above)) (le-ltb a b le)
     ∙ ap (λ t. if t then orders.equal else orders.above) (ne_eqb a b ne)
 
--- the known bits under a mask are those of the masked word
+-- the known bits under a mask are the known bits of the masked word
 under_known : (word known mask : ℕ) → bit_and (bit_and word known) mask ≡ bit_and (bit_and word mask) known
 under_known word known mask = and_assoc mask word known ∙ ap (bit_and word) (and_comm known mask) ∙ sym (and_assoc known word mask)
 
--- A condition is met by no word of a cube where no wanted order is within the bounds: below the number is not where the least
--- word is not, above it is not where the greatest one is not, and equal to it is not where its bits are others.
+-- No word of a cube meets a condition if no wanted order is within the bounds. No word is below the number if the least one is not, none
+-- is above it if the greatest one is not, and none equals it if its known bits differ.
 pub no_word : (condition : Condition) (cube : Cube) (greatest word : ℕ)
     → (condition.orders.below ≡ true → bit_and cube.bits condition.mask < condition.number → ⊥)
     → (condition.orders.above ≡ true → condition.number < bit_and greatest condition.mask → ⊥)
@@ -60,7 +60,7 @@ no_word condition cube greatest word below above equal covers within =
       ]
     ]
 
--- one condition more
+-- one more condition
 pub all_append : (before : List Condition) (condition : Condition) (word : ℕ)
     → meets_all (before ++ condition ∷ []) word ≡ (meets_all before word && meets condition word)
 all_append before condition word = list_all-append (λ one. meets one word) before (condition ∷ [])
@@ -84,12 +84,12 @@ pub choice_still_missed : (before : List Condition) (condition : Condition) (cub
 choice_still_missed before condition cube h = λ word lt within. all_append before condition word
     ∙ ap (λ t. t && meets condition word) (h word lt within)
 
--- a condition whose masked word is known is failed by all words of a cube, if by one
+-- if the masked word of a condition is known and one word of a cube fails it, all do
 pub known_missed : (condition : Condition) (cube : Cube) (word : ℕ) → bit_and word condition.mask ≡ bit_and cube.bits condition.mask
     → meets condition cube.bits ≡ false → meets condition word ≡ false
 known_missed condition cube word e h = ap (λ n. wants condition.orders n condition.number) e ∙ h
 
--- the choice by one condition more of a list
+-- the choice by one more condition of a list
 pub next_choice : (conditions : List Condition) (i : ℕ) (d : Condition) (cube : Cube) (old new : Choice) → i < length conditions
     → IsChoice (take i conditions) cube old
     → ((before : List Condition) → IsChoice before cube old → IsChoice (before ++ get_or conditions i d ∷ []) cube new)
@@ -97,6 +97,6 @@ pub next_choice : (conditions : List Condition) (i : ℕ) (d : Condition) (cube 
 next_choice conditions i d cube old new lt h more =
     subst (λ some. IsChoice some cube new) (sym (take_more conditions i d lt)) (more (take i conditions) h)
 
--- two numbers that are told apart are not equal
+-- two numbers that differ by the test are not equal
 pub apart_from : (a b : ℕ) → not (a == b) ≡ true → a ≡ b → ⊥
 apart_from a b h e = both_ways (not (a == b)) (ap not (eq-eqb a b e)) h

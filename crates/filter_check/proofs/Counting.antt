@@ -1,4 +1,4 @@
--- How many paths a program has is one number.
+-- A program has one number of paths.
 use Rattle.std.proofs.Common.{◌≡◌, ℕ, zero, suc, ◌+◌, ◌<◌, ◌≤◌, List, [], ◌∷◌, length, Some, refl, sym, ap, ◌∙◌, subst, arith}
 use Rattle.std.specs.Prelude.{slice_get, Contains, ◌≢◌}
 use Rattle.std.proofs.lemmas.Option.{slice_get_within}
@@ -17,7 +17,7 @@ one_less [] k lt = absurd (omega (arith, lt))
 one_less (x ∷ xs) zero lt = refl
 one_less (x ∷ xs) (suc k) lt = ap suc (one_less xs k (omega (arith, lt)))
 
--- what stands at another place stays
+-- the element at another place stays
 stays : (xs : List (List ℕ)) (k j : ℕ) (path : List ℕ) → j ≢ k → slice_get xs j ≡ Some path
     → (i : ℕ) × (slice_get (without xs k) i ≡ Some path)
 unfolding without
@@ -33,7 +33,7 @@ some_path x y e = cc
 once_behind : (x : List ℕ) (xs : List (List ℕ)) → EachOnce (x ∷ xs) → EachOnce xs
 once_behind x xs once one other path e f = let h = once (suc one) (suc other) path e f in omega (arith, h)
 
--- paths that stand once, each of which stands in the others, are at most as many as those
+-- if each path occurs once, and occurs in the other list, there are at most as many as in that list
 at_most : (xs ys : List (List ℕ)) → EachOnce xs
     → ((k : ℕ) (path : List ℕ) → slice_get xs k ≡ Some path → (j : ℕ) × (slice_get ys j ≡ Some path)) → length xs ≤ length ys
 at_most [] ys once inside = omega arith

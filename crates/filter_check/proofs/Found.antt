@@ -1,4 +1,4 @@
--- What the least difference of a program and ours says of the rules.
+-- The least difference between a program and ours, as a statement about the rules.
 use Rattle.std.proofs.Common.{◌≡◌, ℕ, ◌≤◌, List, length, Some, None, Result, Ok, Err, inl, inr, refl, sym, ◌∙◌, subst}
 use Rattle.std.specs.Result.{IsErrAnd}
 use Rattle.std.proofs.lemmas.Bool.{cases_eq}
@@ -53,13 +53,13 @@ least_differs code ours wanted ends found are decides least =
           least.no_later input their other record { fits = d.fits; of_end = (a.0, a.1, a.2, a.3, (a.4, e)); answers = subst (Answers ours input) (sym d.is_wanted) (decides input d.fits); differ = d.differ };
     }
 
--- want of memory may come at any program
+-- memory may run out for any program
 pub memory_found : (code : List Insn) (wanted : CallData → ℕ) (result : Result Outcome CheckError)
     → IsErrAnd result (λ error. error ≡ Memory) → Finds code wanted result
 memory_found code wanted (Ok outcome) is = absurd is
 memory_found code wanted (Err error) is = subst (λ e. Finds code wanted (Err e)) (sym is) memory
 
--- what the ends of a program give
+-- the outcome for the ends of a program
 pub same_found : (code : List Insn) (rules : RuleSet) (ends : List End) → length ends ≤ 16384 → AreOfForm code
     → HasPaths code (length ends) → AreEndsFor code IsCallData ends → IsLeastByRules ends rules None
     → Finds code (wanted_by rules) (Ok (Same (length ends)))

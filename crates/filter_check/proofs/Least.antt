@@ -1,4 +1,4 @@
--- The least of differences, one end at a time.
+-- The least difference, one end at a time.
 use Rattle.std.proofs.Common.{◌≡◌, ℕ, zero, suc, ◌<◌, ◌≤◌, List, [], ◌∷◌, drop, length, get_or, Some, None, ◌⊎◌, inl}
 use Rattle.std.proofs.Common.{inr, refl, sym, ap, ◌∙◌, subst, arith}
 use Rattle.std.specs.Prelude.{Option, Any, IfSome, bit_and, slice_index}
@@ -28,7 +28,7 @@ pub no_later_self : (old : Option Difference) → IfSome old (λ one. IsNoLater 
 no_later_self None = tt
 no_later_self (Some one) = not_after_self (words_of one.at)
 
--- what is no later than one that is no later
+-- a difference that is no later than the old one is no later than these data either
 pub later : (old new : Option Difference) (input : CallData) → IfSome old (λ one. IsNoLater new one.at) → IsNoLater old input
     → IsNoLater new input
 later None new input kept h = absurd h
@@ -40,7 +40,7 @@ pub kept_on : (old mid new : Option Difference) → IfSome old (λ one. IsNoLate
 kept_on None mid new one other = tt
 kept_on (Some old) mid new one other = later mid new old.at other one
 
--- one end: it has their answer, or its difference is told, or the old one is
+-- one end: it has their answer, or its difference is the new one, or the old one stays
 pub lesser_same : (end : End) (theirs : ℕ) (old : Option Difference) → end.answer ≡ theirs → IsLesserAt end theirs old old
 lesser_same end theirs old e = record { comes_of = inl refl; kept = no_later_self old; no_later = λ ne. absurd (ne (sym e)) }
 
@@ -57,7 +57,7 @@ pub lesser_old : (end : End) (theirs : ℕ) (old : Difference) → IsNotAfter (w
     → IsLesserAt end theirs (Some old) (Some old)
 lesser_old end theirs old behind = record { comes_of = inl refl; kept = not_after_self (words_of old.at); no_later = λ other. behind }
 
--- one end in front of others
+-- one more end before others
 any_behind : {X : Type 0} (P : X → Type 0) (x : X) (xs : List X) → Any P xs → Any P (x ∷ xs)
 any_behind P x xs a = (suc a.0, a.1, omega (arith, a.2), a.3, a.4)
 
@@ -68,14 +68,14 @@ any_split : {X : Type 0} (P : X → Type 0) (x : X) (xs : List X) → Any P (x �
 any_split P x xs (zero, d, lt, e, h) = inl (subst P (sym e) h)
 any_split P x xs (suc k, d, lt, e, h) = inr (k, d, omega (arith, lt), e, h)
 
--- a difference of an end, among those of one end more
+-- a difference of an end is among the differences of one more end
 weaker : (end : End) (ends : List End) (code : List Insn) (found : Option Difference) → IsDifference ends code found
     → IsDifference (end ∷ ends) code found
 weaker end ends code None h = tt
 weaker end ends code (Some found) h =
     record { fits = h.fits; of_end = any_behind _ end ends h.of_end; answers = h.answers; differ = h.differ }
 
--- what a path from the first instruction ends with is the program's answer
+-- a path from the first instruction ends with the program's answer
 answers_from : (code : List Insn) (state : State) (input : CallData) (answer : ℕ) → IsStart state → Reaches code state input answer
     → Answers code input answer
 answers_from code state input answer start reaches =
@@ -84,7 +84,7 @@ answers_from code state input answer start reaches =
     let path = reaches start_regs held in
     takes_ends code input 0 start_regs path.0 answer (subst (λ at. Takes code input at start_regs path.0 answer) start.first path.1)
 
--- the state at the first instruction, to which the data of an end come
+-- the state of the data of an end at the first instruction
 pub record IsStartOf (state : State) (end : End) : Type 0 where
   pub start : IsStart state
   pub there : (input : CallData) → IsWithin state.region input → IsWithin end.region input

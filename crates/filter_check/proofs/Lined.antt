@@ -90,7 +90,7 @@ pub adds_all : (line old new : List ℕ) → length line ≡ 16 → AddsSome lin
 adds_all line old new long so_far =
     (so_far.own, record { eight = so_far.counted; small = so_far.small; digits = so_far.digits ∙ take_all line 16 long }, so_far.are)
 
--- one line more
+-- one more line
 lines_more : (lines : List (List ℕ)) (code line own : List ℕ) → AreLines lines code → IsLine line own
     → AreLines (lines ++ line ∷ []) (code ++ own)
 lines_more [] code line own are is = (own, [], is, refl, ap (λ xs. xs ++ own) are ∙ append_nil own)
@@ -135,7 +135,7 @@ length_map : {X : Type 0} (text : X → List ℕ) (lines : List X) → length (m
 length_map text [] = refl
 length_map text (line ∷ lines) = ap suc (length_map text lines)
 
--- without the last piece
+-- the lines without the last piece
 pub lines_cut : {X : Type 0} (text : X → List ℕ) (xs : List X) (pieces : List (List ℕ)) (n : ℕ) → n ≡ length xs → map text xs ≡ pieces
     → map text (take (n - 1) xs) ≡ take (length pieces - 1) pieces
 lines_cut text xs pieces n e same =

@@ -8,7 +8,7 @@ map_set f [] at x = refl
 map_set f (y ∷ xs) zero x = refl
 map_set f (y ∷ xs) (suc at) x = ap (λ ys. f y ∷ ys) (map_set f xs at x)
 
--- all of two lists, from each place
+-- a relation between two lists holds if it holds at each place
 pub zip_from_places : {X Y : Type 0} (R : X → Y → Type 0) (xs : List X) (ys : List Y) (d : X) (e : Y) → length xs ≡ length ys
     → ((at : ℕ) → at < length ys → R (get_or xs at d) (get_or ys at e)) → AllZip R xs ys
 zip_from_places R [] [] d e l h = tt

@@ -37,7 +37,7 @@ not_foreign code place form f =
     (subst (λ insn. is_of_form insn ≡ true) (get_or_from_slice_get code place f.insn f.insn f.found)
     (form place f.insn (slice_get_within code place f.insn f.found)))
 
--- call data are their words
+-- the words of call data determine them
 number_is : (x y : ℕ) → x % 2 ^ 32 ≡ y % 2 ^ 32 → x / 2 ^ 32 ≡ y / 2 ^ 32 → x ≡ y
 number_is x y low high = omega (arith, low, high)
 
@@ -70,7 +70,7 @@ same_data one other e =
     (number_is one.ip other.ip (head_is _ _ _ _ behind_arch) (head_is _ _ _ _ behind_low))
     (args_are one.args other.args (tail_is _ _ _ _ behind_low))
 
--- the answers that are found
+-- a program that gives the wanted answers does not differ from them
 not_same : (code : List Insn) (wanted : CallData → ℕ) (at : CallData) (theirs ours : ℕ) → AnswersAs code wanted
     → DiffersAt code wanted at theirs ours → ⊥
 not_same code wanted at theirs ours decides h = h.differ (one_answer code at theirs (wanted at) h.answers (decides at h.fits)

@@ -13,7 +13,7 @@ use Rattle.filter_check.specs.filter_paths.Traces.{Takes, ends, goes_on}
 same_some : (x y : Insn) → Some x ≡ Some y → x ≡ y
 same_some x y e = cc
 
--- what an instruction does is one thing
+-- an instruction has one effect
 same_effect : (code : List Insn) (input : CallData) (at : ℕ) (regs : Regs) (insn other : Insn) (one two : Option (Effect × Regs))
     → slice_get code at ≡ Some insn → effect_by (op_of insn.code) insn regs input ≡ one → slice_get code at ≡ Some other
     → effect_by (op_of other.code) other regs input ≡ two → one ≡ two

@@ -18,7 +18,7 @@ use Rattle.filter_check.specs.Differing.{IsNoLater, IsPassed, IsLesserAt, IsLess
 use Rattle.filter_check.proofs.Sorting.{not_after_then, not_after_below}
 use Rattle.filter_check.proofs.Least.{later, kept_on, no_later_self}
 
--- nothing of the state comes before the old one
+-- no data of the state precede the old difference
 pub lesser_passed : (code : List Insn) (state : State) (theirs : ℕ) (old : Option Difference) → IsPassed old state.region
     → IsLesser code state theirs old old
 lesser_passed code state theirs old passed =
@@ -68,7 +68,7 @@ lesser_end code state theirs old new end same one ends_at at = record {
           (at.no_later ne))
     ]
 
--- one step in front of a path
+-- one more step at the front of a path
 reaches_more : (code : List Insn) (state to : State) (input : CallData) (answer : ℕ) → LeadsOn code state to → Comes to input
     → Reaches code to input answer → Reaches code state input answer
 reaches_more code state to input answer on comes reaches = λ regs held.
@@ -101,7 +101,7 @@ reaches_or : (code : List Insn) (state to : State) (theirs : ℕ) (mid new : Opt
 reaches_or code state to theirs mid new input on comes kept (inl h) = inl (kept h)
 reaches_or code state to theirs mid new input on comes kept (inr h) = inr (reaches_more code state to input theirs on comes h)
 
--- the data of the state go on at one position
+-- the data of the state continue at one position
 pub lesser_one : (code : List Insn) (state to : State) (theirs : ℕ) (old new : Option Difference) → LeadsOn code state to
     → ((input : CallData) → Comes state input → Comes to input) → IsLesser code to theirs old new → IsLesser code state theirs old new
 lesser_one code state to theirs old new on all h = record {
@@ -111,7 +111,7 @@ lesser_one code state to theirs old new on all h = record {
       reaches_or code state to theirs new new input on (all input comes) (λ same. same) (h.no_later input (all input comes));
 }
 
--- or at two
+-- the data of the state continue at two positions
 pub lesser_two : (code : List Insn) (state first second : State) (theirs : ℕ) (old mid new : Option Difference) → LeadsOn code state first
     → LeadsOn code state second → ((input : CallData) → Comes state input → Comes first input ⊎ Comes second input)
     → IsLesser code second theirs old mid → IsLesser code first theirs mid new → IsLesser code state theirs old new
@@ -128,7 +128,7 @@ lesser_two code state first second theirs old mid new on other_on either one oth
     by input (inr there) =
         reaches_or code state second theirs mid new input other_on there (later mid new input other.kept) (one.no_later input there)
 
--- what is so where a test fails
+-- a conclusion for a test that fails
 pub on_not : (test : Bool) (P Q : Type 0) → (P → Q) → OnFalse test P → OnTrue (not test) Q
 on_not true P Q f h = tt
 on_not false P Q f h = f h

@@ -1,4 +1,4 @@
--- What is read, at each answer.
+-- The result of reading, answer by answer.
 use Rattle.std.proofs.Common.{◌≡◌, ℕ, Bool, true, false, cond, List, Option, Some, None, Result, Ok, Err, refl, sym, ap, ◌∙◌, subst}
 use Rattle.std.specs.Prelude.{◌≢◌, IfErr}
 use Rattle.std.specs.Result.{IsErrAnd}
@@ -9,7 +9,7 @@ use Rattle.filter_check.specs.filter_lines.Reading.{ReadsLines, other_line, no_m
 use Rattle.filter_check.specs.declared.filter_lines.error.FileError.{FileError}
 use Rattle.filter_check.specs.declared.filter_lines.error.FileError.TheVariants.{NotText, Digits, Program, Memory}
 
--- the bytes are text, or they are none
+-- the bytes are text, and the text has these bytes
 pub is_some_text : (bytes text : List ℕ) → text_of bytes ≡ Some text → (is_text bytes ≡ true) × (text ≡ bytes)
 unfolding text_of
 is_some_text bytes text e = by (is_text bytes) refl e

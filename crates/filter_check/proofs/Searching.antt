@@ -1,4 +1,4 @@
--- The least word that meets conditions, by the halves of a cube.
+-- The least word that meets all conditions, by the halves of a cube.
 use Rattle.std.proofs.Common.{◌≡◌, ℕ, ◌^◌, ◌<◌, ◌≤◌, Bool, true, false, not, ◌&&◌, List, [], ◌∷◌, ◌++◌, Some, None, refl, sym, ap, ◌∙◌, subst, arith, ◌⊎◌, inl, inr}
 use Rattle.std.specs.Prelude.{Option, IfSome, bit_and}
 use Rattle.std.proofs.lemmas.Bool.{eqb-true, eq-eqb, and_parts, and_from}
@@ -24,12 +24,12 @@ kept_then : (old mid new : Option ℕ) → IfSome old (λ one. IsUpTo mid one) �
 kept_then None mid new h g = tt
 kept_then (Some one) mid new h g = up_to_then mid new one g h
 
--- where no word is wanted, or none below what is told, that is kept
+-- if no wanted word is below the earlier one, the earlier one stays
 pub keeps_told : (conditions : List Condition) (cube : Cube) (told : Option ℕ)
     → ((word : ℕ) → IsWanted conditions cube word → IsUpTo told word) → IsLeastOf conditions cube told told
 keeps_told conditions cube told h = record { comes_of = inl refl; kept = up_to_self told; no_later = h }
 
--- none is wanted in a cube whose words are all below the bound
+-- a cube whose words are all below the bound has no wanted word
 pub all_below : (conditions : List Condition) (cube : Cube) (greatest from : ℕ) (told : Option ℕ) → greatest < from
     → ((word : ℕ) → word < 2 ^ 32 → is_in cube word ≡ true → bit_and word greatest ≡ word)
     → ((word : ℕ) → IsWanted conditions cube word → from ≤ word) → IsLeastOf conditions cube told told
@@ -42,7 +42,7 @@ bits_le : (cube : Cube) (word : ℕ) → is_in cube word ≡ true → cube.bits 
 bits_le cube word within =
     let e = eqb-true (bit_and word cube.known) cube.bits within in subst (λ n. n ≤ word) e (and_le_l word cube.known)
 
--- what is told is at most the least word of the cube
+-- the earlier word is at most the least word of the cube
 pub told_before : (conditions : List Condition) (cube : Cube) (least : ℕ) (told : Option ℕ) → least ≡ cube.bits → IsUpTo told least
     → IsLeastOf conditions cube told told
 told_before conditions cube least None e h = absurd h
@@ -78,7 +78,7 @@ none_meets conditions cube told none = keeps_told conditions cube told (λ word 
 abbrev pub HalfIs : Cube → Cube → ℕ → Bool → Type 0
 HalfIs cube half place set = (word : ℕ) → is_in half word ≡ (is_in cube word && same (is_set word place) set)
 
--- a wanted word of a half is one of the whole
+-- a wanted word of a half is a wanted word of the whole
 pub of_whole : (conditions : List Condition) (cube half : Cube) (place : ℕ) (set : Bool) (word : ℕ) → HalfIs cube half place set
     → IsWanted conditions half word → IsWanted conditions cube word
 of_whole conditions cube half place set word is wanted =
@@ -111,7 +111,7 @@ both_halves conditions cube low high place old mid new low_is high_is one other 
     by word wanted false h = up_to_then mid new word other.kept
         (one.no_later word (of_half conditions cube low place false word low_is (ap (λ t. same t false) h) wanted))
 
--- what is found among all words is the least of them
+-- the word that is found among all words is the least of them
 pub least_word : (conditions : List Condition) (cube : Cube) (found : Option ℕ) → ((word : ℕ) → is_in cube word ≡ true)
     → IsLeastOf conditions cube None found → IsLeastWord conditions found
 least_word conditions cube None all h = λ word lt. false_unless (meets_all conditions word) (λ met. h.no_later word (lt, all word, met))
@@ -131,7 +131,7 @@ of_old conditions old condition word e h =
     (and_parts (meets_all old word) (meets condition word)
     (sym (ap (λ all. meets_all all word) e ∙ all_append old condition word) ∙ h)).0
 
--- the least word of a set that meets one condition more is the least of those
+-- if the least word of a set meets one more condition, it is the least of the narrower set
 pub same_least : (conditions old : List Condition) (condition : Condition) (least : ℕ) → conditions ≡ old ++ condition ∷ []
     → meets_all old least ≡ true → ((word : ℕ) → word < 2 ^ 32 → meets_all old word ≡ true → least ≤ word)
     → meets condition least ≡ true → IsLeastWord conditions (Some least)
@@ -140,7 +140,7 @@ same_least conditions old condition least e one no_later met = (
   λ word lt h. no_later word lt (of_old conditions old condition word e h),
 )
 
--- the words of a set with one condition more
+-- the words of a set with one more condition
 pub more_is : (conditions old : List Condition) (condition : Condition) (word : ℕ) → conditions ≡ old ++ condition ∷ []
     → meets_all conditions word ≡ (meets_all old word && meets condition word)
 more_is conditions old condition word e = ap (λ all. meets_all all word) e ∙ all_append old condition word

@@ -1,4 +1,4 @@
--- The order of words, of which the first that differs decides.
+-- The order of words: the first word that differs decides.
 use Rattle.std.proofs.Common.{◌≡◌, ℕ, ◌<◌, ◌≤◌, Bool, true, false, cond, List, [], ◌∷◌, length, ◌⊎◌, inl, inr, refl, sym, ap, ◌∙◌, subst}
 use Rattle.std.proofs.Common.{arith, suc}
 use Rattle.std.specs.Prelude.{◌==◌, nat_lt}
@@ -45,7 +45,7 @@ tail_same x y xs ys more (inl lt) (inr h) = absurd (omega (arith, lt, h.0))
 tail_same x y xs ys more (inr g) (inl below) = absurd (omega (arith, below, g.0))
 tail_same x y xs ys more (inr g) (inr h) = let e = more g.1 h.1 in let f = g.0 in cc
 
--- neither is after the other: they are the same
+-- if neither list is after the other, they are the same
 pub same_words : (xs ys : List ℕ) → IsNotAfter xs ys → IsNotAfter ys xs → xs ≡ ys
 same_words [] [] g h = refl
 same_words [] (y ∷ ys) g h = absurd h

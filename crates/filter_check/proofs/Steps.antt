@@ -1,4 +1,4 @@
--- What each instruction of the form does to the data of a state.
+-- The effect of each instruction of the form on the data of a state.
 use Rattle.std.proofs.Common.{◌≡◌, ℕ, zero, suc, ◌+◌, ◌-◌, ◌/◌, ◌%◌, ◌^◌, ◌<◌, Bool, true, false, not, ◌&&◌, cond, List, [], ◌∷◌, length}
 use Rattle.std.proofs.Common.{get_or, set, Some, None, ◌⊎◌, inl, inr, refl, sym, ap, ◌∙◌, subst, arith}
 use Rattle.std.specs.Prelude.{slice_get, slice_index, bit_and, ◌==◌, nat_lt, nat_le, if◌then◌else◌}
@@ -51,7 +51,7 @@ module _ (code : List Insn) (program : IsProgram code) (state : State) (insn : I
         absurd (both_ways true (sym program.accepted.ends ∙ returns ∙ ap is_return is ∙ goes) refl)
   ]
 
-  -- an operation that goes on leads on
+  -- an operation that does not end the program leads to the next state
   lead_by : (op : Op) (to : State) (skip : ℕ) → op_of insn.code ≡ Some op → to.at ≡ state.at + 1 + skip → to.at < length code
       → ((input : CallData) → Comes to input → Comes state input)
       → ((input : CallData) (regs : Regs) → Comes to input → regs.a ≡ held_word state.held input
@@ -140,7 +140,7 @@ module _ (code : List Insn) (program : IsProgram code) (state : State) (insn : I
       let b = ltb-true insn.jf left p.1 in
       (omega (arith, a), omega (arith, b))
 
-  -- what a comparison does to data whose word under the mask meets it or not
+  -- the effect of a comparison on data whose word under the mask meets it or not
   compare_does : (e : IsComparison insn) (input : CallData) (regs : Regs) (t : Bool) → regs.a ≡ held_word state.held input
       → compares insn (held_word state.held input) ≡ t
       → effect_of (JumpIf (jump_op e).0 operand.Number) insn regs input ≡ (effect.Skip (if t then insn.jt else insn.jf), regs)
@@ -172,7 +172,7 @@ module _ (code : List Insn) (program : IsProgram code) (state : State) (insn : I
       either true = refl
       either false = sym same
 
-  -- the data cut by the comparison
+  -- the data that the comparison leaves
   abbrev pub keep : Bool → Bool → Bool
   keep true x = x
   keep false x = not x

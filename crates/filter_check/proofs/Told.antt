@@ -1,4 +1,4 @@
--- What the ends that are found from the first instruction on tell.
+-- The ends from the first instruction on, as statements about the program.
 use Rattle.std.proofs.Common.{◌≡◌, ℕ, zero, suc, ◌<◌, ◌≤◌, List, [], ◌∷◌, length, get_or, Some, true, false, refl, sym, ap, ◌∙◌}
 use Rattle.std.proofs.Common.{subst, arith}
 use Rattle.std.specs.Prelude.{slice_get, slice_index, bit_and, Contains, Vec}
@@ -63,7 +63,7 @@ found_of paths path (k, lt, e) = (k, slice_get-get_or paths k path lt ∙ ap Som
 pub contains_from : (paths : List (List ℕ)) (k : ℕ) (path : List ℕ) → slice_get paths k ≡ Some path → Contains paths path
 contains_from paths k path e = (k, slice_get_within paths k path e, get_or_from_slice_get paths k path path e)
 
--- each end's path is one that some data take
+-- some data take the path of each end
 each_is_path : (code : List Insn) (state : State) (ends : List End) → IsStart state → (some : AreSomeEnds code state ends)
     → (path : List ℕ) → Contains some.paths path → IsPath code path
 each_is_path code state ends start some path h =
@@ -71,7 +71,7 @@ each_is_path code state ends start some path h =
     let end = end_of code state ends some.paths found.0 path some.lead some.some found.1 in
     (end.0.least, end.2.0, (end.0.answer, takes_from_start code state end.0 path end.0.least start end.1 end.2.0 end.2.1))
 
--- all paths are told where all data come to the state
+-- if all data reach the state, the ends have all paths
 all_are_told : (code : List Insn) (state : State) (ends : List End) → IsStart state
     → ((input : CallData) → IsCallData input → IsWithin state.region input) → (all : AreEnds code state ends) → (path : List ℕ)
     → IsPath code path → Contains all.some.paths path
@@ -90,7 +90,7 @@ counted code state ends start every all = (
   sym (zip_lengths (LeadsTo code state) ends all.some.paths all.some.lead),
 )
 
--- what the ends are for
+-- the data that the ends are for
 pub ends_for : (code : List Insn) (state : State) (Has : CallData → Type 0) (ends : List End) → IsStart state
     → ((input : CallData) → IsCallData input → IsWithin state.region input → Has input)
     → ((input : CallData) → IsCallData input → Has input → IsWithin state.region input) → AreEnds code state ends → AreEndsFor code Has ends

@@ -16,7 +16,7 @@ pub takes_first : (code : List Insn) (input : CallData) (at : ℕ) (regs : Regs)
 takes_first code input at regs path answer other (ends _ _ after insn _ found effect) = refl
 takes_first code input at regs path answer other (goes_on _ skip _ after insn _ _ found effect more) = refl
 
--- and ends with its answer
+-- the path ends with its answer
 pub takes_ends : (code : List Insn) (input : CallData) (at : ℕ) (regs : Regs) (path : List ℕ) (answer : ℕ)
     → Takes code input at regs path answer → (count : ℕ) × meaning.Ends code input at regs answer count
 takes_ends code input at regs path answer (ends _ _ after insn _ found effect) = (1, meaning.stops at regs after insn answer found effect)

@@ -18,28 +18,28 @@ use Rattle.filter_check.specs.declared.outcome.Outcome.TheVariants.{Same, Differ
 use Rattle.filter_check.specs.declared.outcome.CheckError.{CheckError}
 use Rattle.filter_check.specs.declared.outcome.CheckError.TheVariants.{Form, TooManyPaths, Memory}
 
--- as many paths as are compared at most
+-- the greatest number of paths that are compared
 abbrev pub most_paths : ℕ
 most_paths = 16384
 
--- all codes are of the form, and the program has so many paths, which are not too many
+-- all codes have the form, and the program has this number of paths, which is not too large
 pub record IsCompared (code : List Insn) (count : ℕ) : Type 0 where
   pub form : AreOfForm code
   pub paths : HasPaths code count
   pub few : count ≤ most_paths
 
--- the program gives the wanted answer, whatever the data of the call
+-- the program gives the wanted answer for the data of every call
 abbrev pub AnswersAs : List Insn → (CallData → ℕ) → Type 0
 AnswersAs code wanted = (input : CallData) → IsCallData input → Answers code input (wanted input)
 
--- at these call data the program answers this, and another answer is wanted
+-- at these call data the program gives this answer, and another answer is wanted
 pub record DiffersAt (code : List Insn) (wanted : CallData → ℕ) (input : CallData) (theirs ours : ℕ) : Type 0 where
   pub fits : IsCallData input
   pub answers : Answers code input theirs
   pub is_wanted : ours ≡ wanted input
   pub differ : theirs ≢ ours
 
--- and of all call data at which they differ these are the least, by their sixteen words in order of their offsets
+-- these call data are the least at which they differ, by their sixteen words in order of their offsets
 pub record IsLeastDifference (code : List Insn) (wanted : CallData → ℕ) (at : CallData) (theirs ours : ℕ) : Type 0 where
   pub differs : DiffersAt code wanted at theirs ours
   pub least : (input : CallData) (their own : ℕ) → DiffersAt code wanted input their own → IsNotAfter (words_of at) (words_of input)
@@ -63,6 +63,6 @@ OneFinding = (code : List Insn) (wanted : CallData → ℕ) (one other : Result 
 abbrev pub wanted_by : RuleSet → CallData → ℕ
 wanted_by rules input = word_of (case_action rules input)
 
--- the least of the data at which the rules want another answer than the ends have, by any program that answers as they want
+-- the least data at which the rules want another answer than the ends have, by any program that answers as the rules want
 abbrev pub IsLeastByRules : List End → RuleSet → Option Difference → Type 0
 IsLeastByRules ends rules found = (ours : List Insn) × AnswersAs ours (wanted_by rules) × IsLeastFrom ends ours found

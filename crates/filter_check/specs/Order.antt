@@ -1,4 +1,4 @@
--- The order of call data: by their words, of which the first that differs decides.
+-- The order of call data by their words: the first word that differs decides.
 use Rattle.std.specs.Prelude.{◌≡◌, ◌⊎◌, ◌<◌, ℕ, List, [], ◌∷◌}
 
 -- the words are equal to the others, or less at the first place at which they differ

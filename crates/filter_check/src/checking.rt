@@ -1,4 +1,4 @@
-//! The comparison of a program with rules.
+//! Compares a program with rules.
 ghost use Rattle.std.specs.Prelude.{◌≤◌, List, length, IfOk};
 ghost use Rattle.seccomp_compile.specs.bpf_code.Meaning.{IsCallData};
 ghost use Rattle.seccomp_compile.specs.bpf_code.Reading.{IsProgram};
@@ -16,7 +16,7 @@ use crate::walking::least_difference;
 use seccomp_compile::{Insn, Program, RuleSet, compile};
 use std::alloc::{AllocError, Global};
 
-/// The most paths that a program may have.
+/// The greatest number of paths that a program may have.
 const MOST_PATHS: usize = 16384;
 
 // Finds the least call data for which the rules want another answer than the ends have.

@@ -1,4 +1,4 @@
-//! Differences of two programs, and the lesser of two of them.
+//! Finds differences of two programs, and the lesser of two differences.
 ghost use Rattle.std.specs.Bool.{OnTrue};
 ghost use Rattle.filter_check.specs.Differing.{IsLesserAt, IsPassed};
 
@@ -38,7 +38,7 @@ pub fn lesser(old: Option<Difference>, end: &End, theirs: u32) -> Option<Differe
     }
 }
 
-/// Returns whether no data of the region come before the difference that is found.
+/// Returns whether a difference is known, and no data of the region precede it.
 pub fn is_passed(old: Option<Difference>, region: &Region) -> bool
     ensures passed { OnTrue result (IsPassed old region.now) }
 {

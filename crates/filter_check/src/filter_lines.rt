@@ -1,4 +1,4 @@
-//! Programs of seccomp(2) as files: one instruction of sixteen lower-case hex digits a line.
+//! Reads programs of seccomp(2) from files: one instruction of sixteen lower-case hex digits a line.
 //!
 //! Each line is the eight bytes of a `struct sock_filter`, little endian, and ends in a line feed. The program
 //! `read_program(alloc, b"060000000000ff7f\n")?` lets every call pass.

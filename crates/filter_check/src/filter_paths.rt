@@ -1,8 +1,8 @@
-//! The paths of a program of seccomp(2), and the call data that take each of them.
+//! Finds the paths of a program of seccomp(2), and the call data that take each of them.
 //!
-//! A program of the form only loads words of the data, masks them, and compares them with numbers. So all that a path asks of
-//! the data is conditions on single words, and the data that take it are those whose sixteen words are each in a set of its
-//! own. [`all_ends`] finds all paths with their data. A [`Region`] is such a set of data.
+//! A program of the form only loads words of the data, masks them, and compares them with numbers. So a path only sets
+//! conditions on single words. The data that take it are the data whose sixteen words are each in a set of its own.
+//! [`all_ends`] finds all paths with their data. A [`Region`] is such a set of data.
 
 mod comparing;
 mod ends;

@@ -1,4 +1,4 @@
-//! A law of comparisons: the function does nothing, and its contract is the law.
+//! States a law of comparisons. It is the contract of a function that does nothing.
 ghost use Rattle.filter_check.specs.Finding.{OneFinding};
 
 /// A comparison has one result, unless memory runs out.

@@ -1,4 +1,4 @@
-//! The order of call data, by their words.
+//! Orders call data by their words.
 ghost use Rattle.std.specs.Prelude.{◌≡◌, ◌%◌, ◌/◌, ◌^◌};
 ghost use Rattle.std.specs.Bool.{OnTrue, OnFalse};
 ghost use Rattle.seccomp_compile.specs.bpf_code.Effects.{words_of};
@@ -18,7 +18,7 @@ fn high(number: u64) -> u32
     (number >> 32) as u32
 }
 
-// The sixteen words of a call's data, in the order of their offsets.
+// Returns the sixteen words of a call's data, in the order of their offsets.
 fn words(call: &CallData) -> [u32; 16]
     ensures { result ≡ words_of call.now }
 {
@@ -43,7 +43,7 @@ fn words(call: &CallData) -> [u32; 16]
     ]
 }
 
-/// Whether the words of one call's data precede the other's: at the first place at which they differ, they are less.
+/// Returns whether the words of one call's data precede the other's: at the first place where they differ, they are less.
 pub fn comes_before(one: &CallData, other: &CallData) -> bool
     ensures before { OnTrue result (IsNotAfter (words_of one.now) (words_of other.now)) }
     ensures behind { OnFalse result (IsNotAfter (words_of other.now) (words_of one.now)) }

@@ -1,4 +1,4 @@
-//! The result of a comparison.
+//! Defines the result of a comparison.
 ghost use Rattle.std.specs.Prelude.{◌≡◌};
 ghost use Rattle.filter_check.specs.declared.outcome.CheckError.TheVariants.{Memory};
 
@@ -6,12 +6,12 @@ use seccomp_compile::CallData;
 use std::alloc::AllocError;
 use thiserror::Error;
 
-/// The result of a comparison that was made.
+/// The result of a comparison.
 #[derive(Clone, Copy)]
 pub enum Outcome {
     /// The program decides every call like the rules. The number counts its paths.
     Same(u32),
-    /// Program and rules differ: the least call data on which they do, and both answers.
+    /// The program and the rules differ. The least call data on which they do is given with both answers.
     Differs {
         at: CallData,
         theirs: u32,
@@ -19,7 +19,7 @@ pub enum Outcome {
     },
 }
 
-/// Why a program could not be compared.
+/// Says why a program could not be compared.
 #[derive(Clone, Copy, Debug, PartialEq, Eq, Error)]
 pub enum CheckError {
     /// The code of this instruction does not have the form.

@@ -1,8 +1,8 @@
-//! The least difference of two programs.
+//! Finds the least difference of two programs.
 //!
-//! The walk through our program starts with the data of an end of theirs, and follows only what some of these data take. It
-//! also skips all data after a difference that is found. A word for which a comparison holds is mostly the greater one, so
-//! the data for which it does not hold are walked first, and the ends are taken from the last to the first.
+//! The walk through our program starts with the data of an end of theirs, and follows only paths that some of these data
+//! take. It also skips all data after a difference that it has found. If a comparison holds for a word, this word is
+//! mostly the greater one. So the walk tries the data for which it does not hold first, and the ends from last to first.
 ghost use Rattle.std.specs.Prelude.{◌<◌, length, IfOk};
 ghost use Rattle.seccomp_compile.specs.bpf_code.Reading.{IsProgram};
 ghost use Rattle.seccomp_compile.specs.Form.{AreOfForm};
@@ -13,7 +13,8 @@ use crate::filter_paths::{End, Next, State, next, start};
 use seccomp_compile::Insn;
 use std::alloc::{AllocError, Global};
 
-// Returns the least of the earlier difference and those at the data of a state, on which their answer is this one.
+// Returns the lesser of the earlier difference and the least difference at the data of a state. On these data their
+// program gives this answer.
 fn least_at(
     alloc: Global,
     ours: &[Insn],

@@ -1,4 +1,4 @@
--- Notes behind one another, key by key.
+-- Notes added one after another, key by key.
 use Rattle.std.proofs.Common.{◌≡◌, List, ◌++◌, ap, ◌∙◌, append_assoc}
 
 four_apart : {X : Type 0} (o a b c d : List X) → (((o ++ a) ++ b) ++ c) ++ d ≡ o ++ (((a ++ b) ++ c) ++ d)
@@ -17,7 +17,7 @@ pub five_behind : {X : Type 0} (o a b c d e : List X) {k m n p q : List X} → k
 five_behind o a b c d e first second third fourth fifth = fifth ∙ ap (λ l. l ++ e) (four_behind o a b c d first second third fourth)
     ∙ append_assoc o (((a ++ b) ++ c) ++ d) e
 
--- the same of notes that come with what is said
+-- the same for notes that accompany values
 pub four_said : {X : Type 0} (o a b c d : List X) {w x y z k m n p : List X} → w ≡ a → k ≡ o ++ w → x ≡ b → m ≡ k ++ x → y ≡ c
     → n ≡ m ++ y → z ≡ d → p ≡ n ++ z → p ≡ o ++ (((a ++ b) ++ c) ++ d)
 four_said o a b c d {w} {x} {y} {z} {k} {m} {n} {p} first to_first second to_second third to_third fourth to_fourth = all

@@ -1,4 +1,4 @@
--- A rule does what was chosen for its call.
+-- A rule does what is chosen for its call.
 use Rattle.std.proofs.Common.{◌≡◌, ℕ, Bool, true, false, cond, Option, Some, None, List, [], ◌∷◌, map, find, refl, ap, ◌∙◌}
 use Rattle.std.specs.Prelude.{◌&&◌, ◌||◌}
 use Rattle.std.specs.Option.{option_map_or}
@@ -11,7 +11,7 @@ use Rattle.call_rules.specs.Action.{test_holds, case_holds, call_action}
 use Rattle.filter_settings.specs.declared.filter_rules.choice.Choice.{Choice}
 use Rattle.filter_settings.specs.filter_rules.Choices.{case_with, rule_with, choice_action}
 
--- the test that is given holds, if there is one
+-- the given test holds, if there is one
 abbrev given_holds : CallData → Option Tested → Bool
 given_holds input given = option_map_or (test_holds input) given true
 

@@ -1,4 +1,4 @@
--- How many rules there are: at most one for each call, and for each name that may have one.
+-- The number of rules: at most one for each call, and for each name that may have a rule.
 use Rattle.std.proofs.Common.{◌≡◌, ℕ, zero, suc, ◌+◌, ◌≤◌, Bool, true, false, cond, Option, Some, None, List, [], ◌∷◌, length, refl, sym}
 use Rattle.std.proofs.Common.{ap, ◌∙◌, arith, subst}
 use Rattle.std.specs.Prelude.{◌||◌, is_some, slice_get, unwrap_or}
@@ -35,7 +35,7 @@ length_rules choose (call ∷ calls) = added (choose call.name) (length_rules ch
     added None h = omega (arith, h)
     added (Some choice) h = omega (arith, h)
 
--- at most one for each call
+-- each call has at most one rule
 one_le : (b : Bool) → one b ≤ 1
 one_le true = omega arith
 one_le false = omega arith
@@ -51,7 +51,7 @@ pub rules_le_calls : (choose : List ℕ → Option Choice) (calls ordered : List
 rules_le_calls choose calls ordered h =
     omega (arith, length_rules choose ordered, ones_le_length choose ordered, length_permutation calls ordered h.each_once)
 
--- a test that at most one place passes
+-- a test that no element passes, and then a test that elements pass at one place at most
 none_of : {X : Type 0} (test : X → Bool) (xs : List X) → ((at : ℕ) (x : X) → slice_get xs at ≡ Some x → test x ≡ true → ⊥)
     → sum_by (λ x. one (test x)) xs ≤ 0
 none_of test [] h = omega arith
@@ -76,7 +76,7 @@ one_place test place n (x ∷ xs) h =
     ]
     refl
 
--- a name stands once
+-- a name occurs once
 once : (calls : List CallLine) (name : List ℕ) → AreOnce calls → sum_by (λ call. one (bytes_eq call.name name)) calls ≤ 1
 once calls name h =
     one_place (λ call. bytes_eq call.name name) (unwrap_or (place_named name calls) 0) 0 calls
@@ -86,7 +86,7 @@ once calls name h =
     let place : at ≡ unwrap_or (place_named name calls) 0 = sym (ap (λ o. unwrap_or o 0) found) in
     omega arith)
 
--- one of several names, and the first of them or one of the others
+-- the name is one of several: the first of them or one of the others
 split : (calls : List CallLine) (name : List ℕ) (names : List (List ℕ)) →
     sum_by (λ call. one (is_one_of call.name (name ∷ names))) calls ≤ sum_by (λ call. one (bytes_eq call.name name)) calls + sum_by
     (λ call. one (is_one_of call.name names)) calls

@@ -1,4 +1,4 @@
--- What holds of each element that is made holds of all of them.
+-- If each element that is made has a property, all have it.
 use Rattle.std.proofs.Common.{Option, Some, None, List, [], ◌∷◌}
 use Rattle.std.specs.Prelude.{flat_map, unwrap_or}
 use Rattle.std.specs.Option.{IfSome, ForSome}
@@ -25,7 +25,7 @@ last_has P default d [] h = d
 last_has P default d (x ∷ []) h = h.0
 last_has P default d (x ∷ y ∷ xs) h = last_has P default d (y ∷ xs) h.1
 
--- of the last one too
+-- the last one has it too
 pub last_of_all : {X : Type 0} (P : X → Type 0) (default : X) → P default → (xs : List X) → All P xs → P (unwrap_or (last_of xs) default)
 last_of_all P default d xs h = last_has P default d xs (recursion_from_All P xs h)
 

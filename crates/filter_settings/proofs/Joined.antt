@@ -17,7 +17,7 @@ use Rattle.filter_settings.specs.Namespaces.{unit_namespaces}
 use Rattle.filter_settings.specs.declared.settings.Booleans.{Booleans}
 use Rattle.filter_settings.specs.Settings.{flags_of, settings_of}
 
--- the settings that these make
+-- the settings with these values
 abbrev pub made : Bool → Bool → Bool → Bool → Bool → Bool → Bool → Bool → Bool → Action → NamespaceTypes → Option FamilyList
     → Option CallList → Bool → Option Version → Bool → FilterSettings
 made memory realtime suid personality hostname modules logs clock devices action types families calls refused systemd tunables =

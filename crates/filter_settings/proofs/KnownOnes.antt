@@ -1,4 +1,4 @@
--- The numbers of mentioned families are those of families of the table.
+-- The table has the families that a list mentions.
 use Rattle.std.proofs.Common.{◌≡◌, ℕ, Bool, true, false, cond, eqb, Option, Some, None, List, [], ◌∷◌, refl, ap, ◌∙◌, arith}
 use Rattle.std.specs.Prelude.{◌||◌, unwrap_or, option_and_then}
 use Rattle.std.specs.Option.{option_map, IfSome, ForSome}
@@ -34,7 +34,7 @@ or_true : (a : Bool) → (a || true) ≡ true
 or_true true = refl
 or_true false = refl
 
--- what is found by its name stands in the list
+-- a line that is found by its name is in the list
 found_known : (word : List ℕ) (families : List CallLine) → IfSome (named word families)
     (λ found. list_any (has_number found.number) families ≡ true)
 found_known word [] = tt
@@ -77,7 +77,7 @@ begun_known systemd table lines = by (list_mode lines)
     by None = tt
     by (Some mode) = lines_known systemd table mode lines
 
--- the lines behind `none` by themselves
+-- only the lines after `none`
 behind_known : (systemd : Option Version) (table : Table) (read : List Listed → FamilyList) → ((lines : List Listed) → AllKnown table (read lines))
     → (lines : List Listed) → IfSome (read_behind_none read systemd table lines) (AllKnown table)
 behind_known systemd table read known lines = by (list_any is_none_line lines)

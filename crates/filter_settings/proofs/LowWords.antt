@@ -1,4 +1,4 @@
--- What tests say of the low words of arguments.
+-- Tests of the low words of arguments.
 use Rattle.std.proofs.Common.{◌≡◌, ℕ, ◌%◌, ◌^◌, Bool, true, false, List, [], ◌∷◌, map, refl, ap, ◌∙◌, arith}
 use Rattle.std.specs.Prelude.{◌||◌, ◌==◌, bit_and, slice_index}
 use Rattle.std.specs.List.{list_any}

@@ -1,4 +1,4 @@
--- A test of some element of a list that was mapped.
+-- A test of some element of a mapped list.
 use Rattle.std.proofs.Common.{◌≡◌, Bool, List, [], ◌∷◌, map, refl, ap}
 use Rattle.std.specs.Prelude.{◌||◌}
 use Rattle.std.specs.List.{list_any}

@@ -33,7 +33,7 @@ twice true true what mark = refl
 twice true false what mark = refl
 twice false two what mark = refl
 
--- one position more
+-- one more position
 pub one_more : (places : List ℕ) (i : ℕ) (what : Option Action) (at : ℕ) (old now new : Mark) → i < length places
     → now ≡ with_said (list_any (λ place. place == at) (take i places)) what old
     → new ≡ with_said (get_or places i 0 == at) what now
@@ -61,7 +61,7 @@ module _ (at : ℕ) (what : Option Action) (now : Mark) where
 
 -- a word, by the positions of the calls that it covers
 module _ (table : Table) (word : List ℕ) (at : ℕ) (call : CallLine) (first : IsFirst (every_call table) at call) where
-  -- a word that names a group
+  -- the word names a group
   pub covers_members : (name : List ℕ) → Some name ≡ behind_at word
       → covers table word call.name ≡ option_map_or (has_member at) (group_named name table.groups) false
   unfolding covers
@@ -72,7 +72,7 @@ module _ (table : Table) (word : List ℕ) (at : ℕ) (call : CallLine) (first :
       by None = refl
       by (Some group) = ap (λ (o : Option ℕ). option_map_or (λ place. has_member place group) o false) first.first
 
-  -- a word that names a call
+  -- the word names a call
   pub covers_first : None ≡ behind_at word → covers table word call.name ≡ is_first (every_call table) word at
   unfolding covers
   covers_first behind = ap (covers_by table word call.name) (sym behind) ∙ by (bytes_eq word call.name) refl
@@ -105,7 +105,7 @@ module _ (table : Table) (word : List ℕ) (at : ℕ) (call : CallLine) (first :
           ∙ ap (λ (o : Option ℕ). option_map_or (λ place. place == at) o false) first.first ∙ itself_at)
       by false e = other e (place_named word (every_call table)) refl
 
--- one word behind the others
+-- one word after the others
 module _ (table : Table) (says : Mention → Option Action) where
   found_last : (p : Mention → Bool) (mention : Mention) (found : Option Mention)
       → with_said (p mention) (says mention) (option_map says found) ≡ option_map says (cond (p mention) (Some mention) found)
@@ -136,7 +136,7 @@ module _ (table : Table) (says : Mention → Option Action) where
       → AreMarks table says (take i mentions) marks → AreMarks table says mentions marks
   all_words mentions i marks le are = subst (λ list. AreMarks table says list marks) (take_all i mentions le) are
 
--- the same of what was read by other words
+-- the same for equal words
 pub same_said : (table : Table) (word name : List ℕ) (what one : Option Action) (old new : List Mark) → word ≡ name → what ≡ one
     → SaidBy table word what old new → SaidBy table name one old new
 same_said table word name what one old new named said is =
@@ -200,7 +200,7 @@ module _ (table : Table) (default : Action) (list : CallList) (marks : List Mark
       ∙ ap (λ n. option_map (said list.mode default) (last_mention table list.mentions n)) (sym same))
       ∙ unmarked (last_mention table list.mentions name)
 
--- what is chosen or done by the action that was found
+-- the result of the action that was found
 module _ {X Y : Type 0} (f : X → Y) (o : Option X) where
   pub chosen : {Z : Type 0} (g : Y → Z) (y : Y) → Some y ≡ option_map f o → Some (g y) ≡ option_map (λ x. g (f x)) o
   chosen g y is = by o is

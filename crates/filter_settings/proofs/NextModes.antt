@@ -1,4 +1,4 @@
--- The mode of a list with one more value.
+-- The mode of a list after one more value.
 use Rattle.std.proofs.Common.{◌≡◌, ℕ, ◌+◌, ◌<◌, Bool, true, false, cond, Option, Some, None, List, [], ◌∷◌, ◌++◌, length, take, get_or, refl, ap}
 use Rattle.std.proofs.Common.{◌∙◌, sym, append_assoc}
 use Rattle.std.specs.Prelude.{unwrap_or}
@@ -27,7 +27,7 @@ mode_next all i one lt is =
     ∙ ap list_mode (after_last-push is_reset (take i all) one)
     ∙ mode_cond (is_reset one) (in_force (take i all)) one
 
--- what is noted, with one more value
+-- the notes after one more value
 pub notes_next : (systemd : Option Version) (table : Table) (all : List Listed) (i : ℕ) (one : Listed) (old now next : List FileNote) → i < length all
     → one ≡ get_or all i one → now ≡ old ++ call_notes systemd table (take i all)
     → next ≡ now ++ line_notes systemd table (mode_behind (take i all) one) one → next ≡ old ++ call_notes systemd table (take (i + 1) all)

@@ -1,4 +1,4 @@
--- The calls of a table by their positions, which ascend by number, are its calls in that order.
+-- The calls of a table at their positions in ascending order of numbers are its calls in that order.
 use Rattle.std.proofs.Common.{◌≡◌, ℕ, ◌+◌, ◌<◌, List, [], ◌∷◌, ◌++◌, length, map, get_or, refl, sym, ap, ◌∙◌, subst, arith, append_assoc}
 use Rattle.std.proofs.Common.{length-append, None}
 use Rattle.std.specs.List.{All, AllByRecursion, enumerate_from}
@@ -11,7 +11,7 @@ use Rattle.call_table.specs.declared.by_number.Numbered.{Numbered}
 use Rattle.call_table.specs.ByNumber.{numbered_at, numbered_lines, AscendsByNumber}
 use Rattle.filter_settings.specs.filter_rules.Order.{Ascends}
 
--- what stands in for a call behind the last one
+-- a stand-in for a call after the last one
 abbrev pub no_line : ℕ → CallLine
 no_line number = record { name = []; number = number; cap = None; abi = 0 }
 
@@ -22,7 +22,7 @@ line_at calls numbered = get_or calls numbered.position (no_line numbered.number
 abbrev pub numbered_from : ℕ → List CallLine → List Numbered
 numbered_from n lines = map numbered_at (enumerate_from n lines)
 
--- the position is that of the line behind those before it
+-- the position is the position of the line after the lines before it
 at_seam : (before lines : List CallLine) (line : CallLine) (n : ℕ) (other : CallLine) → n ≡ length before
     → get_or (before ++ line ∷ lines) n other ≡ line
 at_seam before lines line n other e = ap (λ k. get_or (before ++ line ∷ lines) k other) e ∙ get_or-append_seam before line lines other
@@ -39,7 +39,7 @@ lines_at calls before (line ∷ lines) n e m =
     let rest : map (line_at calls) (numbered_from (n + 1) lines) ≡ lines = lines_at calls (before ++ line ∷ []) lines (n + 1) (e ∙ sym (append_assoc before (line ∷ []) lines)) (one_longer before line n m) in
     ap (λ l. l ∷ map (line_at calls) (numbered_from (n + 1) lines)) head ∙ ap (λ ls. line ∷ ls) rest
 
--- each number is that of the line at its position
+-- each number is the number of the line at its position
 abbrev pub IsPlaced : List CallLine → Numbered → Type 0
 IsPlaced calls numbered = (line_at calls numbered).number ≡ numbered.number
 

@@ -1,4 +1,4 @@
--- RestrictNamespaces= with one more value.
+-- RestrictNamespaces= after one more value.
 use Rattle.std.proofs.Common.{◌≡◌, ℕ, ◌+◌, ◌<◌, Bool, true, false, cond, List, [], ◌∷◌, ◌++◌, length, take, get_or, refl, ap, ◌∙◌, append-nil}
 use Rattle.std.specs.Prelude.{◌||◌, ◌&&◌, not, unwrap_or, filter, Option}
 use Rattle.std.specs.List.{filter_map, list_any}
@@ -16,7 +16,7 @@ use Rattle.filter_settings.specs.Lines.{in_force}
 use Rattle.filter_settings.specs.Namespaces.{begins, counts, is_begun, says_of, is_permitted, types_by, namespaces_of}
 use Rattle.filter_settings.specs.Steps.{next_types, types_behind, next_begun, begun_behind}
 
--- the same type by type
+-- the same types, type by type
 types_same : (f g : NamespaceType → Bool) → ((kind : NamespaceType) → f kind ≡ g kind) → types_by f ≡ types_by g
 types_same f g h =
     let a = h Cgroup in
@@ -46,7 +46,7 @@ module _ (systemd : Option Version) where
       ap (λ o. unwrap_or o true) (last_more (says_of systemd kind) all one)
       ∙ unwrap_later (says_of systemd kind (all, one)) (last_of (filter_map (says_of systemd kind) (with_before [] all))) true
 
-  -- one more value, which may count for nothing
+  -- one more value, which may be ignored
   abbrev counted : List Listed → List Listed
   counted all = filter (counts systemd) all
 

@@ -1,4 +1,4 @@
--- Suffixes and default actions refuse.
+-- Suffixes and default actions are refusals.
 use Rattle.std.proofs.Common.{◌≤◌, ℕ, Bool, true, false, cond, Option, Some, None, List, [], ◌∷◌, codes}
 use Rattle.std.specs.Prelude.{◌||◌, is_some, option_and_then}
 use Rattle.std.specs.Option.{option_map, IfSome}

@@ -16,14 +16,14 @@ use Rattle.filter_settings.specs.filter_rules.Installed.{place_of, is_installed,
 use Rattle.filter_settings.specs.filter_rules.Rules.{AreRulesOf}
 use Rattle.call_table.specs.Table.{Abi, Table}
 
--- the most that a filter of this name takes
+-- the most room that a filter of this name takes
 abbrev most_taken : FilterName → ℕ
 most_taken name = 16 + 5 * (most_costs name).calls + 2 * (most_costs name).cases + 4 * (most_costs name).tests + 4
 
 one_fits : (made : Filter) → KeepsWithin (most_costs made.name) made.rules → most_insns made.rules + 4 ≤ most_taken made.name
 one_fits made within = omega (arith, within.calls, within.cases, within.tests)
 
--- and so does its program for an ABI
+-- the most room that its program for an ABI takes
 abbrev taken_at : Place → ℕ
 taken_at place = most_taken place.0
 
@@ -42,7 +42,7 @@ all_fit (made ∷ filters) within =
 those_on : (test : Place → Bool) (places : List Place) → sum_by taken_at (filter test places) ≤ sum_by taken_at places
 those_on test places = omega (arith, sum_by-filter_both test (λ place. not (test place)) (λ place. refl) taken_at places)
 
--- the programs of one ABI take at most 11,889 together, those of two and what ends the calls of the second at most 23,798
+-- the programs of one ABI take at most 11,889 together; the programs of two ABIs, with the one that ends the second, at most 23,798
 all_few : (second : Option Abi) → sum_by taken_at (all_programs second) ≤ 23798
 all_few None = omega arith
 all_few (Some second) = omega arith
@@ -61,7 +61,7 @@ within_costs settings table (Ok filters) rules = All-weaker (λ made. AreRulesOf
     (λ made. KeepsWithin (most_costs made.name) made.rules) (λ made h. h.within) filters.items rules
 within_costs settings table (Err error) rules = rules
 
--- the same of an answer
+-- the same for an answer
 pub answer_fits : {E : Type 0} (settings : FilterSettings) (table : Table) (all : List Place) → all ≡ all_programs table.second
     → (result : Result (Vec Filter Global) E) → IfOk result (λ filters. map place_of filters.items ≡ filter (is_installed settings) all)
     → IfOk result (λ filters. All (λ made. KeepsWithin (most_costs made.name) made.rules) filters.items)

@@ -1,4 +1,4 @@
--- The rules of each filter do what is wanted, and are small.
+-- The rules of each filter do what the settings say, and are small.
 use Rattle.std.proofs.Common.{◌≡◌, ℕ, ◌*◌, ◌≤◌, false, Option, Some, None, List, [], ◌∷◌, length, refl, sym, ap, ◌∙◌, arith, subst, codes}
 use Rattle.std.specs.Prelude.{◌||◌, cond, eqb}
 use Rattle.std.specs.Option.{option_map_or}
@@ -50,7 +50,7 @@ bytes_swap xs ys = same_from_decides (bytes_eq xs ys) (bytes_eq ys xs) (bytes_eq
 abbrev pub set_of : FilterName → FilterSettings → Table → ℕ → List CallLine → RuleSet
 set_of filter settings table abi ordered = record { arch = arch_of table abi; calls = rules_of (choice_of filter settings table) ordered; rest = unnamed_action filter settings; other = other_action table.second }
 
--- so many calls, cases for each and tests for each of these
+-- at most this number of calls, of cases for each call and of tests for each case
 made : (filter : FilterName) (settings : FilterSettings) (table : Table) (abi : ℕ) (ordered : List CallLine) (calls cases tests : ℕ)
     → Ascends (calls_in table abi) ordered →
     ((name : List ℕ) (input : CallData) → option_map_or (choice_action input) (choice_of filter settings table name)
@@ -78,13 +78,13 @@ made filter settings table abi ordered calls cases tests a means small few most_
       short = all_rules HasShortCases cases tests choose small (short_cases cases tests) ordered;
     }
 
--- a second ABI that is refused has no rule for any call
+-- the filter that refuses the second ABI has no rule for any call
 no_rules : (settings : FilterSettings) (table : Table) (ordered : List CallLine)
     → length (rules_of (choice_of Archs settings table) ordered) ≤ 0
 no_rules settings table [] = omega arith
 no_rules settings table (call ∷ ordered) = no_rules settings table ordered
 
--- a word that is no group covers the call that it names
+-- a word that is not a group covers the call that it names
 covers_itself : (table : Table) (byte : ℕ) (rest name : List ℕ) → eqb byte 64 ≡ false
     → covers table (byte ∷ rest) name ≡ bytes_eq name (byte ∷ rest)
 unfolding covers

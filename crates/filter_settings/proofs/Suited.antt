@@ -1,4 +1,4 @@
--- What is chosen for names suits a filter: it does what is wanted, is small, and only few names have a rule.
+-- The choices for names suit a filter: they do what the settings say, they are small, and only few names have a rule.
 use Rattle.std.proofs.Common.{◌≡◌, ℕ, ◌+◌, ◌*◌, ◌≤◌, Option, Some, None, List, [], ◌∷◌, length, map, refl, sym, arith, subst, inl, inr}
 use Rattle.std.specs.Prelude.{◌⊎◌}
 use Rattle.std.specs.Option.{option_map, option_to_list, IfSome}
@@ -17,14 +17,14 @@ use Rattle.call_rules.specs.Sizes.{HaveFewTests}
 use Rattle.filter_settings.specs.filter_rules.Costs.{HasShortCases, AreWhole}
 use Rattle.filter_settings.proofs.Walked.{rules_of}
 
--- all tests are of the whole of one argument
+-- all tests compare the whole of the same argument
 pub record IsWhole (choice : Choice) : Type 0 where
   pub alone : choice.given ≡ None
   pub at : ℕ
   pub values : List ℕ
   pub are : choice.any ≡ map (whole at) values
 
--- so many cases at most, each with so many tests at most
+-- the choice has at most this number of cases, and each case at most this number of tests
 pub record IsSmall (cases tests : ℕ) (choice : Choice) : Type 0 where
   pub cases_fit : length choice.any ≤ cases
   pub tests_fit : length (option_to_list choice.given) + 1 ≤ tests
@@ -33,7 +33,7 @@ pub record IsSmall (cases tests : ℕ) (choice : Choice) : Type 0 where
 abbrev pub AreSmall : ℕ → ℕ → (List ℕ → Option Choice) → Type 0
 AreSmall cases tests choose = (name : List ℕ) → IfSome (choose name) (IsSmall cases tests)
 
--- what holds of the rule of each small choice holds of all rules
+-- if the rule of each small choice has a property, all rules have it
 each : (P : CallRule → Type 0) (cases tests : ℕ) (choose : List ℕ → Option Choice) → AreSmall cases tests choose
     → ((number : ℕ) (choice : Choice) → IsSmall cases tests choice → P (rule_with number choice)) →
     (calls : List CallLine) → AllByRecursion P (rules_of choose calls)
@@ -50,7 +50,7 @@ pub all_rules : (P : CallRule → Type 0) (cases tests : ℕ) (choose : List ℕ
     (calls : List CallLine) → All P (rules_of choose calls)
 all_rules P cases tests choose small h calls = All-from_recursion P (rules_of choose calls) (each P cases tests choose small h calls)
 
--- how many tests a case has
+-- the number of tests of a case
 length_case : (given : Option Tested) (action : Action) (test : Tested)
     → length ((case_with given action test).tests) ≡ length (option_to_list given) + 1
 length_case None action test = refl
@@ -71,7 +71,7 @@ pub few_tests : (cases tests : ℕ) → tests ≤ 2 → (number : ℕ) (choice :
     → HaveFewTests ((rule_with number choice).cases)
 few_tests cases tests two number choice s = cases_few 2 number choice (omega (arith, s.tests_fit))
 
--- the cases of a rule, and the tests of all its cases
+-- the numbers of cases of a rule, and of tests over all its cases
 pub case_bound : (cases tests : ℕ) (number : ℕ) (choice : Choice) → IsSmall cases tests choice
     → length ((rule_with number choice).cases) ≤ cases
 case_bound cases tests number choice s = subst (λ n. n ≤ cases)

@@ -1,4 +1,4 @@
--- RestrictAddressFamilies=: the rules do what is wanted.
+-- RestrictAddressFamilies=: the rules do what the setting says.
 use Rattle.std.proofs.Common.{◌≡◌, ℕ, ◌≤◌, Bool, true, false, cond, eqb, Option, Some, None, List, [], ◌∷◌, length, map, find, reverse}
 use Rattle.std.proofs.Common.{refl, sym, ap, ◌∙◌, arith, inr, codes, subst}
 use Rattle.std.specs.Prelude.{◌||◌, ◌&&◌, ◌==◌, not, filter, is_some, if◌then◌else◌, option_and_then}
@@ -55,7 +55,7 @@ known_of table number (mention ∷ mentions) h some =
           λ e some. known_of table number mentions h.1 some
     ] refl some
 
--- a listed family is one of the table
+-- the table has each listed family
 listed_known : (table : Table) (mentions : List FamilyMention) (number : ℕ) → All (IsKnown table) mentions
     → (is_listed_family mentions number && list_any (has_number number) table.families) ≡ is_listed_family mentions number
 listed_known table mentions number h =
@@ -78,7 +78,7 @@ any_agree : {X : Type 0} (test other : X → Bool) (xs : List X) → ((x : X) �
 any_agree test other [] h = refl
 any_agree test other (x ∷ xs) h = ap (λ b. b || list_any test xs) (h x) ∙ ap (λ b. other x || b) (any_agree test other xs h)
 
--- some test holds exactly where the family is listed
+-- some test holds exactly if the family is listed
 some_family : (table : Table) (mentions : List FamilyMention) (input : CallData) → All (IsKnown table) mentions
     → list_any (test_holds input) (family_tests mentions table.families) ≡ is_listed_family mentions (low input 0)
 some_family table mentions input h =

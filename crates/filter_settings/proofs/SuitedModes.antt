@@ -1,4 +1,4 @@
--- RestrictSUIDSGID=: the rules do what is wanted.
+-- RestrictSUIDSGID=: the rules do what the setting says.
 use Rattle.std.proofs.Common.{◌≡◌, ℕ, Bool, true, false, Option, Some, None, List, [], ◌∷◌, ◌++◌, length, refl, sym, ap, ◌∙◌, arith, inl, codes}
 use Rattle.std.specs.Prelude.{◌||◌, ◌&&◌, is_some, if◌then◌else◌}
 use Rattle.std.specs.Option.{option_map_or, option_map, IfSome}
@@ -42,7 +42,7 @@ suid_small name = one (flags_argument name) (mode_argument name)
     one None (Some at) = record { cases_fit = omega arith; tests_fit = omega arith; short = inl (omega arith) }
     one (Some other) (Some at) = record { cases_fit = omega arith; tests_fit = omega arith; short = inl (omega arith) }
 
--- with a version of systemd
+-- by the rules of a version of systemd
 module _ (input : CallData) where
   later_by : (openat2 fchmodat2 refuses : Bool) (choice : Option Choice) → (fchmodat2 ≡ true → refuses ≡ false)
       → option_map_or (choice_action input) choice Allow ≡ unless_refused eperm refuses
@@ -54,7 +54,7 @@ module _ (input : CallData) where
       by_arguments input None (Some 2) ∙ ap (λ b. unless_refused eperm (b || sets_id_bit (low input 2))) (sym (free refl))
   later_by false false refuses choice free means = means ∙ ap (unless_refused eperm) (sym (or_false refuses))
 
--- fchmodat2(2) is none of the calls with a mode that are looked at without a version
+-- without a version the rules do not look at fchmodat2(2)
 not_moded : (name : List ℕ) (input : CallData) → bytes_eq name (codes "fchmodat2") ≡ true → refuses_mode name input ≡ false
 not_moded name input is = ap (λ own. refuses_mode own input) ((bytes_eq-Decides name (codes "fchmodat2")).0 is)
 

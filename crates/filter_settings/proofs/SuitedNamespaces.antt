@@ -1,4 +1,4 @@
--- RestrictNamespaces=: the rules do what is wanted.
+-- RestrictNamespaces=: the rules do what the setting says.
 use Rattle.std.proofs.Common.{◌≡◌, ℕ, ◌+◌, ◌≤◌, Bool, true, false, cond, Option, Some, None, List, [], ◌∷◌, ◌++◌, length, map, refl, sym, ap, ◌∙◌}
 use Rattle.std.proofs.Common.{arith, inl, codes}
 use Rattle.std.specs.Prelude.{◌||◌, ◌&&◌, ◌==◌, not, filter, is_some, if◌then◌else◌}
@@ -44,7 +44,7 @@ some_test types name input at =
 abbrev argument_by : Bool → Bool → Option ℕ
 argument_by one other = if one then Some 0 else if other then Some 1 else None
 
--- where no argument has the flags, it is not setns(2)
+-- a call without an argument for the flags is not setns(2)
 none_enters : (one other : Bool) (zero_type : Bool) → argument_by one other ≡ None → ((other && zero_type) || false) ≡ false
 none_enters true other zero_type e = cc
 none_enters false true zero_type e = cc
@@ -86,7 +86,7 @@ namespaces_small types name = one (types_argument name)
     one None = tt
     one (Some at) = record { cases_fit = few_tests types name at; tests_fit = omega arith; short = inl (few_tests types name at) }
 
--- with a version of systemd
+-- by the rules of a version of systemd
 time_test : (input : CallData) (clone : Bool) → list_any (test_holds input) (if clone then bits 0 clone_newtime ∷ [] else [])
     ≡ (clone && has_bits (low input 0) clone_newtime)
 time_test input true = or_false (test_holds input (bits 0 clone_newtime))
@@ -100,7 +100,7 @@ some_test_in types name input at =
     ∙ ap (λ b. b || list_any (test_holds input) (time_tests name)) (some_test types name input at)
     ∙ ap (λ b. (enters_any name input || has_forbidden types (low input at)) || b) (time_test input (bytes_eq name (codes "clone")))
 
--- where no argument has the flags, it is not clone(2) either
+-- a call without an argument for the flags is not clone(2) either
 none_makes : (unshare clone other zero_type time : Bool) → argument_by (unshare || (clone || false)) other ≡ None
     → (((other && zero_type) || false) || (clone && time)) ≡ false
 none_makes true clone other zero_type time e = cc
@@ -161,7 +161,7 @@ pub length_namespaces_names : length namespaces_names ≡ 4
 unfolding namespaces_names
 length_namespaces_names = refl
 
--- a choice by the argument that has the flags
+-- a choice by the argument with the flags
 among_by : (make : ℕ → Choice) (later a b c : Bool)
     → is_some (option_map make (if a || (b || false) then Some 0 else if c then Some 1 else None)) ≡ true
     → (later || (a || (b || (c || false)))) ≡ true

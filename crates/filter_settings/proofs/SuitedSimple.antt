@@ -1,4 +1,4 @@
--- MemoryDenyWriteExecute=, RestrictRealtime=, LockPersonality=, blocked calls and SystemCallFilter=: the rules do what is wanted.
+-- MemoryDenyWriteExecute=, RestrictRealtime=, LockPersonality=, blocked calls and SystemCallFilter=: the rules do what the settings say.
 use Rattle.std.proofs.Common.{◌≡◌, ℕ, Bool, true, false, cond, Option, Some, None, List, [], ◌∷◌, length, map, refl, sym, ap, ◌∙◌, arith}
 use Rattle.std.proofs.Common.{inl, codes}
 use Rattle.std.specs.Prelude.{◌||◌, ◌&&◌, not, ◌==◌, is_some, if◌then◌else◌}
@@ -29,7 +29,7 @@ use Rattle.filter_settings.proofs.LowWords.{or_false, some_whole}
 use Rattle.filter_settings.proofs.Suited.{IsSmall, AreSmall}
 use Rattle.filter_settings.proofs.Counted.{AreAmong}
 
--- memory that may be executed
+-- executable memory
 
 by_bits : (input : CallData) (a b c : Bool) →
     option_map_or (choice_action input)
@@ -74,7 +74,7 @@ pub length_mapping_names : length mapping_names ≡ 4
 unfolding mapping_names
 length_mapping_names = refl
 
--- one call with one list of values that are allowed
+-- one call with one list of allowed values
 
 allowed : (input : CallData) (at : ℕ) (values : List ℕ) (named : Bool) →
     option_map_or (choice_action input) (if named then Some (allowed_where (map (whole at) values)) else None) Allow

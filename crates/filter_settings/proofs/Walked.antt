@@ -29,14 +29,14 @@ numbers calls = map (λ call. call.number) calls
 abbrev pub rule_numbers : List CallRule → List ℕ
 rule_numbers rules = map (λ rule. rule.number) rules
 
--- the rule of a call, by what is chosen for its name
+-- the rule of a call, by the choice for its name
 abbrev pub rule_at : (List ℕ → Option Choice) → CallLine → Option CallRule
 rule_at choose call = option_map (rule_with call.number) (choose call.name)
 
 abbrev pub rules_of : (List ℕ → Option Choice) → List CallLine → List CallRule
 rules_of choose calls = filter_map (rule_at choose) calls
 
--- what holds of all numbers holds of those with a rule
+-- if all numbers have a property, so have the numbers with a rule
 kept : (P : ℕ → Type 0) (choose : List ℕ → Option Choice) (calls : List CallLine) → AllByRecursion P (numbers calls)
     → AllByRecursion P (rule_numbers (rules_of choose calls))
 kept P choose [] h = tt
@@ -108,7 +108,7 @@ found n choose (call ∷ calls) h =
     ]
     refl
 
--- each of these calls is what its number finds among them
+-- each of these calls is the one that its number finds among them
 abbrev IsFoundIn : List CallLine → CallLine → Type 0
 IsFoundIn calls call = find (has_number call.number) calls ≡ Some call
 
@@ -135,7 +135,7 @@ each_found [] h = tt
 each_found (call ∷ calls) h =
     (ap (λ t. cond t (Some call) (find (has_number call.number) calls)) (eq-eqb call.number call.number refl), behind_another call calls calls h.0 (each_found calls h.1))
 
--- what is found is of the list, and passes the test
+-- a call that is found is in the list, and passes the test
 found_of : (P : CallLine → Type 0) (p : CallLine → Bool) (calls : List CallLine) (call : CallLine) → AllByRecursion P calls
     → find p calls ≡ Some call → P call
 found_of P p [] call h e = cc
@@ -177,7 +177,7 @@ same_found calls ordered n h =
     ]
     refl
 
--- a rule that is made for a name does what is wanted of the name
+-- a rule that is made for a name does what the setting says of the name
 by_name : (input : CallData) (choose : List ℕ → Option Choice) (wanted : List ℕ → Action) (rest : Action)
     → ((name : List ℕ) → option_map_or (choice_action input) (choose name) rest ≡ wanted name) → (o : Option CallLine) →
     option_map_or (rule_action input) (option_and_then (rule_at choose) o) rest ≡ option_map_or (λ call. wanted call.name) o rest

@@ -1,4 +1,4 @@
--- systemd.exec(5), SystemCallArchitectures=: which ABIs are permitted.
+-- systemd.exec(5), SystemCallArchitectures=: the ABIs that are permitted.
 use Rattle.std.specs.Prelude.{ℕ, ◌&&◌, ◌||◌, not, Bool, false, is_some, if◌then◌else◌, Option, List, [], ◌∷◌, ◌++◌, flat_map, unwrap_or}
 use Rattle.std.specs.Prelude.{codes}
 use Rattle.std.specs.Option.{option_map_or}
@@ -20,11 +20,11 @@ use Rattle.call_table.specs.Table.{Table}
 abbrev pub is_second : Table → List ℕ → Bool
 is_second table word = option_map_or (λ second. bytes_eq word second.name) table.second false
 
--- `native`, and the name of an ABI of the table
+-- the word is `native` or the name of an ABI of the table
 abbrev pub is_abi_name : Table → List ℕ → Bool
 is_abi_name table word = bytes_eq word (codes "native") || (bytes_eq word table.name || is_second table word)
 
--- the words of a value, where it can be split
+-- the words of a value, if it can be split
 abbrev pub value_words : Value → Option (List (List ℕ))
 value_words value = words_if (words_of value.text)
 
@@ -45,6 +45,6 @@ word_notes table value word = notes_at value (word_causes table word)
 abbrev pub value_notes : Table → Value → List FileNote
 value_notes table value = flat_map (word_notes table value) (unwrap_or (value_words value) [])
 
--- what is noted: values that cannot be read, then names that the table lacks
+-- the notes name values that cannot be read, then names that the table lacks
 unfoldable pub unit_architectures_notes : Resolved → Table → List ℕ → List FileNote
 unit_architectures_notes unit table key = unit_words_notes unit key ++ flat_map (value_notes table) (values_of unit key)

@@ -1,4 +1,4 @@
--- systemd.exec(5), RestrictAddressFamilies=: which address families are listed.
+-- systemd.exec(5), RestrictAddressFamilies=: the list of address families.
 use Rattle.std.specs.Prelude.{ℕ, ◌&&◌, not, Bool, false, cond, if◌then◌else◌, Option, Some, None, List, [], ◌∷◌, ◌++◌, codes, flat_map, unwrap_or}
 use Rattle.std.specs.Prelude.{option_and_then}
 use Rattle.std.specs.Option.{option_map}
@@ -26,14 +26,14 @@ use Rattle.filter_settings.specs.filter_rules.Families.{denies_no_family}
 use Rattle.filter_settings.specs.Lines.{in_force}
 use Rattle.filter_settings.specs.Modes.{adds_to, list_mode}
 
--- a family that has a second name goes by the first one (socket(2), address_families(7), netlink(7))
+-- the first name of a family that has two names (socket(2), address_families(7), netlink(7))
 abbrev pub first_name : List ℕ → List ℕ
 first_name word =
     if is_one_of word (codes "AF_LOCAL" ∷ codes "AF_FILE" ∷ []) then codes "AF_UNIX"
     else if is_one_of word (codes "AF_ROUTE" ∷ []) then codes "AF_NETLINK"
     else word
 
--- second names are known with a version of systemd
+-- only a version of systemd knows second names
 abbrev pub family_name : Option Version → List ℕ → List ℕ
 family_name systemd word = if is_known systemd then first_name word else word
 
@@ -48,7 +48,7 @@ family_mention systemd table adds word = option_map (λ number. record { adds = 
 abbrev pub family_mentions : Option Version → Table → Mode → Line → List FamilyMention
 family_mentions systemd table mode line = filter_map (family_mention systemd table (adds_to mode line)) line.words
 
--- the word `none` alone on a line
+-- a line has just the word `none`
 abbrev pub is_none_word : List (List ℕ) → Bool
 is_none_word [] = false
 is_none_word (word ∷ []) = bytes_eq word (codes "none")
@@ -61,23 +61,23 @@ abbrev pub list_of : Option Version → Table → Mode → List Listed → Famil
 list_of systemd table mode lines =
     record { mode = mode; mentions = flat_map (λ one. family_mentions systemd table mode one.line) lines }
 
--- the first line fixes the mode, and the mentions of all lines stand in their order
+-- the first line fixes the mode, and the mentions of all lines follow in their order
 abbrev pub begun_by : Option Version → Table → List Listed → Option FamilyList
 begun_by systemd table lines = option_map (λ mode. list_of systemd table mode lines) (list_mode lines)
 
--- lines behind the last `none`, if there is one, are read by themselves
+-- if there is a line `none`, only the lines after the last one are read
 abbrev pub read_behind_none : (List Listed → FamilyList) → Option Version → Table → List Listed → Option FamilyList
 read_behind_none read systemd table lines = cond (list_any is_none_line lines) (Some (read (after_last is_none_line lines)))
     (begun_by systemd table lines)
 
--- behind the last `none`, if there is one, lines go on from a list that allows nothing
+-- the lines after the last `none`, if there is one, continue a list that allows nothing
 abbrev pub going_on : Table → List Listed → Option FamilyList
 going_on table lines = read_behind_none (list_of None table Allow) None table lines
 
 abbrev pub nothing_allowed : FamilyList
 nothing_allowed = record { mode = Allow; mentions = [] }
 
--- or the first of them begins a list of its own, and without one nothing is allowed
+-- in a version of systemd the first line after the last `none` begins a list of its own; without such a line nothing is allowed
 abbrev pub begun_anew : Option Version → Table → List Listed → Option FamilyList
 begun_anew systemd table lines = read_behind_none (λ behind. unwrap_or (begun_by systemd table behind) nothing_allowed) systemd table lines
 
@@ -98,17 +98,17 @@ family_causes (Some number) = []
 abbrev pub word_notes : Option Version → Table → Value → List ℕ → List FileNote
 word_notes systemd table value word = notes_at value (family_causes (family_number systemd table word))
 
--- `none` is no family; an empty value has no words
+-- the word `none` is not a family; an empty value has no words
 abbrev pub line_notes : Option Version → Table → Listed → List FileNote
 line_notes systemd table one = cond (is_none_line one) [] (flat_map (word_notes systemd table one.value) one.line.words)
 
 abbrev pub family_notes : Option Version → Table → List Listed → List FileNote
 family_notes systemd table all = flat_map (line_notes systemd table) all
 
--- what the files of a unit say of such a key
+-- the list that the files of a unit give to such a key
 unfoldable pub unit_family_list : Resolved → Table → List ℕ → Option FamilyList
 unit_family_list unit table key = family_list unit.systemd table (in_force (unit_listed unit key))
 
--- and what is noted: values that cannot be read, then words
+-- the notes name values that cannot be read, then words
 unfoldable pub unit_family_list_notes : Resolved → Table → List ℕ → List FileNote
 unit_family_list_notes unit table key = unit_listed_notes unit key ++ family_notes unit.systemd table (unit_listed unit key)

@@ -4,6 +4,6 @@ use Rattle.std.specs.List.{after_last}
 use Rattle.dropin_merge.specs.declared.unit_values.listed.Listed.{Listed}
 use Rattle.dropin_merge.specs.unit_values.Listed.{is_reset}
 
--- those behind the last empty value, which resets what was listed before it
+-- the lines after the last empty value, which resets the list
 abbrev pub in_force : List Listed → List Listed
 in_force all = after_last is_reset all

@@ -1,4 +1,4 @@
--- systemd.exec(5), RestrictNamespaces=: which types of namespaces are permitted (namespaces(7)).
+-- systemd.exec(5), RestrictNamespaces=: the types of namespaces that are permitted (namespaces(7)).
 use Rattle.std.specs.Prelude.{ℕ, ◌||◌, ◌&&◌, not, Bool, true, false, cond, if◌then◌else◌, is_some, Option, Some, None, List, [], ◌∷◌, ◌++◌, codes}
 use Rattle.std.specs.Prelude.{flat_map, unwrap_or, filter}
 use Rattle.std.specs.List.{filter_map, list_any, list_all}
@@ -21,48 +21,48 @@ use Rattle.filter_settings.specs.declared.filter_rules.namespace_types.Namespace
 use Rattle.filter_settings.specs.filter_rules.NamespaceTypes.{all_types, name_of}
 use Rattle.filter_settings.specs.Lines.{in_force}
 
--- a boolean is a value by itself
+-- the value as a boolean
 abbrev pub switch_of : Listed → Option Bool
 switch_of one = bool_value one.value.text
 
--- a list without `~`
+-- the value is a list without `~`
 abbrev pub is_plain : Listed → Bool
 is_plain one = not (is_some (switch_of one)) && not one.line.is_inverted
 
--- a value behind which a plain list adds its types: a plain list, and with a version of systemd any other value too
+-- a plain list after this value adds its types: after a plain list, and in a version of systemd after any other value too
 abbrev pub begins : Option Version → Listed → Bool
 begins None one = is_plain one
 begins (Some version) one = true
 
--- such a value stands before, and no empty value behind it
+-- such a value is among the values since the last empty one
 abbrev pub is_begun : Option Version → List Listed → Bool
 is_begun systemd before = list_any (begins systemd) (in_force before)
 
 abbrev pub has_word : List ℕ → Line → Bool
 has_word name line = list_any (λ word. bytes_eq word name) line.words
 
--- a plain list permits its types, and where it is the first it forbids all others; an inverted one forbids its types
+-- a plain list permits its types, and if it is the first it forbids all others; an inverted list forbids its types
 abbrev pub listed_type : Bool → Bool → Bool → Option Bool
 listed_type inverted is_later true = Some (not inverted)
 listed_type inverted is_later false = cond (inverted || is_later) None (Some false)
 
--- `yes` forbids a type, `no` permits it, and a list says it by its name
+-- `yes` forbids the type, `no` permits it, and a list decides by its name
 abbrev pub says_by : Option Bool → Bool → NamespaceType → Line → Option Bool
 says_by (Some on) is_later kind line = Some (not on)
 says_by None is_later kind line = listed_type line.is_inverted is_later (has_word (name_of kind) line)
 
--- what a value says of a type, by whether a plain list stands before it: an empty one permits it
+-- what a value says of a type; an empty value permits it. `is_later` says that a plain list adds its types
 abbrev pub says : Bool → NamespaceType → Listed → Option Bool
 says is_later kind one = cond (is_reset one) (Some true) (says_by (switch_of one) is_later kind one.line)
 
 abbrev pub says_of : Option Version → NamespaceType → List Listed × Listed → Option Bool
 says_of systemd kind place = says (is_begun systemd place.0) kind place.1
 
--- the last value that says something of a type decides; without one the type is permitted
+-- the last value that says something of the type decides; without such a value the type is permitted
 abbrev pub is_permitted : Option Version → List Listed → NamespaceType → Bool
 is_permitted systemd all kind = unwrap_or (last_of (filter_map (says_of systemd kind) (with_before [] all))) true
 
--- which types are permitted, type by type
+-- the types that are permitted
 abbrev pub types_by : (NamespaceType → Bool) → NamespaceTypes
 types_by permitted =
     record {
@@ -78,15 +78,15 @@ types_by permitted =
 abbrev pub is_type_name : List ℕ → Bool
 is_type_name word = list_any (λ kind. bytes_eq word (name_of kind)) all_types
 
--- `time` is a type too, of which no filter is made (time_namespaces(7))
+-- `time` is a type too, but no filter has a rule for it (time_namespaces(7))
 abbrev pub is_type_word : List ℕ → Bool
 is_type_word word = is_type_name word || bytes_eq word (codes "time")
 
--- a boolean, or a list of types
+-- the value is a boolean or a list of types
 abbrev pub is_valid : Listed → Bool
 is_valid one = is_some (switch_of one) || list_all is_type_word one.line.words
 
--- with a version of systemd a value with an unknown type counts for nothing
+-- a version of systemd ignores a value with an unknown type
 abbrev pub counts : Option Version → Listed → Bool
 counts None one = true
 counts (Some version) one = is_valid one
@@ -100,11 +100,11 @@ type_causes word = if is_type_name word then [] else ValueCause ∷ []
 abbrev pub word_notes : Value → List ℕ → List FileNote
 word_notes value word = notes_at value (type_causes word)
 
--- a word of a list that is no type is noted; an empty value has no words
+-- a word of a list that is not a type is noted; an empty value has no words
 abbrev pub list_notes : Listed → List FileNote
 list_notes one = cond (is_some (switch_of one)) [] (flat_map (word_notes one.value) one.line.words)
 
--- with a version of systemd the whole value is noted
+-- by the rules of a version of systemd the whole value is noted
 abbrev pub line_notes : Option Version → Listed → List FileNote
 line_notes None one = list_notes one
 line_notes (Some version) one = cond (is_valid one) [] (notes_at one.value (ValueCause ∷ []))
@@ -112,10 +112,10 @@ line_notes (Some version) one = cond (is_valid one) [] (notes_at one.value (Valu
 abbrev pub namespaces_notes : Option Version → List Listed → List FileNote
 namespaces_notes systemd all = flat_map (line_notes systemd) all
 
--- what the files of a unit say of such a key
+-- the types that the files of a unit permit by such a key
 unfoldable pub unit_namespaces : Resolved → List ℕ → NamespaceTypes
 unit_namespaces unit key = namespaces_of unit.systemd (unit_listed unit key)
 
--- and what is noted: values that cannot be read, then words
+-- the notes name values that cannot be read, then words
 unfoldable pub unit_namespaces_notes : Resolved → List ℕ → List FileNote
 unit_namespaces_notes unit key = unit_listed_notes unit key ++ namespaces_notes unit.systemd (unit_listed unit key)

@@ -1,4 +1,4 @@
--- What the keys of the system call filters say (systemd.exec(5)).
+-- The keys of the system call filters (systemd.exec(5)).
 use Rattle.std.specs.Prelude.{List, ◌++◌, codes}
 use Rattle.dropin_merge.specs.declared.resolved.Resolved.{Resolved}
 use Rattle.dropin_merge.specs.declared.unit_values.value.FileNote.{FileNote}
@@ -12,7 +12,7 @@ use Rattle.filter_settings.specs.CallLists.{unit_call_list, unit_call_list_notes
 use Rattle.filter_settings.specs.FamilyLists.{unit_family_list, unit_family_list_notes}
 use Rattle.filter_settings.specs.Namespaces.{unit_namespaces, unit_namespaces_notes}
 
--- what the boolean keys come to
+-- the values of the boolean keys
 abbrev pub flags_of : Resolved → Booleans
 flags_of unit =
     record {
@@ -27,7 +27,7 @@ flags_of unit =
       private_devices = unit_flag unit (codes "PrivateDevices");
     }
 
--- what the keys come to; the values of ProtectKernelTunables= are noted where its paths are read
+-- the settings; the values of ProtectKernelTunables= are noted with the keys of paths
 abbrev pub settings_of : Resolved → Table → FilterSettings
 settings_of unit table =
     record {
@@ -49,7 +49,7 @@ settings_of unit table =
       protect_kernel_tunables = unit_flag unit (codes "ProtectKernelTunables");
     }
 
--- what is noted of the boolean keys that restrict what a service does, and of those that protect the system from it
+-- the notes on the boolean keys that restrict the service, and on the boolean keys that protect the system from it
 unfoldable pub restriction_notes : Resolved → List FileNote
 restriction_notes unit =
     ((unit_flag_notes unit (codes "MemoryDenyWriteExecute") ++ unit_flag_notes unit (codes "RestrictRealtime"))
@@ -63,7 +63,7 @@ protection_notes unit =
     ++ unit_flag_notes unit (codes "ProtectClock"))
     ++ unit_flag_notes unit (codes "PrivateDevices")
 
--- of the keys that are actions or lists
+-- the notes on the keys that are actions or lists
 unfoldable pub list_notes : Resolved → Table → List FileNote
 list_notes unit table =
     (((unit_error_action_notes unit (codes "SystemCallErrorNumber") ++ unit_namespaces_notes unit (codes "RestrictNamespaces"))

@@ -1,4 +1,4 @@
--- What one more value does to what the values before it came to.
+-- The steps by which the values of a key are read: the result after one more value.
 use Rattle.std.specs.Prelude.{◌||◌, ◌&&◌, not, Bool, cond, Option, Some, None, unwrap_or}
 use Rattle.dropin_merge.specs.unit_names.declared.version.Version.{Version}
 use Rattle.dropin_merge.specs.declared.unit_values.listed.Listed.{Listed}
@@ -10,7 +10,7 @@ use Rattle.filter_settings.specs.filter_rules.NamespaceTypes.{permits}
 use Rattle.filter_settings.specs.Modes.{mode_of}
 use Rattle.filter_settings.specs.Namespaces.{begins, counts, says, types_by}
 
--- the mode of a list with one more value, which may begin it or end it
+-- the mode of a list after one more value, which may begin or end the list
 abbrev pub next_mode : Option Mode → Listed → Option Mode
 next_mode mode one = cond (is_reset one) None (Some (unwrap_or mode (mode_of one.line)))
 
@@ -20,11 +20,11 @@ next_type is_later one kind was = unwrap_or (says is_later kind one) was
 abbrev pub next_types : Bool → Listed → NamespaceTypes → NamespaceTypes
 next_types is_later one types = types_by (λ kind. next_type is_later one kind (permits types kind))
 
--- a value that counts for nothing leaves them as they are
+-- a value that is ignored leaves the types as they are
 abbrev pub types_behind : Option Version → Bool → Listed → NamespaceTypes → NamespaceTypes
 types_behind systemd is_later one types = cond (counts systemd one) (next_types is_later one types) types
 
--- whether a value that begins stands before the next one, and no empty value behind it
+-- a value that begins is among the values since the last empty one
 abbrev pub next_begun : Option Version → Bool → Listed → Bool
 next_begun systemd had one = not (is_reset one) && (had || begins systemd one)
 

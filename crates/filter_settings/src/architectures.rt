@@ -1,4 +1,4 @@
-//! SystemCallArchitectures=: which ABIs are permitted (systemd.exec(5)).
+//! Reads SystemCallArchitectures=, which permits ABIs (systemd.exec(5)).
 ghost use Rattle.std.specs.Prelude.{◌≡◌, ◌++◌, ◌&&◌, not, is_some, unwrap_or, IfOk, OnOk, flat_map};
 ghost use Rattle.std.specs.List.{list_any};
 ghost use Rattle.filter_settings.specs.Architectures.{is_second, is_abi_name, value_words, is_read, word_notes, value_notes, unit_refuses_second, unit_architectures_notes};
@@ -20,7 +20,7 @@ fn is_second(table: &CallTable, word: &str) -> bool
     }
 }
 
-// Returns whether an ABI of the table has this name, or it is `native`.
+// Returns whether the word is `native` or the name of an ABI of the table.
 fn is_abi_name(table: &CallTable, word: &str) -> bool
     ensures { result ≡ is_abi_name table.now word.now }
 {
@@ -89,7 +89,7 @@ fn note_all(
     Ok(())
 }
 
-// Returns whether a list of these values is in force, none of whose words names the second ABI.
+// Returns whether a list of these values is in force and none of its words names the second ABI.
 fn refuses_second(
     alloc: Global,
     table: &CallTable,
@@ -102,7 +102,8 @@ fn refuses_second(
     Ok(table.abis() == 2 && (is_set && !names_second(table, words)))
 }
 
-/// Returns whether the files of a unit refuse the second ABI of the table by such a key, with its notes.
+/// Returns whether the files of a unit refuse the second ABI of the table by a key such as SystemCallArchitectures=, with
+/// its notes.
 #[tactic(auto, unfolding(crate::specs::Architectures::unit_refuses_second, crate::specs::Architectures::unit_architectures_notes))]
 pub fn second_refused_by_key(
     alloc: Global,

@@ -1,4 +1,4 @@
-//! SystemCallFilter=: a list of calls and groups that is allowed, or denied (systemd.exec(5)).
+//! Reads SystemCallFilter=, which allows or denies a list of calls and groups (systemd.exec(5)).
 ghost use Rattle.std.specs.Prelude.{◌≡◌, Some, IfOk, option_and_then};
 ghost use Rattle.std.specs.Option.{option_map};
 ghost use Rattle.filter_settings.specs.CallLists.{implied, begun_by, unless_idle, write_mention, as_loaded, call_list, call_notes};
@@ -61,7 +61,7 @@ fn write_mention(alloc: Global, mode: Mode) -> Result<Mention, AllocError>
     })
 }
 
-// Returns the list as this systemd loads it.
+// Returns the list as this version of systemd loads it.
 fn as_loaded(
     alloc: Global,
     systemd: Option<Version>,
@@ -77,7 +77,7 @@ fn as_loaded(
     Ok(list)
 }
 
-// Returns the list as a systemd of some version loads it, unless it sets no filter.
+// Returns the list as this version of systemd loads it. None if it sets no filter.
 fn loaded(
     alloc: Global,
     version: Version,
@@ -116,7 +116,7 @@ impl KeyList for CallList {
 
     ghost notes_of = { call_notes };
 
-    // Notes each line by the mode of the list that it is added to.
+    // Notes each line by the mode of the list to which its words are added.
     fn read(
         alloc: Global,
         systemd: Option<Version>,

@@ -1,4 +1,4 @@
-//! What a word of SystemCallFilter= says (systemd.exec(5)).
+//! Reads the words of SystemCallFilter= (systemd.exec(5)).
 ghost use Rattle.std.specs.Prelude.{◌≡◌, ◌++◌, ◌∷◌, [], Some, is_some, if◌then◌else◌, IfOk, OnOk};
 ghost use Rattle.std.specs.Option.{option_map};
 ghost use Rattle.dropin_merge.specs.unit_grammar.declared.notes.NoteCause.TheVariants.{Value as ValueCause, UnknownName};
@@ -19,24 +19,24 @@ use std::alloc::{AllocError, Global};
 #[derive(Clone, Copy)]
 struct CallWord<'a> {
     name: &'a str,
-    // The action of its suffix.
+    // The action that its suffix names.
     action: Option<Action>,
-    // Whether it has a suffix that counts for nothing.
+    // Whether it has a suffix that is ignored.
     has_stray: bool,
 }
 
-/// What the suffix of a word is.
+/// Says how the suffix of a word is read.
 #[derive(Clone, Copy)]
 enum Suffix {
-    /// The action for the calls of the word.
+    /// It is the action for the calls of the word.
     IsAction,
-    /// Nothing: the word counts without it.
+    /// It is ignored.
     Dropped,
-    /// A reason not to read the word.
+    /// The word cannot be read with it.
     Refused,
 }
 
-// Only an added word of a list that denies may have a suffix.
+// Returns whether such a word may have a suffix. Only a word that is added to a list that denies may have one.
 fn may_have_suffix(mode: Mode, adds: bool) -> bool
     ensures { result ≡ may_have_suffix mode adds }
 {
@@ -46,7 +46,7 @@ fn may_have_suffix(mode: Mode, adds: bool) -> bool
     }
 }
 
-// Returns whether the word stands on a line with `~`.
+// Returns whether the word is on a line with `~`.
 fn is_inverted(mode: Mode, adds: bool) -> bool
     ensures { result ≡ is_inverted mode adds }
 {
@@ -85,7 +85,7 @@ fn read_suffixed<'a>(kind: Suffix, name: &'a str, suffix: &str) -> Option<CallWo
     }
 }
 
-// Reads a word, or returns None where it cannot be read.
+// Reads a word. None if it cannot be read.
 fn read_word(kind: Suffix, word: &str) -> Option<CallWord<'_>>
     ensures { option_map seen result ≡ word_of kind word.now }
 {
@@ -115,7 +115,7 @@ fn is_known(table: &CallTable, name: &str) -> bool
     }
 }
 
-// Makes the mention of a known name. A word with an action lists its calls by it.
+// Makes the mention of a known name. If the word has an action, the calls are listed with it.
 fn known_mention(
     alloc: Global,
     table: &CallTable,
@@ -165,7 +165,7 @@ impl ListMention for Mention {
 
     ghost causes_of = { word_causes };
 
-    // The mention, where the word can be read and the table has its name.
+    // Returns the mention, if the word can be read and the table has its name.
     fn read(
         alloc: Global,
         systemd: Option<Version>,
@@ -180,7 +180,7 @@ impl ListMention for Mention {
         }
     }
 
-    // Notes that the word cannot be read, or else a suffix that counts for nothing, and then a name that the table
+    // Notes that the word cannot be read. If it can be, notes a suffix that is ignored, and then a name that the table
     // lacks.
     fn note(
         systemd: Option<Version>,

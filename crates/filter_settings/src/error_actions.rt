@@ -1,4 +1,4 @@
-//! SystemCallErrorNumber=: what is done to a call that a filter refuses (systemd.exec(5)).
+//! Reads SystemCallErrorNumber=, the action on calls that a filter refuses (systemd.exec(5)).
 ghost use Rattle.std.specs.Prelude.{◌≡◌, IfOk};
 ghost use Rattle.filter_settings.specs.ErrorActions.{error_action, default_action, error_action_value, unit_error_action, unit_error_action_notes};
 
@@ -7,7 +7,7 @@ use dropin_merge::Resolved;
 use dropin_merge::unit_values::{KeyValue, Said, last_of_key};
 use std::alloc::{AllocError, Global};
 
-/// The action that a text asks for: `kill`, or the name or the number of an error.
+/// Returns the action that a text names: `kill`, or the name or the number of an error.
 #[tactic(auto, unfolding(crate::specs::ErrorActions::error_action))]
 pub fn error_action(text: &str) -> Option<Action>
     ensures named_action { result ≡ error_action text.now }
@@ -18,13 +18,13 @@ pub fn error_action(text: &str) -> Option<Action>
     Some(Action::Errno(errno_number(text)? as u16))
 }
 
-/// What a value of the key says.
+/// The value of the key.
 #[derive(Clone, Copy)]
 struct ErrorAction {
     action: Action,
 }
 
-// Returns what is said where no value is in force: the process is ended.
+// Returns the action if no value is in force: the process is ended.
 fn default_action() -> ErrorAction
     ensures { result ≡ default_action }
 {
@@ -46,7 +46,7 @@ impl KeyValue for ErrorAction {
     }
 }
 
-/// Returns what the files of a unit say of a key such as SystemCallErrorNumber, with its notes.
+/// Returns the action that the files of a unit give to a key such as SystemCallErrorNumber=, with its notes.
 pub fn error_action_of_key(
     alloc: Global,
     unit: &Resolved,

@@ -1,4 +1,4 @@
-//! RestrictAddressFamilies=: a list of address families that is allowed, or denied (systemd.exec(5)).
+//! Reads RestrictAddressFamilies=, which allows or denies a list of address families (systemd.exec(5)).
 ghost use Rattle.std.specs.Prelude.{◌≡◌, ◌++◌, None, Some, IfOk, OnOk, not};
 ghost use Rattle.std.specs.List.{after_last, list_any, suffix_len};
 ghost use Rattle.filter_settings.specs.FamilyLists.{first_name, family_name, family_number, is_none_word, is_none_line, list_of, begun_by, going_on, nothing_allowed, begun_anew, unless_idle, family_list, line_notes, family_notes};
@@ -48,7 +48,7 @@ fn is_none_word(words: &[Text]) -> bool
     }
 }
 
-// Returns whether a value is the word `none` alone.
+// Returns whether a value is just the word `none`.
 fn is_none_line(one: &Listed) -> bool
     ensures { result ≡ is_none_line one.now }
 {
@@ -133,7 +133,7 @@ fn list_of(
     })
 }
 
-// Returns the list that these lines make: the first fixes the mode.
+// Returns the list that these lines make. The first line fixes the mode.
 fn begun_by(
     alloc: Global,
     systemd: Option<Version>,
@@ -148,7 +148,7 @@ fn begun_by(
     }
 }
 
-// Behind the last `none` lines go on from a list that allows nothing.
+// Returns the list of these lines. The lines after the last `none` continue a list that allows nothing.
 fn going_on(
     alloc: Global,
     table: &CallTable,
@@ -162,7 +162,8 @@ fn going_on(
     Ok(Some(list_of(alloc, None, table, Mode::Allow, behind_none(lines))?))
 }
 
-// Behind the last `none` the first line begins a list of its own. Without one nothing is allowed.
+// Returns the list of these lines. The first line after the last `none` begins a list of its own. Without such a line
+// nothing is allowed.
 fn begun_anew(
     alloc: Global,
     systemd: Option<Version>,
@@ -183,7 +184,7 @@ fn begun_anew(
     }
 }
 
-// Returns the list, unless it sets no filter.
+// Returns the list. None if it sets no filter.
 fn unless_idle(table: &CallTable, list: FamilyList) -> Option<FamilyList>
     ensures { result ≡ unless_idle table.now list }
 {
@@ -212,7 +213,7 @@ fn family_list(
     }
 }
 
-// Notes the families of a line that the table lacks. `none` is no family.
+// Notes the families of a line that the table lacks. The word `none` is not a family.
 fn note_line(
     systemd: Option<Version>,
     table: &CallTable,

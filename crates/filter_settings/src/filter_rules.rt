@@ -1,12 +1,12 @@
-//! The filters that a unit's settings ask for, as rules by number.
+//! Turns the settings of a unit into filters, as rules by number.
 //!
-//! A setting speaks of the names of system calls, of address families and of types of namespaces; a filter
-//! tests numbers. [`filters`] makes for each setting that is on the rules that decide every call as the setting
-//! says (systemd.exec(5)). It stands on `call_table` for names and numbers, and on `call_rules` for what rules
-//! mean; the readers of unit files fill [`FilterSettings`].
+//! A setting has names of system calls, of address families and of types of namespaces; a filter tests numbers.
+//! [`filters`] makes the rules of each setting that is on. They decide every call as the setting says
+//! (systemd.exec(5)). `call_table` has the names and numbers, and `call_rules` says what rules
+//! mean. The readers of unit files fill [`FilterSettings`].
 //!
-//! `filters(alloc, &table, &settings)?` has one [`Filter`] for each setting that is on, in the order in which
-//! filters are installed. [`permits_family`], [`allows_call`] and [`allowed_calls`] say what two of the settings let through.
+//! `filters(alloc, &table, &settings)?` has one [`Filter`] for each setting that is on, in the order in which filters are
+//! installed. [`permits_family`], [`allows_call`] and [`allowed_calls`] say what two of the settings let through.
 
 mod blocked;
 mod calls;

@@ -1,4 +1,4 @@
-//! Keys whose lines make a list (systemd.exec(5), SystemCallFilter=).
+//! Reads keys whose lines make a list (systemd.exec(5), SystemCallFilter=).
 ghost use Rattle.std.specs.Prelude.{◌≡◌, ◌++◌, IfOk};
 ghost use Rattle.dropin_merge.specs.unit_values.Listed.{unit_listed, unit_listed_notes};
 ghost use Rattle.filter_settings.specs.Lines.{in_force};
@@ -17,13 +17,13 @@ pub trait KeyList: Drop {
     ghost use Rattle.call_table.specs.Table.{Table};
     ghost use Rattle.filter_settings.specs.Lines.{in_force};
 
-    /// The list of lines in force.
+    /// The list of these lines.
     ghost list_of: { Option Version → Table → List Listed → Option Self };
 
-    /// What is noted of the words of all lines.
+    /// The notes on the words of all lines.
     ghost notes_of: { Option Version → Table → List Listed → List FileNote };
 
-    /// The list of those of the lines that are in force, by the rules of this systemd. The words of all are noted.
+    /// Returns the list of the lines that are in force, by the rules of this systemd. It notes the words of all lines.
     fn read(
         alloc: Global,
         systemd: Option<Version>,
@@ -35,7 +35,7 @@ pub trait KeyList: Drop {
         ensures noted { OnOk result (notes.new.items ≡ notes.old.items ++ notes_of systemd table.now all.now) };
 }
 
-/// Returns what the files of a unit say of such a key, with its notes.
+/// Returns the list that the files of a unit give to such a key, with its notes.
 pub fn list_of_key<L: KeyList>(
     alloc: Global,
     unit: &Resolved,

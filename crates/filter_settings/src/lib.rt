@@ -1,7 +1,8 @@
 //! Reads the settings of a unit that ask for system call filters, and turns them into rules.
 //!
-//! `filter_settings(alloc, &unit, &table)?` has the settings that `filter_rules::filters` takes, and notes. The crate reads the
-//! values of each key in their order (systemd.exec(5)). It ignores what it cannot read or does not know, and notes it.
+//! `filter_settings(alloc, &unit, &table)?` has the settings that `filter_rules::filters` takes, and notes. The crate
+//! reads the values of each key in their order (systemd.exec(5)). It notes and ignores values that it cannot read and
+//! names that it does not know.
 //!
 //! - [`filter_rules`]: what the filters of settings mean, and their rules.
 #![tactic(auto)]

@@ -1,4 +1,4 @@
-//! The lines of a list that are in force.
+//! Finds the lines of a list that are in force.
 ghost use Rattle.std.specs.Prelude.{◌≡◌, not};
 ghost use Rattle.std.specs.List.{suffix_len};
 ghost use Rattle.dropin_merge.specs.unit_values.Listed.{is_reset};

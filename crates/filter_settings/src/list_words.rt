@@ -1,4 +1,4 @@
-//! Keys that are lists of words, which lines add to and take off (systemd.exec(5), SystemCallFilter=).
+//! Reads the words of lists, which lines add to and take off (systemd.exec(5), SystemCallFilter=).
 ghost use Rattle.std.specs.Prelude.{◌≡◌, ◌++◌, OnOk, flat_map};
 ghost use Rattle.std.specs.List.{filter_map};
 ghost use Rattle.dropin_merge.specs.unit_values.Notes.{notes_at};
@@ -11,7 +11,7 @@ use dropin_merge::Version;
 use dropin_merge::unit_values::{FileNote, Line, Listed, Value};
 use std::alloc::{AllocError, Global};
 
-/// What a word of a list speaks of.
+/// The meaning of a word of a list.
 pub trait ListMention: Drop {
     ghost use Rattle.std.specs.Prelude.{◌≡◌, ◌++◌, ℕ, Bool, Option, List, IfOk, OnOk};
     ghost use Rattle.dropin_merge.specs.unit_grammar.declared.notes.NoteCause.{NoteCause};
@@ -20,13 +20,13 @@ pub trait ListMention: Drop {
     ghost use Rattle.call_table.specs.Table.{Table};
     ghost use Rattle.filter_settings.specs.declared.filter_rules.mentions.Mode.{Mode};
 
-    /// What a word says that is added to a list of this mode, or taken off.
+    /// The meaning of a word that is added to a list of this mode, or taken off it.
     ghost mention_of: { Option Version → Table → Mode → Bool → List ℕ → Option Self };
 
-    /// What is wrong with the word.
+    /// The causes for which the word is noted.
     ghost causes_of: { Option Version → Table → Mode → Bool → List ℕ → List NoteCause };
 
-    /// Returns what a word says that is added to a list of this mode, or taken off.
+    /// Returns the meaning of a word that is added to a list of this mode, or taken off it.
     fn read(
         alloc: Global,
         systemd: Option<Version>,
@@ -37,7 +37,7 @@ pub trait ListMention: Drop {
     ) -> Result<Option<Self>, AllocError>
         ensures { IfOk result (λ mention. mention ≡ mention_of systemd table.now mode adds word.now) };
 
-    /// Notes what is wrong with the word.
+    /// Adds the notes on the word.
     fn note(
         systemd: Option<Version>,
         table: &CallTable,
@@ -70,7 +70,7 @@ fn add_line<M: ListMention>(
     Ok(())
 }
 
-/// Adds what the words of these lines say to a list of this mode.
+/// Adds the meanings of the words of these lines to a list of this mode.
 pub fn add_lines<M: ListMention>(
     alloc: Global,
     systemd: Option<Version>,
@@ -87,7 +87,7 @@ pub fn add_lines<M: ListMention>(
     Ok(())
 }
 
-/// Notes what is wrong with the words of a line of a list of this mode.
+/// Adds the notes on the words of a line of a list of this mode.
 pub fn note_words<M: ListMention>(
     systemd: Option<Version>,
     table: &CallTable,

@@ -1,4 +1,4 @@
-//! RestrictNamespaces=: which types of namespaces are permitted (systemd.exec(5), namespaces(7)).
+//! Reads RestrictNamespaces=, which permits types of namespaces (systemd.exec(5), namespaces(7)).
 ghost use Rattle.std.specs.Prelude.{◌≡◌, ◌++◌, IfOk, OnOk, flat_map};
 ghost use Rattle.filter_settings.specs.Namespaces.{switch_of, is_plain, begins, has_word, listed_type, says_by, says, is_type_name, is_type_word, is_valid, counts, word_notes, list_notes, line_notes, namespaces_of, namespaces_notes, unit_namespaces, unit_namespaces_notes};
 ghost use Rattle.std.specs.List.{list_all};
@@ -10,7 +10,7 @@ use dropin_merge::unit_values::{FileNote, Line, Listed, Said, Value, lines_of_ke
 use dropin_merge::{NoteCause, Resolved, Text, Version};
 use std::alloc::{AllocError, Global};
 
-// Reads a value that is a boolean: true permits no type, false permits all.
+// Reads a value that is a boolean: true permits no type, and false permits all.
 fn switch_of(one: &Listed) -> Option<bool>
     ensures { result ≡ switch_of one.now }
 {
@@ -24,7 +24,7 @@ fn is_plain(one: &Listed) -> bool
     switch_of(one).is_none() && !one.line.is_inverted
 }
 
-// Returns whether a plain list behind the value adds its types.
+// Returns whether a plain list after this value adds its types.
 fn begins(systemd: Option<Version>, one: &Listed) -> bool
     ensures { result ≡ begins systemd one.now }
 {
@@ -40,7 +40,7 @@ fn has_word(name: &str, line: &Line) -> bool
     line.words.list().iter().any(|word| word.as_str() == name)
 }
 
-// Returns what a list says of a type, by whether it has its name.
+// Returns what a list says of a type: permitted, forbidden, or nothing. `has_name` says if the list has its name.
 fn listed_type(is_inverted: bool, is_later: bool, has_name: bool) -> Option<bool>
     ensures { result ≡ listed_type is_inverted is_later has_name }
 {
@@ -62,7 +62,7 @@ fn says_by(switch: Option<bool>, is_later: bool, kind: NamespaceType, line: &Lin
     }
 }
 
-// Returns what a value says of a type. `is_later` says whether a plain list adds its types.
+// Returns what a value says of a type: permitted, forbidden, or nothing. `is_later` says if a plain list adds its types.
 fn says(is_later: bool, kind: NamespaceType, one: &Listed) -> Option<bool>
     ensures { result ≡ says is_later kind one.now }
 {
@@ -112,7 +112,7 @@ fn counts(systemd: Option<Version>, one: &Listed) -> bool
     }
 }
 
-// Returns the types that are permitted after one more value.
+// Returns the permitted types after one more value.
 fn next_types(is_later: bool, one: &Listed, types: NamespaceTypes) -> NamespaceTypes
     ensures { result ≡ next_types is_later one.now types }
 {
@@ -127,7 +127,7 @@ fn next_types(is_later: bool, one: &Listed, types: NamespaceTypes) -> NamespaceT
     }
 }
 
-// Returns the types that are permitted after one more value, which may count for nothing.
+// Returns the permitted types after one more value, which may be ignored.
 fn types_behind(
     systemd: Option<Version>,
     is_later: bool,
@@ -143,14 +143,14 @@ fn types_behind(
     }
 }
 
-// Returns whether a plain list after this value adds its types.
+// Returns whether a plain list after this value adds its types. `had` says it of the values before.
 fn next_begun(systemd: Option<Version>, had: bool, one: &Listed) -> bool
     ensures { result ≡ next_begun systemd had one.now }
 {
     !one.is_reset() && (had || begins(systemd, one))
 }
 
-// The same of a value that may count for nothing.
+// Returns the same for a value that may be ignored.
 fn begun_behind(systemd: Option<Version>, had: bool, one: &Listed) -> bool
     ensures { result ≡ begun_behind systemd had one.now }
 {
@@ -161,7 +161,7 @@ fn begun_behind(systemd: Option<Version>, had: bool, one: &Listed) -> bool
     }
 }
 
-/// All types are permitted.
+/// Permits all types.
 const ALL_PERMITTED: NamespaceTypes = NamespaceTypes {
     cgroup: true,
     ipc: true,
@@ -196,7 +196,7 @@ fn note_words(value: &Value, words: &[Text], notes: &mut Vec<FileNote>) -> Resul
     Ok(())
 }
 
-// Notes the words of a list that are no types.
+// Notes the words of a list that are not types.
 fn note_list(one: &Listed, notes: &mut Vec<FileNote>) -> Result<(), AllocError>
     ensures { OnOk result (notes.new.items ≡ notes.old.items ++ list_notes one.now) }
 {
@@ -206,7 +206,7 @@ fn note_list(one: &Listed, notes: &mut Vec<FileNote>) -> Result<(), AllocError>
     note_words(&one.value, one.line.words.list(), notes)
 }
 
-// Notes what is wrong with a value.
+// Adds the notes on a value.
 fn note_line(
     systemd: Option<Version>,
     one: &Listed,
@@ -221,7 +221,7 @@ fn note_line(
     }
 }
 
-// Notes what is wrong with the values.
+// Adds the notes on the values.
 fn note_all(
     systemd: Option<Version>,
     all: &[Listed],
@@ -235,7 +235,7 @@ fn note_all(
     Ok(())
 }
 
-/// Returns what the files of a unit say of a key such as RestrictNamespaces, with its notes.
+/// Returns the types that the files of a unit permit by a key such as RestrictNamespaces=, with its notes.
 #[tactic(auto, unfolding(crate::specs::Namespaces::unit_namespaces, crate::specs::Namespaces::unit_namespaces_notes))]
 pub fn namespaces_of_key(
     alloc: Global,

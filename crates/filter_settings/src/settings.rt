@@ -1,4 +1,4 @@
-//! What the keys of the system call filters say.
+//! Reads the keys of the system call filters.
 ghost use Rattle.std.specs.Prelude.{◌≡◌, ◌++◌, IfOk, OnOk};
 ghost use Rattle.dropin_merge.specs.unit_values.Flags.{unit_flag, unit_flag_notes};
 ghost use Rattle.filter_settings.specs.filter_rules.Known.{HasKnownFamilies};
@@ -96,11 +96,12 @@ fn read_settings(
     })
 }
 
-/// Returns what the files of a unit say of the keys of the system call filters (systemd.exec(5)): SystemCallFilter,
-/// SystemCallErrorNumber, SystemCallArchitectures, RestrictAddressFamilies, RestrictNamespaces, and the boolean keys that turn a filter on.
+/// Returns the settings of a unit for its system call filters (systemd.exec(5)). The keys are SystemCallFilter=,
+/// SystemCallErrorNumber=, SystemCallArchitectures=, RestrictAddressFamilies=, RestrictNamespaces=, and the boolean keys
+/// that turn a filter on.
 ///
-/// Calls, groups and families are looked up in the table. What cannot be read or is not known is passed over and
-/// noted, key by key; of one key first the values that cannot be expanded, then those that cannot be read, then words.
+/// Calls, groups and families are looked up in the table. Values that cannot be read and unknown words are ignored, and
+/// noted key by key. The notes of a key name values that cannot be expanded, then values that cannot be read, then words.
 pub fn filter_settings(
     alloc: Global,
     unit: &Resolved,
@@ -108,7 +109,7 @@ pub fn filter_settings(
 ) -> Result<Said<FilterSettings>, AllocError>
     ensures means { IfOk result (λ said. said.what ≡ settings_of unit.now table.now) }
     ensures noted { IfOk result (λ said. said.notes.items ≡ filter_notes unit.now table.now) }
-    // The numbers of the families that are listed are those of families of the table.
+    // The listed families are families of the table.
     ensures families_are_known { IfOk result (λ said. HasKnownFamilies table.now said.what) }
     // A refused call ends the process, or is answered with an error number (seccomp(2)).
     ensures refusals { IfOk result (λ said. AreRefusing said.what) }

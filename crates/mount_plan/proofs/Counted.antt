@@ -1,4 +1,4 @@
--- A plan has at most one entry more than there are mentions.
+-- A plan has at most one entry more than mentions.
 use Rattle.std.proofs.Common.{◌≡◌, ◌⊎◌, inl, inr, ◌+◌, ◌≤◌, Bool, true, false, cond, List, [], ◌∷◌, map, length, Ok, refl, sym, ◌∙◌, subst}
 use Rattle.std.proofs.Common.{arith}
 use Rattle.std.specs.List.{AllByRecursion}
@@ -38,7 +38,7 @@ each_one_of [] = tt
 each_one_of (first ∷ paths) =
     (inl refl, all_weaker (IsOneOf paths) (IsOneOf (first ∷ paths)) paths (λ path one. inr one) (each_one_of paths))
 
--- paths that come after the first are among the rest
+-- paths that follow the first are among the rest
 among_rest : (first : Path) (rest paths : List Path) → AllByRecursion (IsOneOf (first ∷ rest)) paths
     → AllByRecursion (λ path. is_before first path ≡ true) paths → AllByRecursion (IsOneOf rest) paths
 among_rest first rest [] h after = tt
@@ -57,7 +57,7 @@ has_of P (first ∷ paths) path h one = elim one [
   | inr later ↦ has_of P paths path h.1 later
 ]
 
--- of two lists in byte order, one that has all of the other is as long
+-- if one of two lists in byte order has all elements of the other, it is at least as long
 as_long : (paths some : List Path) → AreAscending some → AreAscending paths → AllByRecursion (IsOneOf paths) some
     → length some ≤ length paths
 as_long [] [] up down h = omega arith

@@ -1,4 +1,4 @@
--- On a table with one entry for each kept path, in byte order, each path belongs to an entry that has the view of that path.
+-- On a table with one entry for each kept path, in byte order, each path belongs to an entry with the view of that path.
 use Rattle.std.proofs.Common.{◌≡◌, Bool, true, List, [], ◌∷◌, Some, map, refl, sym, ap, ◌∙◌, subst}
 use Rattle.std.specs.List.{AllByRecursion, Contains}
 use Rattle.std.proofs.lemmas.List.Elements.{All-contains, All-from_recursion}
@@ -18,7 +18,7 @@ use Rattle.kern_mounts.proofs.Entries.{entry_is, entry_leads, has_entry, last_is
 use Rattle.mount_plan.specs.Plan.{what_of, flags_of, step_at}
 use Rattle.mount_plan.specs.AsView.{shown_by, Agrees}
 
--- a mount shows below its place what stands there, carried on
+-- a mount shows below its place the object of the place, followed by the rest
 shown_behind : (object : Object) (is_dir : Bool) (place path : Path)
     → shown_by (what_of object is_dir) place path ≡ object_behind object (rest_of place path)
 shown_behind (on_host source) is_dir place path = refl
@@ -42,7 +42,7 @@ agrees_below kept is_dir place path h = record {
       ∙ ap (flags_of (object_at kept place) (is_read_only kept place)) (same_no_exec kept place path h));
 }
 
--- each kept path is a place, so no kept mention stands between the longest place and the path
+-- each kept path is a place, so no kept mention lies between the longest place and the path
 none_between : (kept : List Mention) (places : List Path) (place path : Path)
     → AllByRecursion (λ mention. Contains places mention.path) kept →
     AllByRecursion (λ other. is_prefix other path ≡ true → is_prefix other place ≡ true) places → is_prefix place path ≡ true
@@ -65,7 +65,7 @@ each_own : (kept : List Mention) (is_dir : Path → Bool) (places : List Path)
 each_own kept is_dir [] = tt
 each_own kept is_dir (place ∷ places) = (refl, each_own kept is_dir places)
 
--- the entry that a path belongs to: it has the view of the path, and is the entry of its own place
+-- the entry of a path has the view of the path, and is the entry of its own place
 pub record EntryOf (kept : List Mention) (is_dir : Path → Bool) (table : List MountStep) (path : Path) : Type 0 where
   pub step : MountStep
   pub belongs : entry_of table path ≡ Some step

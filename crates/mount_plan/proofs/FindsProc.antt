@@ -31,7 +31,7 @@ use Rattle.kern_mounts.specs.Launch.{IsDirectory, IsHiddenDirectory, FindsProc}
 use Rattle.mount_plan.specs.Plan.{what_of, hides_dir, hides_dir_at, step_at, table_of}
 use Rattle.mount_plan.proofs.PlanLaws.{AreNormal, LeaveTheRoot, root_on_host, table_entry}
 
--- the path is found as a directory of the host or an empty one, or is the place of a hidden directory
+-- the path is found as a directory of the host or an empty one, or it is the place of a hidden directory
 abbrev ShowsDirectory : Host → Path → What → Path → Type 0
 ShowsDirectory row_at path (what.Host source) place = row_at (source ++ rest_of place path) ≡ Some true
 ShowsDirectory row_at path what.Empty place = place ≡ path
@@ -66,7 +66,7 @@ only_root mention h over = elim (above_proc mention.path (and_parts _ _ over).0)
   | inr same ↦ absurd (false≢true (sym (ap not (ap (λ (p : Path). is_same p proc) same)) ∙ (and_parts _ _ over).1))
 ]
 
--- nothing above /proc says what stands there
+-- no mention above /proc says which object is there
 beneath_proc : (row_at : Host) (kept : List Mention) → LeaveTheRoot kept → row_at proc ≡ Some true
     → beneath_at row_at kept proc ≡ beneath.Row true
 beneath_proc row_at kept free row = ap (λ o. beneath_by row_at (object_from o proc)) (longest_none is_origin (above proc kept)
@@ -92,7 +92,7 @@ shows_by row_at (Bind source read_only) front is_dir same says dir binds =
     ap (λ (p : Path). row_at ((source ++ rest_of p proc) ++ [])) same ∙ ap row_at (append-nil (source ++ []) ∙ append-nil source) ∙ binds
 shows_by row_at _ front is_dir same says dir binds = absurd (false≢true says)
 
--- the rules keep the mention, by the kept mentions themselves
+-- the rules keep the mention, if they look at all kept mentions
 abbrev pub IsKeptAtAll : Host → List Mention → List Mention → Mention → Type 0
 IsKeptAtAll row_at mentions kept mention =
     is_kept (fate_among row_at (beneath_at row_at kept mention.path) (unbeaten (at_path mention.path mentions)) mention) ≡ true
@@ -117,7 +117,7 @@ at_proc row_at mentions kept free row keeps = by (origin_of kept proc) refl
               kept_one.0))
         ]
 
--- what the entry shows is found
+-- the object that the entry shows is found
 shown_found : (row_at : Host) (table : List MountStep) (path : Path) (step : MountStep) → entry_of table path ≡ Some step
     → ShowsDirectory row_at path step.what step.place →
     IsDirectory (finds row_at table path) ⊎ IsHiddenDirectory table path

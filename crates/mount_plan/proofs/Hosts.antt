@@ -1,4 +1,4 @@
--- What holds of the paths at which a site has a row.
+-- Properties of the paths at which a site has a row.
 use Rattle.std.proofs.Common.{◌≡◌, ◌≤◌, Bool, true, [], ◌∷◌, length, Option, Some, None, option_map, refl, ap, subst, arith}
 use Rattle.path_settings.specs.abs_path.Paths.{Path, tail_of, text_of, proc}
 use Rattle.path_settings.specs.abs_path.Prefix.{is_same}
@@ -10,7 +10,7 @@ use Rattle.path_settings.specs.view_map.Kept.{Host}
 use Rattle.path_settings.proofs.ViewMapLists.{find_is, find_passes}
 use Rattle.mount_plan.specs.Host.{host_of}
 
--- the paths at which the host has anything are short
+-- the paths at which the host has an object are short
 abbrev pub AreShortRows : Host → Type 0
 AreShortRows row_at = (path : Path) (is_dir : Bool) → row_at path ≡ Some is_dir → length (tail_of path) ≤ 512
 

@@ -1,4 +1,4 @@
--- How the steps of the code add up to what is kept.
+-- The steps of the code together keep the mentions that the rules keep.
 use Rattle.std.proofs.Common.{◌≡◌, ℕ, ◌+◌, ◌<◌, Bool, true, List, [], ◌∷◌, ◌++◌, map, filter, length, get_or, drop}
 use Rattle.std.proofs.Common.{Some, None, Result, Ok, Err, refl, sym, ap, ◌∙◌, Bor}
 use Rattle.std.specs.Prelude.{◌||◌, not}
@@ -23,7 +23,7 @@ use Rattle.mount_plan.specs.declared.here.Part.TheVariants.{Origins, Flags}
 use Rattle.mount_plan.specs.Here.{is_asked, fate_beside}
 use Rattle.mount_plan.specs.Answers.{first_of, Refuses, AddsKept, Keeps}
 
--- a test of what references lend
+-- a test of borrowed elements
 pub any_lent : {X : Type 0} (test : X → Bool) (xs : List (Bor X)) → list_any (λ x. test x.now) xs ≡ list_any test (map (λ x. x.now) xs)
 any_lent test [] = refl
 any_lent test (x ∷ xs) = ap (λ b. test x.now || b) (any_lent test xs)
@@ -45,7 +45,7 @@ refusals_of row_at here put part mentions =
     filter_map (λ mention. refusal_of mention (fate_beside row_at here put mention))
     (filter (λ mention. is_asked part mention.kind) mentions)
 
--- those of all are those of the two parts
+-- the refusals of all mentions are the refusals of the two parts
 both_parts : (row_at : Host) (here : Beneath) (mentions : List Mention) →
     refusals row_at here mentions ≡ refusals_of row_at here (list_any (puts row_at here) mentions) Origins mentions ++ refusals_of row_at
     here (list_any (puts row_at here) mentions) Flags mentions
@@ -70,7 +70,7 @@ no_part [] [] found h e = refl
 no_part [] (first ∷ refused) found h e = absurd (cc)
 no_part (first ∷ none) refused found h e = absurd (cc)
 
--- what is kept among the mentions at a path, by the refusals of the two parts
+-- the kept mentions among the mentions at a path, by the refusals of the two parts
 abbrev among_by : Host → Beneath → List Mention → Bool → Result (List Mention) Refusal
 among_by row_at here mentions put =
     unless_refused (refusals_of row_at here put Origins mentions ++ refusals_of row_at here put Flags mentions)

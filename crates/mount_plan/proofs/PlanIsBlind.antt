@@ -1,4 +1,4 @@
--- What a plan does not show of a host does not change it.
+-- The parts of a host that a plan does not show do not change it.
 use Rattle.std.proofs.Common.{◌≡◌, ◌∙◌, ℕ, Bool, true, false, List, [], ◌∷◌, ◌++◌, Some, refl, ap, sym, subst}
 use Rattle.std.specs.Prelude.{◌&&◌, not, map, option_and_then}
 use Rattle.std.specs.Str.{bytes_eq}
@@ -30,7 +30,7 @@ use Rattle.mount_plan.proofs.PlanLaws.{table_finds}
 use Rattle.mount_plan.specs.Resting.{AgreeButBelow, ShowsNothingOf, PlanIsBlind}
 use Rattle.mount_plan.proofs.Resting.{plan_rests}
 
--- what leads strictly to a path leads to the folder that it is in
+-- a path that leads strictly to another leads to the folder of that path
 below_last : (one path : Path) (part : List ℕ) → is_below (path ++ part ∷ []) one ≡ is_prefix one path
 below_last [] [] part = refl
 below_last [] (own ∷ path) part = refl
@@ -81,7 +81,7 @@ abbrev IsOutside : Path → Path → Type 0
 IsOutside folder path = is_below path folder ≡ false
 
 module _ (folder : Path) (row_at : Host) (kept : List Mention) (normal : AllByRecursion (λ mention. is_normal mention.path ≡ true) kept) (nothing : ShowsNothingOf (table_of row_at kept) folder) where
-  -- what the view has at a path does not lie at the folder or below it
+  -- the object of the view at a path does not lie at the folder or below it
   not_below : (path own : Path) → object_at kept path ≡ on_host own → is_prefix folder own ≡ false
   not_below path own shows =
       let found = table_finds row_at kept normal path in
@@ -110,7 +110,7 @@ module _ (folder : Path) (row_at : Host) (kept : List Mention) (normal : AllByRe
   none_above_root [] = tt
   none_above_root (mention ∷ mentions) = (root_not_below mention.path, none_above_root mentions)
 
-  -- what stands beneath a path lies where what its folder shows leads, and so outside
+  -- the object beneath a path lies where its folder leads, and so outside
   asked_outside : (path : Path) → LastOf path → AllByRecursion (IsOutside folder) (beneath_place kept path)
   asked_outside _ no_part =
       let none : above [] kept ≡ [] = filter_none (λ one. is_below [] one.1.path) (enumerate_from 0 kept) (all_enumerated (λ mention. is_below [] mention.path ≡ false) 0 kept (none_above_root kept)) in

@@ -1,4 +1,4 @@
--- What is true of the table of the kept mentions.
+-- Properties of the table of the kept mentions.
 use Rattle.std.proofs.Common.{◌≡◌, ◌≤◌, ◌⊎◌, inl, inr, Bool, true, false, List, [], ◌∷◌, map, length, Ok, refl, sym, ap, ◌∙◌, subst, arith}
 use Rattle.std.specs.Prelude.{◌&&◌, not}
 use Rattle.std.specs.List.{AllByRecursion, Contains, enumerate_from}
@@ -56,7 +56,7 @@ pub table_ascends : (row_at : Host) (kept : List Mention) → AreAscending (map 
 table_ascends row_at kept = subst AreAscending (sym (places_again kept (hides_dir_at row_at kept) (places_of kept)))
     (in_byte_order_ascending ([] ∷ paths_of kept))
 
--- no mention says what stands at the root
+-- no mention says which object is at the root
 abbrev pub LeaveTheRoot : List Mention → Type 0
 LeaveTheRoot mentions = AllByRecursion (λ mention. mention.path ≡ [] → is_origin mention.kind ≡ false) mentions
 

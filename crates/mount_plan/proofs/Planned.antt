@@ -1,4 +1,4 @@
--- What a plan has, from the rules that made it.
+-- Properties of a plan, by the rules that made it.
 use Rattle.std.proofs.Common.{◌≡◌, ◌≤◌, true, false, List, [], length, Result, Ok, Err, refl, sym, subst, arith}
 use Rattle.std.specs.Prelude.{IfOk, nat_le}
 use Rattle.std.specs.List.{AllByRecursion, list_all}
@@ -34,7 +34,7 @@ are_normal mentions h = all_weaker (λ mention. is_whole mention ≡ true) (λ m
     (λ mention whole. (and_parts (is_normal mention.path) (nat_le (length (text_of mention.path)) 512)
     (and_parts (is_path mention.path) (has_whole_source mention.kind) whole).0).0) h
 
--- what holds of the table of the kept mentions holds of a plan
+-- if the table of the kept mentions has a property, so has the plan
 if_planned : (row_at : Host) (mentions : List Mention) (P : List MountStep → Type 0)
     → ((kept : List Mention) → kept_of row_at mentions ≡ Ok kept → P (table_of row_at kept)) →
     (r : Result (List MountStep) PlanError) → Plans row_at mentions r → IfOk r P

@@ -1,4 +1,4 @@
--- A plan asks the host nowhere else.
+-- A plan asks the host only at its places.
 use Rattle.std.proofs.Common.{◌≡◌, ◌∙◌, List, [], ◌∷◌, refl, ap}
 use Rattle.std.specs.Prelude.{map}
 use Rattle.path_settings.specs.abs_path.Paths.{Path}

@@ -1,5 +1,5 @@
--- What a place shows has at most 512 bytes on the host: a place below a bind is a path of the host's rows there, any other
--- is a mention's path, or the source of a bind.
+-- The object of a place has a path of at most 512 bytes on the host. Below a bind it is the path of a row of the host. Elsewhere it is
+-- the path of a mention, or the source of a bind.
 use Rattle.std.proofs.Common.{◌≡◌, ◌⊎◌, inl, inr, ℕ, ◌<◌, ◌≤◌, Bool, true, false, cond, List, [], ◌∷◌, ◌++◌, filter, find, length, Option}
 use Rattle.std.proofs.Common.{Some, None, Ok, refl, sym, ap, ◌∙◌, subst, append-nil, length-append, arith}
 use Rattle.std.specs.Prelude.{◌&&◌, ◌||◌, not, nat_le}
@@ -51,7 +51,7 @@ not_longer a b h g = absurd (false≢true (sym (above_false a b h) ∙ g))
     above_false : (a b : ℕ) → b < a → nat_le a b ≡ false
     above_false a b h = grind (arith, nat_tests)
 
--- where the longest of the mentions that say what stands at a path is above it, none at the path says so
+-- if the longest mention that says which object is at a path is above the path, no mention at the path says so
 abbrev IsElsewhere : Path → Mention → Type 0
 IsElsewhere path mention = is_origin mention.kind ≡ true → is_same mention.path path ≡ false
 
@@ -74,7 +74,7 @@ none_at_path kept path one e over =
         (subst (λ (p : Path). length_of one < length (tail_of p)) (sym at) (above_shorter one.1.path path over))
         (h (subst (λ (p : Path). is_prefix p path ≡ true) (sym at) (prefix_itself path)) says))
 
--- two tests that agree where a third is true keep the same of what passes that
+-- two tests that agree on the elements that pass a third keep the same of these elements
 filters_agree : {X : Type 0} (p q r : X → Bool) (xs : List X) → AllByRecursion (λ x. p x ≡ true → q x ≡ r x) xs
     → filter p (filter q xs) ≡ filter p (filter r xs)
 filters_agree p q r [] h = refl
@@ -92,7 +92,7 @@ filters_agree {X = X} p q r (x ∷ xs) h = by (p x) refl (q x) (r x) h.0 (filter
     by true e true false same more = absurd (false≢true (sym (same e)))
     by true e false true same more = absurd (false≢true (same e))
 
--- then the longest above the path is the longest that leads to it
+-- so the longest mention above the path is the longest that leads to it
 above_is_origin : (kept : List Mention) (path : Path) → AllByRecursion (IsElsewhere path) kept
     → longest is_origin (above path kept) ≡ origin_of kept path
 above_is_origin kept path none = ap (λ said. find (is_as_long_as_each said) said)
@@ -108,7 +108,7 @@ above_is_origin kept path none = ap (λ said. find (is_as_long_as_each said) sai
     and_true true = refl
     and_true false = refl
 
--- a flag that is kept is beside an empty file system or a bind that is kept, or of a row
+-- a flag that is kept is beside an empty file system or a bind that is kept, or it applies to a row
 flag_beside : (source : Option Bool) (here : Beneath) (put : Bool) (mention : Mention) → is_origin mention.kind ≡ false
     → is_kept (fate_of source here put mention) ≡ true →
     (put ≡ true) ⊎ ((is_dir : Bool) × (here ≡ beneath.Row is_dir))
@@ -134,7 +134,7 @@ flag_beside source beneath.NoRow put mention flag h = inl (by mention.kind put m
     by _ false true flag h = absurd (false≢true h)
     by _ false false flag h = absurd (false≢true h)
 
--- what passes one test and is of the kind makes one that is found among those that pass another
+-- an element that passes one test and is of the kind is found among the elements that pass another
 any_kept : {X : Type 0} (puts keeps says : X → Bool) (xs : List X) → ((x : X) → puts x ≡ true → (keeps x ≡ true) × (says x ≡ true))
     → list_any puts xs ≡ true → list_any says (filter keeps xs) ≡ true
 any_kept puts keeps says [] f h = absurd (false≢true h)
@@ -152,7 +152,7 @@ any_kept {X = X} puts keeps says (x ∷ xs) f h = by (puts x) refl (keeps x) ref
     by false e true g h more = ap (λ b. says x || b) (more h) ∙ or_right (says x)
     by false e false g h more = more h
 
--- what is put and kept at a path says what stands there
+-- a mention that is put and kept at a path says which object is there
 put_is_kept : (row_at : Host) (here : Beneath) (mentions more : List Mention) → kept_among row_at here mentions ≡ Ok more
     → list_any (puts row_at here) mentions ≡ true → list_any (λ mention. is_origin mention.kind) more ≡ true
 put_is_kept row_at here mentions more e put =
@@ -180,7 +180,7 @@ none_among path (mention ∷ kept) h = by (is_same mention.path path) refl (is_o
     by true e true g more = absurd (false≢true (sym (h.0 g) ∙ e))
     by true e false g more = ap (λ b. b || list_any (λ mention. is_origin mention.kind) (at_path path kept)) g ∙ more
 
--- of a row: what is beneath a flag that no empty file system and no bind stands beside
+-- a row beneath a path is a row of the host
 row_beneath : (row_at : Host) (source : Path) (is_dir : Bool) → beneath_row (row_at source) ≡ beneath.Row is_dir
     → row_at source ≡ Some is_dir
 row_beneath row_at source is_dir e = by (row_at source) refl e
@@ -225,7 +225,7 @@ rest_of_itself (part ∷ path) = rest_of_itself path
 abbrev pub AreWhole : List Mention → Type 0
 AreWhole mentions = AllByRecursion (λ mention. is_whole mention ≡ true) mentions
 
--- what is seen at a kept path is short
+-- the object that is seen at a kept path has a short path
 short_at : (row_at : Host) (mentions kept : List Mention) (mention : Mention) → AreShortRows row_at → KeepsByRules row_at mentions kept
     → AreWhole kept → Contains kept mention → HasShortHost (object_at kept mention.path)
 short_at row_at mentions kept mention rows keeps whole among = by (origin_of kept mention.path) refl
@@ -259,7 +259,7 @@ short_at row_at mentions kept mention rows keeps whole among = by (origin_of kep
         let decides = origin_is (λ other. is_whole other ≡ true) kept mention.path one whole e in
         from one e decides.0 decides.1 one.1.kind refl
 
--- what is seen at each place is short
+-- the object that is seen at each place has a short path
 pub short_places : (row_at : Host) (mentions kept : List Mention) → AreShortRows row_at → AreWhole mentions → AreNormal mentions
     → LeaveTheRoot mentions → kept_of row_at mentions ≡ Ok kept → HaveShortHosts kept (places_of kept)
 short_places row_at mentions kept rows whole normal leave e =

@@ -1,4 +1,4 @@
--- Worked plans, which compute.
+-- Examples of plans, which compute.
 use Rattle.std.proofs.Common.{◌≡◌, true, false, cond, List, [], ◌∷◌, Some, None, Result, Ok, Err, refl}
 use Rattle.std.specs.Prelude.{codes}
 use Rattle.std.specs.List.{list_any}
@@ -47,7 +47,7 @@ table_if (Err refusal) = Err refusal
 abbrev planned : List Mention → Result (List MountStep) Refusal
 planned mentions = table_if (kept_of site mentions)
 
--- a hidden folder, and a bind of what lies below it
+-- a hidden folder, and a bind of an object below it
 hidden_and_bound : planned (says srv Hide ∷ says data_path (Bind srv_a false) ∷ [])
     ≡ Ok (step [] (what.Host []) no_flags ∷ step data_path (what.Host srv_a) no_flags ∷ step srv (what.Hidden true) no_flags ∷ [])
 hidden_and_bound = refl
@@ -63,13 +63,13 @@ not_reopened : planned (says srv_a Rw ∷ says srv Hide ∷ []) ≡ Ok
     (step [] (what.Host []) no_flags ∷ step srv (what.Hidden true) no_flags ∷ [])
 not_reopened = refl
 
--- a hidden file, and what is hidden below an empty file system is a directory
+-- a hidden file; a hidden object below an empty file system is a directory
 hidden_kinds : planned (says srv_log Hide ∷ says srv_a (Tmp true) ∷ says (codes "srv" ∷ codes "a" ∷ codes "x" ∷ []) Hide ∷ [])
     ≡ Ok (step [] (what.Host []) no_flags ∷ step srv_a what.Empty (record no_flags { read_only = true })
     ∷ step (codes "srv" ∷ codes "a" ∷ codes "x" ∷ []) (what.Hidden true) no_flags ∷ step srv_log (what.Hidden false) no_flags ∷ [])
 hidden_kinds = refl
 
--- a path that is no row is refused, the first in byte order
+-- a path that is not a row is refused, the first in byte order
 missing_path : planned (says tmp_x Ro ∷ says (codes "none" ∷ []) Ro ∷ []) ≡ Err (missing (codes "none" ∷ []))
 missing_path = refl
 

@@ -1,4 +1,4 @@
--- What the parts of a plan answer. Want of memory may come at any of them.
+-- The answers of the parts of a plan. Memory may run out in any of them.
 use Rattle.std.specs.Prelude.{◌≡◌, ⊤, List, [], ◌∷◌, ◌++◌, Option, Some, None, Result, Ok, Err, Vec}
 use Rattle.std.specs.declared.alloc.Global.{Global}
 use Rattle.path_settings.specs.declared.mentions.Mention.{Mention}
@@ -12,28 +12,28 @@ abbrev pub first_of : List Refusal → Option Refusal
 first_of [] = None
 first_of (refusal ∷ refusals) = Some refusal
 
--- the refusal, if there is one
+-- the answer is the refusal, if there is one
 abbrev pub Refuses : Option Refusal → Result (Unit {0}) PlanError → Type 0
 Refuses refusal (Ok done) = refusal ≡ None
 Refuses refusal (Err Memory) = ⊤
 Refuses refusal (Err (Missing path)) = refusal ≡ Some (missing path)
 Refuses refusal (Err (Kind path)) = refusal ≡ Some (wrong_kind path)
 
--- the kept mentions of a path behind the old ones, or the refusal there
+-- the kept mentions of a path are added after the old ones, or the answer is the refusal there
 abbrev pub AddsKept : Result (List Mention) Refusal → List Mention → List Mention → Result (Unit {0}) PlanError → Type 0
 AddsKept found old new (Ok done) = (more : List Mention) × (found ≡ Ok more) × (new ≡ old ++ more)
 AddsKept found old new (Err Memory) = ⊤
 AddsKept found old new (Err (Missing path)) = found ≡ Err (missing path)
 AddsKept found old new (Err (Kind path)) = found ≡ Err (wrong_kind path)
 
--- the kept mentions, or the first refusal
+-- the answer is the kept mentions, or the first refusal
 abbrev pub Keeps : Result (List Mention) Refusal → Result (Vec Mention Global) PlanError → Type 0
 Keeps found (Ok kept) = found ≡ Ok kept.items
 Keeps found (Err Memory) = ⊤
 Keeps found (Err (Missing path)) = found ≡ Err (missing path)
 Keeps found (Err (Kind path)) = found ≡ Err (wrong_kind path)
 
--- the table of the kept mentions, or the first refusal
+-- the answer is the table of the kept mentions, or the first refusal
 abbrev pub Plans : Host → List Mention → Result (List MountStep) PlanError → Type 0
 Plans row_at mentions (Ok table) = (kept : List Mention) × (kept_of row_at mentions ≡ Ok kept) × (table ≡ table_of row_at kept)
 Plans row_at mentions (Err Memory) = ⊤

@@ -1,4 +1,4 @@
--- On a plan each path belongs to an entry that has what the view has there.
+-- Each path belongs to an entry of the plan that shows what the view has there.
 use Rattle.std.specs.Prelude.{◌≡◌, ◌++◌, List, Some}
 use Rattle.path_settings.specs.abs_path.Paths.{Path}
 use Rattle.path_settings.specs.abs_path.Prefix.{rest_of}
@@ -11,13 +11,13 @@ use Rattle.kern_mounts.specs.declared.step.MountStep.{MountStep}
 use Rattle.kern_mounts.specs.Entry.{entry_of}
 use Rattle.mount_plan.specs.Plan.{flags_of}
 
--- what a mount at a place shows at a path that the place leads to
+-- the object that a mount at a place shows at a path that the place leads to
 abbrev pub shown_by : What → Path → Path → Object
 shown_by (what.Host source) place path = on_host (source ++ rest_of place path)
 shown_by what.Empty place path = empty
 shown_by (what.Hidden is_dir) place path = hidden
 
--- the entry has the view's origin at the path, and its flags where that is not hidden
+-- the entry has the view's object at the path, and the view's flags unless the object is hidden
 pub record Agrees (kept : List Mention) (path : Path) (step : MountStep) : Type 0 where
   pub origin : shown_by step.what step.place path ≡ object_at kept path
   pub flags : step.flags ≡ flags_of (object_at kept path) (is_read_only kept path) (is_no_exec kept path)

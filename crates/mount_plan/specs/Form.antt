@@ -15,9 +15,9 @@ use Rattle.mount_plan.specs.Plan.{table_of}
 abbrev pub HasPlacesOf : List Mention → List MountStep → Type 0
 HasPlacesOf mentions table = AllByRecursion (λ step. (step.place ≡ []) ⊎ Contains (map (λ mention. mention.path) mentions) step.place) table
 
--- the first entry is the root on the host; the places stand in byte order, and no two are one; there is at most one more than there
--- are mentions; no entry takes privileges from programs, and what is hidden has no flags; the folder of the processes is there, or is
--- the place of a hidden one
+-- the first entry is the root on the host; the places are in byte order, and no two are the same; there is at most one more place than
+-- mentions; no entry takes privileges from programs, and a hidden object has no flags; /proc is found as a directory, or is the place of
+-- a hidden directory
 pub record HasForm (rows : Host) (mentions : List Mention) (table : List MountStep) : Type 0 where
   pub begins_at_root : BeginsAtRoot table
   pub places_ascend : AreAscending (map (λ step. step.place) table)
@@ -26,7 +26,7 @@ pub record HasForm (rows : Host) (mentions : List Mention) (table : List MountSt
   pub hidden_without_flags : AllByRecursion IsPlainIfHidden table
   pub finds_proc : FindsProc rows table
 
--- the table of the kept mentions has it, on each site, where no mention says what stands at the root
+-- on each site, the table of the kept mentions has this form if no mention says which object is at the root
 abbrev pub PlansHaveForm : Type 0
 PlansHaveForm = (site : Site) (mentions kept : List Mention) → IsSite site → list_all is_whole mentions ≡ true
     → leaves_the_root mentions ≡ true → kept_of (host_of site) mentions ≡ Ok kept

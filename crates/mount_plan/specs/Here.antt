@@ -1,4 +1,4 @@
--- The mentions at one path, as the code asks them.
+-- The mentions at one path, as the code treats them.
 use Rattle.std.specs.Prelude.{Bool, not}
 use Rattle.path_settings.specs.declared.mentions.Kind.{Kind}
 use Rattle.path_settings.specs.declared.mentions.Mention.{Mention}
@@ -10,11 +10,11 @@ use Rattle.path_settings.specs.view_map.Kept.{Host, source_row}
 use Rattle.mount_plan.specs.declared.here.Part.{Part}
 use Rattle.mount_plan.specs.declared.here.Part.TheVariants.{Origins, Flags}
 
--- of the part that says what stands at the path, or of that which says how it may be used
+-- the mention is in this part: it says which object is at the path, or else how the object may be used
 abbrev pub is_asked : Part → Kind → Bool
 is_asked Origins kind = is_origin kind
 is_asked Flags kind = not (is_origin kind)
 
--- what becomes of a mention; `is_put` says whether an empty file system or a bind is kept beside it
+-- the fate of a mention; `is_put` says if an empty file system or a bind is kept at its path
 abbrev pub fate_beside : Host → Beneath → Bool → Mention → Fate
 fate_beside row_at here is_put mention = fate_of (source_row row_at mention.kind) here is_put mention

@@ -1,4 +1,4 @@
--- The host of a site: what stands at each of its paths.
+-- The host of a site: the object at each of its paths.
 use Rattle.std.specs.Prelude.{option_map}
 use Rattle.site_table.specs.Kinds.{is_dir}
 use Rattle.site_table.specs.Table.{Site, kind_at}

@@ -15,13 +15,13 @@ use Rattle.kern_mounts.specs.declared.step.Flags.{Flags}
 use Rattle.kern_mounts.specs.declared.step.MountStep.{MountStep}
 use Rattle.kern_mounts.specs.Table.{no_flags}
 
--- what a mount shows where this is seen; `is_dir` says whether what is hidden is a directory
+-- what a mount shows if this object is seen; `is_dir` says if a hidden object is a directory
 abbrev pub what_of : Object → Bool → What
 what_of (on_host path) is_dir = what.Host path
 what_of empty is_dir = what.Empty
 what_of hidden is_dir = what.Hidden is_dir
 
--- how it may be used; what is hidden may not be used at all, and has no flags
+-- the flags of an object; a hidden object cannot be used at all, and has none
 abbrev pub flags_of : Object → Bool → Bool → Flags
 flags_of hidden read_only no_exec = no_flags
 flags_of _ read_only no_exec = record { read_only = read_only; no_exec = no_exec; no_suid = false }
@@ -31,7 +31,7 @@ abbrev pub flags_by : What → Bool → Bool → Flags
 flags_by (what.Hidden is_dir) read_only no_exec = no_flags
 flags_by _ read_only no_exec = record { read_only = read_only; no_exec = no_exec; no_suid = false }
 
--- whether what is hidden is a directory: that of the row, and below an empty file system always
+-- whether a hidden object is a directory: as the row is, and always below an empty file system
 abbrev pub hides_dir : Beneath → Bool
 hides_dir (Row is_dir) = is_dir
 hides_dir _ = true
@@ -44,7 +44,7 @@ step_at kept is_dir place = record {
   flags = flags_of (object_at kept place) (is_read_only kept place) (is_no_exec kept place);
 }
 
--- whether what is hidden at a place is a directory, by what stands beneath
+-- whether a hidden object at a place is a directory, by the object beneath
 abbrev pub hides_dir_at : Host → List Mention → Path → Bool
 hides_dir_at row_at kept place = hides_dir (beneath_at row_at kept place)
 

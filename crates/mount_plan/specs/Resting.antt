@@ -1,4 +1,4 @@
--- What a plan rests on, and hosts that agree but below a folder.
+-- The facts of a host that decide about a plan, and hosts that differ only below a folder.
 use Rattle.std.specs.Prelude.{◌≡◌, true, false, List, Ok, Some}
 use Rattle.std.specs.List.{AllByRecursion}
 use Rattle.path_settings.specs.abs_path.Paths.{Path, is_normal}
@@ -11,20 +11,20 @@ use Rattle.kern_mounts.specs.Finds.{host_place}
 use Rattle.kern_mounts.specs.declared.step.MountStep.{MountStep}
 use Rattle.mount_plan.specs.Plan.{table_of, places_of}
 
--- the plan of kept mentions rests on what stands beneath its places alone
+-- the plan of kept mentions depends only on the objects beneath its places
 abbrev pub PlanRestsOnItsPlaces : Type 0
 PlanRestsOnItsPlaces = (row_at other : Host) (kept : List Mention) → AreSame row_at other (beneath_places kept (places_of kept))
     → table_of other kept ≡ table_of row_at kept
 
--- both have the same but strictly below the folder
+-- both hosts have the same objects, except strictly below the folder
 abbrev pub AgreeButBelow : Path → Host → Host → Type 0
 AgreeButBelow folder row_at other = (path : Path) → is_below path folder ≡ false → other path ≡ row_at path
 
--- no path of the table shows the folder, or what lies below it
+-- no path of the table shows the folder or a path below it
 abbrev pub ShowsNothingOf : List MountStep → Path → Type 0
 ShowsNothingOf table folder = (path place : Path) → host_place table path ≡ Some place → is_prefix folder place ≡ false
 
--- what a plan does not show of a host does not change it
+-- the parts of a host that a plan does not show do not change it
 abbrev pub PlanIsBlind : Type 0
 PlanIsBlind = (folder : Path) (row_at other : Host) (mentions kept : List Mention)
     → AllByRecursion (λ mention. is_normal mention.path ≡ true) mentions → kept_of row_at mentions ≡ Ok kept

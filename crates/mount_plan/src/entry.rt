@@ -1,4 +1,4 @@
-//! The entry of a plan at one place, by the view of that place.
+//! Makes the entry of a plan at one place, by the view of that place.
 
 ghost use Rattle.std.specs.Prelude.{◌≡◌, true, map, IfOk};
 ghost use Rattle.path_settings.specs.abs_path.Prefix.{is_prefix};
@@ -24,7 +24,7 @@ fn hides_dir(beneath: Beneath) -> bool
     }
 }
 
-// what a mention shows at a path that its own path leads to
+// Returns what a mention shows at a path that its own path leads to.
 fn what_by(
     alloc: Global,
     mention: &Mention,
@@ -50,7 +50,7 @@ fn what_by(
     }
 }
 
-// what the plan shows at a place
+// Returns what the plan shows at a place.
 fn what_at(
     alloc: Global,
     site: &SiteTable,
@@ -73,7 +73,7 @@ fn what_at(
     }
 }
 
-// how what is shown may be used; what is hidden has no flags
+// Returns how the service may use what is shown. A hidden object has no flags.
 fn flags_for(what: &What, seen: Seen) -> Flags
     ensures { result ≡ flags_by what.now seen.read_only seen.no_exec }
 {
@@ -87,7 +87,7 @@ fn flags_for(what: &What, seen: Seen) -> Flags
     }
 }
 
-// the entry at a place
+// Makes the entry at a place.
 fn step_at(
     alloc: Global,
     site: &SiteTable,
@@ -107,7 +107,7 @@ fn step_at(
     })
 }
 
-/// The entries at these places.
+/// Makes the entries at these places.
 pub fn steps_at(
     alloc: Global,
     site: &SiteTable,

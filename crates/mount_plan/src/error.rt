@@ -1,4 +1,4 @@
-//! Why there is no plan.
+//! Says why there is no plan.
 
 ghost use Rattle.std.specs.Prelude.{◌≡◌};
 ghost use Rattle.mount_plan.specs.declared.error.PlanError.TheVariants.{Memory};
@@ -8,10 +8,10 @@ use std::alloc::AllocError;
 use std::fmt::{self, Debug, Formatter, Write};
 use thiserror::Error;
 
-/// Why there is no plan: the first refusal in byte order of the mentions' paths.
+/// Says why there is no plan, by the first refusal in byte order of the mentions' paths.
 #[derive(Drop, Error)]
 pub enum PlanError {
-    /// The site has no row at this path, of a mention or of the source of a bind, and the mention is not optional.
+    /// The site has no row at this path, which is the path or the source of a mention that is not optional.
     #[error("the site has no row {}", .0.text())]
     Missing(AbsPath),
     /// At this path a file would cover a directory, or a directory a file.

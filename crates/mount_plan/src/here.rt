@@ -1,4 +1,4 @@
-//! The mentions at one path: which of them no other beats, and what becomes of each.
+//! Finds the mentions at one path that no other mention there beats, and the fate of each.
 
 ghost use Rattle.std.specs.Prelude.{◌≡◌, map, IfOk};
 ghost use Rattle.std.specs.List.{list_any};
@@ -14,16 +14,16 @@ use path_settings::{Kind, Mention};
 use site_table::SiteTable;
 use std::alloc::{AllocError, Global};
 
-/// The two parts of the mentions at a path, in the order in which the rules ask them.
+/// The two parts of the mentions at a path, in the order in which the rules treat them.
 #[derive(Clone, Copy)]
 pub enum Part {
-    /// What stands at the path.
+    /// The mentions that say which object is at the path.
     Origins,
-    /// How it may be used.
+    /// The mentions that say how the object may be used.
     Flags,
 }
 
-/// The mentions at the path, in written order.
+/// Returns the mentions at the path, in written order.
 pub fn at_path<'a>(
     alloc: Global,
     mentions: &'a [Mention],
@@ -56,7 +56,7 @@ fn any_is_bind(here: &[&Mention]) -> bool
     here.iter().any(|mention| mention.kind.is_bind())
 }
 
-// whether one of the mentions here beats one of this kind; of binds a later one
+// Returns whether one of the mentions here beats a mention of this kind. Among binds a later one beats it.
 fn is_beaten(here: &[&Mention], later: &[&Mention], kind: &Kind) -> bool
     ensures { result ≡ is_beaten
         (map (λ mention. mention.now) here.now) (map (λ mention. mention.now) later.now) kind.now }
@@ -65,7 +65,7 @@ fn is_beaten(here: &[&Mention], later: &[&Mention], kind: &Kind) -> bool
         || (kind.is_bind() && (any_is_tmp(here) || any_is_bind(later)))
 }
 
-/// Those of the mentions at one path that no other beats.
+/// Returns the mentions at one path that no other mention there beats.
 pub fn unbeaten<'a>(alloc: Global, here: &[&'a Mention]) -> Result<Vec<&'a Mention>, AllocError>
     ensures none_is_beaten { IfOk result (λ found. map (λ mention. mention.now) found.items
         ≡ unbeaten (map (λ mention. mention.now) here.now)) }
@@ -80,7 +80,7 @@ pub fn unbeaten<'a>(alloc: Global, here: &[&'a Mention]) -> Result<Vec<&'a Menti
     Ok(found)
 }
 
-/// Tells whether the mention is of this part.
+/// Returns whether the mention is in this part.
 pub fn is_asked(part: Part, mention: &Mention) -> bool
     ensures of_its_part { result ≡ is_asked part mention.now.kind }
 {
@@ -90,28 +90,28 @@ pub fn is_asked(part: Part, mention: &Mention) -> bool
     }
 }
 
-// whether the site has a row at the source of a bind, and then whether it is a directory
+// Returns whether the site has a row at the source of a bind, and then whether it is a directory.
 fn source_row(site: &SiteTable, kind: &Kind) -> Option<bool>
     ensures { result ≡ source_row (host_of site.now) kind.now }
 {
     row_at(site, kind.source()?)
 }
 
-/// What becomes of a mention; `is_put` says whether an empty file system or a bind is kept at its path.
+/// Returns the fate of a mention. `is_put` says if an empty file system or a bind is kept at its path.
 pub fn fate_beside(site: &SiteTable, beneath: Beneath, is_put: bool, mention: &Mention) -> Fate
     ensures by_the_host { result ≡ fate_beside (host_of site.now) beneath is_put mention.now }
 {
     fate_of(mention, source_row(site, &mention.kind), beneath, is_put)
 }
 
-/// Tells whether the mention is kept, where this becomes of it.
+/// Returns whether a mention with this fate is kept.
 pub fn is_kept(fate: Fate) -> bool
     ensures by_its_fate { result ≡ is_kept fate }
 {
     matches!(fate, Fate::Kept)
 }
 
-// whether the mention is an empty file system or a bind that is kept
+// Returns whether the mention is an empty file system or a bind, and is kept.
 fn puts(site: &SiteTable, beneath: Beneath, mention: &Mention) -> bool
     ensures { result ≡ puts (host_of site.now) beneath mention.now }
 {
@@ -119,7 +119,7 @@ fn puts(site: &SiteTable, beneath: Beneath, mention: &Mention) -> bool
         && is_kept(fate_beside(site, beneath, true, mention))
 }
 
-/// Tells whether an empty file system or a bind is kept at the path of these mentions.
+/// Returns whether an empty file system or a bind is kept at the path of these mentions.
 pub fn is_put(site: &SiteTable, beneath: Beneath, here: &[&Mention]) -> bool
     ensures some_is_put { result ≡ list_any (puts (host_of site.now) beneath) (map (λ mention. mention.now) here.now) }
 {

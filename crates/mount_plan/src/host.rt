@@ -1,4 +1,4 @@
-//! What the site has at a path.
+//! Looks up the rows of the site.
 
 ghost use Rattle.std.specs.Prelude.{◌≡◌, ◌++◌, option_map, true};
 ghost use Rattle.path_settings.specs.abs_path.Prefix.{is_prefix, rest_of};
@@ -8,7 +8,7 @@ ghost use Rattle.mount_plan.specs.Host.{host_of};
 use abs_path::AbsPath;
 use site_table::{Row, RowKind, SiteTable};
 
-// whether a row, if there is one, is a directory
+// Returns whether a row, if there is one, is a directory.
 fn is_dir(row: Option<&Row>) -> Option<bool>
     ensures { result ≡ option_map is_dir (option_map (λ row. row.kind) (option_map (λ row. row.now) row.entry)) }
 {
@@ -18,7 +18,8 @@ fn is_dir(row: Option<&Row>) -> Option<bool>
     }
 }
 
-/// Tells whether the site has a row at the source with what the path has behind the front, and then whether it is a directory.
+/// Returns whether the site has a row at the path if `source` replaces its prefix `front`, and then whether it is a
+/// directory.
 pub fn row_through(
     site: &SiteTable,
     source: &AbsPath,
@@ -31,7 +32,7 @@ pub fn row_through(
     is_dir(site.row_through(source, front, path))
 }
 
-/// Tells whether the site has a row at the path, and then whether it is a directory.
+/// Returns whether the site has a row at the path, and then whether it is a directory.
 pub fn row_at(site: &SiteTable, path: &AbsPath) -> Option<bool>
     ensures of_the_site { result ≡ host_of site.now path.now }
 {

@@ -1,4 +1,4 @@
-//! The mentions that the rules keep, or the first refusal, path by path in byte order.
+//! Finds the mentions that the rules keep, or the first refusal, path by path in byte order.
 
 ghost use Rattle.std.specs.Prelude.{◌≡◌, ◌++◌, [], true, map, filter, OnOk};
 ghost use Rattle.std.specs.List.{filter_map};
@@ -27,7 +27,7 @@ fn beneath_row(row: Option<bool>) -> Beneath
     }
 }
 
-// what a mention gives at a path that its own path leads to
+// Returns what a mention gives at a path that its own path leads to.
 fn beneath_mention(site: &SiteTable, mention: &Mention, path: &AbsPath) -> Beneath
     requires { is_prefix mention.now.path path.now ≡ true }
     ensures { result ≡ beneath_by (host_of site.now)
@@ -41,7 +41,8 @@ fn beneath_mention(site: &SiteTable, mention: &Mention, path: &AbsPath) -> Benea
     }
 }
 
-/// What the longest kept mention above the path that says what stands there gives at the path.
+/// Returns what is at the path without the mentions at it. The longest kept mention above it that says which object is
+/// there decides.
 pub fn beneath_at(site: &SiteTable, kept: &[Mention], path: &AbsPath) -> Beneath
     ensures by_the_longest_above { result ≡ beneath_at (host_of site.now) kept.now path.now }
 {
@@ -51,7 +52,7 @@ pub fn beneath_at(site: &SiteTable, kept: &[Mention], path: &AbsPath) -> Beneath
     }
 }
 
-// the refusal of a mention, where this becomes of it
+// Returns the refusal of a mention with this fate, if it is one.
 fn refusal(alloc: Global, mention: &Mention, fate: Fate) -> Result<(), PlanError>
     ensures { Refuses (refusal_of mention.now fate) result }
 {
@@ -76,7 +77,7 @@ fn refusal(alloc: Global, mention: &Mention, fate: Fate) -> Result<(), PlanError
     }
 }
 
-// the first refusal among one part of the mentions at a path
+// Returns the first refusal in one part of the mentions at a path.
 fn ask(
     alloc: Global,
     site: &SiteTable,
@@ -97,7 +98,7 @@ fn ask(
     Ok(())
 }
 
-// adds the mentions at a path of which that becomes
+// Adds the mentions at a path whose fate is to be kept.
 fn add(
     alloc: Global,
     site: &SiteTable,
@@ -118,7 +119,7 @@ fn add(
     Ok(())
 }
 
-// adds the mentions at one path that the rules keep
+// Adds the mentions at one path that the rules keep, or returns the first refusal.
 fn keep(
     alloc: Global,
     site: &SiteTable,
@@ -136,7 +137,7 @@ fn keep(
     Ok(())
 }
 
-// adds the mentions at a path that the rules keep, by those that are kept above it
+// Adds the mentions at a path that the rules keep, by the mentions that are kept above it.
 fn keep_at(
     alloc: Global,
     site: &SiteTable,
@@ -153,7 +154,7 @@ fn keep_at(
     keep(alloc, site, beneath, &here, kept)
 }
 
-/// The mentions that the rules keep at these paths, one after the other, or the first refusal.
+/// Returns the mentions that the rules keep at these paths, one path after the other, or the first refusal.
 pub fn kept_at_all(
     alloc: Global,
     site: &SiteTable,

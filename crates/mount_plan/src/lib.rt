@@ -1,7 +1,7 @@
-//! The mounts that give a service its view of the files (systemd.exec(5), Sandboxing; mount_namespaces(7)).
+//! Plans the mounts that give a service its view of the files (systemd.exec(5), Sandboxing; mount_namespaces(7)).
 //!
-//! The mentions that the rules keep become a table of mounts. On it every path is seen as the view has it.
-//! `plan(alloc, &mentions, &site)?.list()` begins with the mount at `/`.
+//! The crate makes a table of mounts from the mentions that the rules keep. On it the service sees every path as the
+//! view has it. `plan(alloc, &mentions, &site)?.list()` begins with the mount at `/`.
 #![tactic(auto)]
 
 mod entry;
@@ -19,5 +19,5 @@ use path_settings::ItemList;
 pub use path_settings::{Kind, Mention, MentionError, Mentions};
 pub use planning::plan;
 
-/// The mounts of a plan in their order, the first at `/`, which contracts see as a list.
+/// The mounts of a plan in their order, the first at `/`. Contracts see them as a list.
 pub type MountSteps = ItemList<MountStep>;

@@ -1,4 +1,4 @@
-//! The paths of mentions, in byte order.
+//! Sorts the paths of mentions in byte order.
 
 ghost use Rattle.std.specs.Prelude.{◌≡◌, OnOk, map};
 ghost use Rattle.path_settings.specs.abs_path.ByteOrder.{with_placed};
@@ -7,7 +7,7 @@ use abs_path::{AbsPath, put};
 use path_settings::Mention;
 use std::alloc::{AllocError, Global};
 
-/// Puts the paths of the mentions in their places in a list in byte order.
+/// Puts the paths of the mentions at their places in a list in byte order.
 pub fn put_paths(
     alloc: Global,
     paths: &mut Vec<AbsPath>,

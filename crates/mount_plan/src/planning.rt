@@ -1,4 +1,4 @@
-//! The plan of a service's mounts, and that it shows what the view has.
+//! Makes the plan of a service's mounts, which shows what the view has.
 
 ghost use Rattle.std.specs.Prelude.{◌≡◌, true, IfOk, IsTrue};
 ghost use Rattle.std.specs.List.{list_all};
@@ -24,7 +24,7 @@ use path_settings::{Mention, Mentions};
 use site_table::SiteTable;
 use std::alloc::{AllocError, Global};
 
-// the mentions that the rules keep, or the first refusal in byte order of the paths
+// Returns the mentions that the rules keep, or the first refusal in byte order of the paths.
 fn kept_of(alloc: Global, site: &SiteTable, mentions: &[Mention]) -> Result<Vec<Mention>, PlanError>
     ensures { Keeps (kept_of (host_of site.now) mentions.now) result }
 {
@@ -33,7 +33,7 @@ fn kept_of(alloc: Global, site: &SiteTable, mentions: &[Mention]) -> Result<Vec<
     kept_at_all(alloc, site, mentions, &paths)
 }
 
-// the root and each kept path, each with what the view has there
+// Makes the entries for the root and for each kept path, each with what the view has there.
 fn table_of(alloc: Global, site: &SiteTable, kept: &[Mention]) -> Result<Vec<MountStep>, AllocError>
     requires { HaveShortHosts kept.now (places_of kept.now) }
     ensures { IfOk result (λ table. table.items ≡ table_of (host_of site.now) kept.now) }
@@ -44,36 +44,38 @@ fn table_of(alloc: Global, site: &SiteTable, kept: &[Mention]) -> Result<Vec<Mou
     steps_at(alloc, site, kept, &places)
 }
 
-// the same for mentions in a slice, by the rules
+// Makes the plan for mentions in a slice, by the rules.
 fn plan_of(alloc: Global, site: &SiteTable, mentions: &[Mention]) -> Result<MountSteps, PlanError>
     requires root_is_the_hosts { leaves_the_root mentions.now ≡ true }
     requires whole { list_all is_whole mentions.now ≡ true }
     ensures { Plans (host_of site.now) mentions.now result }
 {
-    // The rows are lent with what holds of each site: their paths are short.
+    // A borrow of the rows says what holds of each site: their paths are short.
     let _rows = site.rows();
     let kept = kept_of(alloc, site, mentions)?;
     let steps = table_of(alloc, site, &kept)?;
     Ok(MountSteps::new(steps))
 }
 
-/// The mounts that give a service with these mentions its view of the site.
+/// Makes the mounts that give a service with these mentions its view of the site.
 ///
-/// The first is `/` on the host with its flags, and one follows for each other path that has a kept mention, in byte
-/// order. What stands at the root is the host's: no mention may hide it, empty it or bind over it
-/// (`Mentions::leaves_the_root`). Missing and Kind tell the first path in byte order at which the rules refuse a mention,
-/// or the source of a bind there that is no row; Memory may come at any mentions.
+/// The first mount is `/` on the host with its flags. One mount follows for each other path that has a kept mention, in
+/// byte order. The object at the root is the host's: no mention may hide it, empty it or bind over it
+/// (`Mentions::leaves_the_root`).
+///
+/// `Missing` and `Kind` name the first path in byte order at which the rules refuse a mention, or the source of a bind
+/// there that is no row. `Memory` is possible for any mentions.
 pub fn plan(alloc: Global, mentions: &Mentions, site: &SiteTable) -> Result<MountSteps, PlanError>
     requires root_is_the_hosts { IsTrue (leaves_the_root mentions.now) }
 
-    // The kept mentions decide, and are those that the rules keep by the kept mentions themselves.
+    // The kept mentions decide. The rules keep just these if they are asked with the kept mentions themselves.
     ensures table_or_first_refusal { Plans (host_of site.now) mentions.now result }
     ensures keeps_by_rules { IfOk
         (kept_of (host_of site.now) mentions.now) (KeepsByRules (host_of site.now) mentions.now) }
     ensures finds_as_view { IfOk result (λ table.
         IfOk (kept_of (host_of site.now) mentions.now) (λ kept. FindsAsView kept table)) }
 
-    // A launch takes it where the paths are short; the law `plans_have_a_form` says what holds whatever their length.
+    // A launch can mount the plan if its paths are short. The law `plans_have_a_form` holds for paths of any length.
     ensures places_are_mentioned { IfOk result (HasPlacesOf mentions.now) }
     ensures can_be_mounted { AreShort mentions.now → IfOk result (CanBeMounted (host_of site.now)) }
 {

@@ -1,4 +1,4 @@
--- Written paths are as their keys say: only four keys say what stands at a path.
+-- Written paths are as their keys allow: only four keys say which object is at a path.
 use Rattle.std.proofs.Common.{◌≡◌, ℕ, Bool, true, false, cond, Option, Some, None, List, [], ◌∷◌, refl, sym, ap, ◌∙◌}
 use Rattle.std.specs.Prelude.{◌&&◌, ◌||◌, not, codes, unwrap_or}
 use Rattle.std.specs.List.{list_all, list_any}
@@ -32,7 +32,7 @@ use Rattle.mount_settings.specs.Written.{gives, is_reset_by, mentions_in_word, o
 use Rattle.mount_settings.proofs.EachMention.{both}
 use Rattle.mount_settings.specs.Roots.{is_as_its_key, root_keys, AreRead}
 
--- what a key may say
+-- the mentions that a key may have
 abbrev fits : PathKey → Option Mention → Bool
 fits key None = true
 fits key (Some mention) = is_as_its_key (record { key = key; mention = mention })
@@ -41,14 +41,14 @@ pub or_true : (a : Bool) → (a || true) ≡ true
 or_true true = refl
 or_true false = refl
 
--- a key among the four says what it likes
+-- one of the four keys may have any mention
 any_fits : (key : PathKey) (mention : Option Mention) → list_any (is_key key) root_keys ≡ true → fits key mention ≡ true
 any_fits key None among = refl
 any_fits key (Some mention) among =
     ap (λ v. not (is_origin mention.kind) || (v || (is_implied key && not (is_root mention.path)))) among
     ∙ or_true (not (is_origin mention.kind))
 
--- a kind that does not say what stands there fits each key
+-- each key may have a mention that does not say which object is at its path
 use_fits : (key : PathKey) (kind : Kind) (optional : Bool) (path : Option Path) → is_origin kind ≡ false
     → fits key (option_map (λ place. record { path = place; kind = kind; optional = optional }) path) ≡ true
 use_fits key kind optional None plain = refl
@@ -82,7 +82,7 @@ mention_fits CacheDirectory word = folder_fits CacheDirectory (codes "/var/cache
 mention_fits LogsDirectory word = folder_fits LogsDirectory (codes "/var/log") word
 mention_fits ConfigurationDirectory word = folder_fits ConfigurationDirectory (codes "/etc") word
 
--- a folder that is shown below the root is as its key
+-- a folder that is shown below the root is as its key allows
 shown_fits : (key : PathKey) (read_only : Bool) (source path : Path) → is_implied key ≡ true → is_root path ≡ false
     → is_as_its_key (record { key = key; mention = shown_at read_only source path }) ≡ true
 shown_fits key read_only source path implied deep =
@@ -90,7 +90,7 @@ shown_fits key read_only source path implied deep =
     ∙ ap (λ v. list_any (is_key key) root_keys || not v) deep
     ∙ or_true (list_any (is_key key) root_keys)
 
--- what holds of each mention that a word of a key is, and of each folder that is shown, holds of all that is written
+-- if each mention of a word of a key, and each folder that is shown, has a property, so have all written mentions
 pub record Holds (q : PathKey → Mention → Bool) : Type 0 where
   pub alone : (key : PathKey) (word : List ℕ) (mention : Mention) → mention_of key word ≡ Some mention → q key mention ≡ true
   pub shown : (key : PathKey) (read_only : Bool) (source path : Path) → is_implied key ≡ true → is_short_path source ≡ true
@@ -110,7 +110,7 @@ module _ (q : PathKey → Mention → Bool) (h : Holds q) where
         | Some mention ↦ λ e. ap (λ v. v && true) (h.alone key word mention e)
       ]) refl
 
-  -- of a key that has no folder
+  -- the same for a key that has no folder
   plain_holds : (dialect : Dialect) (key : PathKey) (word : List ℕ) → folder_of key ≡ None
       → list_all (q key) (mentions_in_word dialect key word) ≡ true
   plain_holds Base key word none = one_holds key word
@@ -170,7 +170,7 @@ module _ (q : PathKey → Mention → Bool) (h : Holds q) where
       (in_force_hold dialect (is_reset_by later one.key) one)
       ∙ all_hold dialect later
 
--- so written paths are as their keys say, and short
+-- so written paths are as their keys allow, and short
 pub written_are_read : (dialect : Dialect) (values : List Assigned) → AreRead (written dialect values)
 written_are_read dialect values = record {
   as_their_keys = all_hold (λ key mention. is_as_its_key (record { key = key; mention = mention })) (record {

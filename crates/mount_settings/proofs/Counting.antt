@@ -1,4 +1,4 @@
--- How many mentions there are.
+-- The number of mentions.
 use Rattle.std.proofs.Common.{◌≡◌, ℕ, suc, ◌+◌, ◌≤◌, Bool, true, false, cond, List, [], ◌∷◌, ◌++◌, length, lit≤, arith, length-append}
 use Rattle.std.specs.Prelude.{filter}
 use Rattle.path_settings.specs.declared.keys.PathKey.{PathKey}
@@ -88,7 +88,7 @@ one_part CacheDirectory mention paths h = omega (arith, h)
 one_part LogsDirectory mention paths h = omega (arith, h)
 one_part ConfigurationDirectory mention paths h = omega (arith, h)
 
--- each path is written, or a folder of one key; the base profile has no folders of a fifth
+-- each path is a written one or a folder of one of four keys; the base profile has no fifth folder key
 all_parts : (paths : List WrittenPath) → parts paths ≤ length paths
 all_parts [] = lit≤ tt
 all_parts (path ∷ paths) = one_part path.key path.mention paths (all_parts paths)
@@ -103,7 +103,7 @@ asked_few switches protections paths =
     let rest = length-append (joined (by_kernel switches protections)) (joined (by_folders paths)) in
     omega (arith, files, kernel, folders, both, rest, all_parts paths, system_few protections.protect_system, home_few protections.protect_home, tmp_few protections.private_tmp, devices_few switches.private_devices, tunables_few protections.protect_kernel_tunables, modules_few switches.protect_kernel_modules, logs_few switches.protect_kernel_logs, control_groups_few protections.protect_control_groups)
 
--- at most 31 more than are written
+-- there are at most 31 mentions more than written paths
 pub counted : (site : Site) (switches : Switches) (protections : Protections) (paths : List WrittenPath)
     → length (mentions_of site switches protections paths) ≤ length paths + 31
 unfolding mentions_of implied

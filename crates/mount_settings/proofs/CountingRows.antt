@@ -1,4 +1,4 @@
--- How many mentions there are by the table of a version of systemd.
+-- The number of mentions by the table of a version of systemd.
 use Rattle.std.proofs.Common.{◌≡◌, ℕ, ◌+◌, ◌≤◌, Bool, true, false, Option, Some, None, List, [], ◌∷◌, ◌++◌, length, lit≤, arith, ap, map, refl}
 use Rattle.std.proofs.Common.{length-append}
 use Rattle.std.proofs.lemmas.List.{length-map}
@@ -31,7 +31,7 @@ use Rattle.mount_settings.specs.systemd.Folders.{brought_folders, folders, is_th
 use Rattle.mount_settings.specs.systemd.Mentions.{brought, by_table, implied_of, is_effective, effective}
 use Rattle.mount_settings.proofs.Counting.{filter_few, counted}
 
--- as many as if each row were on
+-- the number of mentions if each row were on
 abbrev most : List Row → ℕ
 most [] = 0
 most (row ∷ rows) = length (brings row.1 row.2) + most rows
@@ -60,7 +60,7 @@ system_few V257 Yes on = lit≤ tt
 system_few V257 Full on = lit≤ tt
 system_few V257 Strict on = lit≤ tt
 
--- and so do those of ProtectHome=
+-- the values of ProtectHome= exclude one another
 home_few : (version : Version) (home : HomeProtection) (on : RowsOn) → length (flat_map by_row (home_rows (record on {
   homes_hidden = hides_homes home;
   homes_read = reads_homes home;
@@ -76,7 +76,7 @@ home_few V257 HomeYes on = lit≤ tt
 home_few V257 HomeReadOnly on = lit≤ tt
 home_few V257 Tmpfs on = lit≤ tt
 
--- and those of ProtectControlGroups=
+-- the values of ProtectControlGroups= exclude one another
 group_few : (is_on is_left : Bool) (on : RowsOn) → length (flat_map by_row (group_rows (record on {
   groups_read = is_on && not is_left;
   groups_left = is_left;
@@ -100,7 +100,7 @@ parts_of a b c d e = omega (
   length-append (flat_map by_row d) (flat_map by_row e),
 )
 
--- each path is written, or a folder
+-- each path is a written one or a folder
 two_parts : (paths : List WrittenPath) → length (as_written paths) + length (folders paths) ≡ length paths
 two_parts [] = refl
 two_parts (path ∷ paths) =
@@ -137,7 +137,7 @@ module _ (version : Version) (switches : Switches) (protections : Protections) (
       (λ own. length (cond own (brought version site switches protections keys paths) []) ≤ length (folders paths) + 58)
       [ true ↦ omega (arith, few, kept, shown, each, both) | false ↦ omega arith ]
 
-  -- at most 58 more than are written
+  -- there are at most 58 mentions more than written paths
   pub counted_by : (site : Site) (paths : List WrittenPath)
       → length (mentions_by version site switches protections keys paths) ≤ length paths + 58
   unfolding mentions_by
@@ -151,7 +151,7 @@ module _ (version : Version) (switches : Switches) (protections : Protections) (
         two_parts paths,
       )
 
--- 128 that are written and at most 58 that are implied
+-- at most 128 written and at most 58 implied mentions are at most 192
 pub few_mentions : (systemd : Option Version) (unit : Resolved) (site : Site) (switches : Switches) (paths : List WrittenPath)
     → length paths ≤ 128 → length (mentions_in systemd unit site switches paths) ≤ 192
 few_mentions None unit site switches paths few =

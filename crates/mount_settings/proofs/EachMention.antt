@@ -1,4 +1,4 @@
--- What holds of each mention that a protection brings, of folders and of what is written, holds of all.
+-- If each mention of a protection, each folder and each written path has a property, so have all mentions.
 use Rattle.std.proofs.Common.{◌≡◌, ℕ, zero, suc, Bool, true, false, cond, List, [], ◌∷◌, ◌++◌, get_or, map, refl, ap, ◌∙◌}
 use Rattle.std.specs.Prelude.{◌&&◌, not, filter}
 use Rattle.std.specs.List.{list_all}
@@ -23,13 +23,13 @@ use Rattle.mount_settings.specs.Table.{by_system, by_home, by_tmp, by_devices, b
 use Rattle.mount_settings.specs.Implied.{joined, by_files, by_kernel, by_folders, asked, implied}
 use Rattle.mount_settings.specs.Settings.{as_written, mentions_of}
 
--- what each protection brings, group by group
+-- the mentions of each protection, group by group
 abbrev groups : List (List Mention)
 groups =
     by_system Yes ∷ by_system Full ∷ by_system Strict ∷ by_home HomeYes ∷ by_home HomeReadOnly ∷ by_home Tmpfs
     ∷ by_tmp true ∷ by_devices true ∷ by_tunables true ∷ by_modules true ∷ by_logs true ∷ by_control_groups true ∷ []
 
--- it holds of what each protection brings
+-- each mention of each protection has the property
 abbrev pub OfTable : (Mention → Bool) → Type 0
 OfTable q = list_all (list_all q) groups ≡ true
 
@@ -37,7 +37,7 @@ pub both : (a b : Bool) → (a && b) ≡ true → (a ≡ true) × (b ≡ true)
 both true b e = (refl, e)
 both false b e = let bad : ⊥ = cc in absurd bad
 
--- so it holds of one group
+-- so each mention of one group has it
 of_group : (q : Mention → Bool) (i : ℕ) (xs : List (List Mention)) → list_all (list_all q) xs ≡ true → list_all q (get_or xs i []) ≡ true
 of_group q i [] of = refl
 of_group q zero (x ∷ xs) of = (both (list_all q x) (list_all (list_all q) xs) of).0
@@ -55,7 +55,7 @@ of_home q of HomeYes = of_group q 3 groups of
 of_home q of HomeReadOnly = of_group q 4 groups of
 of_home q of Tmpfs = of_group q 5 groups of
 
--- a switch brings nothing where it is off
+-- a switch that is off gives no mentions
 of_switch : (q : Mention → Bool) (by : Bool → List Mention) → list_all q (by false) ≡ true → list_all q (by true) ≡ true → (on : Bool)
     → list_all q (by on) ≡ true
 of_switch q by off on true = on
@@ -79,14 +79,14 @@ of_four q one two three four a b c d =
     of_two q one (two ++ (three ++ (four ++ []))) a
     (of_two q two (three ++ (four ++ [])) b (of_two q three (four ++ []) c (of_two q four [] d refl)))
 
--- of all folders
+-- all folders have the property
 pub of_folders : (q : Mention → Bool) (paths : List WrittenPath)
     → ((key : PathKey) → is_implied key ≡ true → list_all q (of_key key paths) ≡ true) → list_all q (joined (by_folders paths)) ≡ true
 of_folders q paths folders =
     of_four q (of_key StateDirectory paths) (of_key RuntimeDirectory paths) (of_key CacheDirectory paths) (of_key LogsDirectory paths)
     (folders StateDirectory refl) (folders RuntimeDirectory refl) (folders CacheDirectory refl) (folders LogsDirectory refl)
 
--- of all that is implied, where it holds of folders
+-- all implied mentions have the property if the folders have it
 pub of_implied : (q : Mention → Bool) → OfTable q → (site : Site) (switches : Switches) (protections : Protections)
     (paths : List WrittenPath) → ((key : PathKey) → is_implied key ≡ true → list_all q (of_key key paths) ≡ true)
     → list_all q (implied site switches protections paths) ≡ true
@@ -100,13 +100,13 @@ of_implied q of site switches protections paths folders =
     (of_two q (joined (by_files switches protections)) (joined (by_kernel switches protections) ++ joined (by_folders paths)) files
     (of_two q (joined (by_kernel switches protections)) (joined (by_folders paths)) kernel (of_folders q paths folders)))
 
--- of some of the written paths
+-- some of the written paths have the property if all have it
 pub of_some : (q : Mention → Bool) (p : WrittenPath → Bool) (paths : List WrittenPath) → list_all (λ path. q path.mention) paths ≡ true
     → list_all q (map (λ path. path.mention) (filter p paths)) ≡ true
 of_some q p paths all = list_all-map q (λ (path : WrittenPath). path.mention) (filter p paths)
     ∙ of_picked p (λ path. q path.mention) paths all
 
--- of all mentions, where it holds of all written paths
+-- all mentions have the property if all written paths have it
 pub of_all : (q : Mention → Bool) → OfTable q → (site : Site) (switches : Switches) (protections : Protections) (paths : List WrittenPath)
     → list_all (λ path. q path.mention) paths ≡ true → list_all q (mentions_of site switches protections paths) ≡ true
 unfolding mentions_of

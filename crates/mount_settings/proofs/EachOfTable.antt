@@ -1,4 +1,4 @@
--- What holds of each mention that the table of a version of systemd brings, of folders and of what is written, holds of all.
+-- The same for the table of a version of systemd: if its mentions, the folders and the written paths have a property, so have all.
 use Rattle.std.proofs.Common.{◌≡◌, ℕ, Bool, true, false, Option, Some, None, List, [], ◌∷◌, ◌++◌, map, refl, ap, ◌∙◌}
 use Rattle.std.specs.Prelude.{◌&&◌, codes, cond, filter, not, flat_map, option_and_then, if◌then◌else◌}
 use Rattle.std.specs.List.{list_all}
@@ -29,7 +29,7 @@ use Rattle.mount_settings.specs.systemd.Folders.{private_below, private_path, sh
 use Rattle.mount_settings.specs.systemd.Mentions.{brought, by_table, implied_of, is_effective, effective}
 use Rattle.mount_settings.proofs.EachMention.{both, of_two, of_picked, of_some, of_all, OfTable}
 
--- it holds of the paths of each row, whether or not the row is on
+-- the paths of each row have the property, even if the row is off
 abbrev pub OfRows : (Mention → Bool) → Type 0
 OfRows q = (on : RowsOn) → list_all (λ row. list_all q (brings row.1 row.2)) (table on) ≡ true
 
@@ -47,7 +47,7 @@ of_rows q (row ∷ rows) all =
 abbrev pub MayMove : (Mention → Bool) → Type 0
 MayMove q = (source : Path) (mention : Mention) → is_short_path source ≡ true → q mention ≡ true → q (from_path source mention) ≡ true
 
--- a mention is that of the path that it shows
+-- a mention is at the path that it shows
 from_own : (path : Path) (kind : Kind) (optional : Bool)
     → from_path (shown_path (record { path = path; kind = kind; optional = optional })) (record { path = path; kind = kind; optional = optional })
     ≡ record { path = path; kind = kind; optional = optional }
@@ -106,7 +106,7 @@ module _ (q : Mention → Bool) (moves : MayMove q) (site : Site) (switches : Sw
       let parts = both (q path.mention) (list_all (λ one. q one.mention) paths) all in
       ap (λ v. v && list_all q (map (placed_folder site switches keys) paths)) (of_placed path parts.0) ∙ all_placed paths parts.1
 
-  -- of all folders that are brought
+  -- all folders that are brought have the property
   pub of_folders_by : (paths : List WrittenPath) → list_all (λ path. q path.mention) (folders paths) ≡ true
       → list_all q (brought_folders site switches keys paths) ≡ true
   of_folders_by paths all =
@@ -114,7 +114,7 @@ module _ (q : Mention → Bool) (moves : MayMove q) (site : Site) (switches : Sw
 
 module _ (q : Mention → Bool) (of : OfRows q) (moves : MayMove q) (version : Version) (switches : Switches) (protections : Protections)
     (keys : FurtherKeys) (paths : List WrittenPath) where
-  -- of all that is implied, where it holds of folders
+  -- all implied mentions have the property if the folders have it
   pub of_implied_by : (site : Site) → list_all (λ path. q path.mention) (folders paths) ≡ true
       → list_all q (implied_of version site switches protections keys paths) ≡ true
   unfolding implied_of
@@ -128,7 +128,7 @@ module _ (q : Mention → Bool) (of : OfRows q) (moves : MayMove q) (version : V
         | false ↦ refl
       ]
 
-  -- of all mentions, where it holds of all written paths
+  -- all mentions have the property if all written paths have it
   pub of_all_by : (site : Site) → list_all (λ path. q path.mention) paths ≡ true
       → list_all q (mentions_by version site switches protections keys paths) ≡ true
   unfolding mentions_by
@@ -139,7 +139,7 @@ module _ (q : Mention → Bool) (of : OfRows q) (moves : MayMove q) (version : V
       (of_some q (λ path. not (is_implied path.key)) paths all))
       (of_implied_by site (of_picked (λ path. is_implied path.key) (λ path. q path.mention) paths all))
 
--- of all mentions of a unit, whichever systemd reads it
+-- all mentions of a unit have the property, whichever systemd reads it
 pub of_mentions : (q : Mention → Bool) → OfTable q → OfRows q → MayMove q → (systemd : Option Version) (unit : Resolved) (site : Site)
     (switches : Switches) (paths : List WrittenPath) → list_all (λ path. q path.mention) paths ≡ true
     → list_all q (mentions_in systemd unit site switches paths) ≡ true

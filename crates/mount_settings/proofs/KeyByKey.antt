@@ -25,7 +25,7 @@ use Rattle.mount_settings.proofs.Standing.{of_key_adds}
 use Rattle.mount_settings.proofs.Passing.{written_is}
 use Rattle.mount_settings.proofs.OwnValues.{values_add, own_values}
 
--- of the paths of one key none is left, and of another key all are
+-- forgetting a key leaves none of its paths, and all paths of another key
 of_other : (key gone : PathKey) (paths : List WrittenPath) → is_key gone key ≡ false
     → of_key key (without_key gone paths) ≡ of_key key paths
 of_other key gone [] other = refl
@@ -88,7 +88,7 @@ of_other_words dialect key other (word ∷ words) e =
     one_of false key other (mentions_in_word dialect other word) (paths_in dialect other words) e
     ∙ of_other_words dialect key other words e
 
--- what one more value of the key lists
+-- the list of a key after one more value
 listed_push : (dialect : Dialect) (key : PathKey) (values : List Value) (value : Value)
     → listed_by dialect key (values ++ value ∷ []) ≡ cond (length value.text == 0) []
     (listed_by dialect key values ++ flat_map (mentions_in_word dialect key) (unwrap_or (split value.text) []))
@@ -167,7 +167,7 @@ words_in_force unit key =
     ∙ all_steps (dialect_of unit.systemd) key [] [] (assigned_of unit) refl
     ∙ ap (listed_by (dialect_of unit.systemd) key) (own_values unit key)
 
--- ---- of the base profile a word has one mention
+-- ---- in the base profile a word has one mention
 one_or_none : (mention : Option Mention) (rest : List Mention)
     → unwrap_or (option_map (λ (m : Mention). m ∷ []) mention) [] ++ rest ≡ cons_option mention rest
 one_or_none None rest = refl

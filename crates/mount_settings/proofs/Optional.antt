@@ -1,4 +1,4 @@
--- Implied mentions are optional, and the site has their paths.
+-- Implied mentions are optional, and the site has rows at their paths.
 use Rattle.std.proofs.Common.{◌≡◌, ℕ, Bool, true, false, cond, Option, Some, None, List, [], ◌∷◌, refl, ap, ◌∙◌}
 use Rattle.std.specs.Prelude.{◌&&◌, filter, flat_map, unwrap_or}
 use Rattle.std.specs.List.{list_all}

@@ -1,4 +1,4 @@
--- What a version of systemd implies is optional, and the site has the object that it shows.
+-- The implied mentions of a version of systemd are optional, and the site has the objects that they show.
 use Rattle.std.proofs.Common.{◌≡◌, ℕ, Bool, true, false, cond, Option, Some, None, List, [], ◌∷◌, ◌++◌, map, refl, ap, ◌∙◌}
 use Rattle.std.specs.Prelude.{◌&&◌, ◌||◌, not, filter, flat_map, unwrap_or, if◌then◌else◌}
 use Rattle.std.specs.List.{AllByRecursion, cons_option, filter_map, list_all}
@@ -63,7 +63,7 @@ implied_by_are_optional version site switches protections keys unit =
     of_implied_by (λ mention. mention.optional) (λ on. refl) (λ source mention short holds. holds) version switches protections keys
     (unit_written unit) site (folders_optional (unit_written unit) (written_optional unit))
 
--- ---- what the table brings stands at the path that it shows
+-- ---- a mention of the table is at the path that it shows
 abbrev is_at_its_path : Mention → Type 0
 is_at_its_path mention = shown_path mention ≡ mention.path
 

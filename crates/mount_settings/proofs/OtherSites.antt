@@ -1,4 +1,4 @@
--- Sites that have the same of some rows give a unit the same mentions.
+-- Sites that agree on some rows give a unit the same mentions.
 use Rattle.std.proofs.Common.{◌≡◌, ◌∙◌, Bool, true, false, cond, List, [], ◌∷◌, ◌++◌, Option, Some, None, map, refl, ap, sym}
 use Rattle.std.specs.Prelude.{◌&&◌, not, filter, flat_map}
 use Rattle.std.specs.List.{AllByRecursion, cons_option}
@@ -23,7 +23,7 @@ use Rattle.mount_settings.specs.systemd.Keys.{unit_keys}
 use Rattle.mount_settings.specs.systemd.Mentions.{asked_of, brought, by_table, effective, implied_of, is_effective, is_vain_of}
 use Rattle.mount_settings.specs.systemd.OwnMounts.{has_own_mounts}
 
--- tests that agree on each leave the same
+-- tests that agree on each element keep the same elements
 filter_agrees : (p q : Mention → Bool) (mentions : List Mention) → AllByRecursion (λ mention. p mention ≡ q mention) mentions
     → filter p mentions ≡ filter q mentions
 filter_agrees p q [] same = refl
@@ -34,7 +34,7 @@ both_all : (p : Mention → Type 0) (xs ys : List Mention) → AllByRecursion p 
 both_all p [] ys all = (tt, all)
 both_all p (x ∷ xs) ys all = let rest = both_all p xs ys all.1 in ((all.0, rest.0), rest.1)
 
--- what is left out by a test that asks only of some
+-- a test that asks only about some elements
 left_agree : (asks p q : Mention → Bool) (mentions : List Mention)
     → AllByRecursion (λ mention. p mention ≡ q mention) (filter asks mentions)
     → AllByRecursion (λ mention. not (asks mention && p mention) ≡ not (asks mention && q mention)) mentions
@@ -48,7 +48,7 @@ left_agree asks p q (mention ∷ mentions) same =
     ]) same
 
 module _ (site other : Site) where
-  -- the sites have both a row at the path of a mention, or neither
+  -- both sites have a row at the path of a mention, or neither has one
   abbrev pub SameRow : Mention → Type 0
   SameRow mention = stands other mention ≡ stands site mention
 

@@ -1,4 +1,4 @@
--- The values of one key among all that are assigned are its own.
+-- The values of one key, among all that are assigned, are its own.
 use Rattle.std.proofs.Common.{◌≡◌, ℕ, true, false, cond, Option, Some, None, List, [], ◌∷◌, ◌++◌, map, refl, sym, ap, ◌∙◌}
 use Rattle.std.specs.Prelude.{◌||◌, filter, option_and_then}
 use Rattle.std.specs.List.{cons_option, filter_map, list_any}
@@ -24,7 +24,7 @@ use Rattle.mount_settings.specs.Assigned.{Assigned, is_key, given_to, assigned_b
 use Rattle.mount_settings.specs.OneKey.{values_named, values_to}
 use Rattle.mount_settings.proofs.SameKeys.{is_itself, same_key}
 
--- the value of what is assigned, if it is to the key
+-- the value of an assignment, if it is to the key
 abbrev own : PathKey → Option Assigned → Option Value
 own key None = None
 own key (Some one) = cond (is_key one.key key) (Some one.value) None
@@ -50,7 +50,7 @@ not_same dialect key other name is not =
       | false ↦ λ e. refl
     ]) refl
 
--- of an assignment of the service
+-- an assignment of the service
 own_assigned : (systemd : Option Version) (name : Name) (one : Place × Assignment) (key : PathKey)
     → own key (assigned_by systemd name one) ≡ cond (is_named (dialect_of systemd) one.1.key key) (expanded_at systemd name one) None
 own_assigned systemd name one key =

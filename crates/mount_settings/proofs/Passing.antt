@@ -1,4 +1,4 @@
--- What the values so far come to, with more values.
+-- The result of the values so far, and of more values.
 use Rattle.std.proofs.Common.{◌≡◌, ℕ, suc, Bool, true, false, cond, Option, Some, None, List, [], ◌∷◌, ◌++◌, length, refl, sym, ap, ◌∙◌}
 use Rattle.std.proofs.Common.{arith, append_assoc, append-nil}
 use Rattle.std.specs.Prelude.{◌==◌, ◌&&◌, ◌||◌, not, filter, unwrap_or}
@@ -14,13 +14,13 @@ use Rattle.mount_settings.specs.Assigned.{Assigned, is_key}
 use Rattle.mount_settings.specs.Written.{gives, is_reset_by, mentions_in_word, of_its_key, paths_in, word_paths, written}
 use Rattle.mount_settings.specs.Steps.{without_key, with_value, after}
 
--- one more value that may be there
+-- one more value, which may be missing
 step_some : (dialect : Dialect) (o : Option Assigned) (now next : List WrittenPath) (rest : List Assigned)
     → next ≡ after dialect now (cons_option o []) → after dialect now (cons_option o rest) ≡ after dialect next rest
 step_some dialect None now next rest step = ap (λ paths. after dialect paths rest) (sym step)
 step_some dialect (Some one) now next rest step = ap (λ paths. after dialect paths rest) (sym step)
 
--- what all comes to is what the others make of what there is: so it is behind one more
+-- the result of all is the result of the rest from the present state: the same holds after one more value
 pub after_more : (dialect : Dialect) {X : Type 0} (f : X → Option Assigned) (left more : List X) (x : X) (all now next : List WrittenPath)
     → left ≡ x ∷ more → all ≡ after dialect now (filter_map f left) → next ≡ after dialect now (cons_option (f x) [])
     → all ≡ after dialect next (filter_map f more)
@@ -82,7 +82,7 @@ and_false : (a b : Bool) → not b ≡ not (a && false || b)
 and_false true b = refl
 and_false false b = refl
 
--- what is left of one value's step
+-- the rest of the step of one value
 step_by : (empty : Bool) (b : PathKey → Bool) (key : PathKey) (paths given : List WrittenPath)
     → filter (λ path. not (b path.key)) given ≡ cond (b key) [] given → (empty ≡ true → given ≡ [])
     → filter (λ path. not (b path.key)) (cond empty (without_key key paths) (paths ++ given))
@@ -110,7 +110,7 @@ none_given : (dialect : Dialect) (key : PathKey) (text : List ℕ) → (length t
 none_given dialect key [] e = refl
 none_given dialect key (byte ∷ text) e = absurd (not_none (length text) e)
 
--- what was there and is not reset, and then what is written
+-- the paths that are not reset, and then the written ones
 pub after_is_written : (dialect : Dialect) (paths : List WrittenPath) (values : List Assigned)
     → after dialect paths values ≡ filter (λ path. not (is_reset_by values path.key)) paths ++ written dialect values
 after_is_written dialect paths [] = sym (append-nil (filter (λ path. not false) paths) ∙ filter_none paths)

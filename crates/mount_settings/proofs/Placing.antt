@@ -1,4 +1,4 @@
--- No mention says what stands at the root, where no key does, and all mentions are short.
+-- If no key says which object is at the root, no mention does, and all mentions are short.
 use Rattle.std.proofs.Common.{◌≡◌, Bool, true, false, cond, Option, Some, None, List, [], ◌∷◌, refl, ap, ◌∙◌}
 use Rattle.std.specs.Prelude.{◌&&◌, ◌||◌, not, find}
 use Rattle.std.specs.List.{list_all}
@@ -25,7 +25,7 @@ use Rattle.mount_settings.proofs.EachOfTable.{MayMove, of_mentions}
 abbrev leaves : Mention → Bool
 leaves mention = not (is_root mention.path && is_origin mention.kind)
 
--- a path that is as its key says, and none of the four keys is at the root
+-- a path is as its key allows, and none of the four keys is at the root
 one_leaves : (root origin folder a b c d : Bool) → (a && root) ≡ false → (b && root) ≡ false → (c && root) ≡ false → (d && root) ≡ false
     → (not origin || ((a || (b || (c || (d || false)))) || (folder && not root))) ≡ true → not (root && origin) ≡ true
 one_leaves false origin folder a b c d ea eb ec ed fit = refl
@@ -69,7 +69,7 @@ no_root paths none fit =
     let d = not_first (mentions_root paths TemporaryFileSystem) TemporaryFileSystem None c.1 in
     paths_leave paths a.0 b.0 c.0 d.0 fit
 
--- a folder that is shown from another path is where it was
+-- a folder that is shown from another path stays at its own path
 moved_leaves : MayMove leaves
 moved_leaves source mention short holds = at mention.path mention.kind mention.optional holds
   where
@@ -96,7 +96,7 @@ moved_short source mention short holds = at mention.path mention.kind mention.op
     at path (Tmp read_only) optional holds = holds
     at path (Bind own read_only) optional holds = and_from _ _ (both (is_short_path path) (is_short_path own) holds).0 short
 
--- no mention says what stands at the root
+-- no mention says which object is at the root
 pub mentions_leave : (unit : Resolved) (site : Site) (switches : Switches) (paths : List WrittenPath) → AreRead paths
     → root_key paths ≡ None → leaves_the_root (all_mentions unit site switches paths) ≡ true
 mentions_leave unit site switches paths read none =

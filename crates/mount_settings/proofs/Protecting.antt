@@ -1,4 +1,4 @@
--- Protections that agree key by key, and notes put behind one another.
+-- Protections that agree key by key, and notes added one after another.
 use Rattle.std.proofs.Common.{◌≡◌, List, ◌++◌, ap, ◌∙◌}
 use Rattle.mount_settings.specs.declared.protections.Protections.{Protections}
 

@@ -1,4 +1,4 @@
--- Keys are told apart by their names.
+-- Names distinguish the keys.
 use Rattle.std.proofs.Common.{◌≡◌, Bool, true, false, Some, List, [], ◌∷◌, refl, sym, ap, ◌∙◌, cond}
 use Rattle.std.specs.Prelude.{find}
 use Rattle.std.specs.Str.{bytes_eq}
@@ -40,7 +40,7 @@ same_key one other e =
 pub is_itself : (key : PathKey) → is_key key key ≡ true
 is_itself key = (bytes_eq-Decides (name_of key) (name_of key)).1 refl
 
--- what is found passes the test
+-- an element that is found passes the test
 pub found_passes : {X : Type 0} (p : X → Bool) (xs : List X) (x : X) → find p xs ≡ Some x → p x ≡ true
 found_passes p [] x e = cc
 found_passes p (y ∷ ys) x e =

@@ -1,4 +1,4 @@
--- Units whose keys say the same have the same protections and the same mentions, and are noted alike.
+-- Units whose keys have the same values have the same protections, the same mentions and the same notes.
 use Rattle.std.proofs.Common.{◌≡◌, ℕ, Bool, true, false, Option, Some, None, List, [], ◌∷◌, ◌++◌, refl, sym, ap, ◌∙◌}
 use Rattle.std.specs.Prelude.{codes, length, ◌==◌, not}
 use Rattle.std.specs.List.{AllByRecursion, list_all}
@@ -31,7 +31,7 @@ use Rattle.mount_settings.specs.systemd.Mentions.{implied_of}
 use Rattle.mount_settings.proofs.EachMention.{both}
 use Rattle.mount_settings.specs.systemd.Words.{groups_value, is_on, mounts_value, network_value, preserve_value, proc_value, subset_value}
 
--- the keys whose values that cannot be read are noted, and then all that say something of mounts
+-- the keys whose values that cannot be read are noted, and then all keys that decide about mounts
 abbrev pub noted_keys : List (List ℕ)
 noted_keys =
     codes "ProtectSystem" ∷ codes "ProtectHome" ∷ codes "PrivateTmp" ∷ codes "ProtectKernelTunables" ∷ codes "ProtectControlGroups" ∷ []
@@ -50,12 +50,12 @@ SameValues unit other = AllByRecursion (λ key. values_of other key ≡ values_o
 abbrev pub SameNotes : Resolved → Resolved → Type 0
 SameNotes unit other = AllByRecursion (λ key. notes_of other key ≡ notes_of unit key) noted_keys
 
--- what holds of each key holds of these
+-- if each key has a property, so have these
 pub each_of : (P : List ℕ → Type 0) → ((key : List ℕ) → P key) → (keys : List (List ℕ)) → AllByRecursion P keys
 each_of P h [] = tt
 each_of P h (key ∷ keys) = (h key, each_of P h keys)
 
--- and what holds of each key but one holds of these, where that one is not among them
+-- if each key but one has a property, so have these, as the one is not among them
 pub each_but : (name : List ℕ) (P : List ℕ → Type 0) → ((key : List ℕ) → bytes_eq name key ≡ false → P key) → (keys : List (List ℕ))
     → list_all (λ key. not (bytes_eq name key)) keys ≡ true → AllByRecursion P keys
 each_but name P h [] all = tt
@@ -143,7 +143,7 @@ module _ (unit other : Resolved) (systemd : other.systemd ≡ unit.systemd) (sam
   same_mentions site switches paths =
       ap (λ version. mentions_in version other site switches paths) systemd ∙ mentions_same unit.systemd site switches paths
 
-  -- ---- what is noted
+  -- ---- the notes
   module _ (noted : SameNotes unit other) where
     joined_same : {X : Type 0} (a b c d : List X) → a ≡ b → c ≡ d → (a ++ c) ≡ (b ++ d)
     joined_same a b c d e f = cc
@@ -173,7 +173,7 @@ module _ (unit other : Resolved) (systemd : other.systemd ≡ unit.systemd) (sam
         let e : unit_groups_notes other ≡ unit_groups_notes unit = ap (λ version. groups_notes_by version other) systemd ∙ groups_noted unit.systemd in
         cc
 
--- ---- a unit that says nothing
+-- ---- a unit without assignments
 abbrev pub silent : Resolved → Resolved
 silent unit = record unit { files = [] }
 
@@ -192,7 +192,7 @@ none_noted None unit = refl
 none_noted (Some V252) unit = refl
 none_noted (Some V257) unit = refl
 
--- a unit without a value of these keys says as much as one that says nothing
+-- a unit without a value of these keys has the same settings as one without assignments
 module _ (unit : Resolved) (valueless : AllByRecursion (λ key. values_of unit key ≡ []) mount_keys) where
   as_silent : SameValues (silent unit) unit
   unfolding service_assignments

@@ -16,7 +16,7 @@ use Rattle.mount_settings.specs.declared.effects.Effect.{Effect}
 use Rattle.mount_settings.specs.Effects.{mention_at, brings}
 use Rattle.mount_settings.specs.Implied.{joined}
 
--- one more part of what is made
+-- one more part of the result
 pub part_more : {X Y : Type 0} (g : List X → List Y) (adds : (xs ys : List X) → g (xs ++ ys) ≡ g xs ++ g ys) (xs : List X) (i : ℕ) (x : X)
     (old now next : List Y) → i < length xs → x ≡ get_or xs i x → now ≡ old ++ g (take i xs) → next ≡ now ++ g (x ∷ [])
     → next ≡ old ++ g (take (i + 1) xs)
@@ -35,7 +35,7 @@ of_key_adds key xs ys =
     ap (map (λ path. path.mention)) (filter-append (λ path. is_key path.key key) xs ys)
     ∙ map-append (λ path. path.mention) (filter (λ path. is_key path.key key) xs) (filter (λ path. is_key path.key key) ys)
 
--- two parts behind one another
+-- two parts one after the other
 pub two_brought : (p : Mention → Bool) (xs ys old now next : List Mention) → now ≡ old ++ filter p xs → next ≡ now ++ filter p ys
     → next ≡ old ++ filter p (xs ++ ys)
 two_brought p xs ys old now next first second =
@@ -44,7 +44,7 @@ two_brought p xs ys old now next first second =
     ∙ append_assoc old (filter p xs) (filter p ys)
     ∙ ap (λ zs. old ++ zs) (sym (filter-append p xs ys))
 
--- four groups behind one another
+-- four groups one after the other
 pub four_brought : (p : Mention → Bool) (q r s t old a b c d : List Mention) → a ≡ old ++ filter p q → b ≡ a ++ filter p r
     → c ≡ b ++ filter p s → d ≡ c ++ filter p t → d ≡ old ++ filter p (joined (q ∷ r ∷ s ∷ t ∷ []))
 four_brought p q r s t old a b c d to_a to_b to_c to_d =
@@ -55,7 +55,7 @@ four_brought p q r s t old a b c d to_a to_b to_c to_d =
 pub three_joined : (q r s t : List Mention) → q ++ (r ++ (s ++ t)) ≡ (q ++ (r ++ s)) ++ t
 three_joined q r s t = ap (λ xs. q ++ xs) (sym (append_assoc r s t)) ∙ sym (append_assoc q (r ++ s) t)
 
--- a list of 192 has none left
+-- a list of 192 has no room left
 pub no_room : (list rest left all : List Mention) (mention : Mention) → length list ≡ 192 → rest ≡ mention ∷ left → list ++ rest ≡ all
     → length all ≤ 192 → ⊥
 no_room list rest left all mention full first whole few = omega

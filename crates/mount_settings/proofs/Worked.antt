@@ -1,4 +1,4 @@
--- The paths that each protection speaks of, written out.
+-- Examples of the paths that each protection changes.
 use Rattle.std.proofs.Common.{◌≡◌, ℕ, true, false, List, [], ◌∷◌, refl, map, codes}
 use Rattle.path_settings.specs.abs_path.Paths.{Path}
 use Rattle.path_settings.specs.declared.mentions.Kind.{Kind}
@@ -18,7 +18,7 @@ system_full : said (by_system Full) ≡ (codes "usr" ∷ [], Ro) ∷ (codes "boo
     (codes "etc" ∷ [], Ro) ∷ []
 system_full = refl
 
--- the root is read-only, and what the kernel shows is not
+-- the root is read-only, and the kernel's file systems are not
 system_strict : said (by_system Strict) ≡ ([], Ro) ∷ (codes "dev" ∷ [], Rw) ∷ (codes "proc" ∷ [], Rw) ∷ (codes "sys" ∷ [], Rw) ∷ []
 system_strict = refl
 

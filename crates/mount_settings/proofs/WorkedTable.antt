@@ -1,4 +1,4 @@
--- What some protections bring by the tables of systemd 252 and 257, written out.
+-- Examples of the mentions of some protections, by the tables of systemd 252 and 257.
 use Rattle.std.proofs.Common.{◌≡◌, ℕ, Bool, true, false, Option, Some, None, List, [], ◌∷◌, ◌++◌, refl, map, codes}
 use Rattle.path_settings.specs.abs_path.Paths.{Path}
 use Rattle.path_settings.specs.declared.keys.PathKey.{PathKey}
@@ -55,13 +55,13 @@ off = switches_with false
 abbrev no_credentials : Path × Kind
 no_credentials = (below (codes "run") (codes "credentials"), Hide)
 
--- ProtectSystem=strict leaves the homes too
+-- ProtectSystem=strict leaves the homes writable too
 strict : said (by_table V257 off (protections_with system.Strict false false) no_keys)
     ≡ ([], Ro) ∷ (codes "proc" ∷ [], Rw) ∷ (codes "sys" ∷ [], Rw) ∷ (codes "dev" ∷ [], Rw) ∷ (codes "home" ∷ [], Rw)
     ∷ (below (codes "run") (codes "user"), Rw) ∷ (codes "root" ∷ [], Rw) ∷ no_credentials ∷ []
 strict = refl
 
--- systemd 252 names the folders of the root that stand for some of /usr
+-- systemd 252 names the folders of the root that stand for folders of /usr
 full_in_252 : said (by_table V252 off (protections_with system.Full false false) no_keys)
     ≡ (codes "usr" ∷ [], Ro) ∷ (codes "boot" ∷ [], Ro) ∷ (codes "efi" ∷ [], Ro) ∷ (codes "lib" ∷ [], Ro) ∷ (codes "lib64" ∷ [], Ro)
     ∷ (codes "bin" ∷ [], Ro) ∷ (codes "sbin" ∷ [], Ro) ∷ (codes "etc" ∷ [], Ro) ∷ no_credentials ∷ []
@@ -71,7 +71,7 @@ full_in_257 : said (by_table V257 off (protections_with system.Full false false)
     ≡ (codes "usr" ∷ [], Ro) ∷ (codes "boot" ∷ [], Ro) ∷ (codes "efi" ∷ [], Ro) ∷ (codes "etc" ∷ [], Ro) ∷ no_credentials ∷ []
 full_in_257 = refl
 
--- ProtectKernelTunables=. In systemd 257 /sys stays writable, unless it shows a network of the service's own
+-- ProtectKernelTunables=. In systemd 257 /sys stays writable, unless it shows the service's own network
 abbrev of_proc : List ℕ → Kind → Path × Kind
 of_proc name kind = (below (codes "proc") name, kind)
 
@@ -104,7 +104,7 @@ tunables_in_257 = refl
 tunables_and_network : said (by_table V257 off tunables own_network) ≡ before_sys ++ (codes "sys" ∷ [], Ro) ∷ behind_sys
 tunables_and_network = refl
 
--- PrivateDevices=: the devices that stand for no hardware, and four folders
+-- PrivateDevices=: the pseudo-devices, and four folders
 abbrev device : List ℕ → Path × Kind
 device name = (below (codes "dev") name, Bind (below (codes "dev") name) false)
 
@@ -139,7 +139,7 @@ not_in_252 = refl
 not_of_a_network : is_vain_of V257 control_groups own_network written_sys ≡ false
 not_of_a_network = refl
 
--- a name of the host's own is no reason for mounts; a network is one in systemd 257
+-- ProtectHostname= is no reason for mounts; in systemd 257 a network is one
 hostname_alone : has_own_mounts V257 off nothing (record no_keys { protect_hostname = true }) [] ≡ false
 hostname_alone = refl
 
@@ -149,7 +149,7 @@ network_in_257 = refl
 network_in_252 : has_own_mounts V252 off nothing own_network [] ≡ false
 network_in_252 = refl
 
--- with a dynamic user a folder below /var/lib may be one below /var/lib/private; one below /run is not, unless it is kept
+-- with a dynamic user a folder below /var/lib may be below /var/lib/private; a folder below /run is not, unless it is kept
 abbrev dynamic : Switches
 dynamic = record off { dynamic_user = true }
 

@@ -1,4 +1,4 @@
--- Worked values: what keys say, and what is in force.
+-- Examples of values: what they mean, and which of them are in force.
 use Rattle.std.proofs.Common.{◌≡◌, ℕ, true, List, [], ◌∷◌, Some, None, refl, map, codes}
 use Rattle.std.specs.Str.{is_utf8, chars}
 use lib.Utf8.{encode}
@@ -43,7 +43,7 @@ at line key text = record { key = key; value = record { place = record { file = 
 abbrev said : List WrittenPath → List (PathKey × Path)
 said paths = map (λ path. (path.key, path.mention.path)) paths
 
--- two keys, of which one is reset between
+-- two keys, one of which is reset between
 one_key_is_reset : said (written Base
     (at 2 ReadOnlyPaths (codes "/a /b") ∷ at 3 ReadWritePaths (codes "/c") ∷ at 4 ReadOnlyPaths [] ∷ at 5 ReadOnlyPaths
     (codes "/d d") ∷ [])) ≡ (ReadWritePaths, codes "c" ∷ []) ∷ (ReadOnlyPaths, codes "d" ∷ []) ∷ []

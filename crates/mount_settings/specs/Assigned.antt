@@ -1,4 +1,4 @@
--- What the files of a unit assign to the keys that speak of paths (systemd.unit(5), systemd.exec(5), Sandboxing).
+-- The values that the files of a unit assign to the keys that name paths (systemd.unit(5), systemd.exec(5), Sandboxing).
 use Rattle.std.specs.Prelude.{Bool, List, Option, Some, None, option_and_then}
 use Rattle.std.specs.List.{filter_map}
 use Rattle.std.specs.Option.{option_map}
@@ -17,32 +17,32 @@ use Rattle.dropin_merge.specs.declared.unit_values.value.Value.{Value}
 use Rattle.dropin_merge.specs.unit_values.Assignments.{service_assignments}
 use Rattle.dropin_merge.specs.unit_values.Values.{expanded_at}
 
--- a value of a key that speaks of paths
+-- a value of a key that names paths
 pub record Assigned : Type 0 where
   pub key : PathKey
   pub value : Value
 
--- the same key, by its name
+-- both are the same key, by its name
 abbrev pub is_key : PathKey → PathKey → Bool
 is_key one other = bytes_eq (name_of one) (name_of other)
 
--- the names and words of keys that the systemd knows which reads a unit
+-- the rules for names and words of keys of the systemd that reads the unit
 abbrev pub dialect_of : Option Version → Dialect
 dialect_of None = Base
 dialect_of (Some V252) = Systemd252
 dialect_of (Some V257) = Systemd257
 
--- the key of an assignment, where it speaks of paths
+-- the key of an assignment, if it names paths
 abbrev pub key_of : Option Version → Assignment → Option PathKey
 key_of systemd assignment = key_named (dialect_of systemd) assignment.key
 
--- what an assignment gives to a key: its value, where it can be expanded
+-- the value that an assignment gives to a key, if its specifiers can be expanded
 abbrev pub given_to : Option Version → Name → Place × Assignment → PathKey → Option Assigned
 given_to systemd name one key = option_map (λ value. record { key = key; value = value }) (expanded_at systemd name one)
 
 abbrev pub assigned_by : Option Version → Name → Place × Assignment → Option Assigned
 assigned_by systemd name one = option_and_then (given_to systemd name one) (key_of systemd one.1)
 
--- over all files, in the order of their assignments, whatever the key
+-- the values over all files, in the order of their assignments, whatever the key
 abbrev pub assigned_of : Resolved → List Assigned
 assigned_of unit = filter_map (assigned_by unit.systemd unit.name) (service_assignments unit)

@@ -11,7 +11,7 @@ use Rattle.site_table.specs.Table.{Site, place_of}
 use Rattle.mount_settings.specs.declared.effects.Effect.{Effect}
 use Rattle.mount_settings.specs.declared.effects.Effect.TheVariants.{ReadOnly, Writable, NotExecutable, Hidden, Empty, Shown}
 
--- what is shown stands at its own path, also where an empty file system stands above it
+-- `Shown` binds the host's object to its own path, so it is visible even below an empty file system
 abbrev pub kind_at : Effect → Path → Kind
 kind_at ReadOnly path = Ro
 kind_at Writable path = Rw
@@ -20,7 +20,7 @@ kind_at Hidden path = Hide
 kind_at (Empty read_only) path = Tmp read_only
 kind_at Shown path = Bind path false
 
--- it is optional, and a text that is no path brings nothing
+-- the mention is optional, and a text that is no path gives no mention
 abbrev pub mention_at : Effect → List ℕ → Option Mention
 mention_at effect text = option_map (λ path. record { path = path; kind = kind_at effect path; optional = true }) (setting_path text)
 

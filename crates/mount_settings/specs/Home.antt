@@ -1,4 +1,4 @@
--- systemd.exec(5), ProtectHome=: what is seen of the homes of users.
+-- systemd.exec(5), ProtectHome=: whether the homes of users are inaccessible, read-only or empty.
 use Rattle.std.specs.Prelude.{ℕ, codes, List, [], ◌∷◌, Option}
 use Rattle.dropin_merge.specs.declared.resolved.Resolved.{Resolved}
 use Rattle.dropin_merge.specs.declared.unit_values.value.FileNote.{FileNote}
@@ -7,14 +7,14 @@ use Rattle.mount_settings.specs.declared.protections.HomeProtection.{HomeProtect
 use Rattle.mount_settings.specs.declared.protections.HomeProtection.TheVariants.{No, Yes, ReadOnly, Tmpfs}
 use Rattle.mount_settings.specs.Choices.{choice}
 
--- a boolean, `read-only` or `tmpfs`; an empty value is the default, which is no
+-- a boolean, `read-only` or `tmpfs`; an empty value means the default, `no`
 abbrev pub home_value : List ℕ → Option HomeProtection
 home_value text = choice No Yes ((codes "read-only", ReadOnly) ∷ (codes "tmpfs", Tmpfs) ∷ []) text
 
--- what the files of a unit say: the last value that can be read
+-- the last value of the unit that can be read
 abbrev pub unit_home : Resolved → HomeProtection
 unit_home unit = unit_last home_value No unit (codes "ProtectHome")
 
--- and what is noted
+-- the notes on values that cannot be read
 abbrev pub unit_home_notes : Resolved → List FileNote
 unit_home_notes unit = unit_last_notes home_value unit (codes "ProtectHome")

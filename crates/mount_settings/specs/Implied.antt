@@ -13,7 +13,7 @@ use Rattle.mount_settings.specs.Table.{by_system, by_home, by_tmp, by_devices, b
 abbrev pub joined : List (List Mention) → List Mention
 joined groups = flat_map (λ group. group) groups
 
--- key by key, in the order of the manual's table
+-- key by key, in the order of the manual page
 abbrev pub by_files : Switches → Protections → List (List Mention)
 by_files switches protections = by_system protections.protect_system ∷ by_home protections.protect_home ∷ by_tmp protections.private_tmp ∷
     by_devices switches.private_devices ∷ []
@@ -23,16 +23,16 @@ by_kernel switches protections =
     by_tunables protections.protect_kernel_tunables ∷ by_modules switches.protect_kernel_modules ∷ by_logs switches.protect_kernel_logs ∷
     by_control_groups protections.protect_control_groups ∷ []
 
--- folders that are the service's to write to. The base profile reads no ConfigurationDirectory=
+-- the folders that the service may write to. The base profile does not read ConfigurationDirectory=
 abbrev pub by_folders : List WrittenPath → List (List Mention)
 by_folders paths = of_key StateDirectory paths ∷ of_key RuntimeDirectory paths ∷ of_key CacheDirectory paths ∷ of_key LogsDirectory paths
     ∷ []
 
--- all of them
+-- all mentions that are implied, at any path
 abbrev pub asked : Switches → Protections → List WrittenPath → List Mention
 asked switches protections paths = joined (by_files switches protections) ++
     (joined (by_kernel switches protections) ++ joined (by_folders paths))
 
--- one whose path the site does not have is passed over
+-- a mention is skipped if the site has no row at its path
 unfoldable pub implied : Site → Switches → Protections → List WrittenPath → List Mention
 implied site switches protections paths = filter (stands site) (asked switches protections paths)

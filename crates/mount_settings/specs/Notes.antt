@@ -1,4 +1,4 @@
--- What is noted of the keys that speak of paths.
+-- The notes on the keys that name paths.
 use Rattle.std.specs.Prelude.{ℕ, List, [], ◌∷◌, ◌++◌, Option, Some, None, flat_map}
 use Rattle.std.specs.List.{cons_option}
 use Rattle.std.specs.Option.{option_map_or}
@@ -24,7 +24,7 @@ use Rattle.mount_settings.specs.Assigned.{key_of, dialect_of}
 abbrev pub word_notes : Dialect → PathKey → Value → List ℕ → List FileNote
 word_notes dialect key value word = notes_at value (unless_read (mentions_of_word dialect key word))
 
--- a value that cannot be split is noted, and so is each word of another that cannot be read
+-- a value that cannot be split is noted; of any other value each word that cannot be read is noted
 abbrev pub split_notes : Dialect → PathKey → Value → Option (List (List ℕ)) → List FileNote
 split_notes dialect key value None = notes_at value (ValueCause ∷ [])
 split_notes dialect key value (Some words) = flat_map (word_notes dialect key value) words
@@ -32,7 +32,7 @@ split_notes dialect key value (Some words) = flat_map (word_notes dialect key va
 abbrev pub value_notes : Dialect → PathKey → Value → List FileNote
 value_notes dialect key value = split_notes dialect key value (split value.text)
 
--- of an assignment to a key: that it cannot be expanded, or what is noted of its value
+-- an assignment to a key is noted if it cannot be expanded, and otherwise its value may get notes
 abbrev pub given_notes : Option Version → Name → Place × Assignment → PathKey → List FileNote
 given_notes systemd name one key =
     cons_option (unexpanded_at systemd name one) [] ++ option_map_or (value_notes (dialect_of systemd) key) (expanded_at systemd name one) []
@@ -40,6 +40,6 @@ given_notes systemd name one key =
 abbrev pub notes_by : Option Version → Name → Place × Assignment → List FileNote
 notes_by systemd name one = option_map_or (given_notes systemd name one) (key_of systemd one.1) []
 
--- over all files, in the order of their assignments, those that are reset later among them
+-- the notes over all files, in the order of their assignments; values that are reset later are noted too
 unfoldable pub written_notes : Resolved → List FileNote
 written_notes unit = flat_map (notes_by unit.systemd unit.name) (service_assignments unit)

@@ -1,4 +1,4 @@
--- What is written for one key alone, by the rule of lists (systemd.syntax(7)).
+-- The paths of one key alone, by the rule of lists (systemd.syntax(7)).
 use Rattle.std.specs.Prelude.{cond, List, None, [], map, filter, flat_map, unwrap_or}
 use Rattle.std.specs.List.{filter_map}
 use Rattle.path_settings.specs.declared.dialect.Dialect.{Dialect}
@@ -13,7 +13,7 @@ use Rattle.dropin_merge.specs.unit_values.Words.{split}
 use Rattle.mount_settings.specs.Assigned.{Assigned, is_key, dialect_of}
 use Rattle.mount_settings.specs.Written.{mentions_in_word}
 
--- the values of one key, of all that are assigned
+-- the values of one key, among all values that are assigned
 abbrev pub values_to : PathKey → List Assigned → List Value
 values_to key assigned = map (λ one. one.value) (filter (λ one. is_key one.key key) assigned)
 
@@ -22,7 +22,7 @@ abbrev pub values_named : Resolved → PathKey → List Value
 values_named unit key = filter_map
     (λ one. cond (is_named (dialect_of unit.systemd) one.1.key key) (expanded_at unit.systemd unit.name one) None) (service_assignments unit)
 
--- the mentions of the words of the values that are after the last empty one
+-- the mentions of the words of the values after the last empty one
 abbrev pub listed_by : Dialect → PathKey → List Value → List Mention
 listed_by dialect key values =
     flat_map (mentions_in_word dialect key) (flat_map (λ value. unwrap_or (split value.text) []) (in_force values))

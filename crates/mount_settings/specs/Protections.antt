@@ -1,4 +1,4 @@
--- The keys that protect the file system, read together, and what a dynamic user adds (systemd.exec(5), DynamicUser=).
+-- The keys that protect the file system, and the protections that DynamicUser= implies (systemd.exec(5), DynamicUser=).
 use Rattle.std.specs.Prelude.{Bool, true, false, codes, List, ◌++◌}
 use Rattle.dropin_merge.specs.declared.resolved.Resolved.{Resolved}
 use Rattle.dropin_merge.specs.declared.unit_values.value.FileNote.{FileNote}
@@ -13,7 +13,7 @@ use Rattle.mount_settings.specs.Tmp.{unit_tmp, unit_tmp_notes}
 use Rattle.mount_settings.specs.systemd.Keys.{unit_groups, unit_groups_notes}
 use Rattle.mount_settings.specs.systemd.Words.{is_on}
 
--- what the files of a unit say
+-- the values of the keys in the files of a unit
 unfoldable pub unit_protections : Resolved → Protections
 unit_protections unit =
     record {
@@ -24,7 +24,7 @@ unit_protections unit =
       protect_control_groups = is_on (unit_groups unit);
     }
 
--- and what is noted, key by key
+-- the notes, key by key
 unfoldable pub protection_notes : Resolved → List FileNote
 protection_notes unit =
     (((unit_system_notes unit ++ unit_home_notes unit)
@@ -32,14 +32,14 @@ protection_notes unit =
     ++ unit_flag_notes unit (codes "ProtectKernelTunables"))
     ++ unit_groups_notes unit
 
--- the homes are at least read-only
+-- DynamicUser= implies ProtectHome=read-only: the homes are at least read-only
 abbrev pub raised : HomeProtection → HomeProtection
 raised No = ReadOnly
 raised Yes = Yes
 raised ReadOnly = ReadOnly
 raised Tmpfs = Tmpfs
 
--- with a dynamic user the system is strictly protected, and temporary files are the service's own, whatever the keys say
+-- DynamicUser= implies ProtectSystem=strict and PrivateTmp=yes, whatever these keys say
 abbrev pub in_effect : Bool → Protections → Protections
 in_effect false said = said
 in_effect true said =

@@ -14,11 +14,11 @@ use Rattle.mount_settings.specs.Implied.{asked, implied}
 use Rattle.mount_settings.specs.systemd.Keys.{unit_keys}
 use Rattle.mount_settings.specs.systemd.Mentions.{asked_of, implied_of, effective, is_vain_of}
 
--- folders are implied; all other paths stand as they are written
+-- folders are implied; all other paths are in written order
 abbrev pub as_written : List WrittenPath → List Mention
 as_written paths = map (λ path. path.mention) (filter (λ path. not (is_implied path.key)) paths)
 
--- first what is written, and then what is implied
+-- the written mentions, followed by the implied ones
 unfoldable pub mentions_of : Site → Switches → Protections → List WrittenPath → List Mention
 mentions_of site switches protections paths = as_written paths ++ implied site switches protections paths
 
@@ -31,7 +31,7 @@ unfoldable pub mentions_by : Version → Site → Switches → Protections → F
 mentions_by version site switches protections keys paths =
     effective version site protections keys (as_written paths) ++ implied_of version site switches protections keys paths
 
--- all mentions of a unit with these switches and written paths, by the systemd that reads it
+-- all mentions of a unit with these switches and written paths, by the rules of the systemd that reads the unit
 abbrev pub mentions_in : Option Version → Resolved → Site → Switches → List WrittenPath → List Mention
 mentions_in None unit site switches paths = mentions_of site switches (protections_of unit switches) paths
 mentions_in (Some version) unit site switches paths =
@@ -40,7 +40,7 @@ mentions_in (Some version) unit site switches paths =
 abbrev pub all_mentions : Resolved → Site → Switches → List WrittenPath → List Mention
 all_mentions unit site switches paths = mentions_in unit.systemd unit site switches paths
 
--- the mentions of which a site decides whether they are among them, by its row at their path
+-- the mentions that the site decides about: a row at their path adds or drops them
 abbrev pub deciding_by : Version → Switches → Protections → FurtherKeys → List WrittenPath → List Mention
 deciding_by version switches protections keys paths =
     filter (is_vain_of version protections keys) (as_written paths) ++ asked_of version switches protections keys paths

@@ -1,4 +1,4 @@
--- What one more value does to the written paths so far.
+-- The written paths after one more value.
 use Rattle.std.specs.Prelude.{◌==◌, not, cond, List, ◌++◌, length, filter, fold}
 use Rattle.path_settings.specs.declared.keys.PathKey.{PathKey}
 use Rattle.path_settings.specs.declared.dialect.Dialect.{Dialect}

@@ -7,14 +7,14 @@ use Rattle.mount_settings.specs.declared.protections.SystemProtection.{SystemPro
 use Rattle.mount_settings.specs.declared.protections.SystemProtection.TheVariants.{No, Yes, Full, Strict}
 use Rattle.mount_settings.specs.Choices.{choice}
 
--- a boolean, `full` or `strict`; an empty value is the default, which is no
+-- a boolean, `full` or `strict`; an empty value means the default, `no`
 abbrev pub system_value : List ℕ → Option SystemProtection
 system_value text = choice No Yes ((codes "full", Full) ∷ (codes "strict", Strict) ∷ []) text
 
--- what the files of a unit say: the last value that can be read
+-- the last value of the unit that can be read
 abbrev pub unit_system : Resolved → SystemProtection
 unit_system unit = unit_last system_value No unit (codes "ProtectSystem")
 
--- and what is noted
+-- the notes on values that cannot be read
 abbrev pub unit_system_notes : Resolved → List FileNote
 unit_system_notes unit = unit_last_notes system_value unit (codes "ProtectSystem")

@@ -1,4 +1,4 @@
--- The paths that each protection speaks of (systemd.exec(5), Sandboxing), in the order of the manual's table.
+-- The paths that each protection changes (systemd.exec(5), Sandboxing), in the order of the manual page.
 use Rattle.std.specs.Prelude.{ℕ, Bool, true, false, if◌then◌else◌, codes, List, [], ◌∷◌, ◌++◌, map, Option, Some, None}
 use denote.Ref.{Bor}
 use Rattle.path_settings.specs.declared.mentions.Mention.{Mention}
@@ -11,7 +11,7 @@ use Rattle.mount_settings.specs.declared.effects.Effect.{Effect}
 use Rattle.mount_settings.specs.declared.effects.Effect.TheVariants.{ReadOnly, Writable, NotExecutable, Hidden, Empty, Shown}
 use Rattle.mount_settings.specs.Effects.{brings}
 
--- ProtectSystem=: the system's files; with `full` its configuration too; with `strict` all but what the kernel shows
+-- ProtectSystem=: /usr and the boot loader directories are read-only; with `full` /etc too; with `strict` all but /dev, /proc and /sys
 abbrev pub by_system : SystemProtection → List Mention
 by_system No = []
 by_system Yes = brings ReadOnly (codes "/usr" ∷ codes "/boot" ∷ codes "/efi" ∷ [])
@@ -21,7 +21,7 @@ by_system Strict = brings ReadOnly (codes "/" ∷ []) ++ brings Writable (codes 
 abbrev pub homes : List (List ℕ)
 homes = codes "/home" ∷ codes "/root" ∷ codes "/run/user" ∷ []
 
--- ProtectHome=: the homes are hidden, read-only, or empty and read-only
+-- ProtectHome=: the homes are inaccessible, read-only, or empty and read-only
 abbrev pub home_effect : HomeProtection → Option Effect
 home_effect HomeNo = None
 home_effect HomeYes = Some Hidden
@@ -35,7 +35,7 @@ at_homes (Some effect) = brings effect homes
 abbrev pub by_home : HomeProtection → List Mention
 by_home home = at_homes (home_effect home)
 
--- what an effect at paths brings, where it is on
+-- the mentions of an effect at these paths, if it is on
 abbrev pub when : Bool → Effect → List (List ℕ) → List Mention
 when on effect texts = if on then brings effect texts else []
 
@@ -43,7 +43,7 @@ when on effect texts = if on then brings effect texts else []
 abbrev pub by_group : Bool × Effect × Bor (List (Bor (List ℕ))) → List Mention
 by_group group = when group.0 group.1 (map (λ text. text.now) group.2.now)
 
--- PrivateTmp=: folders for temporary files of the service's own
+-- PrivateTmp=: the service has its own /tmp and /var/tmp
 abbrev pub by_tmp : Bool → List Mention
 by_tmp on = when on (Empty false) (codes "/tmp" ∷ codes "/var/tmp" ∷ [])
 
@@ -54,7 +54,7 @@ abbrev pub harmless_devices : List (List ℕ)
 harmless_devices = codes "/dev/null" ∷ codes "/dev/zero" ∷ codes "/dev/full" ∷ codes "/dev/random" ∷ codes "/dev/urandom" ∷ codes
     "/dev/tty" ∷ []
 
--- PrivateDevices=: an empty folder of devices, with those in it that stand for no hardware
+-- PrivateDevices=: /dev has only pseudo-devices, and nothing in it can be executed
 abbrev pub by_devices : Bool → List Mention
 by_devices on = when on (Empty true) devices ++ (when on NotExecutable devices ++ when on Shown harmless_devices)
 
@@ -66,18 +66,18 @@ tunables =
 abbrev pub memory : List (List ℕ)
 memory = codes "/proc/kallsyms" ∷ codes "/proc/kcore" ∷ []
 
--- ProtectKernelTunables=: the kernel's variables are read-only, and its symbols and memory hidden
+-- ProtectKernelTunables=: kernel variables are read-only, and /proc/kallsyms and /proc/kcore are inaccessible
 abbrev pub by_tunables : Bool → List Mention
 by_tunables on = when on ReadOnly tunables ++ when on Hidden memory
 
--- ProtectKernelModules=
+-- ProtectKernelModules=: /usr/lib/modules is inaccessible
 abbrev pub by_modules : Bool → List Mention
 by_modules on = when on Hidden (codes "/usr/lib/modules" ∷ [])
 
--- ProtectKernelLogs=
+-- ProtectKernelLogs=: /proc/kmsg and /dev/kmsg are inaccessible
 abbrev pub by_logs : Bool → List Mention
 by_logs on = when on Hidden (codes "/proc/kmsg" ∷ codes "/dev/kmsg" ∷ [])
 
--- ProtectControlGroups=
+-- ProtectControlGroups=: the control groups hierarchy below /sys/fs/cgroup is read-only
 abbrev pub by_control_groups : Bool → List Mention
 by_control_groups on = when on ReadOnly (codes "/sys/fs/cgroup" ∷ [])

@@ -1,4 +1,4 @@
--- systemd.exec(5), PrivateTmp=: whether the service has folders for temporary files of its own.
+-- systemd.exec(5), PrivateTmp=: whether the service has its own folders for temporary files.
 use Rattle.std.specs.Prelude.{ℕ, Bool, true, false, codes, List, [], ◌∷◌, Option, Some, None}
 use Rattle.std.specs.Option.{option_map}
 use Rattle.dropin_merge.specs.declared.resolved.Resolved.{Resolved}
@@ -10,14 +10,14 @@ use Rattle.dropin_merge.specs.unit_values.Lasting.{unit_last, unit_last_notes}
 use Rattle.mount_settings.specs.declared.tmp.PrivateTmp.{PrivateTmp}
 use Rattle.mount_settings.specs.Choices.{choice}
 
--- a boolean, or `disconnected`, which is true; an empty value is the default, which is no
+-- a boolean, or `disconnected`, which counts as true; an empty value means the default, `no`
 abbrev pub is_tmp_on : List ℕ → Option Bool
 is_tmp_on text = choice false true ((codes "disconnected", true) ∷ []) text
 
 abbrev pub tmp_value : List ℕ → Option PrivateTmp
 tmp_value text = option_map (λ on. record { on = on }) (is_tmp_on text)
 
--- what the files of a unit say: the last value that can be read. To systemd 252 `disconnected` is no word
+-- the last value of the unit that can be read; systemd 252 does not know `disconnected`
 abbrev pub worded_tmp : Resolved → Bool
 worded_tmp unit = (unit_last tmp_value (record { on = false }) unit (codes "PrivateTmp")).on
 
@@ -29,7 +29,7 @@ tmp_by (Some V257) unit = worded_tmp unit
 abbrev pub unit_tmp : Resolved → Bool
 unit_tmp unit = tmp_by unit.systemd unit
 
--- and what is noted
+-- the notes on values that cannot be read
 abbrev pub tmp_notes_by : Option Version → Resolved → List FileNote
 tmp_notes_by None unit = unit_last_notes tmp_value unit (codes "PrivateTmp")
 tmp_notes_by (Some V252) unit = unit_flag_notes unit (codes "PrivateTmp")

@@ -1,4 +1,4 @@
--- The paths that are written in the files of a unit and are in force (systemd.exec(5), Sandboxing).
+-- The paths that the files of a unit write and that are in force (systemd.exec(5), Sandboxing).
 use Rattle.std.specs.Prelude.{ℕ, ◌==◌, ◌&&◌, cond, Bool, List, [], ◌∷◌, ◌++◌, length, map, filter, flat_map, unwrap_or}
 use Rattle.std.specs.List.{list_any}
 use Rattle.path_settings.specs.declared.keys.PathKey.{PathKey}
@@ -10,14 +10,14 @@ use Rattle.dropin_merge.specs.unit_values.Words.{split}
 use Rattle.mount_settings.specs.declared.written.WrittenPath.{WrittenPath}
 use Rattle.mount_settings.specs.Assigned.{Assigned, is_key, assigned_of, dialect_of}
 
--- what a word of a key mentions, where it can be read
+-- the mentions of a word of a key, if the word can be read
 abbrev pub mentions_in_word : Dialect → PathKey → List ℕ → List Mention
 mentions_in_word dialect key word = unwrap_or (mentions_of_word dialect key word) []
 
 abbrev pub of_its_key : PathKey → List Mention → List WrittenPath
 of_its_key key mentions = map (λ mention. record { key = key; mention = mention }) mentions
 
--- the paths that a word of a key is, and those of the words of a value, in their order
+-- the paths of a word of a key, and the paths of the words of a value, in their order
 abbrev pub word_paths : Dialect → PathKey → List ℕ → List WrittenPath
 word_paths dialect key word = of_its_key key (mentions_in_word dialect key word)
 
@@ -34,15 +34,15 @@ is_reset key one = is_key key one.key && (length one.value.text == 0)
 abbrev pub is_reset_by : List Assigned → PathKey → Bool
 is_reset_by later key = list_any (is_reset key) later
 
--- a value is in force unless a later one resets its key; each in force gives its paths
+-- a value is in force unless a later empty value resets its key; each value in force gives its paths
 abbrev pub written : Dialect → List Assigned → List WrittenPath
 written dialect [] = []
 written dialect (one ∷ later) = cond (is_reset_by later one.key) [] (gives dialect one) ++ written dialect later
 
--- in the order of the assignments in the files, whatever the key, and then of the words
+-- the paths in the order of the assignments in the files, whatever the key, and then of the words
 unfoldable pub unit_written : Resolved → List WrittenPath
 unit_written unit = written (dialect_of unit.systemd) (assigned_of unit)
 
--- those of one key
+-- the mentions of one key
 abbrev pub of_key : PathKey → List WrittenPath → List Mention
 of_key key paths = map (λ path. path.mention) (filter (λ path. is_key path.key key) paths)

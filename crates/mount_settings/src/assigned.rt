@@ -12,7 +12,7 @@ use dropin_merge::{Assignment, Resolved, UnitName, Version};
 use path_settings::{Dialect, PathKey};
 use std::alloc::{AllocError, Global};
 
-// Returns whose names and words of keys are read.
+// Returns the rules for names and words of keys, by the systemd that reads the unit.
 fn dialect_of(systemd: Option<Version>) -> Dialect
     ensures { result ≡ dialect_of systemd }
 {
@@ -48,13 +48,13 @@ fn add_assigned(
 }
 
 /// Returns the paths that the files of a unit write and that are in force, in the order of their assignments,
-/// whatever the key. An empty value resets its key alone. The keys are ReadWritePaths=, ReadOnlyPaths=,
+/// whatever the key. An empty value resets its own key alone. The keys are ReadWritePaths=, ReadOnlyPaths=,
 /// InaccessiblePaths=, ExecPaths=, NoExecPaths=, BindPaths=, BindReadOnlyPaths=, TemporaryFileSystem=,
 /// StateDirectory=, RuntimeDirectory=, CacheDirectory= and LogsDirectory= (systemd.exec(5)). A known version of systemd
-/// adds ConfigurationDirectory= and older names of the first three, and reads links of folders, which are paths too.
+/// adds ConfigurationDirectory= and older names of the first three. It also reads links of folders, which are paths too.
 ///
-/// Values that cannot be expanded or split and words that cannot be read get notes in this order. The notes stay if
-/// their key is reset later.
+/// Values that cannot be expanded or split, and words that cannot be read, get notes in this order. The notes stay if a
+/// later value resets their key.
 #[tactic(auto, unfolding(crate::specs::Written::unit_written, crate::specs::Notes::written_notes))]
 pub fn written_paths(alloc: Global, unit: &Resolved) -> Result<Said<WrittenPaths>, AllocError>
     ensures in_order_of_assignments { IfOk result (λ said. said.what ≡ unit_written unit.now) }

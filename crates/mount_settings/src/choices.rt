@@ -1,4 +1,4 @@
-//! Reads values that are a boolean or a word of a short list: those of ProtectSystem= and of ProtectHome=
+//! Reads values that are a boolean or a word of a short list, such as the values of ProtectSystem= and ProtectHome=
 //! (systemd.exec(5)).
 ghost use Rattle.std.specs.Prelude.{◌≡◌, map};
 ghost use Rattle.mount_settings.specs.Choices.{beside, choice};
@@ -9,7 +9,7 @@ use crate::protections::{HomeProtection, SystemProtection};
 use dropin_merge::unit_values::KeyValue;
 use path_settings::read_bool;
 
-/// Returns the value beside the first row of this word.
+/// Returns the value of the first row with this word.
 pub(crate) fn beside<T: Copy>(rows: &[(&str, T)], text: &str) -> Option<T>
     ensures { result ≡ beside (map (λ row. (row.0.now, row.1)) rows.now) text.now }
 {
@@ -21,7 +21,7 @@ pub(crate) fn beside<T: Copy>(rows: &[(&str, T)], text: &str) -> Option<T>
     None
 }
 
-/// Returns the value of a text: a boolean, or a word of these rows. An empty text is `off`.
+/// Reads a value: a boolean, or a word of these rows. An empty text means `off`.
 pub(crate) fn read_choice<T: Copy>(text: &str, off: T, on: T, rows: &[(&str, T)]) -> Option<T>
     ensures { result ≡ choice off on (map (λ row. (row.0.now, row.1)) rows.now) text.now }
 {
@@ -35,7 +35,7 @@ pub(crate) fn read_choice<T: Copy>(text: &str, off: T, on: T, rows: &[(&str, T)]
     }
 }
 
-/// A boolean, `full` or `strict`; an empty text is `no`.
+/// Reads a boolean, `full` or `strict`. An empty text means `no`.
 impl KeyValue for SystemProtection {
     ghost reads = { system_value };
 
@@ -48,7 +48,7 @@ impl KeyValue for SystemProtection {
     }
 }
 
-/// A boolean, `read-only` or `tmpfs`; an empty text is `no`.
+/// Reads a boolean, `read-only` or `tmpfs`. An empty text means `no`.
 impl KeyValue for HomeProtection {
     ghost reads = { home_value };
 

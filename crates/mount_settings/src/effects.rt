@@ -1,4 +1,4 @@
-//! What a protection does at a path.
+//! Says what a protection does at a path.
 ghost use Rattle.std.specs.Prelude.{◌≡◌, ◌++◌, [], map, filter, IfOk, OnOk};
 ghost use Rattle.std.specs.List.{cons_option};
 ghost use Rattle.mount_settings.specs.Effects.{kind_at, mention_at, brings, has_row, stands};
@@ -8,7 +8,7 @@ use path_settings::{Kind, Mention, read_setting_path};
 use site_table::SiteTable;
 use std::alloc::{AllocError, Global};
 
-/// What a protection does at a path.
+/// Says what a protection does at a path.
 #[derive(Clone, Copy)]
 pub(crate) enum Effect {
     ReadOnly,
@@ -16,7 +16,7 @@ pub(crate) enum Effect {
     NotExecutable,
     Hidden,
     Empty { read_only: bool },
-    /// The host's object is there, also below an empty file system.
+    /// The host's object is visible there, even below an empty file system.
     Shown,
 }
 
@@ -43,7 +43,7 @@ pub(crate) fn has_row(site: &SiteTable, path: &AbsPath) -> bool
     site.find(path, "").is_some()
 }
 
-// Adds what a protection does at a path, if the text is one and the site has it.
+// Adds the mention of what a protection does at a path, if the text is a path and the site has a row for it.
 fn bring_one(
     alloc: Global,
     site: &SiteTable,
@@ -67,7 +67,7 @@ fn bring_one(
     Ok(())
 }
 
-/// Adds what a protection does at each of these paths that the site has.
+/// Adds the mentions of what a protection does at these paths, if the site has rows for them.
 pub(crate) fn bring(
     alloc: Global,
     site: &SiteTable,

@@ -44,7 +44,7 @@ fn bring_all_folders(
     bring_folders(alloc, site, PathKey::LogsDirectory, paths, mentions)
 }
 
-/// Adds what protections and folder keys imply at paths that the site has.
+/// Adds the mentions that protections and folder keys imply at paths of the site.
 #[tactic(auto, unfolding(crate::specs::Implied::implied))]
 pub(crate) fn bring_implied(
     alloc: Global,

@@ -1,4 +1,4 @@
-//! The laws of written and implied paths. Each is the contract of a function that does nothing.
+//! States the laws of written and implied paths. Each is the contract of a function that does nothing.
 
 ghost use Rattle.std.specs.Prelude.{◌≡◌, ◌+◌, ◌≤◌, true, None, List, [], length, flat_map, unwrap_or};
 ghost use Rattle.std.specs.List.{filter_map, list_all};
@@ -24,8 +24,9 @@ ghost use Rattle.mount_settings.specs.declared.systemd.keys.FurtherKeys.{Further
 ghost use Rattle.mount_settings.specs.systemd.Folders.{is_there};
 ghost use Rattle.mount_settings.specs.systemd.Mentions.{implied_of};
 
-/// No other key changes what a key says. Its assigned values are those of its names; the base profile knows one name,
-/// and they are those that `values_of_key` has. Its written paths are those of the words after its last empty value.
+/// No other key changes what a key says. The values of a key are the values that the unit assigns to its names. In the
+/// base profile it has one name, and `values_of_key` gives the same values. The written paths of a key are the paths of
+/// the words after its last empty value.
 pub fn each_key_by_itself()
     ensures its_own_values { (unit : Resolved) (key : PathKey) → values_to key (assigned_of unit) ≡ values_named unit key }
     ensures its_words_in_force { (unit : Resolved) (key : PathKey) → of_key key (unit_written unit) ≡ listed_by (dialect_of unit.systemd) key (values_named unit key) }
@@ -33,16 +34,17 @@ pub fn each_key_by_itself()
     ensures one_mention_in_base { (key : PathKey) (values : List Value) → listed_by Base key values ≡ filter_map (mention_of key) (flat_map (λ value. unwrap_or (split value.text) []) (in_force values)) }
 {}
 
-/// An implied mention is optional, and its path is a row of the site. The mentions are at most 31 more than the
-/// written paths, those of folders among them.
+/// An implied mention is optional, and its path is a row of the site. There are at most 31 mentions more than written
+/// paths, where folders count as written paths.
 pub fn implied_mentions()
     ensures optional { (site : Site) (switches : Switches) (protections : Protections) (unit : Resolved) → list_all (λ mention. mention.optional) (implied site switches protections (unit_written unit)) ≡ true }
     ensures have_rows { (site : Site) (switches : Switches) (protections : Protections) (unit : Resolved) → list_all (stands site) (implied site switches protections (unit_written unit)) ≡ true }
     ensures at_most_31_more { (site : Site) (switches : Switches) (protections : Protections) (paths : List WrittenPath) → length (mentions_of site switches protections paths) ≤ length paths + 31 }
 {}
 
-/// Where a known version of systemd reads the unit, an implied mention is optional too, and the object that it shows is a row of the site:
-/// that of another path for a folder, else that at its own. The mentions are at most 58 more than the written paths.
+/// An implied mention is optional too if a known version of systemd reads the unit. It shows an object that is a row of the
+/// site: for a folder the object of another path, else the object at its own path. There are at most 58 mentions more
+/// than written paths.
 pub fn implied_by_a_version()
     ensures optional { (version : Version) (site : Site) (switches : Switches) (protections : Protections) (keys : FurtherKeys) (unit : Resolved) → list_all (λ mention. mention.optional) (implied_of version site switches protections keys (unit_written unit)) ≡ true }
     ensures have_rows { (version : Version) (site : Site) (switches : Switches) (protections : Protections) (keys : FurtherKeys) (paths : List WrittenPath) → list_all (is_there site) (implied_of version site switches protections keys paths) ≡ true }

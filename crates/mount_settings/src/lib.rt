@@ -1,7 +1,7 @@
-//! Reads what the keys of a unit say of paths, as the mentions by which its mounts are planned.
+//! Reads the keys of a unit that name paths or protect them, as the mentions by which its mounts are planned.
 //!
-//! Written paths come first, in the order of their assignments over all files. After them come those that the
-//! protections of the file system and the folder keys imply (systemd.exec(5), Sandboxing). `unit_values` has the
+//! The written paths are first, in the order of their assignments over all files. They are followed by the paths that
+//! protections of the file system and folder keys imply (systemd.exec(5), Sandboxing). `unit_values` has the
 //! values, `path_settings` reads the words, and `site_table` has the rows that implied paths need.
 //!
 //! `written_paths(alloc, &unit)?.what` has the written paths; `mentions_root` and `mount_settings` take them.

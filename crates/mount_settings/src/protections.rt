@@ -1,4 +1,4 @@
-//! Reads the keys that protect the file system, together.
+//! Reads all keys that protect the file system.
 ghost use Rattle.std.specs.Prelude.{◌≡◌, IfOk};
 ghost use Rattle.mount_settings.specs.Protections.{unit_protections, protection_notes, raised, in_effect};
 
@@ -8,29 +8,29 @@ use dropin_merge::Resolved;
 use dropin_merge::unit_values::{Said, flag_of_key, last_of_key};
 use std::alloc::{AllocError, Global};
 
-/// How much of the system is read-only for a service.
+/// Says how much of the system is read-only for a service.
 #[derive(Clone, Copy)]
 pub enum SystemProtection {
-    /// Nothing.
+    /// Nothing is read-only.
     No,
-    /// `/usr`, `/boot` and `/efi`.
+    /// `/usr`, `/boot` and `/efi` are read-only.
     Yes,
-    /// `/etc` too.
+    /// `/etc` is read-only too.
     Full,
-    /// All but `/dev`, `/proc` and `/sys`, and by a known version of systemd also but for the homes of users.
+    /// All is read-only but `/dev`, `/proc` and `/sys`. A known version of systemd also excepts the homes of users.
     Strict,
 }
 
-/// The view that a service has of the homes of users: of `/home`, `/root` and `/run/user`.
+/// Says what a service sees of the homes of users: of `/home`, `/root` and `/run/user`.
 #[derive(Clone, Copy)]
 pub enum HomeProtection {
-    /// All.
+    /// The homes are visible.
     No,
-    /// Nothing.
+    /// The homes are hidden.
     Yes,
-    /// All, to be read only.
+    /// The homes are read-only.
     ReadOnly,
-    /// Empty folders, to be read only; of systemd 252 they are writable.
+    /// The homes are empty and read-only. In systemd 252 they are writable.
     Tmpfs,
 }
 

@@ -1,4 +1,4 @@
-//! Tests if keys would put something in the place of the root.
+//! Tests if keys would mount something over the root.
 ghost use Rattle.std.specs.Prelude.{◌≡◌, ◌&&◌};
 ghost use Rattle.mount_settings.specs.Assigned.{is_key};
 ghost use Rattle.mount_settings.specs.Roots.{mentions_root};
@@ -6,8 +6,8 @@ ghost use Rattle.mount_settings.specs.Roots.{mentions_root};
 use crate::written::{WrittenPaths, is_key};
 use path_settings::PathKey;
 
-/// Returns whether a path that the key writes is `/`. For BindPaths= and BindReadOnlyPaths= this is the place of the
-/// bind. A unit that mentions the root with one of these, InaccessiblePaths= or TemporaryFileSystem= is not judged.
+/// Returns whether a path that the key writes is `/`. For BindPaths= and BindReadOnlyPaths= this path is the destination
+/// of the bind. A unit that mentions the root with these two, InaccessiblePaths= or TemporaryFileSystem= is not judged.
 pub fn mentions_root(paths: &WrittenPaths, key: PathKey) -> bool
     ensures is_written_there { result ≡ mentions_root paths.now key }
 {

@@ -17,7 +17,7 @@ use path_settings::{Mention, MentionError, Mentions};
 use site_table::SiteTable;
 use std::alloc::{AllocError, Global};
 
-/// How many written paths there are at most.
+/// The greatest number of written paths.
 const MOST_WRITTEN: usize = 128;
 
 /// The mentions of a unit, and its protections.
@@ -29,7 +29,7 @@ pub struct MountSettings {
     pub mentions: Mentions,
 }
 
-/// The mentions of the written paths that are none of folder keys.
+/// Returns the mentions of the written paths, without the folders.
 pub(crate) fn written_mentions(
     alloc: Global,
     paths: &[WrittenPath],
@@ -45,7 +45,7 @@ pub(crate) fn written_mentions(
     Ok(mentions)
 }
 
-// Written and implied mentions by the rules of the base profile.
+// Returns the written and the implied mentions by the rules of the base profile.
 #[tactic(auto, unfolding(crate::specs::Settings::mentions_of))]
 fn base_mentions(
     alloc: Global,
@@ -61,7 +61,7 @@ fn base_mentions(
     Ok(mentions)
 }
 
-// Written and implied mentions, by the systemd that reads the unit.
+// Returns the written and the implied mentions by the rules of the systemd that reads the unit.
 fn all_mentions(
     alloc: Global,
     unit: &Resolved,
@@ -82,7 +82,7 @@ fn all_mentions(
     }
 }
 
-// The list of these mentions, of which there are few enough.
+// Makes a list of these mentions, of which there are few enough.
 fn listed(alloc: Global, mentions: Vec<Mention>) -> Result<Mentions, AllocError>
     requires { length mentions.items ≤ 192 }
     ensures { IfOk result (λ list. list ≡ mentions.items) }
@@ -98,14 +98,16 @@ fn listed(alloc: Global, mentions: Vec<Mention>) -> Result<Mentions, AllocError>
     Ok(list)
 }
 
-/// Returns the mentions of a unit: the written ones, as `written_paths` has them, and after them those that the
-/// protections and the folder keys imply (systemd.exec(5), Sandboxing).
+/// Returns the mentions of a unit. First are the written ones, as `written_paths` has them. The mentions that protections
+/// and folder keys imply follow them (systemd.exec(5), Sandboxing).
 ///
-/// Where the unit is read by a known version of systemd, the table of this version has the paths, and a service without
-/// mounts of its own has none. An implied path is skipped if the site has no row for it, and is optional otherwise. TooManyPaths comes if more
-/// than 128 paths are written, those of folders that the site does not have among them. Notes come for values of
-/// ProtectSystem=, ProtectHome=, PrivateTmp=, ProtectKernelTunables= and ProtectControlGroups= that cannot be read.
-/// Each path, and each source of a bind, has at most 250 bytes. `mentions_root` says if a key mentions `/`.
+/// If a known version of systemd reads the unit, the table of this version has the implied paths, and a service without
+/// mounts of its own has none. An implied path is skipped if the site has no row for it, and is optional otherwise. Each
+/// path, and each source of a bind, has at most 250 bytes. `mentions_root` says if a key mentions `/`.
+///
+/// The error is `TooManyPaths` if more than 128 paths are written, including folders that the site does not have. Values
+/// of ProtectSystem=, ProtectHome=, PrivateTmp=, ProtectKernelTunables= and ProtectControlGroups= get notes if they
+/// cannot be read.
 pub fn mount_settings(
     alloc: Global,
     unit: &Resolved,

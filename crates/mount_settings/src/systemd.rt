@@ -1,7 +1,7 @@
-//! The mentions of a unit that is read by a known version of systemd.
+//! Collects the mentions of a unit that a known version of systemd reads.
 //!
-//! - `words` and `keys`: what further keys say that decide about mounts.
-//! - `rows`: the paths of which each protection speaks.
+//! - `words` and `keys`: what further keys say about the mounts.
+//! - `rows`: the paths that each protection changes.
 //! - `folders`: the folders of the service.
 //! - `own_mounts`: whether the service has mounts of its own.
 //! - `mentions`: all mentions.

@@ -1,4 +1,4 @@
-//! The paths that each protection speaks of (systemd.exec(5), Sandboxing).
+//! Lists the paths that each protection changes (systemd.exec(5), Sandboxing).
 ghost use Rattle.std.specs.Prelude.{◌≡◌, ◌++◌, filter, flat_map, OnOk};
 ghost use Rattle.mount_settings.specs.Effects.{stands};
 ghost use Rattle.mount_settings.specs.Table.{by_system, home_effect, by_home, by_group};
@@ -54,7 +54,7 @@ const LOGS: &[&str] = &["/proc/kmsg", "/dev/kmsg"];
 
 const CONTROL_GROUPS: &[&str] = &["/sys/fs/cgroup"];
 
-// ProtectSystem=
+// Adds the mentions of ProtectSystem=.
 fn bring_system(
     alloc: Global,
     site: &SiteTable,
@@ -86,7 +86,7 @@ fn home_effect(home: HomeProtection) -> Option<Effect>
     }
 }
 
-// ProtectHome=
+// Adds the mentions of ProtectHome=.
 fn bring_home(
     alloc: Global,
     site: &SiteTable,
@@ -101,7 +101,7 @@ fn bring_home(
     }
 }
 
-/// Adds what each group brings where it is on: an effect at paths.
+/// Adds the mentions of each group that is on. A group has an effect at some paths.
 pub(crate) fn bring_groups(
     alloc: Global,
     site: &SiteTable,
@@ -118,7 +118,7 @@ pub(crate) fn bring_groups(
     Ok(())
 }
 
-/// ProtectSystem=, ProtectHome=, PrivateTmp= and PrivateDevices=
+/// Adds the mentions of ProtectSystem=, ProtectHome=, PrivateTmp= and PrivateDevices=.
 pub(crate) fn bring_files(
     alloc: Global,
     site: &SiteTable,
@@ -140,7 +140,7 @@ pub(crate) fn bring_files(
     bring_groups(alloc, site, &groups, mentions)
 }
 
-/// ProtectKernelTunables=, ProtectKernelModules=, ProtectKernelLogs= and ProtectControlGroups=
+/// Adds the mentions of ProtectKernelTunables=, ProtectKernelModules=, ProtectKernelLogs= and ProtectControlGroups=.
 pub(crate) fn bring_kernel(
     alloc: Global,
     site: &SiteTable,

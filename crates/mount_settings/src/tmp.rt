@@ -1,4 +1,4 @@
-//! Reads PrivateTmp=: if the service has folders for temporary files of its own (systemd.exec(5)).
+//! Reads PrivateTmp=, which gives the service its own folders for temporary files (systemd.exec(5)).
 ghost use Rattle.std.specs.Prelude.{◌≡◌, IfOk, codes};
 ghost use Rattle.dropin_merge.specs.unit_values.Flags.{unit_flag, unit_flag_notes};
 ghost use Rattle.dropin_merge.specs.unit_values.Lasting.{unit_last_notes};
@@ -9,13 +9,13 @@ use dropin_merge::unit_values::{KeyValue, Said, flag_of_key, last_of_key};
 use dropin_merge::{Resolved, Version};
 use std::alloc::{AllocError, Global};
 
-/// Whether the service has such folders.
+/// Says whether the service has its own folders for temporary files.
 #[derive(Clone, Copy)]
 pub(crate) struct PrivateTmp {
     pub(crate) on: bool,
 }
 
-/// A boolean, or `disconnected`, which is true; an empty text is false.
+/// Reads a boolean, or `disconnected`, which counts as true. An empty text means false.
 impl KeyValue for PrivateTmp {
     ghost reads = { tmp_value };
 
@@ -25,7 +25,7 @@ impl KeyValue for PrivateTmp {
     }
 }
 
-// Reads it with its word.
+// Reads PrivateTmp= by the rules that know `disconnected`.
 fn worded(alloc: Global, unit: &Resolved) -> Result<Said<bool>, AllocError>
     ensures means { IfOk result (λ said. said.what ≡ worded_tmp unit.now) }
     ensures noted { IfOk result (λ said. said.notes.items ≡ unit_last_notes tmp_value unit.now (codes "PrivateTmp")) }
@@ -35,7 +35,7 @@ fn worded(alloc: Global, unit: &Resolved) -> Result<Said<bool>, AllocError>
     Ok(Said { what, notes })
 }
 
-/// Reads whether the service has such folders. To systemd 252 `disconnected` is no word.
+/// Reads whether the service has such folders. systemd 252 does not know `disconnected`.
 pub(crate) fn read_tmp(alloc: Global, unit: &Resolved) -> Result<Said<bool>, AllocError>
     ensures means { IfOk result (λ said. said.what ≡ unit_tmp unit.now) }
     ensures noted { IfOk result (λ said. said.notes.items ≡ unit_tmp_notes unit.now) }

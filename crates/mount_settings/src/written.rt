@@ -1,4 +1,4 @@
-//! Keeps the paths that are written in the files of a unit, each with its key.
+//! Keeps the paths that the files of a unit write, each with its key.
 ghost use Rattle.std.specs.Prelude.{◌≡◌, ◌++◌, flat_map, OnOk};
 ghost use Rattle.mount_settings.specs.Assigned.{is_key};
 ghost use Rattle.mount_settings.specs.Written.{of_its_key, word_paths, paths_in};
@@ -10,12 +10,12 @@ use dropin_merge::{NoteCause, Text};
 use path_settings::{Dialect, Held, HeldList, Mention, PathKey, read_mentions};
 use std::alloc::{AllocError, Global};
 
-/// A path that is written in a file of a unit.
+/// A path that a file of a unit writes.
 #[derive(Drop)]
 pub struct WrittenPath {
     /// The key that mentions it.
     pub key: PathKey,
-    /// What the key says of it.
+    /// What the key says about it.
     pub mention: Mention,
 }
 
@@ -25,8 +25,8 @@ impl Held for WrittenPath {
     ghost AreHeld = { AreRead };
 }
 
-/// The paths that are written in the files of a unit and are in force, in their order. Only the keys that say which
-/// object is at a path hide it, empty it or put another there, but for folders, which are shown below the root. Each
+/// The paths that the files of a unit write and that are in force, in their order. Only the keys that say which object
+/// is at a path hide it, empty it or put another object there. Folders can do so too, but never at the root. Each
 /// path, and each source of a bind, has at most 250 bytes.
 pub type WrittenPaths = HeldList<WrittenPath>;
 
@@ -58,7 +58,7 @@ fn add_mentions(
     Ok(())
 }
 
-// Adds the paths of a word after the others, or notes the word.
+// Adds the paths of a word after the others, or notes a word that cannot be read.
 fn add_word(
     alloc: Global,
     dialect: Dialect,
@@ -96,8 +96,8 @@ fn add_words(
     Ok(())
 }
 
-/// Applies one more value of a key: an empty one removes the paths of the key, and the paths of the words of any
-/// other are added after the others.
+/// Applies one more value of a key. An empty value removes the paths of the key. Any other value adds the paths of its
+/// words after the others.
 pub(crate) fn add_value(
     alloc: Global,
     dialect: Dialect,

@@ -1,4 +1,4 @@
--- Nothing is kept below what is hidden.
+-- Nothing is kept below a hidden path.
 use Rattle.std.proofs.Common.{◌≡◌, ℕ, ◌<◌, ◌+◌, zero, suc, Bool, true, false, List, [], ◌∷◌, ◌++◌, length, Option, Some, None, Ok, refl}
 use Rattle.std.proofs.Common.{sym, ap, ◌∙◌, subst, append-nil, length-append, ◌⊎◌, inl, inr, arith}
 use Rattle.std.specs.Prelude.{◌&&◌, ◌||◌, not, nat_le, if◌then◌else◌}
@@ -50,7 +50,7 @@ above_is_shorter one path over =
         absurd (false≢true (sym (ap not (subst (λ (p : Path). is_same one p ≡ true) whole (same_itself one))) ∙ differ))
     by (part ∷ rest) same differ = let e = ap length (sym same) ∙ length-append one (part ∷ rest) in omega arith
 
--- the longest that says so: none where there is none, and else as long as each
+-- the longest mention that says so: if there is none, no mention says so; else it is as long as each that does
 none_says : (says : Kind → Bool) (found : Found) → longest says found ≡ None → AllByRecursion (λ one. says one.1.kind ≡ true → ⊥) found
 none_says says found e =
     filter_was (λ one. says one.1.kind) (λ _. ⊥) found
@@ -62,7 +62,7 @@ found_above : (P : Mention → Type 0) (path : Path) (kept : List Mention) → A
 found_above P path kept h = enumerated_all (λ mention. is_below path mention.path ≡ true → P mention) 0 kept
     (filter_was (λ one. is_below path one.1.path) (λ one. P one.1) (enumerate_from 0 kept) h)
 
--- of what is not beaten beside a hidden mention nothing is put there
+-- among mentions that no other beats, beside a hidden one, none is put there
 unbeaten_puts_nothing : (here later : List Mention) → list_any (λ other. hides other.kind) here ≡ true
     → AllByRecursion (λ mention. (is_tmp mention.kind || is_bind mention.kind) ≡ false) (unbeaten_of here later)
 unbeaten_puts_nothing here [] hidden = tt
@@ -93,7 +93,7 @@ mention_hides mentions one has hidden = test (list_any (λ other. hides other.ki
         (All-from_recursion (λ mention. is_same mention.path one.path ≡ true → hides mention.kind ≡ false) mentions none) has
         (same_itself one.path)) ∙ hidden))
 
--- there nothing is put
+-- so nothing is put there
 kept_puts_nothing : (row_at : Host) (beneath : Beneath) (here more : List Mention) → kept_among row_at beneath (unbeaten here) ≡ Ok more
     → list_any (λ other. hides other.kind) here ≡ true →
     AllByRecursion (λ mention. (is_tmp mention.kind || is_bind mention.kind) ≡ false) more
@@ -109,7 +109,7 @@ origin_hides (Tmp read_only) says none = absurd (false≢true (sym none))
 origin_hides (Bind source read_only) says none = absurd (false≢true (sym none))
 origin_hides _ says none = absurd (false≢true says)
 
--- at the path of a kept hidden mention each kept mention that says what stands there hides it
+-- at the path of a kept hidden mention, each kept mention that says which object is there hides it
 hides_too : (row_at : Host) (mentions kept : List Mention) (one other : Mention) → KeepsByRules row_at mentions kept → Contains kept one
     → hides one.kind ≡ true →
     Contains kept other → other.path ≡ one.path → is_origin other.kind ≡ true → hides other.kind ≡ true
@@ -125,7 +125,7 @@ hides_too row_at mentions kept one other keeps has hidden among same says =
     all) among
     (subst (λ (p : Path). is_same p one.path ≡ true) (sym same) (same_itself one.path)))
 
--- what the longest kept mention above a path is
+-- the facts about the longest kept mention above a path
 record Above (kept : List Mention) (path : Path) (mention : Mention) : Type 0 where
   among : Contains kept mention
   leads : is_below path mention.path ≡ true
@@ -141,7 +141,7 @@ longest_above kept path best e =
     (λ found among leads says. record { among = among; leads = leads; says = says })
     (all_enumerated (Contains kept) 0 kept (recursion_from_All (Contains kept) kept (All-contains_itself kept))))) e
 
--- what hides gives nothing to be seen, and nothing is kept on that
+-- a mention that hides leaves nothing visible, and nothing is kept below it
 hidden_drops : (row_at : Host) (here : List Mention) (kind : Kind) (place path : Path) (mention : Mention) → hides kind ≡ true →
     is_kept (fate_among row_at (beneath_by row_at (object_by kind place path)) here mention) ≡ true → ⊥
 hidden_drops row_at here Hide place path mention hidden kept = false≢true kept
@@ -158,7 +158,7 @@ same_or_above one path leads = by (is_same one path) refl
     by true e = inl (same_path one path e)
     by false e = inr (and_from _ _ leads (ap not e))
 
--- where the longest above a kept mention stands at the hidden path, the mention is not kept
+-- if the longest mention above a kept mention is at the hidden path, the mention is not kept
 at_hidden : (row_at : Host) (mentions kept : List Mention) (one other : Mention) (best : ℕ × Mention) → KeepsByRules row_at mentions kept
     → Contains kept one → hides one.kind ≡ true → Contains kept other →
     longest is_origin (above other.path kept) ≡ Some best → Above kept other.path best.1 → best.1.path ≡ one.path → ⊥
@@ -170,7 +170,7 @@ at_hidden row_at mentions kept one other best keeps has hidden among e facts sam
     (subst (λ (o : Option (ℕ × Mention)). is_kept
     (fate_among row_at (beneath_by row_at (object_from o other.path)) (unbeaten (at_path other.path mentions)) other) ≡ true) e fine)
 
--- the longest above a mention below the hidden path is the hidden one, or lies below it too
+-- the longest mention above a mention below the hidden path is the hidden one, or lies below it too
 nearest : (row_at : Host) (mentions kept : List Mention) (one other : Mention) (best : ℕ × Mention) → KeepsByRules row_at mentions kept
     → Contains kept one → hides one.kind ≡ true → Contains kept other →
     is_below other.path one.path ≡ true
@@ -214,7 +214,7 @@ none_within row_at mentions kept one keeps has hidden (suc bound) other short am
     none_nearer row_at mentions kept one other keeps has hidden among over
     (λ nearer closer. none_within row_at mentions kept one keeps has hidden bound nearer (omega arith))
 
--- nothing is kept below what is hidden
+-- nothing is kept below a hidden path
 pub none_below_hidden : (row_at : Host) (mentions kept : List Mention) (one other : Mention) → KeepsByRules row_at mentions kept
     → Contains kept one → hides one.kind ≡ true → Contains kept other → is_below other.path one.path ≡ true → ⊥
 none_below_hidden row_at mentions kept one other keeps has hidden among over =

@@ -1,4 +1,4 @@
--- Where no kept mention stands between a place and a path below it, the view of the path is that of the place.
+-- If no kept mention lies between a place and a path below it, both have the same view.
 use Rattle.std.proofs.Common.{◌≡◌, ℕ, true, List, ◌++◌, Option, Some, None, refl, sym, ap, ◌∙◌, append_assoc}
 use Rattle.abs_path.specs.Paths.{Path}
 use Rattle.abs_path.specs.Prefix.{is_prefix, rest_of}
@@ -21,7 +21,7 @@ same_leading kept place path h =
     (all_weaker (λ mention. is_prefix mention.path path ≡ true → is_prefix mention.path place ≡ true) _ kept
     (λ mention back. same_test _ _ (λ leads. prefix_trans mention.path place path leads h.leads) back) h.none_between))
 
--- what a mention gives at a path is what it gives at a place on the way, carried on
+-- a mention gives at a path the object that it gives at a place on the way, followed by the rest
 carries_by : (kind : Kind) (front place path : Path) → is_prefix front place ≡ true → is_prefix place path ≡ true →
     object_behind (object_by kind front place) (rest_of place path) ≡ object_by kind front path
 carries_by Hide front place path h leads = refl
@@ -40,7 +40,7 @@ pub object_carries : (o : Option (ℕ × Mention)) (place path : Path)
 object_carries None place path h leads = ap on_host (prefix_and_rest place path leads)
 object_carries (Some one) place path h leads = carries_by one.1.kind one.1.path place path (h one refl) leads
 
--- the object of the path is that of the place, carried on
+-- the object of the path is the object of the place, followed by the rest
 pub same_object : (kept : List Mention) (place path : Path) → HasNoneBetween kept place path
     → object_at kept path ≡ object_behind (object_at kept place) (rest_of place path)
 same_object kept place path h =

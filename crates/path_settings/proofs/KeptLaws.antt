@@ -1,4 +1,4 @@
--- What is true of all kept mentions.
+-- Properties of all kept mentions.
 use Rattle.std.proofs.Common.{◌≡◌, Bool, true, false, List, [], ◌∷◌, ◌++◌, filter, map, Result, Ok, Err, refl, sym, ap, ◌∙◌, subst}
 use Rattle.std.proofs.Common.{append-nil, append_assoc, inl, inr, arith}
 use Rattle.std.specs.Prelude.{not, if◌then◌else◌}
@@ -36,7 +36,7 @@ unbeaten_of_is P here (mention ∷ later) h = by (is_beaten here later mention.k
 unbeaten_is : (P : Mention → Type 0) (here : List Mention) → AllByRecursion P here → AllByRecursion P (unbeaten here)
 unbeaten_is P here h = unbeaten_of_is P here here h
 
--- where the rules refuse nothing, the kept mentions at a path are those with the fate
+-- if the rules refuse nothing, the kept mentions at a path are the mentions with this fate
 pub kept_among_Ok : (row_at : Host) (beneath : Beneath) (here more : List Mention) → kept_among row_at beneath here ≡ Ok more
     → filter (λ mention. is_kept (fate_among row_at beneath here mention)) here ≡ more
 kept_among_Ok row_at beneath here more e = by (refusals row_at beneath here)
@@ -52,7 +52,7 @@ kept_among_is P row_at beneath here more e h =
     subst (AllByRecursion P) (kept_among_Ok row_at beneath here more e)
     (all_filtered P (λ mention. is_kept (fate_among row_at beneath here mention)) here h)
 
--- where the rules refuse nothing at a path, each kept mention there is one that they keep
+-- if the rules refuse nothing at a path, they keep each kept mention there
 pub kept_at_Ok : (row_at : Host) (mentions kept : List Mention) (path : Path) (more : List Mention)
     → kept_at row_at mentions kept path ≡ Ok more →
     AllByRecursion (λ mention. is_kept (fate_among row_at (beneath_at row_at kept path) (unbeaten (at_path path mentions)) mention)
@@ -73,7 +73,7 @@ pub goes_on_Ok : (r : Result (List Mention) Refusal) (go : List Mention → Resu
 goes_on_Ok (Err refusal) go kept e = cc
 goes_on_Ok (Ok more) go kept e = (more, refl, e)
 
--- what holds of each mention, and of those kept before, holds of the kept ones
+-- if each mention, and each one kept before, has a property, so has each kept one
 kept_from_is : (P : Mention → Type 0) (row_at : Host) (mentions : List Mention) (paths : List Path) (before kept : List Mention)
     → AllByRecursion P mentions → AllByRecursion P before →
     kept_from row_at mentions paths before ≡ Ok kept → AllByRecursion P kept
@@ -85,7 +85,7 @@ kept_from_is P row_at mentions (path ∷ paths) before kept all h e =
     (kept_at_is P row_at mentions before path step.0 step.1 (all_filtered P (λ mention. is_same mention.path path) mentions all)))
     step.2
 
--- what holds of each mention holds of each kept one: none is made up
+-- if each mention has a property, so has each kept one: none is made up
 pub kept_is : (P : Mention → Type 0) (row_at : Host) (mentions kept : List Mention) → AllByRecursion P mentions
     → kept_of row_at mentions ≡ Ok kept → AllByRecursion P kept
 kept_is P row_at mentions kept all e = kept_from_is P row_at mentions _ [] kept all tt e
@@ -102,7 +102,7 @@ later_leads_not path later h = false_from_ne_true _ (λ leads. elim (prefix_befo
   | inr back ↦ false≢true (sym (not_before_itself path) ∙ before_trans path later path h back)
 ])
 
--- paths of which one comes before the other are not the same
+-- two paths of which one precedes the other are not the same
 before_differs : (one other : Path) → is_before one other ≡ true → is_same one other ≡ false
 before_differs one other h =
     false_from_ne_true _ (λ same. false≢true (sym (not_before_itself one)
@@ -117,7 +117,7 @@ passes_at : (path : Path) (mentions : List Mention) → AllByRecursion (λ menti
 passes_at path mentions = recursion_from_All (λ mention. is_same mention.path path ≡ true) _
     (filter_passes (λ mention. is_same mention.path path) mentions)
 
--- the kept mentions of these paths, by the whole of what is kept
+-- the kept mentions of these paths, if the rules look at all kept mentions
 pub record Settles (row_at : Host) (mentions : List Mention) (paths : List Path) (before kept : List Mention) : Type 0 where
   pub later : List Mention
   pub whole : kept ≡ before ++ later
@@ -172,7 +172,7 @@ settles row_at mentions (path ∷ paths) before kept up early e =
         (λ mention same. subst (λ (p : Path). AllByRecursion (λ other. is_before p other ≡ true) paths)
         (sym (same_path mention.path path same)) up) here)
 
--- by the kept mentions themselves the rules refuse nothing, and keep them
+-- the rules refuse nothing, and keep just the kept mentions, if they look at all kept mentions
 pub keeps_by_rules : (row_at : Host) (mentions kept : List Mention) → AllByRecursion (λ mention. is_normal mention.path ≡ true) mentions
     → kept_of row_at mentions ≡ Ok kept → KeepsByRules row_at mentions kept
 keeps_by_rules row_at mentions kept normal e = record {
@@ -184,14 +184,14 @@ keeps_by_rules row_at mentions kept normal e = record {
   among = kept_among_mentions row_at mentions kept e;
 }
 
--- where the rules refuse nothing, they asked what stands beneath by the kept mentions themselves
+-- if the rules refuse nothing, they asked for the objects beneath by the kept mentions themselves
 pub asks_beneath : (row_at : Host) (mentions kept : List Mention) → kept_of row_at mentions ≡ Ok kept
     → asked_of row_at mentions ≡ beneath_places kept (in_byte_order (map (λ mention. mention.path) mentions))
 asks_beneath row_at mentions kept e =
     (settles row_at mentions (in_byte_order (map (λ mention. mention.path) mentions)) [] kept
     (in_byte_order_ascending (map (λ mention. mention.path) mentions)) tt e).asked
 
--- each kept mention is one that the rules keep, by the kept mentions above it
+-- the rules keep each kept mention, by the kept mentions above it
 pub each_kept : (row_at : Host) (mentions kept : List Mention) → KeepsByRules row_at mentions kept →
     AllByRecursion (λ mention. is_kept
     (fate_among row_at (beneath_at row_at kept mention.path) (unbeaten (at_path mention.path mentions)) mention) ≡ true) kept

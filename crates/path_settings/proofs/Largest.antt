@@ -1,4 +1,4 @@
--- The largest of a list, by a size: the first that is as large as each, and what a walk over the list finds.
+-- The largest element of a list by a size: the first that is as large as each other one. A walk over the list finds it.
 use Rattle.std.proofs.Common.{◌≡◌, ℕ, Bool, true, false, cond, List, [], ◌∷◌, fold, Option, Some, None, refl, sym, ap, ◌∙◌, arith}
 use Rattle.std.specs.Prelude.{◌&&◌, ◌||◌, nat_le, nat_lt, find}
 use Rattle.std.specs.List.{list_any, list_all}
@@ -9,12 +9,12 @@ use Rattle.std.proofs.lemmas.Bool.Decides.{nat_tests}
 abbrev covers : {X : Type 0} → (X → ℕ) → List X → X → Bool
 covers size others one = list_all (λ other. nat_le (size other) (size one)) others
 
--- the larger of two, the first on a tie
+-- the larger of two elements, or the first on a tie
 abbrev larger : {X : Type 0} → (X → ℕ) → Option X → X → Option X
 larger size None one = Some one
 larger size (Some best) one = Some (cond (nat_lt (size best) (size one)) one best)
 
--- the first is there, and as large as the second
+-- the first element exists, and is as large as the second
 abbrev reaches : {X : Type 0} → (X → ℕ) → Option X → Option X → Bool
 reaches size None other = false
 reaches size (Some one) None = true
@@ -62,7 +62,7 @@ covers_more size (x ∷ xs) one other h g =
     let both = and_parts (nat_le (size x) (size one)) (covers size xs one) g in
     and_from _ _ (le_through (size x) (size one) (size other) both.0 h) (covers_more size xs one other h both.1)
 
--- the first of a list with one more in front that is less than the next
+-- the first largest of a list, if an element in front is less than the next one
 past_less : {X : Type 0} (size : X → ℕ) (best x : X) (xs : List X) → nat_lt (size best) (size x) ≡ true →
     find (covers size (x ∷ xs)) (x ∷ xs) ≡ find (covers size (best ∷ x ∷ xs)) (best ∷ x ∷ xs)
 past_less size best x xs less =
@@ -74,7 +74,7 @@ past_less size best x xs less =
     less_le : (a b : ℕ) → nat_lt a b ≡ true → nat_le a b ≡ true
     less_le a b h = grind (arith, nat_tests)
 
--- one that is not larger than the first is passed over
+-- an element that is not larger than the first is skipped
 past_rest : {X : Type 0} (size : X → ℕ) (best x : X) (xs : List X) → nat_lt (size best) (size x) ≡ false →
     find (covers size (best ∷ xs)) (best ∷ xs) ≡ find (covers size (best ∷ x ∷ xs)) (best ∷ x ∷ xs)
 past_rest size best x xs less =
@@ -138,7 +138,7 @@ or_group : (a b c : Bool) → ((a || b) || c) ≡ (a || (b || c))
 or_group true b c = refl
 or_group false b c = refl
 
--- each is within n exactly where the largest is
+-- each element is within n exactly if the largest is
 within_each : {X : Type 0} (size : X → ℕ) (n : ℕ) (best : Option X) (xs : List X) →
     within size n (fold (larger size) best xs) ≡ (within size n best && list_all (λ x. nat_le (size x) n) xs)
 within_each size n best [] = and_true (within size n best)
@@ -184,7 +184,7 @@ any_same : {X : Type 0} (p q : X → Bool) (xs : List X) → ((x : X) → p x �
 any_same p q [] h = refl
 any_same p q (x ∷ xs) h = let here = h x in let more = any_same p q xs h in cc
 
--- one of a list is as large as each of another list exactly where its largest reaches as far as the other's
+-- some element of a list is as large as each of another list exactly if the largest of the first is as large as the largest of the other
 pub largest_reaches : {X : Type 0} (size : X → ℕ) (xs others : List X)
     → reaches size (find (covers size xs) xs) (find (covers size others) others) ≡ list_any (covers size others) xs
 largest_reaches size xs others =
@@ -198,7 +198,7 @@ walk_has : {X : Type 0} (size : X → ℕ) (best : X) (xs : List X) → (last : 
 walk_has size best [] = (best, refl)
 walk_has size best (x ∷ xs) = walk_has size (cond (nat_lt (size best) (size x)) x best) xs
 
--- only in an empty list there is none
+-- only an empty list has no largest element
 pub none_largest : {X : Type 0} (size : X → ℕ) (xs : List X) → find (covers size xs) xs ≡ None → xs ≡ []
 none_largest size [] e = refl
 none_largest size (x ∷ xs) e = let found = walk_has size x xs in let walked = walk_finds size (x ∷ xs) in cc (found.1)

@@ -15,7 +15,7 @@ use Rattle.path_settings.specs.Keys.{path_keys, names_of, is_named, key_named}
 same_some : {X : Type 0} (x y : X) → Some x ≡ Some y → x ≡ y
 same_some x y e = cc
 
--- what is found passes the test
+-- an element that is found passes the test
 pub found_passes : {X : Type 0} (p : X → Bool) (xs : List X) (x : X) → find p xs ≡ Some x → p x ≡ true
 found_passes p [] x e = cc
 found_passes p (y ∷ ys) x e =
@@ -67,7 +67,7 @@ each_name_finds Systemd257 CacheDirectory = (refl, tt)
 each_name_finds Systemd257 LogsDirectory = (refl, tt)
 each_name_finds Systemd257 ConfigurationDirectory = (refl, tt)
 
--- what holds of each name holds of a text that is one of them
+-- if each name has a property, so has a text that is one of them
 of_names : (P : List ℕ → Type 0) (names : List (List ℕ)) (text : List ℕ) → AllByRecursion P names
     → list_any (λ name. bytes_eq name text) names ≡ true → P text
 of_names P [] text each is = cc

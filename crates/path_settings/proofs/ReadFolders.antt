@@ -68,7 +68,7 @@ below_is_short folder name path e = by (is_relative name) e
     by true e = setting_is_short (text_below folder name) path e
     by false e = cc
 
--- a path that is not private is that of its name
+-- a path that is not private is the path of its name
 public_is_below : (folder name : List ℕ) (path : Path) → public_path folder name ≡ Some path → path_below folder name ≡ Some path
 public_is_below folder name path e = by (path_below folder name) refl e
   where
@@ -80,7 +80,7 @@ public_is_below folder name path e = by (path_below folder name) refl e
     by None read e = cc
     by (Some below) read e = ap Some (test below (is_private folder below) e)
 
--- a property that holds of each folder that is shown at a short path holds of all mentions of a word
+-- if each folder that is shown at a short path has a property, so have all mentions of a word
 module _ (q : Mention → Bool) (shows : (read_only : Bool) (source path : Path) → is_short_path source ≡ true → is_short_path path ≡ true
     → is_root path ≡ false → q (shown_at read_only source path) ≡ true) where
   two : (one other : Mention) → q one ≡ true → q other ≡ true → list_all q (one ∷ other ∷ []) ≡ true

@@ -34,7 +34,7 @@ setting_is_short text path e = by (fault_of text) e
         test false short e = cc
     by (Some fault) e = cc
 
--- what a mention of a read path has, where each of that path has it
+-- if the mention of each path that can be read has a property, so has the mention of this text
 mapped : (P : Mention → Type 0) (text : List ℕ) (f : Path → Mention) (mention : Mention)
     → ((path : Path) → is_short_path path ≡ true → P (f path)) → option_map f (setting_path text) ≡ Some mention → P mention
 mapped P text f mention h e = by (setting_path text) refl e
@@ -43,7 +43,7 @@ mapped P text f mention h e = by (setting_path text) refl e
     by None read e = cc
     by (Some path) read e = let same : f path ≡ mention = cc in subst P same (h path (setting_is_short text path read))
 
--- the same of a bind between two read paths
+-- the same for a bind between two paths that can be read
 bound : (P : Mention → Type 0) (read_only optional : Bool) (ends : List ℕ × List ℕ) (mention : Mention) →
     ((source place : Path) → is_short_path source ≡ true → is_short_path place ≡ true
     → P (record { path = place; kind = Bind source read_only; optional = optional })) →

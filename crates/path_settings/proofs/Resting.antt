@@ -1,4 +1,4 @@
--- The rules on mentions ask the host nowhere else.
+-- The rules ask the host only at these paths.
 use Rattle.std.proofs.Common.{◌≡◌, ◌∙◌, Bool, true, false, cond, List, [], ◌∷◌, ◌++◌, Option, Result, Ok, Err, refl, ap}
 use Rattle.std.specs.Prelude.{◌||◌, ◌&&◌, not, map, filter}
 use Rattle.std.specs.List.{AllByRecursion, list_any, filter_map, cons_option}

@@ -1,4 +1,4 @@
--- Facts on lists that std lacks.
+-- Facts on lists that are missing in std.
 use Rattle.std.proofs.Common.{◌≡◌, ℕ, ◌+◌, Bool, true, false, cond, List, [], ◌∷◌, ◌++◌, filter, map, find, Some, length, suc, append_assoc}
 use Rattle.std.proofs.Common.{append-nil, refl, sym, ap, ◌∙◌, subst, arith}
 use Rattle.std.specs.Prelude.{◌||◌}
@@ -6,13 +6,13 @@ use Rattle.std.proofs.lemmas.Bool.{false≢true, and_parts}
 use Rattle.std.proofs.lemmas.List.Elements.{filter-append}
 use Rattle.std.specs.List.{AllByRecursion, enumerate_from, list_all, list_any}
 
--- two tests that are true of the same things are one
+-- two tests that imply each other are the same
 pub same_test : (one other : Bool) → (one ≡ true → other ≡ true) → (other ≡ true → one ≡ true) → one ≡ other
 same_test true other h g = sym (h refl)
 same_test false true h g = g refl
 same_test false false h g = refl
 
--- two tests that agree on a list's elements keep the same of them
+-- two tests that agree on the elements of a list keep the same elements
 pub filter_agree_on : {X : Type 0} (p q : X → Bool) (xs : List X) → AllByRecursion (λ x. p x ≡ q x) xs → filter p xs ≡ filter q xs
 filter_agree_on p q [] h = refl
 filter_agree_on p q (x ∷ xs) h = let here = h.0 in let more = filter_agree_on p q xs h.1 in cc
@@ -38,7 +38,7 @@ pub all_trivial : {X : Type 0} (xs : List X) → AllByRecursion (λ _. Unit {0})
 all_trivial [] = tt
 all_trivial (x ∷ xs) = (tt, all_trivial xs)
 
--- what holds of each element that passes holds of each that is kept, and back
+-- each element that passes has a property exactly if each element that is kept has it
 pub filter_is : {X : Type 0} (test : X → Bool) (P : X → Type 0) (xs : List X) → AllByRecursion (λ x. test x ≡ true → P x) xs
     → AllByRecursion P (filter test xs)
 filter_is test P [] h = tt
@@ -74,7 +74,7 @@ pub all_appended : {X : Type 0} (P : X → Type 0) (xs ys : List X) → AllByRec
 all_appended P [] ys h g = g
 all_appended P (x ∷ xs) ys h g = (h.0, all_appended P xs ys h.1 g)
 
--- what holds of each holds of the one that is found
+-- if each element has a property, so has the one that is found
 pub find_is : {X : Type 0} (P : X → Type 0) (test : X → Bool) (xs : List X) (one : X) → AllByRecursion P xs → find test xs ≡ Some one
     → P one
 find_is P test [] one h e = cc
@@ -84,7 +84,7 @@ find_is {X = X} P test (x ∷ xs) one h e = by (test x) e (find_is P test xs one
     by true e more = let same : x ≡ one = cc in subst P same h.0
     by false e more = more e
 
--- of three pieces the middle one alone passes
+-- of three pieces only the middle one passes
 pub filter_middle : {X : Type 0} (test : X → Bool) (xs ys zs : List X) → AllByRecursion (λ x. test x ≡ false) xs
     → AllByRecursion (λ x. test x ≡ true) ys → AllByRecursion (λ x. test x ≡ false) zs → filter test ((xs ++ ys) ++ zs) ≡ ys
 filter_middle test xs ys zs h g k =
@@ -110,7 +110,7 @@ none_found : {X : Type 0} (test : X → Bool) (n : ℕ) (xs : List X) → AllByR
 none_found test n [] h = refl
 none_found test n (x ∷ xs) h = let here = h.0 in let more = none_found test (n + 1) xs h.1 in cc
 
--- of three pieces only the first has any that pass, at their positions
+-- of three pieces only the first has elements that pass, at their positions
 pub found_front : {X : Type 0} (test : X → Bool) (xs ys zs : List X) → AllByRecursion (λ x. test x ≡ false) ys
     → AllByRecursion (λ x. test x ≡ false) zs →
     filter (λ one. test one.1) (enumerate_from 0 ((xs ++ ys) ++ zs)) ≡ filter (λ one. test one.1) (enumerate_from 0 xs)
@@ -138,7 +138,7 @@ none_from_test test (x ∷ xs) h = by (test x) refl h (none_from_test test xs)
     by true e h more = absurd (false≢true (sym h))
     by false e h more = (e, more h)
 
--- what is found passes the test
+-- an element that is found passes the test
 pub find_passes : {X : Type 0} (test : X → Bool) (xs : List X) (one : X) → find test xs ≡ Some one → test one ≡ true
 find_passes test [] one e = cc
 find_passes test (x ∷ xs) one e = by (test x) refl e (find_passes test xs one)

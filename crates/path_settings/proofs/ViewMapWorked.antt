@@ -1,4 +1,4 @@
--- Worked mentions, which compute.
+-- Examples of mentions, which compute.
 use Rattle.std.proofs.Common.{◌≡◌, ℕ, Bool, true, false, [], ◌∷◌, Option, Some, None, Ok, Err, refl, cond}
 use Rattle.std.specs.Prelude.{codes}
 use Rattle.abs_path.specs.Paths.{Path}
@@ -59,35 +59,35 @@ read_write_between = refl
 read_only_below : seen_at (says a Ro ∷ says a_b Rw ∷ says a_b_c Ro ∷ []) a_b_c ≡ seen None true false
 read_only_below = refl
 
--- on a tie read-only and not executable, whatever stands first
+-- on a tie the path is read-only and not executable, in any order
 on_a_tie : seen_at (says a Rw ∷ says a Ro ∷ says a Exec ∷ says a NoExec ∷ []) a_b ≡ seen None true true
 on_a_tie = refl
 
 on_a_tie_back : seen_at (says a Ro ∷ says a Rw ∷ says a NoExec ∷ says a Exec ∷ []) a_b ≡ seen None true true
 on_a_tie_back = refl
 
--- the three choices do not look at one another
+-- the three choices do not influence one another
 apart : seen_at (says a Rw ∷ says a_b NoExec ∷ says [] Ro ∷ []) a_b_c ≡ seen None false true
 apart = refl
 
--- a path that begins with the same bytes is no path below
+-- a path that begins with the same bytes is not a path below
 not_below : seen_at (says a Ro ∷ says a Hide ∷ []) beside ≡ seen None false false
 not_below = refl
 
--- an empty file system and a bind say themselves whether they are read-only, and the first origin counts on a tie
+-- an empty file system and a bind say whether they are read-only, and on a tie the first origin counts
 two_empty : seen_at (says a (Tmp false) ∷ says a (Tmp true) ∷ []) a_b ≡ seen (Some 0) true false
 two_empty = refl
 
 bound : seen_at (says a (Bind beside true) ∷ says a_b Rw ∷ []) a_b ≡ seen (Some 0) false false
 bound = refl
 
--- a bind gives its source followed by the rest
+-- a bind gives its source, followed by the rest
 bound_object : object_at (says a (Bind beside true) ∷ []) a_b_c ≡ on_host (codes "a-b" ∷ codes "b" ∷ codes "c" ∷ [])
 bound_object = refl
 
 -- ---- kept mentions
 
--- hidden beats the others at its path, and below it nothing is kept
+-- a hidden mention beats the others at its path, and nothing is kept below it
 hidden_above : kept_of row_at (says a_b Rw ∷ says a (Tmp false) ∷ says a (Bind beside false) ∷ says a Hide ∷ []) ≡ Ok (says a Hide ∷ [])
 hidden_above = refl
 
@@ -98,12 +98,12 @@ empty_beats = refl
 last_bind : kept_of row_at (says a (Bind beside false) ∷ says a (Bind a_b true) ∷ []) ≡ Ok (says a (Bind a_b true) ∷ [])
 last_bind = refl
 
--- paths are taken in byte order: `-` comes before `/`
+-- paths are in byte order: `-` is less than `/`
 in_order : kept_of row_at (says a_b_c Ro ∷ says beside Ro ∷ says a Ro ∷ says a NoExec ∷ [])
     ≡ Ok (says a Ro ∷ says a NoExec ∷ says beside Ro ∷ says a_b_c Ro ∷ [])
 in_order = refl
 
--- a bind's source is there, and of the kind of what it covers
+-- the source of a bind must exist, and be of the same kind as the object that it covers
 no_source : kept_of row_at (says a (Bind none false) ∷ says none Ro ∷ []) ≡ Err (missing none)
 no_source = refl
 
@@ -120,12 +120,12 @@ other_kind = refl
 empty_over_a_file : kept_of row_at (says file (Tmp false) ∷ []) ≡ Err (wrong_kind file)
 empty_over_a_file = refl
 
--- where nothing is covered, any kind is put
+-- a mention that covers nothing may put an object of any kind
 put_at_no_row : kept_of row_at (says none (Bind file false) ∷ says none NoExec ∷ [])
     ≡ Ok (says none (Bind file false) ∷ says none NoExec ∷ [])
 put_at_no_row = refl
 
--- below an empty file system flags are dropped, but for those of what is put there; what is hidden there is kept
+-- below an empty file system flags are dropped, unless something is put at their path; a hidden mention there is kept
 below_empty : kept_of row_at (says a (Tmp true) ∷ says a_b Rw ∷ says a_b_c (Bind file false) ∷ says a_b_c Ro ∷ [])
     ≡ Ok (says a (Tmp true) ∷ says a_b_c (Bind file false) ∷ says a_b_c Ro ∷ [])
 below_empty = refl
@@ -133,7 +133,7 @@ below_empty = refl
 hidden_below_empty : kept_of row_at (says a (Tmp true) ∷ says a_b Hide ∷ []) ≡ Ok (says a (Tmp true) ∷ says a_b Hide ∷ [])
 hidden_below_empty = refl
 
--- what is not there is refused, and where it is optional passed over
+-- a path that does not exist is refused, and skipped if it is optional
 no_row : kept_of row_at (says none Ro ∷ []) ≡ Err (missing none)
 no_row = refl
 
@@ -143,11 +143,11 @@ nothing_to_hide = refl
 optional_row : kept_of row_at (may_say none Ro ∷ may_say none Hide ∷ []) ≡ Ok []
 optional_row = refl
 
--- behind a bind it is the source's row that counts
+-- below a bind the row of the source counts
 behind_a_bind : kept_of (λ path. cond (is_same path a_b) None (Some true))
     (says beside (Bind a false) ∷ says (codes "a-b" ∷ codes "b" ∷ []) Ro ∷ []) ≡ Err (missing (codes "a-b" ∷ codes "b" ∷ []))
 behind_a_bind = refl
 
--- the refusal is of the first path in byte order
+-- the refusal names the first path in byte order
 first_path : kept_of (λ path. None) (says a_b Ro ∷ says beside Ro ∷ []) ≡ Err (missing beside)
 first_path = refl

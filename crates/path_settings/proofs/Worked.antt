@@ -1,4 +1,4 @@
--- Worked words of each key, which compute.
+-- Examples of words of each key, which compute.
 use Rattle.std.proofs.Common.{◌≡◌, ℕ, Bool, true, false, List, [], ◌∷◌, ◌++◌, Option, Some, None, refl}
 use Rattle.std.specs.Prelude.{codes, replicate}
 use Rattle.abs_path.specs.Paths.{Path}
@@ -22,7 +22,7 @@ srv_a = codes "srv" ∷ codes "a" ∷ []
 abbrev at : Path → Kind → Bool → Option Mention
 at path kind optional = Some (record { path = path; kind = kind; optional = optional })
 
--- lists of paths: a `-` makes a path optional, a `+` changes nothing, and no other order of the two is read
+-- lists of paths: a `-` makes a path optional, a `+` changes nothing, and the two may not be in the other order
 plain : mention_of ReadOnlyPaths (codes "/srv//a/.") ≡ at srv_a Ro false
 plain = refl
 
@@ -82,7 +82,7 @@ read_only = refl
 no_dash : mention_of TemporaryFileSystem (codes "-/srv") ≡ None
 no_dash = refl
 
--- folders below a given one
+-- folders below a given folder
 state : mention_of StateDirectory (codes "web/a") ≡ at (codes "var" ∷ codes "lib" ∷ codes "web" ∷ codes "a" ∷ []) Rw true
 state = refl
 
@@ -95,7 +95,7 @@ empty = refl
 climbing : mention_of CacheDirectory (codes "a/../b") ≡ None
 climbing = refl
 
--- folders as a version of systemd reads them: with a link, and of 257 with a mark
+-- folders as a version of systemd reads them: with a link, and in systemd 257 with a mark
 abbrev of_folder : Path → Path → Bool → Mention
 of_folder source path read_only = record { path = path; kind = Bind source read_only; optional = true }
 
@@ -127,7 +127,7 @@ no_link_of_configuration = refl
 base_knows_no_link : mentions_of_word Base StateDirectory (codes "a:b") ≡ Some (record { path = state_of (codes "a:b"); kind = Rw; optional = true } ∷ [])
 base_knows_no_link = refl
 
--- 250 bytes are read, and 251 are not
+-- a path of 250 bytes can be read, and one of 251 cannot
 longest : setting_path (codes "/" ++ replicate 249 97) ≡ Some (replicate 249 97 ∷ [])
 longest = refl
 

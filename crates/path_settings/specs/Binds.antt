@@ -1,4 +1,4 @@
--- systemd.exec(5), BindPaths= and BindReadOnlyPaths=: a source and the place of the bind, split at colons.
+-- systemd.exec(5), BindPaths= and BindReadOnlyPaths=: a source path and a destination path, separated by a colon.
 use Rattle.std.specs.Prelude.{ℕ, ◌==◌, ◌||◌, Bool, codes, List, [], ◌∷◌, Option, Some, None, option_and_then, if◌then◌else◌}
 use Rattle.std.specs.List.{slice_split}
 use Rattle.std.specs.Option.{option_map}
@@ -11,18 +11,18 @@ use Rattle.path_settings.specs.Marks.{is_marked, without}
 abbrev pub bind_pieces : List ℕ → List (List ℕ)
 bind_pieces text = slice_split (λ byte. byte == ascii ":") text
 
--- `rbind` and `norbind` say if mounts below the source come too; either changes nothing here
+-- `rbind` and `norbind` say whether the bind takes the mounts below the source along; neither changes anything here
 abbrev pub is_bind_option : List ℕ → Bool
 is_bind_option option = bytes_eq option (codes "rbind") || bytes_eq option (codes "norbind")
 
--- the source and the destination, which is the source where none is written
+-- the source and the destination; if the destination is omitted, the source is mounted at its own path
 abbrev pub ends_of : List (List ℕ) → Option (List ℕ × List ℕ)
 ends_of (source ∷ []) = Some (source, source)
 ends_of (source ∷ place ∷ []) = Some (source, place)
 ends_of (source ∷ place ∷ option ∷ []) = if is_bind_option option then Some (source, place) else None
 ends_of _ = None
 
--- both are paths of a setting; an empty text is none
+-- both are paths of a setting; an empty text is not
 abbrev pub bind_between : Bool → Bool → List ℕ × List ℕ → Option Mention
 bind_between read_only optional ends =
     option_and_then (λ source. option_map (λ place. record { path = place; kind = Bind source read_only; optional = optional })

@@ -1,5 +1,5 @@
--- systemd.exec(5), StateDirectory= and its kin, as systemd 252 and 257 read them: `NAME[:LINK]`, of 257 `NAME[:[LINK][:ro]]`. The folder
--- NAME below that of the key is shown at its own path and at that of LINK.
+-- systemd.exec(5), StateDirectory= and the other folder keys, as systemd 252 and 257 read them: `NAME[:LINK]`, and in systemd 257
+-- `NAME[:[LINK][:ro]]`. The folder NAME, below the folder of the key, is shown at its own path and at the path of LINK.
 use Rattle.std.specs.Prelude.{ℕ, ◌||◌, Bool, true, false, cond, codes, List, [], ◌∷◌, Option, Some, None, option_and_then, if◌then◌else◌}
 use Rattle.std.specs.Option.{option_map, option_map_or}
 use Rattle.std.specs.Str.{bytes_eq}
@@ -17,7 +17,7 @@ use Rattle.path_settings.specs.Binds.{bind_pieces}
 use Rattle.path_settings.specs.Folders.{is_relative, text_below}
 use Rattle.path_settings.specs.Keys.{mention_of}
 
--- the folder of a key, below which the names of its words are
+-- the folder of a key; its words name folders below this one
 abbrev pub folder_of : PathKey → Option (List ℕ)
 folder_of StateDirectory = Some (codes "/var/lib")
 folder_of RuntimeDirectory = Some (codes "/run")
@@ -26,17 +26,17 @@ folder_of LogsDirectory = Some (codes "/var/log")
 folder_of ConfigurationDirectory = Some (codes "/etc")
 folder_of _ = None
 
--- a configuration has no links
+-- the words of ConfigurationDirectory= have no links
 abbrev pub has_links : PathKey → Bool
 has_links ConfigurationDirectory = false
 has_links _ = true
 
--- a mark behind the link says whether the folder is read-only; an empty one says nothing
+-- the mark after the link says whether the folder is read-only; an empty mark says that it is not
 abbrev pub mark_of : List ℕ → Option Bool
 mark_of [] = Some false
 mark_of (byte ∷ mark) = if bytes_eq (byte ∷ mark) (codes "ro") then Some true else None
 
--- name, link and mark of a word that is split at its colons. An empty link stands for none
+-- the name, the link and the mark of a word that is split at its colons; an empty link means that there is none
 abbrev pub marked : Bool → List ℕ → List ℕ → List ℕ → Option (List ℕ × List ℕ × Bool)
 marked may_mark name link mark = if may_mark then option_map (λ read_only. (name, link, read_only)) (mark_of mark) else None
 
@@ -46,11 +46,11 @@ ends_of_folder may_link may_mark (name ∷ link ∷ []) = if may_link then Some 
 ends_of_folder may_link may_mark (name ∷ link ∷ mark ∷ []) = if may_link then marked may_mark name link mark else None
 ends_of_folder may_link may_mark _ = None
 
--- the path of a name
+-- the path of a name below the folder of the key
 abbrev pub path_below : List ℕ → List ℕ → Option Path
 path_below folder name = if is_relative name then setting_path (text_below folder name) else None
 
--- the folder `private` and what is below it are those of dynamic users
+-- the folder `private` and the paths below it belong to dynamic users (DynamicUser=)
 abbrev pub is_private : List ℕ → Path → Bool
 is_private folder path = option_map_or (λ front. is_prefix front path) (setting_path (text_below folder (codes "private"))) false
 
@@ -71,7 +71,7 @@ with_link folder (byte ∷ link) read_only path =
 abbrev pub folder_mentions : List ℕ → List ℕ × List ℕ × Bool → Option (List Mention)
 folder_mentions folder ends = option_and_then (with_link folder ends.1 ends.2) (public_path folder ends.0)
 
--- the mentions of a word of a key: one, or those of a folder
+-- a word gives one mention, and a folder with a link gives two
 abbrev pub one_mention : PathKey → List ℕ → Option (List Mention)
 one_mention key word = option_map (λ mention. mention ∷ []) (mention_of key word)
 

@@ -1,4 +1,4 @@
--- The keys that speak of paths (systemd.exec(5), Sandboxing), and the mention that a word of each is.
+-- The keys that name paths (systemd.exec(5), Sandboxing), and the mention that each of their words makes.
 use Rattle.std.specs.Prelude.{ℕ, Bool, true, false, cond, codes, find, List, [], ◌∷◌, ◌++◌, Option, Some, None}
 use Rattle.std.specs.List.{cons_option, list_any}
 use Rattle.std.specs.Str.{bytes_eq}
@@ -15,7 +15,7 @@ use Rattle.path_settings.specs.Binds.{bind_mention}
 use Rattle.path_settings.specs.Temporary.{temporary_mention}
 use Rattle.path_settings.specs.Folders.{folder_mention}
 
--- the keys whose values speak of paths, each once; the base profile knows all but the last
+-- each key that names paths, once; the base profile knows all but the last
 abbrev pub path_keys : List PathKey
 path_keys = ReadWritePaths ∷ ReadOnlyPaths ∷ InaccessiblePaths ∷ ExecPaths ∷ NoExecPaths ∷ BindPaths ∷ BindReadOnlyPaths ∷
     TemporaryFileSystem ∷ StateDirectory ∷ RuntimeDirectory ∷ CacheDirectory ∷ LogsDirectory ∷ ConfigurationDirectory ∷ []
@@ -35,19 +35,19 @@ name_of CacheDirectory = codes "CacheDirectory"
 name_of LogsDirectory = codes "LogsDirectory"
 name_of ConfigurationDirectory = codes "ConfigurationDirectory"
 
--- the older names by which systemd still knows lists of paths
+-- the older names of lists of paths, which systemd still reads
 abbrev pub older_name : PathKey → Option (List ℕ)
 older_name ReadWritePaths = Some (codes "ReadWriteDirectories")
 older_name ReadOnlyPaths = Some (codes "ReadOnlyDirectories")
 older_name InaccessiblePaths = Some (codes "InaccessibleDirectories")
 older_name _ = None
 
--- a key that the base profile knows
+-- whether the base profile knows the key
 abbrev pub is_of_base : PathKey → Bool
 is_of_base ConfigurationDirectory = false
 is_of_base _ = true
 
--- the names by which a key is known; the base profile knows one of each of its keys
+-- the names of a key; the base profile knows one name of each of its keys
 abbrev pub names_of : Dialect → PathKey → List (List ℕ)
 names_of Base key = cond (is_of_base key) (name_of key ∷ []) []
 names_of Systemd252 key = name_of key ∷ cons_option (older_name key) []
@@ -56,11 +56,11 @@ names_of Systemd257 key = name_of key ∷ cons_option (older_name key) []
 abbrev pub is_named : Dialect → List ℕ → PathKey → Bool
 is_named dialect text key = list_any (λ name. bytes_eq name text) (names_of dialect key)
 
--- the key of a name
+-- the key of this name
 abbrev pub key_named : Dialect → List ℕ → Option PathKey
 key_named dialect text = find (is_named dialect text) path_keys
 
--- folders are implied: their mentions come after all written ones
+-- the keys that imply folders: their mentions follow all written ones
 abbrev pub is_implied : PathKey → Bool
 is_implied StateDirectory = true
 is_implied RuntimeDirectory = true

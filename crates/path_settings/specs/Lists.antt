@@ -1,5 +1,5 @@
--- systemd.exec(5), ReadWritePaths= and the other lists of paths: a path with `-` in front is skipped if it does not exist. A `+` after
--- the `-`, or alone in front, says that the path is below the root of RootDirectory=, which no unit here has.
+-- systemd.exec(5), ReadWritePaths= and the other lists of paths: a path that is prefixed with `-` is ignored if it does not exist. A `+`
+-- after the `-`, or alone in front, makes the path relative to RootDirectory=, which no unit here has.
 use Rattle.std.specs.Prelude.{ℕ, codes, List, Option}
 use Rattle.std.specs.Option.{option_map}
 use Rattle.path_settings.specs.declared.mentions.Kind.{Kind}

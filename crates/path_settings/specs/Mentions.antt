@@ -1,4 +1,4 @@
--- What a mention says (systemd.exec(5), Sandboxing), and lists of mentions in written order.
+-- The statements of a mention (systemd.exec(5), Sandboxing), and lists of mentions in written order.
 use Rattle.std.specs.Prelude.{◌≡◌, ◌≤◌, ◌&&◌, Bool, true, false, not, nat_le, List, length, Option, Some, None}
 use Rattle.std.specs.List.{list_all}
 use Rattle.abs_path.specs.Paths.{Path, text_of, is_root, is_normal}
@@ -23,7 +23,7 @@ abbrev pub source_of : Kind → Option Path
 source_of (Bind source read_only) = Some source
 source_of _ = None
 
--- these say which object is at the path: none to be seen, an empty file system, or that of another path
+-- the mention says which object is at the path: nothing that is visible, an empty file system, or the object of another path
 abbrev pub is_origin : Kind → Bool
 is_origin Hide = true
 is_origin (Tmp read_only) = true
@@ -34,7 +34,7 @@ is_origin _ = false
 abbrev pub leaves_the_root : List Mention → Bool
 leaves_the_root mentions = list_all (λ mention. not (is_root mention.path && is_origin mention.kind)) mentions
 
--- a path as it is kept: normal, with a text of at most 512 bytes
+-- a path as it is kept: it is normal, and its text has at most 512 bytes
 abbrev pub is_path : Path → Bool
 is_path path = is_normal path && nat_le (length (text_of path)) 512
 
@@ -42,11 +42,11 @@ abbrev pub has_whole_source : Kind → Bool
 has_whole_source (Bind source read_only) = is_path source
 has_whole_source _ = true
 
--- the path of a mention and the source of a bind are paths as they are kept
+-- the path of a mention, and the source of a bind, is a path as it is kept
 abbrev pub is_whole : Mention → Bool
 is_whole mention = is_path mention.path && has_whole_source mention.kind
 
--- at most 192 mentions, each whole
+-- there are at most 192 mentions, and each is whole
 pub record AreKept (mentions : List Mention) : Type 0 where
   pub few : length mentions ≤ 192
   pub whole : list_all is_whole mentions ≡ true

@@ -1,4 +1,4 @@
--- The path that a text of a setting is (systemd.exec(5)): absolute, and at most 250 bytes long once it is folded.
+-- A text as the path of a setting (systemd.exec(5)): it is absolute, and at most 250 bytes long once it is folded.
 use Rattle.std.specs.Prelude.{ℕ, List, Option, Some, None, if◌then◌else◌}
 use Rattle.abs_path.specs.Paths.{Path, parts_of}
 use Rattle.abs_path.specs.Read.{fault_of}

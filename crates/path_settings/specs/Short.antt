@@ -1,4 +1,4 @@
--- Mentions whose paths are as short as settings have them.
+-- Mentions whose paths are as short as the paths of settings.
 use Rattle.std.specs.Prelude.{◌≡◌, ◌&&◌, Bool, true, nat_le, List, length}
 use Rattle.std.specs.List.{list_all}
 use Rattle.abs_path.specs.Paths.{Path, text_of}

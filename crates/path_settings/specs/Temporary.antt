@@ -1,4 +1,4 @@
--- systemd.exec(5), TemporaryFileSystem=: the place of an empty file system, and after the first colon its options.
+-- systemd.exec(5), TemporaryFileSystem=: the mount point of an empty file system, and its mount options after the first colon.
 use Rattle.std.specs.Prelude.{ℕ, ◌==◌, Bool, false, codes, List, Option}
 use Rattle.std.specs.List.{slice_split, list_any, before_first, after_first}
 use Rattle.std.specs.Option.{option_map}
@@ -10,7 +10,7 @@ use Rattle.path_settings.specs.SettingPaths.{setting_path}
 abbrev pub is_colon : ℕ → Bool
 is_colon byte = byte == ascii ":"
 
--- one of the options between the commas is `ro`; the others say nothing here
+-- one of the options between the commas is `ro`; the other options change nothing here
 abbrev pub asks_read_only : List ℕ → Bool
 asks_read_only options = list_any (λ option. bytes_eq option (codes "ro")) (slice_split (λ byte. byte == ascii ",") options)
 

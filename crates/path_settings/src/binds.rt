@@ -9,7 +9,7 @@ use crate::mentions::{Kind, Mention};
 use crate::paths::read_setting_path;
 use std::alloc::{AllocError, Global};
 
-/// The pieces of a text between its colons.
+/// Returns the pieces of a text between its colons.
 pub(crate) fn pieces(alloc: Global, text: &str) -> Result<Vec<&str>, AllocError>
     ensures { IfOk result (λ found. map (λ piece. piece.now) found.items ≡ bind_pieces text.now) }
 {
@@ -23,7 +23,7 @@ fn is_bind_option(option: &str) -> bool
     option == "rbind" || option == "norbind"
 }
 
-// The texts of the source and of the destination.
+// Returns the texts of the source and of the destination, which is the source if none is written.
 fn ends<'a>(pieces: &[&'a str]) -> Option<(&'a str, &'a str)>
     ensures { option_map (λ ends. (ends.0.now, ends.1.now)) result ≡ ends_of (map (λ piece. piece.now) pieces.now) }
 {
@@ -58,7 +58,7 @@ fn bind_between(
 }
 
 /// Reads the mention of a word `[-]SOURCE[:DEST[:rbind or norbind]]`: the object at SOURCE is shown at DEST, or at
-/// SOURCE if there is no DEST. None if the word has another form, or if one of the two is no path of a setting.
+/// SOURCE if there is no DEST. None if the word has another form, or if SOURCE or DEST is no path of a setting.
 pub fn read_bind(alloc: Global, read_only: bool, word: &str) -> Result<Option<Mention>, AllocError>
     ensures mention_or_none { IfOk result (λ mention. mention ≡ bind_mention read_only word.now) }
 {

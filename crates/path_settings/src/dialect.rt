@@ -1,12 +1,12 @@
-//! Whose names and words of keys are read.
+//! Says by whose rules the names and words of keys are read.
 
-/// Whose names and words of keys are read (systemd.exec(5)).
+/// Says by whose rules the names and words of keys are read (systemd.exec(5)).
 #[derive(Clone, Copy, Debug, PartialEq, Eq)]
 pub enum Dialect {
-    /// Those of the base profile.
+    /// The base profile.
     Base,
-    /// Those of systemd 252.
+    /// systemd 252.
     Systemd252,
-    /// Those of systemd 257.
+    /// systemd 257.
     Systemd257,
 }

@@ -1,8 +1,8 @@
-//! Why a mention is not added.
+//! Says why a mention is not added.
 
 use thiserror::Error;
 
-/// Why a mention is not added.
+/// Says why a mention is not added.
 #[derive(Clone, Copy, Debug, PartialEq, Eq, Error)]
 pub enum MentionError {
     /// There are 192 mentions.

@@ -1,4 +1,4 @@
-//! Reads words of StateDirectory= and its kin as systemd 252 and 257 do (systemd.exec(5)).
+//! Reads words of StateDirectory= and the other folder keys as systemd 252 and 257 do (systemd.exec(5)).
 
 ghost use Rattle.std.specs.Prelude.{◌≡◌, IfOk, map, string_bytes};
 ghost use Rattle.std.specs.Option.{option_map};
@@ -43,7 +43,7 @@ fn mark_of(mark: &str) -> Option<bool>
     }
 }
 
-// The texts of the name and of the link, and whether the folder is read-only.
+// Returns the texts of the name and of the link, and whether the folder is read-only.
 fn ends_of_folder<'a>(
     may_link: bool,
     may_mark: bool,
@@ -72,7 +72,7 @@ fn path_below(alloc: Global, folder: &str, name: &str) -> Result<Option<AbsPath>
     read_setting_path(alloc, &text)
 }
 
-// Returns whether a path is the folder of dynamic users or below it.
+// Returns whether a path is the folder `private`, which holds the folders of dynamic users, or is below it.
 fn is_private(alloc: Global, folder: &str, path: &AbsPath) -> Result<bool, AllocError>
     ensures { IfOk result (λ is. is ≡ is_private folder.now path.now) }
 {
@@ -176,8 +176,8 @@ fn word_below(
     }
 }
 
-/// Reads the mentions of a word of a key's list: one, or those of a folder and its link. None if the word cannot be
-/// read.
+/// Reads the mentions of a word of a key's list. A word gives one mention, and a folder with a link gives two. None if
+/// the word cannot be read.
 pub fn read_mentions(
     alloc: Global,
     dialect: Dialect,

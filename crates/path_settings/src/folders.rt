@@ -7,14 +7,14 @@ use crate::mentions::{Kind, Mention};
 use crate::paths::read_setting_path;
 use std::alloc::{AllocError, Global};
 
-/// Returns whether a name is not empty and has no slash in front.
+/// Returns whether a name is not empty and does not begin with a slash.
 pub(crate) fn is_relative(name: &str) -> bool
     ensures { result ≡ is_relative name.now }
 {
     name.as_bytes().first().is_some_and(|byte| *byte != b'/')
 }
 
-/// The text of a name below a folder.
+/// Returns the text of a name below a folder.
 pub(crate) fn text_below(alloc: Global, folder: &str, name: &str) -> Result<String, AllocError>
     ensures { IfOk result (λ text. string_bytes text ≡ text_below folder.now name.now) }
 {
@@ -25,8 +25,8 @@ pub(crate) fn text_below(alloc: Global, folder: &str, name: &str) -> Result<Stri
     Ok(text)
 }
 
-/// Reads the mention of the name of a folder below another one: the service may write there, and a missing folder is
-/// skipped. None if the name is empty or begins with a slash, or if the two make no path of a setting.
+/// Reads the mention of a folder by its name below another folder. The service may write there, and a missing folder
+/// is skipped. None if the name is empty or begins with a slash, or if both together are no path of a setting.
 pub fn read_folder(alloc: Global, folder: &str, name: &str) -> Result<Option<Mention>, AllocError>
     ensures mention_or_none { IfOk result (λ mention. mention ≡ folder_mention folder.now name.now) }
 {

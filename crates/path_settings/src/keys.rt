@@ -1,4 +1,4 @@
-//! The keys that speak of paths, and the mentions that their words are.
+//! Lists the keys that name paths, and reads their words as mentions.
 
 ghost use Rattle.std.specs.Prelude.{◌≡◌, IfOk, map};
 ghost use Rattle.std.specs.List.{list_any};
@@ -66,7 +66,7 @@ pub const ALL_PATH_KEYS: [PathKey; 13] = [
 ];
 
 impl PathKey {
-    /// The key that is known by this name, if it speaks of paths.
+    /// Returns the key of this name. None if no key that names paths has it.
     pub fn named(dialect: Dialect, text: &str) -> Option<PathKey>
         ensures first_of_this_name { result ≡ key_named dialect text.now }
     {
@@ -76,14 +76,14 @@ impl PathKey {
             .find(|key| key.is_named(dialect, text))
     }
 
-    // Returns whether it is known by this name.
+    // Returns whether the key has this name.
     fn is_named(self, dialect: Dialect, text: &str) -> bool
         ensures { result ≡ is_named dialect text.now self }
     {
         is_among(self.names(dialect), text)
     }
 
-    /// The names by which it is known.
+    /// Returns the names of the key.
     pub fn names(self, dialect: Dialect) -> &'static [&'static str]
         ensures all_names { map (λ name. name.now) result.now ≡ names_of dialect self }
     {
@@ -133,7 +133,7 @@ impl PathKey {
         }
     }
 
-    /// The key as it is written.
+    /// Returns the key as it is written.
     pub fn name(self) -> &'static str
         ensures as_written { result.now ≡ name_of self }
     {
@@ -154,7 +154,7 @@ impl PathKey {
         }
     }
 
-    /// Returns whether it names folders, whose mentions come after all written ones.
+    /// Returns whether the key names folders, whose mentions follow all written ones.
     pub fn is_implied(self) -> bool
         ensures by_its_key { result ≡ is_implied self }
     {

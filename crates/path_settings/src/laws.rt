@@ -1,4 +1,4 @@
-//! The laws of keys and of mentions that are read. Each is the contract of a function that does nothing.
+//! States the laws of keys and of mentions that are read. Each is the contract of a function that does nothing.
 
 ghost use Rattle.std.specs.Prelude.{◌≡◌, ℕ, true, List, Some, IsTrue, find};
 ghost use Rattle.std.specs.List.{AllByRecursion, list_all};
@@ -12,7 +12,7 @@ ghost use Rattle.path_settings.specs.declared.dialect.Dialect.TheVariants.{Base}
 ghost use Rattle.path_settings.specs.FolderWords.{mentions_of_word};
 ghost use Rattle.path_settings.specs.Keys.{path_keys, name_of, names_of, is_of_base, key_named, is_implied, mention_of};
 
-/// `ALL_PATH_KEYS` has all keys, and each is found by each of its names. The base profile knows one name of each of its keys.
+/// `ALL_PATH_KEYS` has all keys, and each name of a key finds this key. The base profile knows one name of each of its keys.
 pub fn keys_and_names()
     ensures all_keys { ALL_PATH_KEYS ≡ path_keys }
     ensures found_by_its_name { (key : PathKey) → find (λ other. bytes_eq (name_of other) (name_of key)) path_keys ≡ Some key }
@@ -21,7 +21,8 @@ pub fn keys_and_names()
     ensures found_by_each_name { (dialect : Dialect) (key : PathKey) → AllByRecursion (λ name. key_named dialect name ≡ Some key) (names_of dialect key) }
 {}
 
-/// The paths of mentions that are read have at most 250 bytes, and a folder's mentions are optional.
+/// A mention that is read has a path of at most 250 bytes, as does the source of a bind. The mentions of a folder are
+/// optional.
 pub fn mentions_that_are_read()
     ensures short_paths { (key : PathKey) (word : List ℕ) (mention : Mention)
         → mention_of key word ≡ Some mention → IsTrue (is_short mention) }

@@ -8,8 +8,8 @@ use crate::mentions::{Kind, Mention};
 use crate::paths::read_setting_path;
 use std::alloc::{AllocError, Global};
 
-/// Reads the mention of a word of a list of paths: a path, which a `-` in front makes optional. A `+` after the `-`,
-/// or alone in front, changes nothing. None if the rest is no path of a setting.
+/// Reads the mention of a word of a list of paths. A `-` in front makes the mention optional. A `+` after the `-`, or
+/// alone in front, changes nothing. None if the rest is no path of a setting.
 pub fn read_path(alloc: Global, kind: Kind, word: &str) -> Result<Option<Mention>, AllocError>
     ensures mention_or_none { IfOk result (λ mention. mention ≡ path_mention kind word.now) }
 {

@@ -1,4 +1,4 @@
-//! Marks in front of a path: `-` and `+`.
+//! Reads the marks in front of a path: `-` and `+`.
 
 ghost use Rattle.std.specs.Prelude.{◌≡◌};
 ghost use Rattle.path_settings.specs.Marks.{is_marked, without};
@@ -10,7 +10,7 @@ pub(crate) fn is_marked(word: &str) -> bool
     word.as_bytes().starts_with(b"-")
 }
 
-/// A word without this front, if it has it.
+/// Returns a word without this prefix, or the word itself if it does not begin with it.
 pub(crate) fn without<'a>(front: &str, word: &'a str) -> &'a str
     ensures { result.now ≡ without front.now word.now }
 {

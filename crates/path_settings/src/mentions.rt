@@ -1,4 +1,4 @@
-//! Mentions of paths, in the order in which they were written.
+//! Keeps the mentions of paths in the order in which they were written.
 
 ghost use Rattle.std.specs.Prelude.{◌≡◌, ◌↔◌, ◌≤◌, ◌++◌, ◌∷◌, [], length, IsTrue, IfOk, OnOk, OnErr, IsErrOf};
 ghost use Rattle.std.specs.Option.{option_map};
@@ -11,25 +11,25 @@ use std::alloc::{AllocError, Global};
 use std::marker::Model;
 use text_forms::item_list::ItemList;
 
-/// How many mentions there are at most.
+/// The greatest number of mentions.
 const MOST: usize = 192;
 
 /// The effect of a mention at its path (systemd.exec(5), Sandboxing).
 #[derive(Drop)]
 pub enum Kind {
-    /// Nothing may be written at it or below it.
+    /// The service cannot write at the path or below it.
     Ro,
-    /// What is at it or below it may be written.
+    /// The service can write at the path and below it.
     Rw,
-    /// What is at it or below it may be executed.
+    /// The service can execute files at the path and below it.
     Exec,
-    /// Nothing at it or below it may be executed.
+    /// The service cannot execute files at the path or below it.
     NoExec,
-    /// Nothing is to be seen there.
+    /// The service sees nothing at the path.
     Hide,
-    /// An empty file system is there.
+    /// An empty file system is at the path.
     Tmp { read_only: bool },
-    /// The object at another path of the host is also there.
+    /// The object at another path of the host is also at this path.
     Bind { source: AbsPath, read_only: bool },
 }
 
@@ -43,14 +43,14 @@ pub struct Mention {
 }
 
 impl Kind {
-    /// Returns whether it says which object is at the path, and not only how the object may be used.
+    /// Returns whether a mention of this kind says which object is at the path, and not only how the object may be used.
     pub fn is_origin(&self) -> bool
         ensures hides_or_puts { result ≡ is_origin self.now }
     {
         matches!(self, Kind::Hide | Kind::Tmp { .. } | Kind::Bind { .. })
     }
 
-    /// Returns whether nothing is to be seen at the path.
+    /// Returns whether the service sees nothing at the path.
     pub fn hides(&self) -> bool
         ensures hides { result ≡ hides self.now }
     {
@@ -64,14 +64,14 @@ impl Kind {
         matches!(self, Kind::Tmp { .. })
     }
 
-    /// Returns whether the object at another path is shown there.
+    /// Returns whether the object at another path is shown at the path.
     pub fn is_bind(&self) -> bool
         ensures binds { result ≡ is_bind self.now }
     {
         matches!(self, Kind::Bind { .. })
     }
 
-    /// The other path, of a bind.
+    /// Returns the other path of a bind. None for every other kind.
     pub fn source(&self) -> Option<&AbsPath>
         ensures of_a_bind { option_map (λ source. source.now) result ≡ source_of self.now }
     {
@@ -81,7 +81,7 @@ impl Kind {
         }
     }
 
-    /// The same kind again.
+    /// Copies the kind.
     pub fn copy(&self, alloc: Global) -> Result<Kind, AllocError>
         ensures same { IfOk result (λ kind. kind ≡ self.now) }
     {
@@ -103,7 +103,7 @@ impl Kind {
 }
 
 impl Mention {
-    /// The same mention again.
+    /// Copies the mention.
     pub fn copy(&self, alloc: Global) -> Result<Mention, AllocError>
         ensures same { IfOk result (λ mention. mention ≡ self.now) }
     {
@@ -117,7 +117,7 @@ impl Mention {
     }
 }
 
-/// Mentions in the order in which they were written, at most 192, which contracts see as a list.
+/// At most 192 mentions in the order in which they were written. Contracts see them as a list.
 #[derive(Drop)]
 pub struct Mentions {
     items: ItemList<Mention>,
@@ -135,14 +135,14 @@ impl Model for Mentions {
     ghost invariant = { λ mentions. AreKept mentions.items };
 }
 
-// Does nothing. The text of a path comes with the fact that it is normal and short.
+// Does nothing. Its contract says that the path is normal and short, as a call of `text` guarantees.
 fn know_path(path: &AbsPath)
     ensures { IsTrue (is_path path.now) }
 {
     let _text = path.text();
 }
 
-// Does nothing, and says the same of the source of a bind.
+// Does nothing. Its contract says the same of the source of a bind.
 fn know_source(kind: &Kind)
     ensures { IsTrue (has_whole_source kind.now) }
 {
@@ -152,7 +152,7 @@ fn know_source(kind: &Kind)
 }
 
 impl Mentions {
-    /// No mention.
+    /// Makes an empty list.
     pub fn new(alloc: Global) -> Mentions
         ensures empty { result ≡ [] }
     {
@@ -161,7 +161,7 @@ impl Mentions {
         }
     }
 
-    /// The mentions in the order in which they were added.
+    /// Returns the mentions in the order in which they were added.
     pub fn list(&self) -> &[Mention]
         ensures all_in_order { result.now ≡ self.now }
         ensures at_most_192 { length self.now ≤ 192 }
@@ -177,7 +177,7 @@ impl Mentions {
         self.list().iter().all(|mention| !(mention.path.is_root() && mention.kind.is_origin()))
     }
 
-    /// Puts a mention after the others. Full if there are 192 of them. On an error they stay as they were.
+    /// Adds a mention after the others. `Full` if there are 192 of them. On an error the list stays as it was.
     pub fn add(&mut self, mention: Mention) -> Result<(), MentionError>
         ensures adds_behind { OnOk result (self.new ≡ self.old ++ mention ∷ []) }
         ensures full_exactly_at_192 { IsErrOf result MentionError.Full ↔ (length self.old ≡ 192) }

@@ -26,8 +26,8 @@ fn temporary_at(alloc: Global, path: &str, options: &str) -> Result<Option<Menti
     }))
 }
 
-/// Reads the mention of a word `PATH[:OPTIONS]`: an empty file system at the path, read-only if one of the options is
-/// `ro`. None if the word begins with no path of a setting.
+/// Reads the mention of a word `PATH[:OPTIONS]`: an empty file system at PATH, read-only if one of the options is `ro`.
+/// None if PATH is no path of a setting.
 pub fn read_temporary(alloc: Global, word: &str) -> Result<Option<Mention>, AllocError>
     ensures mention_or_none { IfOk result (λ mention. mention ≡ temporary_mention word.now) }
 {

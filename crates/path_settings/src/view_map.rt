@@ -1,7 +1,7 @@
 //! Says what a service finds at a path, by the mentions of its settings.
 //!
-//! Rules say which mentions are kept. Of those, the longest that leads to a path decides which object is there and
-//! how it may be used (systemd.exec(5), Sandboxing). `mount_plan` makes a table of mounts of it.
+//! Rules say which mentions are kept. Among the kept mentions that lead to a path, the longest decides which object is
+//! there and how it may be used (systemd.exec(5), Sandboxing). `mount_plan` makes a table of mounts from them.
 //!
 //! `view(&kept, &path).read_only` is true if the service may not write at the path.
 

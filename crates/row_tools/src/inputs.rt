@@ -1,6 +1,6 @@
 //! Reads inputs of rows: a unit, a table of calls and a site, from the texts of a table of rows.
 //!
-//! A unit is web.service with files. The rows give the lines of their sections of the service.
+//! The unit is web.service with its files. The rows give the lines of `[Service]` of each file.
 use crate::held::HeldText;
 use crate::wording::{said, text_of};
 use call_table::{CallTable, read_calls};
@@ -16,19 +16,19 @@ pub struct Inputs {
     pub site: Box<SiteTable>,
 }
 
-/// Returns the table of calls of a text, unless it is refused.
+/// Reads the table of calls of a text. None if the text is refused.
 pub fn calls_of(alloc: Global, text: &str) -> Option<Box<CallTable>> {
     let calls = read_calls(alloc, text.as_bytes()).ok()?;
     Box::new(alloc, calls).ok()
 }
 
-/// Returns the site of a text, unless it is refused.
+/// Reads the site of a text. None if the text is refused.
 pub fn site_of(alloc: Global, text: &str) -> Option<Box<SiteTable>> {
     let site = read_site(alloc, text.as_bytes()).ok()?;
     Box::new(alloc, site).ok()
 }
 
-// The file with these lines in its section of the service.
+// Makes the file with these lines in `[Service]`.
 fn file_of(alloc: Global, lines: &str) -> Option<UnitFile> {
     let path = Text::new(alloc, "web.service").ok()?;
     let lines = text_of(alloc, lines).ok()?;
@@ -45,7 +45,7 @@ fn files_of(alloc: Global, files: &[&str]) -> Option<Vec<UnitFile>> {
     Some(read)
 }
 
-// The unit web.service with these files; of each the lines of its section of the service.
+// Makes the unit web.service with these files, which are given by their lines in `[Service]`.
 fn unit_of(alloc: Global, files: &[&str], systemd: Option<Version>) -> Option<Box<Resolved>> {
     let name = UnitName::read(alloc, "web.service").ok()?;
     let files = UnitFiles::new(files_of(alloc, files)?);
@@ -60,7 +60,7 @@ fn unit_of(alloc: Global, files: &[&str], systemd: Option<Version>) -> Option<Bo
     .ok()
 }
 
-/// Reads these texts, if none is refused.
+/// Reads these texts. None if one is refused.
 pub fn inputs_of(alloc: Global, calls: &str, site: &str, files: &[&str]) -> Option<Inputs> {
     let calls = calls_of(alloc, calls)?;
     let site = site_of(alloc, site)?;
@@ -77,7 +77,7 @@ pub struct Texts {
 }
 
 impl Texts {
-    /// Empty texts.
+    /// Makes empty texts.
     pub fn new(alloc: Global) -> Self {
         Texts {
             held: HeldText::new(alloc),
@@ -98,7 +98,7 @@ impl Texts {
         said(alloc, "held")
     }
 
-    /// Reads these texts and these files of a unit, if none is refused.
+    /// Reads these texts and these files of a unit. None if one is refused.
     pub fn inputs(&self, alloc: Global, files: &[&str]) -> Option<Inputs> {
         inputs_of(alloc, self.calls.as_str(), self.site.as_str(), files)
     }

@@ -1,11 +1,11 @@
-//! Tools of programs of rows: their lines and parts, the words of a row, and inputs read from texts.
+//! Helps programs of rows: it reads their lines and parts, the words of a row, and inputs from texts.
 //!
-//! `follow_lines(&rt, &mut parts)` is the `main` of a program of rows, which is a `Follow`. If it has parts, a line
-//! `part NAME` begins one (`part_of`), and prints nothing. A `HeldText` is a text that its lines hold.
+//! `follow_lines(&rt, &mut parts)` is the `main` of a program of rows, which implements `Follow`. In a program with parts,
+//! a line `part NAME` begins a part (`part_of`), and prints nothing. A `HeldText` is a text that the program's lines hold.
 //!
-//! Bars separate the words of a row. `text_of` reads the escapes of a word, and `bytes_of` bytes in hex.
-//! `inputs_of(alloc, calls, site, &["User=web"])` reads a unit, a table of calls and a site, and `Texts` are the
-//! texts of tables that rows have given so far.
+//! Bars separate the words of a row. `text_of` reads the escapes of a word, and `bytes_of` reads bytes in hex.
+//! `inputs_of(alloc, calls, site, &["User=web"])` reads a unit, a table of calls and a site. `Texts` keeps the texts of
+//! tables that rows have given so far.
 #![tactic(auto)]
 
 mod held;

@@ -21,7 +21,7 @@ pub trait Follow {
     fn follow(&mut self, alloc: Global, line: &str) -> io::Result<Shown>;
 }
 
-/// Returns the part that a line `part NAME` begins.
+/// Returns the name of the part that a line `part NAME` begins.
 pub fn part_of(line: &str) -> Option<&str> {
     line.strip_prefix("part ")
 }
@@ -37,7 +37,7 @@ pub fn follow_lines<R: Input + Print + AllocGlobal, F: Follow>(
     Ok(())
 }
 
-/// Follows a line, and prints the answer. A line that begins with `#` is a comment, and printed.
+/// Follows a line, and prints the answer. A line that begins with `#` is a comment: it is printed as it is.
 pub fn follow_line<R: Print + AllocGlobal, F: Follow>(
     rt: &R,
     rows: &mut F,

@@ -7,8 +7,8 @@ pub fn words(alloc: Global, row: &str) -> Result<Vec<&str>, AllocError> {
     row.split('|').collect(alloc)
 }
 
-/// Returns the text of a word: `\n`, `\r`, `\t`, `\0` and `\\` mean what they do in Rust, `\d` is DEL, and before
-/// another character a backslash is left out.
+/// Returns the text of a word: `\n`, `\r`, `\t`, `\0` and `\\` have their meaning in Rust, and `\d` is DEL. A backslash
+/// before any other character is left out.
 pub fn text_of(alloc: Global, word: &str) -> Result<String, AllocError> {
     let mut text = String::new(alloc);
     let mut is_escaped = false;
@@ -25,7 +25,7 @@ pub fn text_of(alloc: Global, word: &str) -> Result<String, AllocError> {
     Ok(text)
 }
 
-/// Returns the bytes of words in hex, with spaces between. A word that is not in hex has none.
+/// Returns the bytes of words in hex, which spaces separate. A word that is not in hex has none.
 pub fn bytes_of(alloc: Global, words: &str) -> Result<Vec<u8>, AllocError> {
     let mut bytes = Vec::new(alloc);
     for word in words.split(' ') {
@@ -47,7 +47,7 @@ fn escaped(letter: char) -> char {
     }
 }
 
-/// A slash and so many letters `a`.
+/// Returns a path of a slash and this number of letters `a`.
 pub fn long_path(alloc: Global, count: u64) -> Result<String, AllocError> {
     let mut text = String::from_str(alloc, "/")?;
     for _ in 0..count {
@@ -56,7 +56,7 @@ pub fn long_path(alloc: Global, count: u64) -> Result<String, AllocError> {
     Ok(text)
 }
 
-/// Returns the number of a word in decimal, or in hex after `0x`, or 0.
+/// Returns the number of a word in decimal, or in hex after `0x`. It is 0 for any other word.
 pub fn number(word: &str) -> u64 {
     match word.strip_prefix("0x") {
         Some(digits) => u64::from_str_radix(digits, 16).unwrap_or(0),
@@ -64,12 +64,12 @@ pub fn number(word: &str) -> u64 {
     }
 }
 
-/// The low 32 bits of the number of a word.
+/// Returns the low 32 bits of the number of a word.
 pub fn number32(word: &str) -> u32 {
     (number(word) & 0xffff_ffff) as u32
 }
 
-/// These words.
+/// Copies the text.
 pub fn said(alloc: Global, text: &str) -> Result<String, AllocError> {
     String::from_str(alloc, text)
 }

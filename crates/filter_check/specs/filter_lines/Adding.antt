@@ -1,11 +1,11 @@
--- One line of instructions after another.
+-- Lines of instructions, added one after another.
 use Rattle.std.specs.Prelude.{◌≡◌, ℕ, Bool, true, false, List, ◌++◌}
 use Rattle.seccomp_compile.specs.bpf_code.declared.program.ProgramError.{ProgramError}
 use Rattle.filter_check.specs.filter_lines.Lines.{IsFirstOther, IsLine}
 use Rattle.filter_check.specs.declared.filter_lines.error.FileError.{FileError}
 use Rattle.filter_check.specs.declared.filter_lines.error.FileError.TheVariants.{NotText, Digits, Program, Memory}
 
--- the bytes of the line are added, or it is no instruction
+-- the bytes of the line are added, or the line is no instruction
 abbrev pub AddsLine : List ℕ → List ℕ → List ℕ → Bool → Type 0
 AddsLine line old new true = (own : List ℕ) × IsLine line own × (new ≡ old ++ own)
 AddsLine line old new false = (own : List ℕ) → IsLine line own → ⊥

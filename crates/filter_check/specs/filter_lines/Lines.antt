@@ -15,12 +15,12 @@ lines_in text =
     let pieces = slice_split (λ byte. byte == 10) text in
     take (length pieces - 1) pieces
 
--- all lines are instructions, which have these bytes together
+-- all lines are instructions, and these are their bytes together
 abbrev pub AreLines : List (List ℕ) → List ℕ → Type 0
 AreLines [] bytes = bytes ≡ []
 AreLines (line ∷ lines) bytes = (own rest : List ℕ) × IsLine line own × AreLines lines rest × (bytes ≡ own ++ rest)
 
--- the line of this number, from 1, is the first that is no instruction
+-- the line with this number, from 1, is the first that is no instruction
 pub record IsFirstOther (lines : List (List ℕ)) (number : ℕ) : Type 0 where
   pub place : ℕ
   pub counted : number ≡ place + 1

@@ -1,4 +1,4 @@
--- The ends of a program's paths: which call data take them.
+-- The ends of a program's paths, and the call data that take each of them.
 use Rattle.std.specs.Prelude.{◌≡◌, ◌≢◌, ◌⊎◌, ℕ, ◌+◌, ◌-◌, ◌<◌, ◌≤◌, true, false, Bool, List, ◌++◌, Any, length, slice_get, Some}
 use Rattle.std.specs.List.{AllZip, AllByRecursion}
 use Rattle.seccomp_compile.specs.bpf_code.declared.machine.Insn.{Insn}
@@ -19,7 +19,7 @@ use Rattle.filter_check.specs.declared.filter_paths.states.Next.TheVariants as n
 abbrev pub Comes : State → CallData → Type 0
 Comes state input = IsCallData input × IsWithin state.region input
 
--- the instruction at the state ends the program with this answer, on all data that come there
+-- the instruction at the state ends the program with this answer, on all data that reach the state
 abbrev pub EndsAt : List Insn → State → ℕ → Type 0
 EndsAt code state answer =
     (input : CallData) (regs : Regs) → Comes state input → regs.a ≡ held_word state.held input →
@@ -36,7 +36,7 @@ pub record LeadsOn (code : List Insn) (state to : State) : Type 0 where
       × (effect_by (op_of insn.code) insn regs input ≡ Some (effect.Skip (to.at - (state.at + 1)), after)) ×
       (after.a ≡ held_word to.held input)
 
--- all data of the state go on at the next one
+-- all data of the state continue at the next one
 abbrev pub LeadsAll : List Insn → State → State → Type 0
 LeadsAll code state to = LeadsOn code state to × ((input : CallData) → Comes state input → Comes to input)
 
@@ -51,7 +51,7 @@ HasLeast end =
     × ((input : CallData) → IsCallData input → IsWithin end.region input
     → AllZip (λ (one other : ℕ). one ≤ other) (words_of end.least) (words_of input))
 
--- where the instruction at a state leads its data
+-- the instruction at a state ends the program, or leads the data to one state or to two
 abbrev pub StepsTo : List Insn → State → Next → Type 0
 StepsTo code state (next.End end) = (end.region ≡ state.region) × HasLeast end × EndsAt code state end.answer
 StepsTo code state (next.One to) = LeadsAll code state to
@@ -65,19 +65,19 @@ LeadsTo code state end path =
     (input : CallData) → IsCallData input → IsWithin end.region input →
     Comes state input × ((regs : Regs) → regs.a ≡ held_word state.held input → Takes code input state.at regs path end.answer)
 
--- each end is one path of its own
+-- each end belongs to a path of its own
 pub record AreSomeEnds (code : List Insn) (state : State) (ends : List End) : Type 0 where
   pub paths : List (List ℕ)
   pub lead : AllZip (LeadsTo code state) ends paths
   pub some : AllByRecursion HasLeast ends
   pub once : EachOnce paths
 
--- and all data of the state are of one of them
+-- each end belongs to a path of its own, and all data of the state belong to one of the ends
 pub record AreEnds (code : List Insn) (state : State) (ends : List End) : Type 0 where
   pub some : AreSomeEnds code state ends
   pub all_data : (input : CallData) → Comes state input → Any (λ end. IsWithin end.region input) ends
 
--- all ends are added; or there are more than may be, of which some are added
+-- all ends are added; or there are more than allowed, and some of them are added
 abbrev pub AddsEnds : List Insn → State → ℕ → List End → List End → Bool → Type 0
 AddsEnds code state most old new true = (more : List End) × (new ≡ old ++ more) × AreEnds code state more
 AddsEnds code state most old new false = (more : List End) × (most < length old + length more) × AreSomeEnds code state more

@@ -3,7 +3,7 @@ use Rattle.std.specs.Prelude.{◌≡◌, ℕ, ◌<◌, false, true, List, slice_
 use Rattle.seccomp_compile.specs.bpf_code.declared.machine.Insn.{Insn}
 use Rattle.seccomp_compile.specs.Form.{is_of_form}
 
--- the instruction at the place is the first of another code
+-- the instruction at the place is the first one whose code does not have the form
 pub record IsFirstForeign (code : List Insn) (place : ℕ) : Type 0 where
   pub insn : Insn
   pub found : slice_get code place ≡ Some insn

@@ -1,4 +1,4 @@
--- Sets of call data, word by word, and what the accumulator holds.
+-- Sets of call data, word by word, and the content of the accumulator.
 use Rattle.std.specs.Prelude.{◌≡◌, ℕ, true, List, map, bit_and, slice_index}
 use Rattle.std.specs.List.{AllZip}
 use Rattle.seccomp_compile.specs.bpf_code.declared.machine.CallData.{CallData}
@@ -19,6 +19,6 @@ AreWithin sets words = AllZip (λ set word. meets_all set word ≡ true) sets wo
 abbrev pub IsWithin : Region → CallData → Type 0
 IsWithin region input = AreWithin (sets_of region) (words_of input)
 
--- what the accumulator is
+-- the content of the accumulator
 abbrev pub held_word : Held → CallData → ℕ
 held_word held input = bit_and (slice_index (words_of input) held.word) held.mask

@@ -8,7 +8,7 @@ use Rattle.seccomp_compile.specs.bpf_code.Ops.{op_of}
 use Rattle.seccomp_compile.specs.bpf_code.Effects.{effect_by}
 use Rattle.seccomp_compile.specs.bpf_code.Meaning.{IsCallData, start_regs}
 
--- started at a position with these registers, the program takes these positions and ends with this answer
+-- the program starts at a position with these registers, takes these positions and ends with this answer
 pub data Takes (code : List Insn) (input : CallData) : ℕ → Regs → List ℕ → ℕ → Type 0 where
   ends : (at : ℕ) (regs after : Regs) (insn : Insn) (answer : ℕ) → slice_get code at ≡ Some insn
       → effect_by (op_of insn.code) insn regs input ≡ Some (End answer, after) → Takes code input at regs (at ∷ []) answer
@@ -24,17 +24,17 @@ IsPath code path = (input : CallData) × IsCallData input × ((answer : ℕ) × 
 abbrev pub EachOnce : List (List ℕ) → Type 0
 EachOnce paths = (one other : ℕ) (path : List ℕ) → slice_get paths one ≡ Some path → slice_get paths other ≡ Some path → one ≡ other
 
--- it has exactly these paths, each told once
+-- the program has exactly these paths, each listed once
 pub record ArePaths (code : List Insn) (paths : List (List ℕ)) : Type 0 where
   pub distinct : EachOnce paths
   pub only_paths : (path : List ℕ) → Contains paths path → IsPath code path
   pub all_paths : (path : List ℕ) → IsPath code path → Contains paths path
 
--- how many paths it has
+-- the number of its paths
 abbrev pub HasPaths : List Insn → ℕ → Type 0
 HasPaths code count = (paths : List (List ℕ)) × ArePaths code paths × (length paths ≡ count)
 
--- it has more than so many
+-- the program has more paths than this number
 abbrev pub HasMorePaths : List Insn → ℕ → Type 0
 HasMorePaths code most = (paths : List (List ℕ)) × EachOnce paths × ((path : List ℕ) → Contains paths path → IsPath code path) ×
     (most < length paths)

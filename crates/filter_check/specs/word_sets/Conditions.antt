@@ -4,11 +4,11 @@ use Rattle.std.specs.List.{list_all}
 use Rattle.filter_check.specs.declared.word_sets.condition.Condition.{Condition}
 use Rattle.filter_check.specs.declared.word_sets.condition.Orders.{Orders}
 
--- the order of two numbers is a wanted one
+-- the order of the two numbers is a wanted one
 abbrev pub wants : Orders → ℕ → ℕ → Bool
 wants orders a b = if nat_lt a b then orders.below else (if a == b then orders.equal else orders.above)
 
--- the word under the mask stands to the number in a wanted order
+-- the order of the word under the mask and the number is a wanted one
 abbrev pub meets : Condition → ℕ → Bool
 meets condition word = wants condition.orders (bit_and word condition.mask) condition.number
 

@@ -1,4 +1,4 @@
-//! Why a file is not a program.
+//! Says why a file is not a program.
 ghost use Rattle.std.specs.Prelude.{◌≡◌};
 ghost use Rattle.filter_check.specs.declared.filter_lines.error.FileError.TheVariants.{Memory};
 
@@ -6,7 +6,7 @@ use seccomp_compile::ProgramError;
 use std::alloc::AllocError;
 use thiserror::Error;
 
-/// Why a file is not a program.
+/// Says why a file is not a program.
 #[derive(Clone, Copy, Debug, PartialEq, Eq, Error)]
 pub enum FileError {
     /// The bytes are not text.

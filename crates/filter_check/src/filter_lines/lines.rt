@@ -1,4 +1,4 @@
-//! Lines of sixteen hex digits, and the bytes that they are.
+//! Reads lines of sixteen hex digits as bytes.
 ghost use Rattle.std.specs.Prelude.{◌≡◌, ◌==◌, ◌*◌, ◌+◌, ◌<◌, ◌^◌, ℕ, IfOk, IfErr, IfNone, IfSome, List, length, map, slice_index, [], ◌∷◌};
 ghost use Rattle.std.specs.List.{slice_split};
 ghost use Rattle.filter_check.specs.filter_lines.Digits.{hex_byte, hex_digit};
@@ -8,7 +8,7 @@ ghost use Rattle.filter_check.specs.filter_lines.Adding.{AddsLine, IsRefusedLine
 use crate::filter_lines::error::FileError;
 use std::alloc::{AllocError, Global};
 
-// The number of a lower-case hex digit.
+// Returns the number of a lower-case hex digit.
 fn digit(byte: u8) -> Option<u8>
     ensures digit { IfSome result (λ n. (n < 16) × (hex_digit n ≡ byte)) }
     ensures other { IfNone result ((n : ℕ) → n < 16 → hex_digit n ≡ byte → ⊥) }
@@ -20,7 +20,7 @@ fn digit(byte: u8) -> Option<u8>
     }
 }
 
-// The byte that two hex digits are.
+// Returns the byte of two hex digits.
 fn byte_of(high: u8, low: u8) -> Option<u8>
     ensures byte { IfSome result (λ n. (n < 2 ^ 8) × (hex_byte n ≡ high ∷ low ∷ [])) }
     ensures other { IfNone result ((n : ℕ) → n < 2 ^ 8 → hex_byte n ≡ high ∷ low ∷ [] → ⊥) }
@@ -30,7 +30,7 @@ fn byte_of(high: u8, low: u8) -> Option<u8>
     Some(high * 16 + low)
 }
 
-// Adds the bytes of a line, and says whether it is the digits of an instruction.
+// Adds the bytes of a line. Returns whether the line is the digits of an instruction.
 fn add_line(out: &mut Vec<u8>, line: &[u8]) -> Result<bool, AllocError>
     ensures { IfOk result (AddsLine line.now out.old.items out.new.items) }
 {
@@ -46,7 +46,7 @@ fn add_line(out: &mut Vec<u8>, line: &[u8]) -> Result<bool, AllocError>
     Ok(true)
 }
 
-/// The bytes of the instructions that lines are.
+/// Returns the bytes of the instructions on these lines.
 pub fn code_of_lines(alloc: Global, lines: &[&str]) -> Result<Vec<u8>, FileError>
     ensures code { IfOk result (λ code. AreLines (map (λ line. line.now) lines.now) code.items) }
     ensures refused { IfErr result (IsRefusedLine (map (λ line. line.now) lines.now)) }
@@ -60,7 +60,7 @@ pub fn code_of_lines(alloc: Global, lines: &[&str]) -> Result<Vec<u8>, FileError
     Ok(code)
 }
 
-// The pieces of a text between its line feeds.
+// Returns the pieces of a text between its line feeds.
 fn pieces(alloc: Global, text: &str) -> Result<Vec<&str>, AllocError>
     ensures { IfOk result (λ pieces. map (λ piece. piece.now) pieces.items ≡ slice_split (λ byte. byte == 10) text.now) }
 {

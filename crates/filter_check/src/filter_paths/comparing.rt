@@ -1,4 +1,4 @@
-//! Comparisons as conditions on a word.
+//! Turns comparisons into conditions on a word.
 ghost use Rattle.std.specs.Prelude.{◌≡◌, ℕ, bit_and};
 ghost use Rattle.filter_check.specs.word_sets.Conditions.{meets};
 ghost use Rattle.filter_check.specs.filter_paths.Comparing.{compares};
@@ -6,7 +6,7 @@ ghost use Rattle.filter_check.specs.filter_paths.Comparing.{compares};
 use crate::word_sets::{Condition, Orders};
 use seccomp_compile::{Insn, JMP_JEQ_K, JMP_JGE_K, JMP_JGT_K};
 
-/// The condition on a word under which a comparison holds where A is the word under a mask.
+/// Returns the condition on a word under which a comparison holds, if the accumulator is the word under a mask.
 pub fn condition_of(insn: Insn, mask: u32) -> Condition
     ensures by_the_masked_word { (word : ℕ) → meets result word ≡ compares insn (bit_and word mask) }
 {

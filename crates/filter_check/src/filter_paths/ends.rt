@@ -1,4 +1,4 @@
-//! All ends of a program, by the paths that lead to them.
+//! Finds all ends of a program, by the paths that lead to them.
 ghost use Rattle.std.specs.Prelude.{◌≡◌, ◌<◌, ◌≤◌, ◌^◌, length, IfOk, false};
 ghost use Rattle.seccomp_compile.specs.bpf_code.Reading.{IsProgram};
 ghost use Rattle.seccomp_compile.specs.Form.{AreOfForm};
@@ -9,7 +9,7 @@ use crate::filter_paths::stepping::next;
 use seccomp_compile::Insn;
 use std::alloc::{AllocError, Global};
 
-/// Adds the ends of the paths that the data of a state take from it on; false where more than so many ends are found.
+/// Adds the ends of the paths that the data of a state take from it on. Returns false if there are more ends than `most`.
 pub fn add_ends(
     alloc: Global,
     insns: &[Insn],

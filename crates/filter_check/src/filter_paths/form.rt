@@ -1,4 +1,4 @@
-//! The form of programs whose paths can be found.
+//! Tests the form of programs whose paths can be found.
 ghost use Rattle.std.specs.Prelude.{◌≡◌, MatchOption};
 ghost use Rattle.seccomp_compile.specs.Form.{is_of_form, AreOfForm};
 ghost use Rattle.filter_check.specs.filter_paths.Form.{IsFirstForeign};

@@ -1,9 +1,9 @@
-//! Sets of call data, word by word.
+//! Defines sets of call data, word by word.
 ghost use Rattle.std.specs.Prelude.{◌≡◌, length};
 
 use crate::word_sets::WordSet;
 
-/// How many words the data of a call has.
+/// The number of words in the data of a call.
 pub const WORD_COUNT: usize = 16;
 
 /// The call data whose words are each in the set of its place.

@@ -1,4 +1,4 @@
-//! Sets of call data, word by word: how they are made and cut.
+//! Makes and cuts sets of call data, word by word.
 ghost use Rattle.std.specs.Prelude.{◌≡◌, ◌<◌, ◌≤◌, ℕ, ◌+◌, ◌*◌, ◌/◌, ◌%◌, ◌^◌, IfOk, get_or, set, [], true};
 ghost use Rattle.filter_check.specs.word_sets.Conditions.{meets_all};
 ghost use Rattle.seccomp_compile.specs.bpf_code.declared.machine.CallData.{CallData};
@@ -13,7 +13,7 @@ use seccomp_compile::CallData;
 use std::alloc::{AllocError, Global};
 
 impl Region {
-    /// All call data.
+    /// Makes the set of all call data.
     pub fn all(alloc: Global) -> Result<Self, AllocError>
         ensures every_call { IfOk result (λ region. (input : CallData) → IsCallData input → IsWithin region input) }
     {
@@ -24,7 +24,7 @@ impl Region {
         Ok(Region { words })
     }
 
-    /// The same data once more.
+    /// Copies the set.
     pub fn copy(&self, alloc: Global) -> Result<Self, AllocError>
         ensures same { IfOk result (λ copy. sets_of copy ≡ sets_of self.now) }
     {
@@ -35,7 +35,7 @@ impl Region {
         Ok(Region { words })
     }
 
-    /// The set of the word at a place.
+    /// Returns the set of the word at a place.
     pub fn word(&self, at: usize) -> &WordSet
         requires { at < 16 }
         ensures is { result.now.conditions.items ≡ get_or (sets_of self.now) at [] }
@@ -43,7 +43,7 @@ impl Region {
         &self.words[at]
     }
 
-    /// The data whose word at a place is in this set, and whose other words are as here.
+    /// Returns the set with this set for the word at a place, and with the other words as before.
     pub fn with_word(self, at: usize, word: WordSet) -> Self
         requires place { at < 16 }
         ensures sets_the_word { sets_of result ≡ set (sets_of self) at word.conditions.items }
@@ -53,7 +53,7 @@ impl Region {
         Region { words }
     }
 
-    // The least word of the set at a place.
+    // Returns the least word of the set at a place.
     fn least_word(&self, at: usize) -> u32
         requires { at < 16 }
         ensures is_one { meets_all (get_or (sets_of self.now) at []) result ≡ true }
@@ -62,7 +62,7 @@ impl Region {
         self.word(at).least
     }
 
-    // The least words that a pair of sets has, as one number.
+    // Returns the least words of a pair of sets, as one number.
     fn number(&self, at: usize) -> u64
         requires { at < 8 }
         ensures low { meets_all (get_or (sets_of self.now) (2 * at) []) (result % 2 ^ 32) ≡ true }
@@ -75,7 +75,7 @@ impl Region {
         u64::from(low) | u64::from(high) << 32
     }
 
-    /// The least of the data, by its words in order of their offsets.
+    /// Returns the least of the data, by its words in order of their offsets.
     pub fn least(&self) -> CallData
         ensures fits { IsCallData result }
         ensures is_one { IsWithin self.now result }

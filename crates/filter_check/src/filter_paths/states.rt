@@ -1,11 +1,11 @@
-//! The position of a walk through a program.
+//! Defines the position of a walk through a program.
 ghost use Rattle.std.specs.Prelude.{◌≡◌};
 
 use crate::filter_paths::held::Held;
 use crate::filter_paths::region::Region;
 use seccomp_compile::CallData;
 
-/// A position of a program, what the accumulator holds there, and the call data that come there so.
+/// A position of a program, the content of the accumulator there, and the call data that reach both.
 #[derive(Drop)]
 pub struct State {
     pub at: usize,
@@ -21,13 +21,13 @@ pub struct End {
     pub answer: u32,
 }
 
-/// Where an instruction leads the data of a state.
+/// Says where an instruction leads the data of a state.
 #[derive(Drop)]
 pub enum Next {
     /// The program ends there.
     End(End),
-    /// All go on at one position.
+    /// All data continue at one position.
     One(State),
-    /// Some go on at the one position, and the others at the other one.
+    /// Some data continue at one position, and the others at another.
     Two(State, State),
 }

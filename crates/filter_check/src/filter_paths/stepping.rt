@@ -1,4 +1,4 @@
-//! What an instruction does to the data of a state.
+//! Follows the data of a state through an instruction.
 ghost use Rattle.std.specs.Prelude.{◌≡◌, ◌<◌, length, IfOk, slice_get, Some};
 ghost use Rattle.seccomp_compile.specs.bpf_code.Reading.{IsProgram};
 ghost use Rattle.seccomp_compile.specs.Form.{AreOfForm};
@@ -11,7 +11,7 @@ use crate::word_sets::narrow;
 use seccomp_compile::{ALU_AND_K, Insn, JMP_JA, LD_W_ABS, RET_K};
 use std::alloc::{AllocError, Global};
 
-// The state after a load of a word.
+// Returns the state after a load of a word.
 fn loaded(insns: &[Insn], insn: Insn, state: State) -> State
     requires program { IsProgram insns.now }
     requires found { slice_get insns.now state.at ≡ Some insn }
@@ -28,7 +28,7 @@ fn loaded(insns: &[Insn], insn: Insn, state: State) -> State
     }
 }
 
-// The state after a mask.
+// Returns the state after a mask.
 fn masked(insns: &[Insn], insn: Insn, state: State) -> State
     requires program { IsProgram insns.now }
     requires found { slice_get insns.now state.at ≡ Some insn }
@@ -45,7 +45,7 @@ fn masked(insns: &[Insn], insn: Insn, state: State) -> State
     }
 }
 
-// The state after a jump.
+// Returns the state after a jump.
 fn jumped(insns: &[Insn], insn: Insn, state: State) -> State
     requires program { IsProgram insns.now }
     requires found { slice_get insns.now state.at ≡ Some insn }
@@ -59,7 +59,7 @@ fn jumped(insns: &[Insn], insn: Insn, state: State) -> State
     }
 }
 
-// Where a comparison leads.
+// Says where a comparison leads.
 fn compared(alloc: Global, insns: &[Insn], insn: Insn, state: State) -> Result<Next, AllocError>
     requires program { IsProgram insns.now }
     requires found { slice_get insns.now state.at ≡ Some insn }
@@ -107,7 +107,7 @@ fn compared(alloc: Global, insns: &[Insn], insn: Insn, state: State) -> Result<N
     }
 }
 
-/// Where the instruction at a state leads its data.
+/// Says where the instruction at a state leads its data.
 pub fn next(alloc: Global, insns: &[Insn], state: State) -> Result<Next, AllocError>
     requires program { IsProgram insns.now }
     requires form { AreOfForm insns.now }

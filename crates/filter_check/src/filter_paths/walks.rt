@@ -1,4 +1,4 @@
-//! The ends of a program's paths, from its first instruction on.
+//! Finds the ends of a program's paths, from its first instruction on.
 ghost use Rattle.std.specs.Prelude.{◌≡◌, IfOk};
 ghost use Rattle.seccomp_compile.specs.bpf_code.Reading.{IsProgram};
 ghost use Rattle.seccomp_compile.specs.Form.{AreOfForm};
@@ -11,7 +11,7 @@ use crate::filter_paths::states::{End, State};
 use seccomp_compile::Insn;
 use std::alloc::{AllocError, Global};
 
-/// The first instruction, to which these data come.
+/// Returns the state of these data at the first instruction.
 pub fn start(region: Region) -> State
     ensures first { result.at ≡ 0 }
     ensures nothing { result.held.mask ≡ 0 }
@@ -24,7 +24,7 @@ pub fn start(region: Region) -> State
     }
 }
 
-/// An end for each path of a program, or none where it has more than so many paths.
+/// Returns an end for each path of a program. None if it has more paths than `most`.
 pub fn all_ends(alloc: Global, insns: &[Insn], most: usize) -> Result<Option<Vec<End>>, AllocError>
     requires program { IsProgram insns.now }
     requires form { AreOfForm insns.now }

@@ -1,4 +1,4 @@
-//! The next step of the search for the least word.
+//! Chooses the next step of the search for the least word.
 //!
 //! If the least word of a cube fails a condition, the bits that are not known under the condition's mask decide. The search
 //! splits on the condition with the fewest of them, so that a bit without a choice is set at once.
@@ -19,7 +19,7 @@ pub enum Choice {
     Meets,
     /// No word of the cube meets all conditions.
     Misses,
-    /// The bit at this place is not known, as so many bits under a condition's mask.
+    /// The bit at this place is not known. The number counts the unknown bits under the condition's mask.
     Splits(u32, u32),
 }
 

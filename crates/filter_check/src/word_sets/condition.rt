@@ -1,8 +1,8 @@
-//! Conditions on a word: whether it is less than a number, equal or greater, under a mask.
+//! Defines conditions on a word: under a mask it is less than a number, equal to it or greater.
 ghost use Rattle.std.specs.Prelude.{◌≡◌, ◌<◌, ℕ, not, ◌^◌};
 ghost use Rattle.filter_check.specs.word_sets.Conditions.{meets, wants};
 
-/// Which orders of a masked word and a number meet a condition.
+/// The orders of a masked word and a number that meet a condition.
 #[derive(Clone, Copy)]
 pub struct Orders {
     pub below: bool,
@@ -10,7 +10,7 @@ pub struct Orders {
     pub above: bool,
 }
 
-/// The order of the masked word and the number is one of these.
+/// A condition on a word: the order of the masked word and the number is one of these.
 #[derive(Clone, Copy)]
 pub struct Condition {
     pub mask: u32,

@@ -1,10 +1,10 @@
-//! Words of which some bits are known: their bounds, and one bit more.
+//! Finds the bounds of words of which some bits are known, and sets one bit more.
 ghost use Rattle.std.specs.Prelude.{◌≡◌, ◌<◌, ◌≤◌, ◌^◌, ℕ, ◌&&◌, Bool, true, false, bit_and};
 ghost use Rattle.filter_check.specs.word_sets.Words.{is_in, is_set, same};
 
 use crate::word_sets::known::Cube;
 
-// The word that has all bits that are not known.
+// Returns the word with the known bits, and with a 1 at each place that is not known.
 fn greatest_with(known: u32, bits: u32) -> u32
     ensures covers { (word : ℕ) → word < 2 ^ 32 → bit_and word known ≡ bits → bit_and word result ≡ word }
 {

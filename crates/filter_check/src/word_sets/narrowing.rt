@@ -1,4 +1,4 @@
-//! The words of a set that meet one condition more.
+//! Narrows a set to the words that meet one condition more.
 ghost use Rattle.std.specs.Prelude.{◌≡◌, ◌<◌, ◌≤◌, ◌^◌, ◌++◌, ◌∷◌, [], ℕ, ◌&&◌, Option, Some, None, true, false, IfOk};
 ghost use Rattle.filter_check.specs.word_sets.Conditions.{meets, meets_all};
 ghost use Rattle.filter_check.specs.word_sets.Words.{is_in_some, IsLeastWord};

@@ -1,4 +1,4 @@
-//! The search for the least word that meets conditions.
+//! Searches for the least word that meets conditions.
 ghost use Rattle.std.specs.Prelude.{◌≡◌, ◌≤◌, ◌<◌, ◌^◌, ℕ, IfSome};
 ghost use Rattle.std.specs.Bool.{OnTrue, OnFalse};
 ghost use Rattle.filter_check.specs.word_sets.Words.{IsLeastOf, IsUpTo, IsWanted};
@@ -7,7 +7,7 @@ use crate::word_sets::choosing::{Choice, choose};
 use crate::word_sets::condition::Condition;
 use crate::word_sets::known::Cube;
 
-// Says whether a word is told that is at most this one.
+// Returns whether a word was found before that is at most this one.
 fn is_up_to(told: Option<u32>, word: u32) -> bool
     ensures yes { OnTrue result (IsUpTo told word) }
     ensures no { OnFalse result (IfSome told (λ one. word < one)) }
@@ -18,9 +18,9 @@ fn is_up_to(told: Option<u32>, word: u32) -> bool
     }
 }
 
-/// Finds the least of a word that was told before and the words of a cube that meet all conditions.
+/// Finds the lesser of an earlier word and the least word of a cube that meets all conditions.
 ///
-/// None of those words is below `from`, so a cube whose words all are is passed over.
+/// No such word of the cube is below `from`. So the search skips a cube whose words are all below it.
 pub fn least_of(conditions: &[Condition], cube: Cube, from: u32, told: Option<u32>) -> Option<u32>
     requires from { (word : ℕ) → IsWanted conditions.now cube word → from ≤ word }
     ensures least { IsLeastOf conditions.now cube told result }

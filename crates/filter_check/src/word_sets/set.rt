@@ -1,10 +1,10 @@
-//! The type of the words that meet some conditions.
+//! Defines the words that meet some conditions.
 ghost use Rattle.std.specs.Prelude.{◌≡◌, ◌<◌, ◌≤◌, ◌^◌, ℕ, true};
 ghost use Rattle.filter_check.specs.word_sets.Conditions.{meets_all};
 
 use crate::word_sets::condition::Condition;
 
-/// The words that meet all of these conditions, and the least of them. There is one.
+/// The words that meet all of these conditions, and the least of them. There is at least one.
 #[derive(Drop)]
 pub struct WordSet {
     pub conditions: Vec<Condition>,

@@ -13,7 +13,7 @@ tunables_words = codes "_sysctl" ∷ []
 abbrev pub hostname_words : List (List ℕ)
 hostname_words = codes "sethostname" ∷ codes "setdomainname" ∷ []
 
--- ProtectKernelModules=: the group of the calls that load and unload modules, init_module(2)
+-- ProtectKernelModules=: the group of the calls that load and unload modules, such as init_module(2)
 abbrev pub modules_words : List (List ℕ)
 modules_words = codes "@module" ∷ []
 
@@ -21,14 +21,14 @@ modules_words = codes "@module" ∷ []
 abbrev pub logs_words : List (List ℕ)
 logs_words = codes "syslog" ∷ []
 
--- ProtectClock=: the group of the calls that set a clock, clock_settime(2)
+-- ProtectClock=: the group of the calls that set a clock, such as clock_settime(2)
 abbrev pub clock_words : List (List ℕ)
 clock_words = codes "@clock" ∷ []
 
--- PrivateDevices=: the group of the calls for raw input and output, iopl(2)
+-- PrivateDevices=: the group of the calls for raw input and output, such as iopl(2)
 abbrev pub devices_words : List (List ℕ)
 devices_words = codes "@raw-io" ∷ []
 
--- a word covers the call
+-- one of the words covers the call
 abbrev pub is_blocked : Table → List (List ℕ) → List ℕ → Bool
 is_blocked table words name = list_any (λ word. covers table word name) words

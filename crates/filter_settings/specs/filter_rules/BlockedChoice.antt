@@ -1,4 +1,4 @@
--- Blocked calls: what the rules do to a call of a name.
+-- Blocked calls: what the rules do to calls of a name.
 use Rattle.std.specs.Prelude.{ℕ, if◌then◌else◌, Option, Some, None, List}
 use Rattle.call_table.specs.Table.{Table}
 use Rattle.filter_settings.specs.declared.filter_rules.choice.Choice.{Choice}

@@ -1,4 +1,4 @@
--- What a filter does to one call: the form that rules are made from.
+-- What a filter does to one call: the form from which rules are made.
 use Rattle.std.specs.Prelude.{ℕ, ◌&&◌, if◌then◌else◌, Bool, true, Option, None, List, [], ◌∷◌, ◌++◌, map}
 use Rattle.std.specs.Option.{option_map_or, option_to_list}
 use Rattle.std.specs.List.{list_any}
@@ -12,25 +12,25 @@ use Rattle.call_rules.specs.declared.rules.CallRule.{CallRule}
 use Rattle.filter_settings.specs.declared.filter_rules.choice.Choice.{Choice}
 use Rattle.dropin_merge.specs.linux_numbers.Errnos.{eperm}
 
--- some test holds, and the one that is given too
+-- some test holds, and so does the given test
 abbrev pub is_chosen : CallData → Choice → Bool
 is_chosen input choice = option_map_or (test_holds input) choice.given true && list_any (test_holds input) choice.any
 
 abbrev pub choice_action : CallData → Choice → Action
 choice_action input choice = if is_chosen input choice then choice.action else choice.rest
 
--- the bits of the mask are set in the argument; the argument is the value
+-- the test that the bits of the mask are set in the argument, and the test that the argument is the value
 abbrev pub bits : ℕ → ℕ → Tested
 bits at mask = record { arg = at; mask = mask; value = mask }
 
 abbrev pub whole : ℕ → ℕ → Tested
 whole at value = record { arg = at; mask = 0xffff_ffff; value = value }
 
--- the action without a test
+-- the action for all arguments
 abbrev pub always : Action → Choice
 always action = record { given = None; any = []; action = action; rest = action }
 
--- the call is not permitted where a test holds, or else only where one does
+-- the call is not permitted if a test holds; or it is permitted only if a test holds
 abbrev pub refused_where : List Tested → Choice
 refused_where tests = record { given = None; any = tests; action = Errno eperm; rest = Allow }
 

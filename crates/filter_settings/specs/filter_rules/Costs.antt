@@ -1,4 +1,4 @@
--- How large the rules of a filter may be.
+-- The greatest size of the rules of a filter.
 use Rattle.std.specs.Prelude.{◌≡◌, ℕ, ◌+◌, ◌≤◌, ◌⊎◌, List, [], ◌∷◌, length, sum_by}
 use Rattle.std.specs.List.{All}
 use Rattle.call_rules.specs.declared.rules.Case.{Case}
@@ -12,7 +12,7 @@ use Rattle.filter_settings.specs.declared.filter_rules.names.FilterName.TheVaria
 use Rattle.filter_settings.specs.declared.filter_rules.names.FilterName.TheVariants.{Namespaces, Tunables, Hostname, Modules, Logs, Clock, Devices}
 use Rattle.filter_settings.specs.declared.filter_rules.names.FilterName.TheVariants.{Personality, Calls, Archs}
 
--- calls with a rule, cases over all of them, tests over all cases
+-- the number of calls with a rule, of cases over all of them, and of tests over all cases
 pub record Costs : Type 0 where
   pub calls : ℕ
   pub cases : ℕ
@@ -21,7 +21,7 @@ pub record Costs : Type 0 where
 abbrev pub costs : ℕ → ℕ → ℕ → Costs
 costs calls cases tests = record { calls = calls; cases = cases; tests = tests }
 
--- the most that the rules of a filter cost: a table has at most 512 calls and 128 families
+-- the greatest costs of the rules of a filter: a table has at most 512 calls and 128 families
 abbrev pub most_costs : FilterName → Costs
 most_costs Families = costs 1 128 128
 most_costs MemoryDenyWriteExecute = costs 4 4 4
@@ -43,14 +43,14 @@ pub record KeepsWithin (most : Costs) (rules : RuleSet) : Type 0 where
   pub cases : case_count rules ≤ most.cases
   pub tests : test_count rules ≤ most.tests
 
--- the room that programs of these filters take at most in a stack: each takes 4 beside its instructions (seccomp(2), ENOMEM)
+-- the room that programs of these filters take at most in a stack: 4 for each, besides its instructions (seccomp(2), ENOMEM)
 abbrev pub most_room : List Filter → ℕ
 most_room filters = sum_by (λ made. most_insns made.rules + 4) filters
 
--- each case has one test, of all of the low 32 bits of this argument
+-- each case has one test, which compares all low 32 bits of this argument
 abbrev pub AreWhole : ℕ → List Case → Type 0
 AreWhole at cases = All (λ case. (value : ℕ) × (case.tests ≡ whole at value ∷ [])) cases
 
--- few cases, or one value of one argument for each
+-- the call has few cases, or each case tests one value of the same argument
 abbrev pub HasShortCases : CallRule → Type 0
 HasShortCases call = (length call.cases ≤ 8) ⊎ ((at : ℕ) × AreWhole at call.cases)

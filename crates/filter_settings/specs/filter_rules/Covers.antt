@@ -1,4 +1,4 @@
--- Which calls a word of a filter speaks of (systemd.exec(5), SystemCallFilter=).
+-- The calls that a word of a filter covers (systemd.exec(5), SystemCallFilter=).
 use Rattle.std.specs.Prelude.{ℕ, Bool, false, Option, Some, None, List}
 use Rattle.std.specs.Option.{option_map_or}
 use Rattle.std.specs.Str.{bytes_eq}
@@ -9,7 +9,7 @@ use Rattle.call_table.specs.Table.{Table, every_call}
 use Rattle.call_table.specs.declared.listed.CallLine.{CallLine}
 use Rattle.call_table.specs.declared.listed.GroupLine.{GroupLine}
 
--- a member of the group has the name: members are the first calls of their names, in whatever ABI
+-- a member of the group has the name; the members are the first calls of their names, in any ABI
 abbrev pub has_member_named : List CallLine → List ℕ → GroupLine → Bool
 has_member_named calls name group = option_map_or (λ place. has_member place group) (place_named name calls) false
 
@@ -17,7 +17,7 @@ abbrev pub covers_by : Table → List ℕ → List ℕ → Option (List ℕ) →
 covers_by table word name None = bytes_eq word name
 covers_by table word name (Some group) = option_map_or (has_member_named (every_call table) name) (group_named group table.groups) false
 
--- `@NAME` covers the names of the members of that group, and none where the table has no such group; any other
--- word covers itself
+-- `@NAME` covers the names of the members of that group, and nothing if the table has no such group; any other word covers
+-- itself
 unfoldable pub covers : Table → List ℕ → List ℕ → Bool
 covers table word name = covers_by table word name (behind_at word)

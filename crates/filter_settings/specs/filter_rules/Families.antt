@@ -1,4 +1,4 @@
--- systemd.exec(5), RestrictAddressFamilies=: which address families socket(2) may be asked for.
+-- systemd.exec(5), RestrictAddressFamilies=: the address families that socket(2) may use.
 use Rattle.std.specs.Prelude.{ℕ, ◌==◌, ◌&&◌, not, Bool, false, if◌then◌else◌, Option, List, find, reverse, codes}
 use Rattle.std.specs.List.{list_any}
 use Rattle.std.specs.Option.{option_map_or}
@@ -12,20 +12,20 @@ use Rattle.call_table.specs.Table.{Table}
 use Rattle.filter_settings.specs.filter_rules.Actions.{low}
 use Rattle.filter_settings.specs.filter_rules.Calls.{is_allowing}
 
--- the last word that mentions the family
+-- the last word that names the family
 abbrev pub last_family : List FamilyMention → ℕ → Option FamilyMention
 last_family mentions number = find (λ mention. mention.number == number) (reverse mentions)
 
--- it puts the family on the list, or takes it off
+-- the last word puts the family on the list, or takes it off
 abbrev pub is_listed_family : List FamilyMention → ℕ → Bool
 is_listed_family mentions number = option_map_or (λ mention. mention.adds) (last_family mentions number) false
 
--- a list that denies, with no family of the table on it
+-- the list denies, and no family of the table is on it
 abbrev pub denies_no_family : Table → FamilyList → Bool
 denies_no_family table list =
     if is_allowing list.mode then false else not (list_any (λ family. is_listed_family list.mentions family.number) table.families)
 
--- a list that allows refuses every other family, whether the table has it or not; one that denies refuses those on it
+-- a list that allows refuses every other family, even one that the table lacks; a list that denies refuses the families on it
 abbrev pub is_refused_by : Mode → Bool → Bool
 is_refused_by Allow listed = not listed
 is_refused_by Deny listed = listed
@@ -38,6 +38,6 @@ abbrev pub refuses_family : Option FamilyList → List ℕ → CallData → Bool
 refuses_family families name input = bytes_eq name (codes "socket") && option_map_or
     (λ list. is_refused_family list (low input 0)) families false
 
--- socket(2) may be asked for the family of this number
+-- socket(2) may use the family of this number
 abbrev pub permits_family : Option FamilyList → ℕ → Bool
 permits_family families number = not (option_map_or (λ list. is_refused_family list number) families false)

@@ -1,4 +1,4 @@
--- RestrictAddressFamilies=: what the rules do to a call of a name.
+-- RestrictAddressFamilies=: what the rules do to calls of a name.
 use Rattle.std.specs.Prelude.{ℕ, if◌then◌else◌, Option, Some, None, List, filter, map, codes, option_and_then}
 use Rattle.std.specs.Str.{bytes_eq}
 use Rattle.call_table.specs.Table.{Table}

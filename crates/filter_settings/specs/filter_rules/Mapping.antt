@@ -1,5 +1,5 @@
--- systemd.exec(5), MemoryDenyWriteExecute=: no memory may be made that can be written and executed, and none may
--- be made executable.
+-- systemd.exec(5), MemoryDenyWriteExecute=: attempts to create memory mappings that are writable and executable at the same time, or to
+-- change existing memory mappings to become executable, are prohibited.
 use Rattle.std.specs.Prelude.{ℕ, if◌then◌else◌, Bool, false, List, [], ◌∷◌, codes}
 use Rattle.std.specs.Str.{bytes_eq}
 use Rattle.call_rules.specs.bpf_code.declared.machine.CallData.{CallData}

@@ -1,4 +1,4 @@
--- MemoryDenyWriteExecute=: what the rules do to a call of a name.
+-- MemoryDenyWriteExecute=: what the rules do to calls of a name.
 use Rattle.std.specs.Prelude.{ℕ, if◌then◌else◌, Option, Some, None, List, [], ◌∷◌, codes}
 use Rattle.std.specs.Str.{bytes_eq}
 use Rattle.filter_settings.specs.declared.filter_rules.choice.Choice.{Choice}

@@ -11,15 +11,15 @@ use Rattle.filter_settings.specs.declared.filter_rules.mentions.CallList.{CallLi
 use Rattle.filter_settings.specs.filter_rules.Covers.{covers}
 use Rattle.filter_settings.specs.filter_rules.Calls.{last_mention, listed_by, listed_action}
 
--- a word lists the calls that it covers by an action, or takes them off the list
+-- a word lists the calls that it covers with an action, or takes them off the list
 abbrev pub said : Mode → Action → Mention → Option Action
 said mode default mention = if mention.adds then Some (listed_action mode default mention) else None
 
--- the action by which a name is listed
+-- the action with which a name is listed
 abbrev pub action_of : Table → Action → List ℕ → CallList → Option Action
 action_of table default name list = option_map (listed_action list.mode default) (listed_by table list.mentions name)
 
--- what is said of a call is its mark from then on
+-- the statement of a word replaces the mark of a call that it covers
 abbrev pub with_said : Bool → Option Action → Option (Option Action) → Option (Option Action)
 with_said covered what mark = if covered then Some what else mark
 
@@ -28,21 +28,21 @@ pub record IsFirst (calls : List CallLine) (at : ℕ) (call : CallLine) : Type 0
   pub stands : slice_get calls at ≡ Some call
   pub first : place_named call.name calls ≡ Some at
 
--- a call that is the first of its name has as its mark what the last word says that covers the name, if one does
+-- the mark of a call that is the first of its name is the statement of the last word that covers the name, if there is one
 pub record AreMarks (table : Table) (says : Mention → Option Action) (mentions : List Mention) (marks : List (Option (Option Action))) : Type 0 where
   pub as_many : length marks ≡ length (every_call table)
   pub each : (at : ℕ) (call : CallLine) → IsFirst (every_call table) at call
       → slice_index_or marks at None ≡ option_map says (last_mention table mentions call.name)
 
--- the same by a list with its default action
+-- the same for a list with its default action
 abbrev pub AreMarksOf : Table → Action → CallList → List (Option (Option Action)) → Type 0
 AreMarksOf table default list marks = AreMarks table (said list.mode default) list.mentions marks
 
--- something is said of the positions that pass the test
+-- the positions that pass the test get this statement as their mark
 abbrev pub SaidOf : (ℕ → Bool) → Option Action → List (Option (Option Action)) → List (Option (Option Action)) → Type 0
 SaidOf test what old new = (at : ℕ) → at < length old → slice_index_or new at None ≡ with_said (test at) what (slice_index_or old at None)
 
--- something is said of the calls that a word covers
+-- the calls that a word covers get this statement as their mark
 abbrev pub SaidBy : Table → List ℕ → Option Action → List (Option (Option Action)) → List (Option (Option Action)) → Type 0
 SaidBy table word what old new = (at : ℕ) (call : CallLine) → IsFirst (every_call table) at call
     → slice_index_or new at None ≡ with_said (covers table word call.name) what (slice_index_or old at None)

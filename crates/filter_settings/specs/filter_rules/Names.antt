@@ -7,13 +7,13 @@ use Rattle.filter_settings.specs.declared.filter_rules.names.FilterName.TheVaria
 use Rattle.filter_settings.specs.declared.filter_rules.names.FilterName.TheVariants.{Namespaces, Tunables, Hostname, Modules, Logs, Clock, Devices}
 use Rattle.filter_settings.specs.declared.filter_rules.names.FilterName.TheVariants.{Personality, Calls, Archs}
 
--- those that each ABI has a program of
+-- the filters that have a program for each ABI
 abbrev pub all_filters : List FilterName
 all_filters =
     Families ∷ MemoryDenyWriteExecute ∷ Realtime ∷ Suid ∷ Namespaces ∷ Tunables ∷ Hostname ∷ Modules ∷ Logs ∷ Clock ∷ Devices ∷
     Personality ∷ Calls ∷ []
 
--- the program of a filter for the ABI of a position
+-- the program of a filter for the ABI at a position
 abbrev pub Place : Type 0
 Place = FilterName × ℕ
 
@@ -23,13 +23,13 @@ alone name = (name, 0)
 abbrev pub in_both : FilterName → List Place
 in_both name = (name, 0) ∷ (name, 1) ∷ []
 
--- all programs in the order of installation: that which ends the calls of a second ABI first, then each filter for each
--- ABI, the native one first
+-- all programs in the order of installation: first the program that ends the calls of a second ABI, then each filter for each ABI, the
+-- native one first
 abbrev pub all_programs : Option Abi → List Place
 all_programs None = map alone all_filters
 all_programs (Some second) = (Archs, 1) ∷ flat_map in_both all_filters
 
--- as they are printed
+-- the names as they are printed
 abbrev pub text_of : FilterName → List ℕ
 text_of = elim [
   | Families ↦ codes "families"

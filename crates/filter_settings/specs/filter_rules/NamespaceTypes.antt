@@ -1,4 +1,4 @@
--- Types of namespaces (namespaces(7)), their flags (clone(2)), and which are permitted.
+-- Types of namespaces (namespaces(7)), their flags (clone(2)), and the types that are permitted.
 use Rattle.std.specs.Prelude.{ℕ, Bool, List, [], ◌∷◌, codes}
 use Rattle.filter_settings.specs.declared.filter_rules.namespace_types.NamespaceType.{NamespaceType}
 use Rattle.filter_settings.specs.declared.filter_rules.namespace_types.NamespaceType.TheVariants.{Cgroup, Ipc, Net, Mnt, Pid, User, Uts}
@@ -7,7 +7,7 @@ use Rattle.filter_settings.specs.declared.filter_rules.namespace_types.Namespace
 abbrev pub all_types : List NamespaceType
 all_types = Cgroup ∷ Ipc ∷ Net ∷ Mnt ∷ Pid ∷ User ∷ Uts ∷ []
 
--- as they are written (systemd.exec(5), RestrictNamespaces=)
+-- the types as they are written (systemd.exec(5), RestrictNamespaces=)
 abbrev pub name_of : NamespaceType → List ℕ
 name_of Cgroup = codes "cgroup"
 name_of Ipc = codes "ipc"

@@ -1,4 +1,4 @@
--- systemd.exec(5), RestrictNamespaces=: which types of namespaces may be made and entered (namespaces(7)).
+-- systemd.exec(5), RestrictNamespaces=: the types of namespaces that the service may make and enter (namespaces(7)).
 use Rattle.std.specs.Prelude.{ℕ, ◌==◌, ◌&&◌, ◌||◌, not, if◌then◌else◌, Bool, false, Option, Some, None, List, [], ◌∷◌, codes, filter}
 use Rattle.std.specs.Option.{option_map_or}
 use Rattle.std.specs.List.{list_any}
@@ -16,7 +16,7 @@ use Rattle.filter_settings.specs.filter_rules.Actions.{unless_refused, low, has_
 abbrev pub forbidden_types : NamespaceTypes → List NamespaceType
 forbidden_types types = filter (λ kind. not (permits types kind)) all_types
 
--- which argument is the flags: of unshare(2) and clone(2), and the type of setns(2)
+-- the argument with the flags of unshare(2) and clone(2), or with the type of setns(2)
 abbrev pub types_argument : List ℕ → Option ℕ
 types_argument name =
     if is_one_of name (codes "unshare" ∷ codes "clone" ∷ []) then Some 0
@@ -27,7 +27,7 @@ types_argument name =
 abbrev pub has_forbidden : NamespaceTypes → ℕ → Bool
 has_forbidden types flags = list_any (λ kind. has_bits flags (flag_of kind)) (forbidden_types types)
 
--- setns(2) enters a namespace of any type where its type is 0
+-- setns(2) enters a namespace of any type if its type is 0
 abbrev pub enters_any : List ℕ → CallData → Bool
 enters_any name input = bytes_eq name (codes "setns") && low input 1 == 0
 
@@ -39,11 +39,11 @@ refuses_namespace types name input = enters_any name input || option_map_or (λ 
 abbrev pub clone_newtime : ℕ
 clone_newtime = 0x80
 
--- with a version of systemd clone(2) may not make a time namespace (time_namespaces(7))
+-- by the rules of a version of systemd clone(2) may not make a time namespace (time_namespaces(7))
 abbrev pub makes_time : List ℕ → CallData → Bool
 makes_time name input = bytes_eq name (codes "clone") && has_bits (low input 0) clone_newtime
 
--- and clone3(2), whose flags stand in memory, is answered as a call that the kernel lacks
+-- a version of systemd also answers clone3(2), whose flags are in memory, with ENOSYS
 abbrev pub namespace_action : Option Version → NamespaceTypes → List ℕ → CallData → Action
 namespace_action None types name input = unless_refused eperm (refuses_namespace types name input)
 namespace_action (Some version) types name input =

@@ -1,4 +1,4 @@
--- RestrictNamespaces=: what the rules do to a call of a name.
+-- RestrictNamespaces=: what the rules do to calls of a name.
 use Rattle.std.specs.Prelude.{ℕ, if◌then◌else◌, Option, None, Some, List, [], ◌∷◌, ◌++◌, map, codes}
 use Rattle.std.specs.Option.{option_map}
 use Rattle.std.specs.Str.{bytes_eq}
@@ -13,7 +13,7 @@ use Rattle.filter_settings.specs.filter_rules.NamespaceTypes.{flag_of}
 use Rattle.filter_settings.specs.filter_rules.Namespaces.{forbidden_types, types_argument, clone_newtime}
 use Rattle.filter_settings.specs.filter_rules.Choices.{always, bits, whole, refused_where}
 
--- setns(2) of any type
+-- setns(2) with type 0, which enters a namespace of any type
 abbrev pub any_type_tests : List ℕ → List Tested
 any_type_tests name = if bytes_eq name (codes "setns") then whole 1 0 ∷ [] else []
 
@@ -30,7 +30,7 @@ namespaces_choice types name = option_map (λ at. refused_where (namespace_tests
 abbrev pub time_tests : List ℕ → List Tested
 time_tests name = if bytes_eq name (codes "clone") then bits 0 clone_newtime ∷ [] else []
 
--- with a version of systemd one more call has a rule, and clone(2) one more test
+-- by the rules of a version of systemd one more call has a rule, and clone(2) has one more test
 abbrev pub namespaces_choice_in : Option Version → NamespaceTypes → List ℕ → Option Choice
 namespaces_choice_in None types name = namespaces_choice types name
 namespaces_choice_in (Some version) types name =

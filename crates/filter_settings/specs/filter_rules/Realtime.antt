@@ -1,4 +1,4 @@
--- systemd.exec(5), RestrictRealtime=: no scheduling policy but the ordinary ones (sched(7)).
+-- systemd.exec(5), RestrictRealtime=: attempts to enable realtime scheduling are refused. Only the ordinary policies are left (sched(7)).
 use Rattle.std.specs.Prelude.{ℕ, ◌==◌, ◌&&◌, ◌||◌, not, Bool, List, codes}
 use Rattle.std.specs.Str.{bytes_eq}
 use Rattle.call_rules.specs.bpf_code.declared.machine.CallData.{CallData}

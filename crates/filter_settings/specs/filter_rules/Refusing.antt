@@ -1,5 +1,5 @@
--- How settings refuse calls: by the end of the process, or by the number of an error (errno(3)), and seccomp(2) answers
--- none above 4,095.
+-- How settings refuse calls: the process ends, or the call returns the number of an error (errno(3)). seccomp(2) returns no number above
+-- 4,095.
 use Rattle.std.specs.Prelude.{◌≤◌, ⊤, Option}
 use Rattle.std.specs.Option.{IfSome}
 use Rattle.std.specs.List.{All}
@@ -15,14 +15,14 @@ IsRefusing KillProcess = ⊤
 IsRefusing (Errno number) = number ≤ max_errno
 IsRefusing Allow = ⊥
 
--- the action of a word's suffix, where it has one
+-- the action of a word's suffix, if it has one
 abbrev pub HasRefusal : Mention → Type 0
 HasRefusal mention = IfSome mention.action IsRefusing
 
 abbrev pub HasRefusals : Option CallList → Type 0
 HasRefusals calls = IfSome calls (λ list. All HasRefusal list.mentions)
 
--- what is done to a refused call is a refusal, and none passes for an answer of the call
+-- the action on refused calls is a refusal, so none of them looks like an answer of the call
 pub record AreRefusing (settings : FilterSettings) : Type 0 where
   pub default : IsRefusing settings.default_action
   pub suffixes : HasRefusals settings.calls

@@ -28,7 +28,7 @@ use Rattle.call_rules.specs.Sizes.{CanCompile}
 use Rattle.filter_settings.specs.filter_rules.Costs.{KeepsWithin, HasShortCases, most_costs}
 use Rattle.filter_settings.specs.filter_rules.Wanted.{wanted_action}
 
--- what the rules of a filter do to a call of a name, where there is one
+-- what the rules of a filter do to calls of a name, if there is a rule
 abbrev pub choice_of : FilterName → FilterSettings → Table → List ℕ → Option Choice
 choice_of Families settings table name = families_choice table settings.families name
 choice_of MemoryDenyWriteExecute settings table name = mapping_choice name
@@ -48,7 +48,7 @@ choice_of Archs settings table name = None
 abbrev pub rule_for : FilterName → FilterSettings → Table → CallLine → Option CallRule
 rule_for filter settings table call = option_map (rule_with call.number) (choice_of filter settings table call.name)
 
--- rules for the ABI of a position that do what the settings say, and are not too large
+-- these rules for the ABI at a position do what the settings say, and are not too large
 pub record AreRulesOf (filter : FilterName) (settings : FilterSettings) (table : Table) (abi : ℕ) (rules : RuleSet) : Type 0 where
   pub wanted : (input : CallData) → case_action rules input ≡ wanted_action filter settings table abi input
   pub compiled : CanCompile rules

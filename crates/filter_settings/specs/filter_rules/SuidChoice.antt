@@ -1,4 +1,4 @@
--- RestrictSUIDSGID=: what the rules do to a call of a name.
+-- RestrictSUIDSGID=: what the rules do to calls of a name.
 use Rattle.std.specs.Prelude.{ℕ, if◌then◌else◌, Option, None, Some, List, [], ◌∷◌, codes}
 use Rattle.std.specs.Option.{option_map}
 use Rattle.std.specs.Str.{bytes_eq}
@@ -10,7 +10,7 @@ use Rattle.call_rules.specs.declared.actions.Action.TheVariants.{Errno, Allow}
 use Rattle.filter_settings.specs.filter_rules.Suid.{mode_argument, flags_argument, set_user_id, set_group_id, o_creat}
 use Rattle.filter_settings.specs.filter_rules.Choices.{always, bits}
 
--- the test that the call has a mode at all
+-- the test that the call has a mode
 abbrev pub mode_test : List ℕ → Option Tested
 mode_test name = option_map (λ at. bits at o_creat) (flags_argument name)
 
@@ -20,7 +20,7 @@ mode_choice given at = record { given = given; any = bits at set_user_id ∷ bit
 abbrev pub suid_choice : List ℕ → Option Choice
 suid_choice name = option_map (mode_choice (mode_test name)) (mode_argument name)
 
--- with a version of systemd two more calls have a rule
+-- by the rules of a version of systemd two more calls have a rule
 abbrev pub suid_choice_in : Option Version → List ℕ → Option Choice
 suid_choice_in None name = suid_choice name
 suid_choice_in (Some version) name =

@@ -1,5 +1,4 @@
--- What the settings say of every call: by the filter's name, by the names of the table and by the low 32 bits of
--- the arguments.
+-- What the settings say of every call: by the filter's name, by the names of the table and by the low 32 bits of the arguments.
 use Rattle.std.specs.Prelude.{ℕ, ◌==◌, ◌&&◌, not, if◌then◌else◌, Bool, List, Option, None, Some, is_some}
 use Rattle.std.specs.Option.{option_map_or}
 use Rattle.std.specs.List.{list_all}
@@ -27,7 +26,7 @@ use Rattle.filter_settings.specs.filter_rules.Blocked.{devices_words}
 use Rattle.filter_settings.specs.filter_rules.Personality.{refuses_personality}
 use Rattle.filter_settings.specs.filter_rules.Calls.{call_action, rest_action}
 
--- which filters the settings ask for
+-- the settings ask for the filter
 abbrev pub is_on : FilterSettings → FilterName → Bool
 is_on settings Families = is_some settings.families
 is_on settings MemoryDenyWriteExecute = settings.memory_deny_write_execute
@@ -44,7 +43,7 @@ is_on settings Personality = settings.lock_personality
 is_on settings Calls = is_some settings.calls
 is_on settings Archs = settings.second_abi_refused
 
--- what a filter does to a call of this name
+-- the action of a filter on a call of this name
 abbrev pub named_action : FilterName → FilterSettings → Table → List ℕ → CallData → Action
 named_action Families settings table name input = unless_refused eafnosupport (refuses_family settings.families name input)
 named_action MemoryDenyWriteExecute settings table name input = unless_refused eperm (refuses_mapping name input)
@@ -61,7 +60,7 @@ named_action Personality settings table name input = unless_refused eperm (refus
 named_action Calls settings table name input = call_action table settings.calls settings.default_action name
 named_action Archs settings table name input = KillProcess
 
--- what a filter does to a number without a name
+-- the action of a filter on a number without a name
 abbrev pub unnamed_action : FilterName → FilterSettings → Action
 unnamed_action Families settings = Allow
 unnamed_action MemoryDenyWriteExecute settings = Allow
@@ -78,13 +77,13 @@ unnamed_action Personality settings = Allow
 unnamed_action Calls settings = rest_action settings.calls settings.default_action
 unnamed_action Archs settings = KillProcess
 
--- what a filter does to a call of another architecture than its own: it ends the process where there is one ABI, and where
--- there are two it leaves the call to the filters of the other
+-- the action of a filter on a call of another architecture: if there is one ABI, it ends the process; if there are two, it leaves the
+-- call to the filters of the other ABI
 abbrev pub other_action : Option Abi → Action
 other_action None = KillProcess
 other_action (Some second) = Allow
 
--- of the ABI of a position: another architecture than its own, else the name that it gives the number decides
+-- the action of a filter for the ABI at a position: by the architecture, and otherwise by the name that the ABI gives to the number
 abbrev pub wanted_action : FilterName → FilterSettings → Table → ℕ → CallData → Action
 wanted_action filter settings table abi input =
     if input.arch == arch_of table abi

@@ -1,4 +1,4 @@
-//! Calls that are refused whatever their arguments are.
+//! Refuses calls whatever their arguments are.
 ghost use Rattle.std.specs.Prelude.{◌≡◌, map};
 ghost use Rattle.std.specs.List.{list_any};
 ghost use Rattle.filter_settings.specs.filter_rules.Covers.{covers};
@@ -22,7 +22,7 @@ fn is_blocked(table: &CallTable, words: &[&str], name: &str) -> bool
     some_covers(table, words, name)
 }
 
-/// Returns what is done to a call of this name, where one of the words speaks of it.
+/// Returns what the rules do to calls of this name, if one of the words covers the name.
 pub fn blocked_choice(
     alloc: Global,
     table: &CallTable,

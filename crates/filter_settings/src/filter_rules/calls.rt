@@ -1,4 +1,4 @@
-//! SystemCallFilter= and SystemCallErrorNumber=: which calls are listed, and what is done to them.
+//! Makes the rules of SystemCallFilter= and SystemCallErrorNumber=.
 ghost use Rattle.std.specs.Prelude.{◌≡◌, ◌++◌, map, is_some, IfOk, IfSome, OnOk};
 ghost use Rattle.std.specs.List.{list_any};
 ghost use Rattle.std.specs.Option.{option_copied};
@@ -17,7 +17,7 @@ use call_rules::Action;
 use call_table::{CallLine, CallTable};
 use std::alloc::{AllocError, Global};
 
-// The last word that covers the name.
+// Returns the last word that covers the name.
 fn last_mention<'m>(table: &CallTable, mentions: &'m [Mention], name: &str) -> Option<&'m Mention>
     ensures { option_copied result ≡ last_mention table.now mentions.now name.now }
 {
@@ -27,7 +27,7 @@ fn last_mention<'m>(table: &CallTable, mentions: &'m [Mention], name: &str) -> O
         .find(|mention| covers(table, mention.name.as_str(), name))
 }
 
-// The word by which the name is on the list.
+// Returns the word that puts the name on the list.
 fn listed_by<'m>(table: &CallTable, mentions: &'m [Mention], name: &str) -> Option<&'m Mention>
     ensures { option_copied result ≡ listed_by table.now mentions.now name.now }
 {
@@ -53,7 +53,7 @@ fn hidden_action(hides: bool, mode: Mode, default: Action) -> Action
     }
 }
 
-/// Returns what is done to every number without a name.
+/// Returns the action on every number without a name.
 pub fn rest_action(calls: &Option<CallList>, default: Action) -> Action
     ensures by_the_mode { result ≡ rest_action calls.now default }
 {
@@ -70,7 +70,7 @@ fn is_unknown(table: &CallTable, name: &str) -> bool
     table.members("known").is_some() && !covers(table, "@known", name)
 }
 
-// Returns what is done to calls of this name that are not listed.
+// Returns the action on calls of this name that are not on the list.
 fn rest_of(table: &CallTable, default: Action, name: &str, list: &CallList) -> Action
     ensures { result ≡ rest_of table.now default name.now list.now }
 {
@@ -90,7 +90,7 @@ fn list_action(table: &CallTable, default: Action, name: &str, list: &CallList) 
     }
 }
 
-/// Returns whether SystemCallFilter= lets calls of this name through. It lets all calls through where it is not set.
+/// Returns whether SystemCallFilter= lets calls of this name through. If the key is not set, it lets all calls through.
 pub fn allows_call(table: &CallTable, settings: &FilterSettings, name: &str) -> bool
     ensures by_the_lists { result ≡ allows_call table.now settings.now name.now }
 {
@@ -100,7 +100,7 @@ pub fn allows_call(table: &CallTable, settings: &FilterSettings, name: &str) -> 
     }
 }
 
-// The action by which the name is listed. The words are gone through from the last on.
+// Returns the action with which the name is listed, by the words from the last to the first.
 fn action_by_words(
     table: &CallTable,
     list: &CallList,
@@ -113,8 +113,8 @@ fn action_by_words(
     Some(listed_action(list.mode, default, mention))
 }
 
-// The action by which the name is listed, by the mark at its first call. A name that the table lacks has no mark, so the words
-// are gone through.
+// Returns the action with which the name is listed, by the mark of its first call. If the table lacks the name, there is
+// no mark, and the words decide.
 fn action_of(
     table: &CallTable,
     list: &CallList,
@@ -172,7 +172,7 @@ pub fn denies_no_call(alloc: Global, table: &CallTable, list: &CallList) -> Resu
     Ok(!lists_a_call(alloc, table, list)?)
 }
 
-// Returns what is done to calls of this name.
+// Returns the action on calls of this name.
 fn action_by_marks(
     table: &CallTable,
     default: Action,
@@ -201,7 +201,7 @@ fn allows(table: &CallTable, settings: &FilterSettings, marks: &[Mark], name: &s
     }
 }
 
-// Adds for each of these calls whether it is let through.
+// Adds for each of these calls whether SystemCallFilter= lets it through.
 fn push_allowed(
     table: &CallTable,
     settings: &FilterSettings,
@@ -246,7 +246,7 @@ pub fn allowed_calls(
     Ok(allowed)
 }
 
-// A rule for what is listed, and none for any other call.
+// Returns a rule if the call is listed, and none for any other call.
 fn listed_choice(
     alloc: Global,
     table: &CallTable,
@@ -264,7 +264,7 @@ fn listed_choice(
     }
 }
 
-// A list that hides what systemd does not know has a rule for each call with a name.
+// Returns what the list does to a call of this name. A list that hides unknown calls has a rule for each name.
 fn list_choice(
     alloc: Global,
     table: &CallTable,
@@ -282,7 +282,7 @@ fn list_choice(
     Some(always(alloc, action_by_marks(table, default, marks, name, list)))
 }
 
-/// Returns what is done to a call of this name, if it has a rule.
+/// Returns what the rules do to calls of this name, if there is a rule.
 pub fn calls_choice(
     alloc: Global,
     table: &CallTable,

@@ -1,4 +1,4 @@
-//! What a filter does to one call: an action where some test holds, and another for the rest.
+//! Says what a filter does to one call: an action if some test holds, and another action for the rest.
 ghost use Rattle.std.specs.Prelude.{◌≡◌, ◌≤◌, None, map, IfOk};
 ghost use Rattle.filter_settings.specs.filter_rules.Choices.{bits, whole, always, refused_where, allowed_where, case_with, rule_with};
 
@@ -12,18 +12,18 @@ pub const NOT_PERMITTED: Action = Action::Errno(EPERM as u16);
 /// The call is answered as one that the kernel lacks (errno(3)).
 pub const NOT_THERE: Action = Action::Errno(ENOSYS as u16);
 
-/// One action where some test holds, and another for the rest.
+/// One action if some test holds, and another for the rest.
 #[derive(Drop)]
 pub struct Choice {
-    /// A test without which none of the others counts.
+    /// A test that must hold as well.
     pub given: Option<Test>,
     pub any: Tests,
-    /// The action where one of them holds.
+    /// The action if one of them holds.
     pub action: Action,
     pub rest: Action,
 }
 
-/// The test that these bits are set in the argument, which counts from 0.
+/// Returns the test that these bits are set in the argument. Arguments are counted from 0.
 pub fn bits(arg: u8, mask: u32) -> Test
     requires { arg ≤ 5 }
     ensures mask_is_set { result ≡ bits arg mask }
@@ -31,7 +31,7 @@ pub fn bits(arg: u8, mask: u32) -> Test
     Test::new(arg, mask, mask)
 }
 
-/// The test that the argument is this value.
+/// Returns the test that the argument is this value.
 pub fn whole(arg: u8, value: u32) -> Test
     requires { arg ≤ 5 }
     ensures is_the_value { result ≡ whole arg value }
@@ -39,7 +39,7 @@ pub fn whole(arg: u8, value: u32) -> Test
     Test::new(arg, 0xffff_ffff, value)
 }
 
-/// This action whatever the arguments are.
+/// Returns this action for all arguments.
 pub fn always(alloc: Global, action: Action) -> Choice
     ensures no_tests { result ≡ always action }
 {
@@ -51,7 +51,7 @@ pub fn always(alloc: Global, action: Action) -> Choice
     }
 }
 
-// An action where one of these tests holds, and another for the rest.
+// Returns one action if one of these tests holds, and another for the rest.
 fn choice_where(
     alloc: Global,
     tests: &[Test],
@@ -70,14 +70,14 @@ fn choice_where(
     })
 }
 
-/// Not permitted where one of these tests holds.
+/// Refuses the call with EPERM if one of these tests holds.
 pub fn refused_where(alloc: Global, tests: &[Test]) -> Result<Choice, AllocError>
     ensures refused { IfOk result (λ choice. choice ≡ refused_where tests.now) }
 {
     choice_where(alloc, tests, NOT_PERMITTED, Action::Allow)
 }
 
-/// Permitted only where one of these tests holds.
+/// Refuses the call with EPERM unless one of these tests holds.
 pub fn allowed_where(alloc: Global, tests: &[Test]) -> Result<Choice, AllocError>
     ensures allowed { IfOk result (λ choice. choice ≡ allowed_where tests.now) }
 {
@@ -113,7 +113,7 @@ fn cases_of(alloc: Global, choice: &Choice) -> Result<Cases, AllocError>
     Ok(Cases::new(cases))
 }
 
-/// The rule that chooses so for the call of a number.
+/// Returns the rule for the call with this number.
 pub fn rule_with(alloc: Global, number: u32, choice: &Choice) -> Result<CallRule, AllocError>
     ensures of_the_number { IfOk result (λ rule. rule ≡ rule_with number choice.now) }
 {

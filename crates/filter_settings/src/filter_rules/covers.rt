@@ -1,4 +1,4 @@
-//! Which calls a word of a filter speaks of: a call by its name, or `@` and a group.
+//! Finds the calls that a word of a filter covers: a call by its name, or the members of a group by `@` and its name.
 ghost use Rattle.std.specs.Prelude.{◌≡◌, ◌==◌, false};
 ghost use Rattle.std.specs.Option.{option_map_or};
 ghost use Rattle.std.specs.List.{list_any};
@@ -8,7 +8,7 @@ ghost use Rattle.filter_settings.specs.filter_rules.Covers.{covers};
 
 use call_table::{CallTable, behind_at};
 
-// Returns whether the first call of this name is one of the members, which are positions in all calls of the table.
+// Returns whether the first call of this name is one of the members. Members are positions among all calls of the table.
 fn has_member_named(table: &CallTable, name: &str, members: &[usize]) -> bool
     ensures { result ≡ option_map_or (λ place. list_any (λ member. member == place) members.now) (place_named name.now (every_call table.now)) false }
 {
@@ -18,7 +18,7 @@ fn has_member_named(table: &CallTable, name: &str, members: &[usize]) -> bool
     }
 }
 
-/// Returns whether the word speaks of the calls of this name.
+/// Returns whether the word covers the calls of this name.
 #[tactic(auto, unfolding(crate::specs::filter_rules::Covers::covers))]
 pub fn covers(table: &CallTable, word: &str, name: &str) -> bool
     ensures by_the_word { result ≡ covers table.now word.now name.now }

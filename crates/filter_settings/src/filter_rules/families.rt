@@ -1,4 +1,4 @@
-//! RestrictAddressFamilies=: which address families socket(2) may be asked for.
+//! Makes the rules of RestrictAddressFamilies=, which filters socket(2).
 ghost use Rattle.std.specs.Prelude.{◌≡◌, IfOk};
 ghost use Rattle.std.specs.List.{list_any};
 ghost use Rattle.std.specs.Option.{option_copied};
@@ -15,7 +15,7 @@ use std::alloc::{AllocError, Global};
 /// The address family is not supported (errno(3)).
 const FAMILY_NOT_SUPPORTED: Action = Action::Errno(EAFNOSUPPORT as u16);
 
-// The last word that mentions the family.
+// Returns the last word that names the family.
 fn last_family(mentions: &[FamilyMention], number: u32) -> Option<&FamilyMention>
     ensures { option_copied result ≡ last_family mentions.now number }
 {
@@ -106,7 +106,7 @@ fn socket_choice(alloc: Global, table: &CallTable, list: &FamilyList) -> Result<
     Ok(choice_by(list.mode, tests))
 }
 
-/// Returns what is done to a call of this name, where it is socket(2): a test for each family of the table that is listed.
+/// Returns what the rules do to calls of this name if it is `socket`: a test for each family of the table on the list.
 pub fn families_choice(
     alloc: Global,
     table: &CallTable,

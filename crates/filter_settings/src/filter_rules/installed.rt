@@ -1,4 +1,4 @@
-//! The filters that are on, in the order in which they are installed.
+//! Makes the filters that are on, in the order in which they are installed.
 ghost use Rattle.std.specs.Prelude.{◌≡◌, ◌<◌, ◌≤◌, map, filter, length, IfOk, IfSome};
 ghost use Rattle.std.specs.List.{All};
 ghost use Rattle.call_rules.specs.bpf_code.declared.machine.CallData.{CallData};
@@ -54,7 +54,7 @@ fn is_on(settings: &FilterSettings, filter: FilterName) -> bool
     }
 }
 
-// The rules of a filter for its ABI, from the calls of both, ascending by number.
+// Returns the rules of a filter for its ABI. The calls of both ABIs are in ascending order of their numbers.
 fn rules_at(
     alloc: Global,
     table: &CallTable,
@@ -78,7 +78,7 @@ fn rules_at(
     }
 }
 
-// Makes those of these filters that are on.
+// Makes the filters among these that are on.
 fn filters_among(
     alloc: Global,
     table: &CallTable,
@@ -110,27 +110,27 @@ fn filters_among(
     Ok(filters)
 }
 
-/// The filters that the settings ask for, with their rules for each ABI (systemd.exec(5), Sandboxing and System Call
-/// Filtering).
+/// Makes the filters that the settings ask for, with their rules for each ABI (systemd.exec(5), Sandboxing and System
+/// Call Filtering).
 ///
-/// Each family that is listed is one of the table, as where its word was looked up there. Where it is, want of
-/// memory is the only error.
+/// Each listed family must be a family of the table, as it is if the table was used to look up its word. Then an error
+/// means that memory ran out.
 pub fn filters(
     alloc: Global,
     table: &CallTable,
     settings: &FilterSettings,
 ) -> Result<Vec<Filter>, AllocError>
     requires known_families { HasKnownFamilies table.now settings.now }
-    // Exactly the filters that are on, in the order in which they are installed.
+    // The result has exactly the filters that are on, in the order in which they are installed.
     ensures exactly_those_on { IfOk result (λ filters. map place_of filters.items ≡ installed settings.now table.now) }
-    // What the settings say by names and words is what the rules say by numbers and tests.
+    // The rules say by numbers and tests what the settings say by names and words.
     ensures do_as_wanted { IfOk result (λ filters. All (λ made. (input : CallData) → case_action made.rules input ≡ wanted_action made.name settings.now table.now made.abi input) filters.items) }
-    // Within the condition of a compiler, and within what the filter may cost.
+    // The rules meet the condition of the compiler, and cost no more than a filter may.
     ensures can_be_compiled { IfOk result (λ filters. All (λ made. CanCompile made.rules) filters.items) }
     ensures keep_within_costs { IfOk result (λ filters. All (λ made. KeepsWithin (most_costs made.name) made.rules) filters.items) }
-    // Together within the room of a stack of filters.
+    // The programs together fit into a stack of filters.
     ensures fit_into_a_stack { IfOk result (λ filters. most_room filters.items ≤ 32768) }
-    // At most eight cases for a call, or one test each of one whole argument.
+    // A call has at most eight cases, or each of its cases tests the same whole argument.
     ensures cases_are_short { IfOk result (λ filters. All (λ made. All HasShortCases made.rules.calls) filters.items) }
 {
     let marks = call_marks(alloc, table, &settings.calls, settings.default_action)?;

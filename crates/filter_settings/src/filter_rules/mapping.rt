@@ -1,4 +1,4 @@
-//! MemoryDenyWriteExecute=: no memory that can be written and executed.
+//! Makes the rules of MemoryDenyWriteExecute=: no memory is both writable and executable.
 ghost use Rattle.std.specs.Prelude.{◌≡◌, IfOk};
 ghost use Rattle.filter_settings.specs.filter_rules.MappingChoice.{refused_bits, mapping_choice};
 
@@ -25,7 +25,7 @@ fn refused_bits(name: &str) -> Option<u32>
     }
 }
 
-/// Returns what is done to a call of this name, where it maps memory: the bits of argument 2 decide.
+/// Returns what the rules do to calls of this name, if they map memory. The bits of argument 2 decide.
 pub fn mapping_choice(alloc: Global, name: &str) -> Result<Option<Choice>, AllocError>
     ensures by_the_call { IfOk result (λ choice. choice ≡ mapping_choice name.now) }
 {

@@ -1,8 +1,8 @@
-//! Marks at the calls of a table: what the words of SystemCallFilter= say of each call (systemd.exec(5)).
+//! Marks the calls of a table with what the words of SystemCallFilter= say of them (systemd.exec(5)).
 //!
-//! The words are read once, in their order. Each marks the calls that it covers, and so the last word decides. A call is marked
-//! at the first position of its name. The marks answer for every name at the cost of one lookup; to go through the words for
-//! each name would take the product of both.
+//! The words are read once, in their order. Each word marks the calls that it covers, so the last word decides. A call is
+//! marked at the first position of its name. With the marks, each name costs one lookup. Without them, each name would
+//! cost a search through all words.
 ghost use Rattle.std.specs.Prelude.{◌≡◌, ◌==◌, ℕ, None, false, length, slice_index_or, IfOk, IfSome};
 ghost use Rattle.std.specs.List.{list_any};
 ghost use Rattle.std.specs.Option.{option_map_or};
@@ -17,11 +17,11 @@ use call_rules::Action;
 use call_table::{CallTable, behind_at};
 use std::alloc::{AllocError, Global};
 
-/// What the last word says that covers a call: the action by which it lists the call, or `Some(None)` if it takes the call off
-/// the list. It is `None` if no word covers the call.
+/// The statement of the last word that covers a call: the action with which it lists the call, or `Some(None)` if it takes
+/// the call off the list. It is `None` if no word covers the call.
 pub type Mark = Option<Option<Action>>;
 
-/// Returns what is done to a call that this word lists.
+/// Returns the action with which this word lists its calls.
 pub fn listed_action(mode: Mode, default: Action, mention: &Mention) -> Action
     ensures by_the_mode { result ≡ listed_action mode default mention.now }
 {
@@ -90,7 +90,7 @@ fn mark_word(table: &CallTable, word: &str, what: Option<Action>, marks: &mut [M
     }
 }
 
-// Marks the calls that these words cover, where none is marked yet.
+// Marks the calls that these words cover. No call is marked before.
 fn mark_words(
     table: &CallTable,
     mode: Mode,
@@ -123,7 +123,7 @@ pub fn marks_of(
     Ok(marks)
 }
 
-/// Marks the calls of a table by SystemCallFilter=. There are no marks where it is not set.
+/// Marks the calls of a table by SystemCallFilter=. If the key is not set, there are no marks.
 pub fn call_marks(
     alloc: Global,
     table: &CallTable,

@@ -1,16 +1,16 @@
-//! Lists of calls and of address families, as the words that were written, in their order.
+//! Defines lists of calls and of address families, as the words that were written, in their order.
 //!
-//! Nothing is taken out of such a list: of several mentions of one thing the last decides.
+//! A list keeps all its words. If several words name one thing, the last decides.
 
 use call_rules::{Action, ItemList};
 use dropin_merge::Text;
 
-/// What a list is for (systemd.exec(5), SystemCallFilter= and RestrictAddressFamilies=).
+/// Says whether a list allows or denies (systemd.exec(5), SystemCallFilter= and RestrictAddressFamilies=).
 #[derive(Clone, Copy, PartialEq, Eq)]
 pub enum Mode {
-    /// What is listed is allowed, and nothing else.
+    /// Everything on the list is allowed, and nothing else.
     Allow,
-    /// What is listed is refused, and nothing else.
+    /// Everything on the list is refused, and nothing else.
     Deny,
 }
 
@@ -21,20 +21,20 @@ pub struct Mention {
     pub adds: bool,
     /// The name of a call, or `@` and the name of a group.
     pub name: Text,
-    /// The action that the word's suffix asks for, only on a word that puts calls on the list.
+    /// The action that the word's suffix names. Only a word that puts calls on the list has one.
     pub action: Option<Action>,
 }
 
-/// Words of SystemCallFilter= lines in their order, which contracts see as a list.
+/// Words of SystemCallFilter= lines in their order. Contracts see them as a list.
 pub type Mentions = ItemList<Mention>;
 
-/// A list of system calls. In allow mode the reader of the setting puts `@default` first.
+/// A list of system calls. If it allows, the reader of the setting puts `@default` first.
 #[derive(Drop)]
 pub struct CallList {
     pub mode: Mode,
     pub mentions: Mentions,
-    /// Whether calls that systemd does not know are answered as calls that the kernel lacks: those that `@known` lacks,
-    /// and numbers without a name.
+    /// Whether calls that systemd does not know fail as if the kernel lacked them. These are the calls outside `@known` and
+    /// the numbers without a name.
     pub hides_unknown: bool,
 }
 
@@ -47,7 +47,7 @@ pub struct FamilyMention {
     pub number: u32,
 }
 
-/// Words of RestrictAddressFamilies= lines in their order, which contracts see as a list.
+/// Words of RestrictAddressFamilies= lines in their order. Contracts see them as a list.
 pub type FamilyMentions = ItemList<FamilyMention>;
 
 /// A list of address families.

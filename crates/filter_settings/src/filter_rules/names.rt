@@ -1,4 +1,4 @@
-//! The names of filters, in the order in which filters are installed.
+//! Names the filters, in the order in which they are installed.
 ghost use Rattle.std.specs.Prelude.{◌≡◌, ◌<◌, map, length};
 ghost use Rattle.std.specs.List.{All};
 ghost use Rattle.call_table.specs.Table.{abis};
@@ -41,7 +41,7 @@ pub enum FilterName {
 }
 
 impl FilterName {
-    /// The name as it is printed.
+    /// Returns the name as it is printed.
     pub fn text(self) -> &'static str
         ensures as_printed { result.now ≡ text_of self }
     {
@@ -64,14 +64,14 @@ impl FilterName {
     }
 }
 
-/// The program of a filter for an ABI, which is told by its position in the table of calls, from 0.
+/// The program of a filter for an ABI. The position in the table of calls, from 0, names the ABI.
 #[derive(Clone, Copy)]
 pub struct FilterPlace {
     pub name: FilterName,
     pub abi: u8,
 }
 
-// Each filter for the one ABI that there is.
+// Each filter for the only ABI.
 const FOR_ONE: [FilterPlace; 13] = [
     FilterPlace {
         name: FilterName::Families,
@@ -239,7 +239,7 @@ const FOR_TWO: [FilterPlace; 27] = [
     },
 ];
 
-/// All programs of filters in the order in which they are installed.
+/// Returns all programs of filters in the order in which they are installed.
 pub fn all_programs(table: &CallTable) -> &'static [FilterPlace]
     ensures programs { map shown result.now ≡ all_programs table.now.second }
     ensures in_range { All (λ place. place.abi < length (abis table.now)) result.now }

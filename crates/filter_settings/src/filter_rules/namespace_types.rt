@@ -1,4 +1,4 @@
-//! Types of namespaces (namespaces(7)), and which of them are permitted.
+//! Lists the types of namespaces, and says which of them are permitted (namespaces(7)).
 ghost use Rattle.std.specs.Prelude.{◌≡◌};
 ghost use Rattle.filter_settings.specs.filter_rules.NamespaceTypes.{all_types, flag_of, name_of, permits};
 
@@ -17,7 +17,7 @@ pub enum NamespaceType {
 }
 
 impl NamespaceType {
-    /// The type as it is written (systemd.exec(5), RestrictNamespaces=).
+    /// Returns the type as it is written (systemd.exec(5), RestrictNamespaces=).
     pub fn name(self) -> &'static str
         ensures as_written { result.now ≡ name_of self }
     {
@@ -32,7 +32,7 @@ impl NamespaceType {
         }
     }
 
-    /// The flag of this type, CLONE_NEW* of clone(2).
+    /// Returns the flag of this type, CLONE_NEW* of clone(2).
     pub fn flag(self) -> u32
         ensures clone_flag { result ≡ flag_of self }
     {
@@ -48,7 +48,7 @@ impl NamespaceType {
     }
 }
 
-/// Which types of namespaces a process may make and enter: true is permitted.
+/// Says which types of namespaces a process may make and enter: true means permitted.
 #[derive(Clone, Copy)]
 pub struct NamespaceTypes {
     pub cgroup: bool,
@@ -77,7 +77,7 @@ impl NamespaceTypes {
     }
 }
 
-/// The types in their order (systemd.exec(5), RestrictNamespaces=).
+/// Returns the types in their order (systemd.exec(5), RestrictNamespaces=).
 pub fn all_types() -> &'static [NamespaceType]
     ensures in_order { result.now ≡ all_types }
 {

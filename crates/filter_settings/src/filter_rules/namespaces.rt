@@ -1,4 +1,4 @@
-//! RestrictNamespaces=: which types of namespaces may be made and entered.
+//! Makes the rules of RestrictNamespaces=.
 ghost use Rattle.std.specs.Prelude.{◌≡◌, ◌≤◌, ◌++◌, map, filter, not, Some, IfOk, IfSome, OnOk};
 ghost use Rattle.std.specs.List.{list_all};
 ghost use Rattle.filter_settings.specs.filter_rules.NamespaceTypes.{all_types, permits};
@@ -39,7 +39,7 @@ fn types_argument(name: &str) -> Option<u8>
     }
 }
 
-// The test that setns(2) is asked for a namespace of any type.
+// Returns the test that setns(2) may enter a namespace of any type, if the call is setns(2).
 fn any_type_tests(alloc: Global, name: &str) -> Result<Vec<Test>, AllocError>
     ensures { IfOk result (λ tests. tests.items ≡ any_type_tests name.now) }
 {
@@ -68,7 +68,7 @@ fn add_flag_tests(
     Ok(())
 }
 
-// The test that clone(2) makes a time namespace, where the call is clone(2).
+// Adds the test that clone(2) makes a time namespace, if the call is clone(2).
 fn add_time_test(name: &str, tests: &mut Vec<Test>) -> Result<(), AllocError>
     ensures { OnOk result (tests.new.items ≡ tests.old.items ++ time_tests name.now) }
 {
@@ -78,7 +78,7 @@ fn add_time_test(name: &str, tests: &mut Vec<Test>) -> Result<(), AllocError>
     Ok(())
 }
 
-// The tests for the types that are not permitted.
+// Returns the tests for the types that are not permitted.
 fn type_tests(
     alloc: Global,
     types: NamespaceTypes,
@@ -93,7 +93,7 @@ fn type_tests(
     Ok(tests)
 }
 
-// Returns what is done to a call of this name, where it makes or enters namespaces.
+// Returns what the rules do to calls of this name, if they make or enter namespaces.
 fn base_choice(
     alloc: Global,
     types: NamespaceTypes,
@@ -110,7 +110,7 @@ fn base_choice(
     }
 }
 
-// Returns what is done with a version of systemd. The flags of clone3(2) stand in memory, where no filter looks.
+// Returns the same by the rules of a version of systemd. No filter sees the flags of clone3(2), which are in memory.
 fn later_choice(
     alloc: Global,
     version: Version,
@@ -132,7 +132,7 @@ fn later_choice(
     }
 }
 
-/// Returns what is done to a call of this name, where it can make or enter namespaces.
+/// Returns what the rules do to calls of this name, if they can make or enter namespaces.
 pub fn namespaces_choice(
     alloc: Global,
     systemd: Option<Version>,

@@ -1,4 +1,4 @@
-//! The calls of a table, ascending by number.
+//! Sorts the calls of a table by number.
 ghost use Rattle.std.specs.Prelude.{map, IfOk};
 ghost use Rattle.call_table.specs.Table.{calls_in};
 ghost use Rattle.filter_settings.specs.filter_rules.Order.{Ascends};
@@ -6,7 +6,7 @@ ghost use Rattle.filter_settings.specs.filter_rules.Order.{Ascends};
 use call_table::{CallLine, CallTable};
 use std::alloc::{AllocError, Global};
 
-/// The calls of the ABI at this position, ascending by number.
+/// Returns the calls of the ABI at this position, ascending by number.
 pub fn ascending<'t>(
     alloc: Global,
     table: &'t CallTable,

@@ -1,4 +1,4 @@
-//! RestrictRealtime=: no scheduling policy but the ordinary ones.
+//! Makes the rules of RestrictRealtime=: only the ordinary scheduling policies are left.
 ghost use Rattle.std.specs.Prelude.{◌≡◌, IfOk};
 ghost use Rattle.filter_settings.specs.filter_rules.RealtimeChoice.{realtime_choice};
 
@@ -14,7 +14,7 @@ const SCHED_BATCH: u32 = 3;
 /// SCHED_IDLE, sched(7).
 const SCHED_IDLE: u32 = 5;
 
-/// Returns what is done to a call of this name, where it sets a policy, which is argument 1.
+/// Returns what the rules do to calls of this name, if they set a policy, which is argument 1.
 pub fn realtime_choice(alloc: Global, name: &str) -> Result<Option<Choice>, AllocError>
     ensures by_the_call { IfOk result (λ choice. choice ≡ realtime_choice name.now) }
 {

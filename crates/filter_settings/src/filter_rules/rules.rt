@@ -1,4 +1,4 @@
-//! The rules of a filter. They are made call by call: for each call of the table by its name.
+//! Makes the rules of a filter, for each call of the table by its name.
 ghost use Rattle.std.specs.Prelude.{◌≡◌, ◌<◌, map, length, IfOk, IfSome};
 ghost use Rattle.std.specs.List.{filter_map};
 ghost use Rattle.filter_settings.specs.filter_rules.Known.{HasKnownFamilies};
@@ -24,7 +24,7 @@ use call_rules::{Action, CallRule, CallRules, RuleSet};
 use call_table::{CallLine, CallTable};
 use std::alloc::{AllocError, Global};
 
-// Returns what the filter does to a call of this name, where it has a rule for it.
+// Returns what the filter does to calls of this name, if it has a rule for them.
 fn choice_of(
     alloc: Global,
     table: &CallTable,
@@ -116,7 +116,7 @@ fn rules_for(
     Ok(rules)
 }
 
-// Returns what is done to calls of another architecture than that of a filter.
+// Returns the action on calls of another architecture than the filter's own.
 fn other_action(table: &CallTable) -> Action
     ensures { result ≡ other_action table.now.second }
 {
@@ -127,7 +127,7 @@ fn other_action(table: &CallTable) -> Action
     }
 }
 
-/// The rules of a filter for the ABI at this position, from its calls, ascending by number.
+/// Makes the rules of a filter for the ABI at this position, from the calls of the ABI in ascending order of numbers.
 pub fn rule_set(
     alloc: Global,
     table: &CallTable,
@@ -143,7 +143,7 @@ pub fn rule_set(
     requires ascends { Ascends (calls_in table.now abi) (map (λ call. call.now) calls.now) }
     ensures of_the_settings { IfOk result (λ rules. AreRulesOf filter settings.now table.now abi rules) }
 {
-    // The tables' limits bound the costs of the rules.
+    // The limits of the table bound the costs of the rules.
     let few_calls = table.calls_in(abi).len() <= 512;
     prove!(few_calls);
     let few_families = table.families().len() <= 128;

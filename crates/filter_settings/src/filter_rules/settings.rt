@@ -1,17 +1,17 @@
-//! What the settings of a unit ask of its filters.
+//! Defines the settings of a unit that its filters follow.
 use crate::filter_rules::mentions::{CallList, FamilyList};
 use crate::filter_rules::namespace_types::NamespaceTypes;
 use call_rules::Action;
 use dropin_merge::Version;
 
-/// What the settings of a unit come to, as far as filters go (systemd.exec(5)).
+/// The settings of a unit that its filters follow (systemd.exec(5)).
 #[derive(Drop)]
 pub struct FilterSettings {
-    /// SystemCallFilter=, where it is set.
+    /// SystemCallFilter=, if it is set.
     pub calls: Option<CallList>,
-    /// SystemCallErrorNumber=: what is done to the calls that SystemCallFilter= refuses.
+    /// SystemCallErrorNumber=: the action on the calls that SystemCallFilter= refuses.
     pub default_action: Action,
-    /// RestrictAddressFamilies=, where it is set.
+    /// RestrictAddressFamilies=, if it is set.
     pub families: Option<FamilyList>,
     /// RestrictNamespaces=
     pub namespaces: NamespaceTypes,
@@ -26,8 +26,8 @@ pub struct FilterSettings {
     pub private_devices: bool,
     /// SystemCallArchitectures= is set, and does not permit the second ABI.
     pub second_abi_refused: bool,
-    /// The systemd that makes the filters; without one they are those of the base profile.
+    /// The systemd whose rules make the filters. None means the base profile.
     pub systemd: Option<Version>,
-    /// ProtectKernelTunables=, which has a filter with a version of systemd alone.
+    /// ProtectKernelTunables=. Only a version of systemd has a filter for it.
     pub protect_kernel_tunables: bool,
 }

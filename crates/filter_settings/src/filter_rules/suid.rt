@@ -1,4 +1,4 @@
-//! RestrictSUIDSGID=: no file may be given the set-user-ID or the set-group-ID bit.
+//! Makes the rules of RestrictSUIDSGID=: no file can get the set-user-ID or the set-group-ID bit.
 ghost use Rattle.std.specs.Prelude.{◌≡◌, ◌≤◌, Some, IfOk, IfSome};
 ghost use Rattle.filter_settings.specs.filter_rules.Suid.{mode_argument};
 ghost use Rattle.filter_settings.specs.filter_rules.SuidChoice.{mode_test, mode_choice, suid_choice, suid_choice_in};
@@ -30,7 +30,7 @@ fn mode_argument(name: &str) -> Option<u8>
     }
 }
 
-// The test that a call of this name has a mode, where not each call has one.
+// Returns the test that a call of this name has a mode. None if each such call has one.
 fn mode_test(name: &str) -> Option<Test>
     ensures { result ≡ mode_test name.now }
 {
@@ -49,7 +49,7 @@ fn mode_choice(alloc: Global, given: Option<Test>, at: u8) -> Result<Choice, All
     Ok(Choice { given, ..choice })
 }
 
-// Returns what is done to a call of this name, where it has a mode.
+// Returns what the rules do to calls of this name, if they have a mode.
 fn base_choice(alloc: Global, name: &str) -> Result<Option<Choice>, AllocError>
     ensures { IfOk result (λ choice. choice ≡ suid_choice name.now) }
 {
@@ -59,7 +59,7 @@ fn base_choice(alloc: Global, name: &str) -> Result<Option<Choice>, AllocError>
     }
 }
 
-// Returns what is done with a version of systemd. The mode of openat2(2) stands in memory, where no filter looks.
+// Returns the same by the rules of a version of systemd. No filter sees the mode of openat2(2), which is in memory.
 fn later_choice(alloc: Global, version: Version, name: &str) -> Result<Option<Choice>, AllocError>
     ensures { IfOk result (λ choice. choice ≡ suid_choice_in (Some version) name.now) }
 {
@@ -70,7 +70,7 @@ fn later_choice(alloc: Global, version: Version, name: &str) -> Result<Option<Ch
     }
 }
 
-/// Returns what is done to a call of this name, where it can set a mode.
+/// Returns what the rules do to calls of this name, if they can set a mode.
 pub fn suid_choice(
     alloc: Global,
     systemd: Option<Version>,

@@ -1,4 +1,4 @@
--- Folder keys as systemd 252 and 257 have them: the folders are shown at their own paths and at their links (systemd.exec(5),
+-- Folder keys in systemd 252 and 257: the folders are shown at their own paths and at their links (systemd.exec(5),
 -- RuntimeDirectory=, StateDirectory=).
 use Rattle.std.specs.Prelude.{ℕ, ◌&&◌, not, Bool, cond, codes, List, ◌++◌, [], ◌∷◌, Option, Some, None, filter, flat_map, map}
 use Rattle.std.specs.Prelude.{option_and_then, unwrap_or}
@@ -19,21 +19,21 @@ use Rattle.mount_settings.specs.declared.protections.Switches.{Switches}
 use Rattle.mount_settings.specs.declared.systemd.keys.FurtherKeys.{FurtherKeys}
 use Rattle.mount_settings.specs.Effects.{has_row}
 
--- those of folder keys
+-- the paths of folder keys
 abbrev pub folders : List WrittenPath → List WrittenPath
 folders paths = filter (λ path. is_implied path.key) paths
 
--- the object that a mention shows: that of another path, or its own
+-- the path of the object that a mention shows: another path, or its own
 abbrev pub shown_path : Mention → Path
 shown_path mention = unwrap_or (source_of mention.kind) mention.path
 
--- the folder of a dynamic user lies below `private` (systemd.exec(5), DynamicUser=)
+-- with DynamicUser= the folder is below `private` (systemd.exec(5), DynamicUser=)
 abbrev pub private_below : List ℕ → Path → Option Path
 private_below folder path =
     option_and_then (λ front. option_and_then (λ rest. setting_path (folder ++ codes "/private" ++ rest)) (rest_text front path))
     (setting_path folder)
 
--- the folders of keys of which it does. A folder below /run is the next user's, unless it is kept
+-- the folders of the keys that have a folder `private`. /run has one only if RuntimeDirectoryPreserve= keeps the folders
 abbrev pub runtime_folder : Bool → Option (List ℕ)
 runtime_folder kept = cond kept (Some (codes "/run")) None
 
@@ -49,7 +49,7 @@ private_path switches keys path =
     cond switches.dynamic_user (option_and_then (λ folder. private_below folder (shown_path path.mention))
     (folder_of_users keys.keeps_runtime path.key)) None
 
--- it stands for the folder itself where the site has it and not the folder
+-- the folder below `private` replaces the folder itself if the site has the former and lacks the latter
 abbrev pub stands_for : Site → Path → Path → Bool
 stands_for site private own = has_row site private && not (has_row site own)
 
@@ -68,14 +68,14 @@ abbrev pub placed_folder : Site → Switches → FurtherKeys → WrittenPath →
 placed_folder site switches keys path =
     from_path (chosen_path site (shown_path path.mention) (private_path switches keys path)) path.mention
 
--- one whose object the site does not have is passed over
+-- a mention is skipped if the site does not have its object
 abbrev pub is_there : Site → Mention → Bool
 is_there site mention = has_row site (shown_path mention)
 
 abbrev pub brought_folders : Site → Switches → FurtherKeys → List WrittenPath → List Mention
 brought_folders site switches keys paths = filter (is_there site) (map (placed_folder site switches keys) (folders paths))
 
--- the paths whose rows decide about a folder
+-- the paths at which the rows of the site decide about a folder
 abbrev pub asked_at : Mention → Path → Mention
 asked_at mention path = record { path = path; kind = mention.kind; optional = mention.optional }
 

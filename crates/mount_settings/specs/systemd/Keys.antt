@@ -1,4 +1,4 @@
--- What further keys of a unit say that decide about its mounts (systemd.exec(5)): by the last value that can be read.
+-- Further keys of a unit that decide about its mounts (systemd.exec(5)). The last value that can be read decides.
 use Rattle.std.specs.Prelude.{ℕ, ◌==◌, ◌||◌, not, Bool, true, false, codes, List, Option, Some, None, length, cond}
 use Rattle.dropin_merge.specs.declared.resolved.Resolved.{Resolved}
 use Rattle.dropin_merge.specs.declared.unit_values.value.FileNote.{FileNote}
@@ -12,22 +12,22 @@ use Rattle.mount_settings.specs.declared.systemd.words.ControlGroups.TheVariants
 use Rattle.mount_settings.specs.declared.systemd.words.PrivateMounts.TheVariants as mounts
 use Rattle.mount_settings.specs.systemd.Words.{proc_value, subset_value, network_value, mounts_value, groups_value, preserve_value}
 
--- the last value of the key is not empty
+-- the key is given: its last value is not empty
 abbrev pub is_given : Resolved → List ℕ → Bool
 is_given unit key = not (length (unit_last_text unit key) == 0)
 
--- a credential is given to the service
+-- a key passes a credential to the service
 abbrev pub has_credentials : Resolved → Bool
 has_credentials unit = is_given unit (codes "LoadCredential") || (is_given unit (codes "LoadCredentialEncrypted") ||
     (is_given unit (codes "ImportCredential") ||
     (is_given unit (codes "SetCredential") || is_given unit (codes "SetCredentialEncrypted"))))
 
--- the service has a network of its own, or that of a path
+-- the service has its own network namespace, or joins the one at a path
 abbrev pub has_own_network : Resolved → Bool
 has_own_network unit = unit_flag unit (codes "PrivateNetwork") ||
     (unit_last network_value (record { is_given = false }) unit (codes "NetworkNamespacePath")).is_given
 
--- ProtectControlGroups= is a boolean, and of systemd 257 a word too
+-- ProtectControlGroups= is a boolean; systemd 257 also reads words
 abbrev pub flag_groups : Bool → ControlGroups
 flag_groups true = groups.Yes
 flag_groups false = groups.No
@@ -48,7 +48,7 @@ groups_notes_by (Some V257) unit = unit_last_notes groups_value unit (codes "Pro
 abbrev pub unit_groups_notes : Resolved → List FileNote
 unit_groups_notes unit = groups_notes_by unit.systemd unit
 
--- what the files of a unit say
+-- the values of these keys in the files of a unit
 unfoldable pub unit_keys : Resolved → FurtherKeys
 unit_keys unit = record {
   protect_proc = (unit_last proc_value (record { is_limited = false }) unit (codes "ProtectProc")).is_limited;
@@ -66,7 +66,7 @@ unit_keys unit = record {
   keeps_runtime = (unit_last preserve_value (record { is_kept = false }) unit (codes "RuntimeDirectoryPreserve")).is_kept;
 }
 
--- where nothing is said
+-- the values of these keys if the unit gives none
 abbrev pub no_keys : FurtherKeys
 no_keys = record {
   protect_proc = false;

@@ -1,4 +1,4 @@
--- All mentions of a unit's settings as systemd 252 and 257 have them (systemd.exec(5), Sandboxing).
+-- All mentions of a unit's settings in systemd 252 and 257 (systemd.exec(5), Sandboxing).
 use Rattle.std.specs.Prelude.{ℕ, ◌&&◌, ◌||◌, not, Bool, true, false, cond, codes, List, [], ◌++◌, filter, flat_map}
 use Rattle.std.specs.Str.{bytes_eq}
 use Rattle.path_settings.specs.abs_path.Paths.{text_of}
@@ -16,21 +16,21 @@ use Rattle.mount_settings.specs.systemd.Folders.{brought_folders, asked_folders}
 use Rattle.mount_settings.specs.systemd.OwnMounts.{has_own_mounts}
 use Rattle.mount_settings.specs.systemd.Rows.{by_row, table, rows_on, leaves_devices, leaves_sysfs}
 
--- what the table brings
+-- the mentions of the table, at any path
 abbrev pub by_table : Version → Switches → Protections → FurtherKeys → List Mention
 by_table version switches protections keys = flat_map by_row (table (rows_on version switches protections keys))
 
--- at what the site has: that of the table and of folders
+-- the mentions of the table and of folders, if the site has their objects
 abbrev pub brought : Version → Site → Switches → Protections → FurtherKeys → List WrittenPath → List Mention
 brought version site switches protections keys paths =
     filter (stands site) (by_table version switches protections keys) ++ brought_folders site switches keys paths
 
--- a service without mounts of its own has none of it
+-- a service without mounts of its own has no implied mentions
 unfoldable pub implied_of : Version → Site → Switches → Protections → FurtherKeys → List WrittenPath → List Mention
 implied_of version site switches protections keys paths =
     cond (has_own_mounts version switches protections keys paths) (brought version site switches protections keys paths) []
 
--- the paths of which the site's rows decide about it
+-- the paths at which the rows of the site decide about the implied mentions
 abbrev pub asked_of : Version → Switches → Protections → FurtherKeys → List WrittenPath → List Mention
 asked_of version switches protections keys paths = by_table version switches protections keys ++ asked_folders switches keys paths
 
@@ -38,7 +38,7 @@ abbrev pub is_ro : Kind → Bool
 is_ro Ro = true
 is_ro _ = false
 
--- a mention that would make read-only what is left as it is
+-- a mention is vain if it would make /dev or /sys read-only although systemd leaves it as it is
 abbrev pub is_vain : Bool → Bool → Mention → Bool
 is_vain devices sysfs mention =
     is_ro mention.kind && ((devices && bytes_eq (text_of mention.path) (codes "/dev")) ||
@@ -48,7 +48,7 @@ abbrev pub is_vain_of : Version → Protections → FurtherKeys → Mention → 
 is_vain_of version protections keys mention =
     is_vain (leaves_devices version protections keys) (leaves_sysfs version protections keys) mention
 
--- the written mentions, but for those in vain at what the site has
+-- a written mention is effective unless it is vain and the site has its path
 abbrev pub is_effective : Version → Site → Protections → FurtherKeys → Mention → Bool
 is_effective version site protections keys mention = not (is_vain_of version protections keys mention && stands site mention)
 

@@ -1,4 +1,4 @@
--- The paths of which each protection speaks, as systemd 252 and 257 have them (systemd.exec(5), Sandboxing).
+-- The paths that each protection changes in systemd 252 and 257 (systemd.exec(5), Sandboxing).
 use Rattle.std.specs.Prelude.{ℕ, ◌&&◌, ◌||◌, not, Bool, true, false, codes, List, [], ◌∷◌, ◌++◌, Option, Some}
 use Rattle.path_settings.specs.declared.mentions.Mention.{Mention}
 use Rattle.dropin_merge.specs.unit_names.Versions.{is_257}
@@ -16,11 +16,11 @@ use Rattle.mount_settings.specs.declared.systemd.rows.RowsOn.{RowsOn}
 use Rattle.mount_settings.specs.Table.{when}
 use Rattle.mount_settings.specs.systemd.Words.{is_private}
 
--- the unit is read by systemd 257, which the other version is not
+-- systemd 257 reads the unit; the only other version is 252
 abbrev pub is_newer : Version → Bool
 is_newer version = is_257 (Some version)
 
--- ProtectSystem= is on, and not strict
+-- ProtectSystem= is `yes` or `full`
 abbrev pub reads_files : SystemProtection → Bool
 reads_files system.No = false
 reads_files system.Yes = true
@@ -47,25 +47,25 @@ abbrev pub empties_homes : HomeProtection → Bool
 empties_homes home.Tmpfs = true
 empties_homes _ = false
 
--- the service has mounts of its own of the file systems that the kernel shows, and of /run. PrivatePIDs= is a key of systemd 257
+-- the service has its own mounts of the kernel's file systems and of /run. Only systemd 257 has PrivatePIDs=
 abbrev pub has_api : Version → Protections → FurtherKeys → Bool
 has_api version protections keys =
     protections.protect_control_groups || (protections.protect_kernel_tunables || (keys.protect_proc ||
     (keys.proc_subset || (keys.mount_api_vfs || (is_newer version && keys.private_pids)))))
 
--- with a network of its own the service has a /sys of its own, which shows that network: in systemd 257
+-- in systemd 257 a service with its own network has its own mount of /sys, which shows that network
 abbrev pub has_own_sysfs : Version → FurtherKeys → Bool
 has_own_sysfs version keys = is_newer version && keys.own_network
 
--- systemd 257 leaves its mount of /dev as it is, whichever key would make it read-only; and so that of /sys, but for one of the
--- service's own network
+-- systemd 257 leaves its mount of /dev as it is, whichever key would make it read-only. The same holds for its mount of /sys, unless the
+-- service has its own network
 abbrev pub leaves_devices : Version → Protections → FurtherKeys → Bool
 leaves_devices version protections keys = is_newer version && has_api version protections keys
 
 abbrev pub leaves_sysfs : Version → Protections → FurtherKeys → Bool
 leaves_sysfs version protections keys = leaves_devices version protections keys && not (has_own_sysfs version keys)
 
--- which rows of the table are on
+-- the rows of the table that are on
 abbrev pub rows_on : Version → Switches → Protections → FurtherKeys → RowsOn
 rows_on version switches protections keys = record {
   files = reads_files protections.protect_system;
@@ -101,8 +101,8 @@ by_row row = when row.0 row.1 row.2
 abbrev pub homes : List (List ℕ)
 homes = codes "/home" ∷ codes "/run/user" ∷ codes "/root" ∷ []
 
--- ProtectSystem=: the system's files, in systemd 252 also by the names of the root that stand for folders of /usr; with `full` its
--- configuration; with `strict` all but what the kernel shows and the homes
+-- ProtectSystem=: /usr and the boot loader directories are read-only, in systemd 252 also /lib, /lib64, /bin and /sbin, which stand for
+-- folders of /usr; with `full` /etc too; with `strict` all but /proc, /sys, /dev and the homes
 abbrev pub system_rows : RowsOn → List Row
 system_rows on =
     (on.files, ReadOnly, codes "/usr" ∷ codes "/boot" ∷ codes "/efi" ∷ [])
@@ -116,20 +116,19 @@ system_rows on =
     )
     ∷ []
 
--- ProtectHome=: the homes are hidden, read-only, or empty, which systemd 257 makes read-only
+-- ProtectHome=: the homes are inaccessible, read-only, or empty; systemd 257 makes the empty homes read-only
 abbrev pub home_rows : RowsOn → List Row
 home_rows on =
     (on.homes_hidden, Hidden, homes) ∷ (on.homes_read, ReadOnly, homes) ∷ (on.homes_fresh, Empty false, homes)
     ∷ (on.homes_empty, Empty true, homes) ∷ []
 
--- PrivateDevices=: the devices that stand for no hardware, and the folders of terminals, of shared memory, of message queues and of
--- large pages
+-- PrivateDevices=: pseudo-devices, and the folders of terminals, of shared memory, of message queues and of huge pages
 abbrev pub devices_left : List (List ℕ)
 devices_left =
     codes "/dev/null" ∷ codes "/dev/zero" ∷ codes "/dev/full" ∷ codes "/dev/random" ∷ codes "/dev/urandom" ∷ codes "/dev/tty"
     ∷ codes "/dev/ptmx" ∷ codes "/dev/pts" ∷ codes "/dev/shm" ∷ codes "/dev/mqueue" ∷ codes "/dev/hugepages" ∷ []
 
--- ProtectKernelTunables=
+-- ProtectKernelTunables=: kernel variables below /proc
 abbrev pub variables : List (List ℕ)
 variables =
     codes "/proc/acpi" ∷ codes "/proc/apm" ∷ codes "/proc/asound" ∷ codes "/proc/bus" ∷ codes "/proc/fs" ∷ codes "/proc/irq"
@@ -153,12 +152,12 @@ kernel_rows on =
     ∷ (on.logs, Hidden, codes "/proc/kmsg" ∷ codes "/dev/kmsg" ∷ [])
     ∷ []
 
--- ProtectControlGroups=
+-- ProtectControlGroups=: the hierarchy is read-only; with `private` the service has its own, which is writable
 abbrev pub group_rows : RowsOn → List Row
 group_rows on =
     (on.groups_read, ReadOnly, codes "/sys/fs/cgroup" ∷ []) ∷ (on.groups_left, Writable, codes "/sys/fs/cgroup" ∷ []) ∷ []
 
--- mounts of its own of what the kernel shows, and of /run; ProtectHostname=; the credentials of other services
+-- the service's own mounts of the kernel's file systems and of /run; ProtectHostname=; the credentials of other services
 abbrev pub further_rows : RowsOn → List Row
 further_rows on =
     (on.api, Writable, codes "/proc" ∷ codes "/dev" ∷ codes "/run" ∷ [])

@@ -1,4 +1,4 @@
--- What values of further keys say that decide about the mounts of a service (systemd.exec(5)).
+-- Values of further keys that decide about the mounts of a service (systemd.exec(5)).
 use Rattle.std.specs.Prelude.{ℕ, ◌==◌, Bool, true, false, cond, codes, List, [], ◌∷◌, Option, Some, None}
 use Rattle.std.specs.Option.{option_map}
 use Rattle.std.specs.Str.{byte as ascii}
@@ -13,7 +13,7 @@ use Rattle.mount_settings.specs.declared.systemd.words.ControlGroups.{ControlGro
 use Rattle.mount_settings.specs.declared.systemd.words.ControlGroups.TheVariants as groups
 use Rattle.mount_settings.specs.Choices.{beside, choice}
 
--- ProtectProc=: some processes are not seen; an empty value is the default, by which all are
+-- ProtectProc=: some processes are invisible; an empty value means the default, by which all are visible
 abbrev pub limits_proc : List ℕ → Option Bool
 limits_proc text =
     beside (([], false) ∷ (codes "default", false) ∷ (codes "noaccess", true) ∷ (codes "invisible", true) ∷ (codes "ptraceable", true) ∷ [])
@@ -22,14 +22,14 @@ limits_proc text =
 abbrev pub proc_value : List ℕ → Option ProtectProc
 proc_value text = option_map (λ is. record { is_limited = is }) (limits_proc text)
 
--- ProcSubset=: the processes alone are seen; an empty value is the default, by which all is
+-- ProcSubset=: with `pid` /proc has only the processes; an empty value means the default, `all`
 abbrev pub limits_subset : List ℕ → Option Bool
 limits_subset text = beside (([], false) ∷ (codes "all", false) ∷ (codes "pid", true) ∷ []) text
 
 abbrev pub subset_value : List ℕ → Option ProcSubset
 subset_value text = option_map (λ is. record { is_limited = is }) (limits_subset text)
 
--- NetworkNamespacePath=: an absolute path; an empty value stands for none
+-- NetworkNamespacePath=: an absolute path; an empty value unsets it
 abbrev pub names_network : List ℕ → Option Bool
 names_network [] = Some false
 names_network (byte ∷ text) = cond (byte == ascii "/") (Some true) None
@@ -44,7 +44,7 @@ keeps_folders text = choice false true ((codes "restart", true) ∷ []) text
 abbrev pub preserve_value : List ℕ → Option Preserve
 preserve_value text = option_map (λ is. record { is_kept = is }) (keeps_folders text)
 
--- PrivateMounts=: a boolean; an empty value says nothing
+-- PrivateMounts=: a boolean; an empty value unsets it
 abbrev pub mounts_said : Option Bool → Option PrivateMounts
 mounts_said None = None
 mounts_said (Some true) = Some mounts.Yes

@@ -1,4 +1,4 @@
-//! Adds the folders of a service, as systemd 252 and 257 have them (systemd.exec(5), RuntimeDirectory=, StateDirectory=).
+//! Adds the folders of a service as systemd 252 and 257 do (systemd.exec(5), RuntimeDirectory=, StateDirectory=).
 ghost use Rattle.std.specs.Prelude.{◌≡◌, ◌++◌, [], ◌∷◌, codes, IfOk, OnOk, string_bytes};
 ghost use Rattle.std.specs.Option.{option_map};
 ghost use Rattle.mount_settings.specs.systemd.Folders.{shown_path, private_below, runtime_folder, folder_of_users, private_path, stands_for, chosen_path, from_source, placed_folder, brought_folders};
@@ -12,7 +12,7 @@ use path_settings::{Kind, Mention, PathKey, read_setting_path};
 use site_table::SiteTable;
 use std::alloc::{AllocError, Global};
 
-// The path of the object that a mention shows.
+// Returns the path of the object that a mention shows.
 fn shown_path(mention: &Mention) -> &AbsPath
     ensures { result.now ≡ shown_path mention.now }
 {
@@ -29,7 +29,7 @@ fn private_text(alloc: Global, folder: &str, rest: &str) -> Result<String, Alloc
     Ok(text)
 }
 
-// The path of the folder of a dynamic user that belongs to a path below this folder.
+// Returns the path below `private` that a dynamic user has in place of a path below this folder.
 fn private_below(alloc: Global, folder: &str, path: &AbsPath) -> Result<Option<AbsPath>, AllocError>
     ensures { IfOk result (λ private. private ≡ private_below folder.now path.now) }
 {
@@ -49,7 +49,7 @@ fn runtime_folder(kept: bool) -> Option<&'static str>
     if kept { Some("/run") } else { None }
 }
 
-// The folder of a key below which the folders of dynamic users are.
+// Returns the folder of a key whose folder `private` holds the folders of dynamic users.
 fn folder_of_users(kept: bool, key: PathKey) -> Option<&'static str>
     ensures { option_map (λ folder. folder.now) result ≡ folder_of_users kept key }
 {
@@ -134,7 +134,7 @@ fn placed_folder(
     })
 }
 
-// Adds the folder of a path, if it is one and the site has it.
+// Adds the folder of a path, if the path is a folder and the site has it.
 fn bring_folder(
     alloc: Global,
     site: &SiteTable,

@@ -1,4 +1,4 @@
-//! Reads what further keys of a unit say that decide about its mounts (systemd.exec(5)).
+//! Reads further keys of a unit that decide about its mounts (systemd.exec(5)).
 ghost use Rattle.std.specs.Prelude.{◌≡◌, ◌||◌, IfOk, codes};
 ghost use Rattle.dropin_merge.specs.unit_values.Flags.{unit_flag, unit_flag_notes};
 ghost use Rattle.mount_settings.specs.systemd.Keys.{flag_groups, is_given, has_credentials, has_own_network, unit_groups, unit_groups_notes, unit_keys};
@@ -10,7 +10,7 @@ use dropin_merge::unit_values::{Said, flag_of_key, last_of_key, last_text_of_key
 use dropin_merge::{Resolved, Version};
 use std::alloc::{AllocError, Global};
 
-/// What further keys of a unit say.
+/// The values of further keys of a unit.
 #[derive(Clone, Copy)]
 pub(crate) struct FurtherKeys {
     /// ProtectProc= is not `default`.
@@ -99,7 +99,7 @@ fn flagged_groups(alloc: Global, unit: &Resolved) -> Result<Said<ControlGroups>,
     Ok(Said { what, notes })
 }
 
-/// Reads ProtectControlGroups=: a boolean, and of systemd 257 `private` or `strict` too.
+/// Reads ProtectControlGroups=: a boolean, and in systemd 257 also `private` or `strict`.
 pub(crate) fn read_groups(alloc: Global, unit: &Resolved) -> Result<Said<ControlGroups>, AllocError>
     ensures means { IfOk result (λ said. said.what ≡ unit_groups unit.now) }
     ensures noted { IfOk result (λ said. said.notes.items ≡ unit_groups_notes unit.now) }
@@ -113,8 +113,8 @@ pub(crate) fn read_groups(alloc: Global, unit: &Resolved) -> Result<Said<Control
     }
 }
 
-/// Reads what further keys of a unit say. Their notes are left out: those of ProtectHostname= and
-/// ProtectControlGroups= come where these keys protect, and the others are noted as keys that are not judged.
+/// Reads further keys of a unit. It makes no notes: ProtectHostname= and ProtectControlGroups= get theirs with the keys
+/// that protect, and the other keys are noted as keys that are not judged.
 #[tactic(auto, unfolding(crate::specs::systemd::Keys::unit_keys))]
 pub(crate) fn further_keys(alloc: Global, unit: &Resolved) -> Result<FurtherKeys, AllocError>
     ensures { IfOk result (λ keys. keys ≡ unit_keys unit.now) }

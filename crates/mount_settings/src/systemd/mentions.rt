@@ -1,4 +1,4 @@
-//! Collects all mentions of a unit that is read by a known version of systemd (systemd.exec(5), Sandboxing).
+//! Collects all mentions of a unit that a known version of systemd reads (systemd.exec(5), Sandboxing).
 ghost use Rattle.std.specs.Prelude.{◌≡◌, ◌++◌, IfOk, OnOk};
 ghost use Rattle.mount_settings.specs.Settings.{mentions_by};
 ghost use Rattle.mount_settings.specs.systemd.Mentions.{brought, implied_of, is_ro, is_vain, is_vain_of, is_effective, effective};
@@ -16,7 +16,7 @@ use path_settings::{Kind, Mention};
 use site_table::SiteTable;
 use std::alloc::{AllocError, Global};
 
-// Adds what the table and the folder keys bring.
+// Adds the mentions of the table and of the folder keys.
 fn bring_all(
     alloc: Global,
     site: &SiteTable,
@@ -33,7 +33,7 @@ fn bring_all(
     bring_folders(alloc, site, switches, keys, paths, mentions)
 }
 
-// Adds what is implied, if the service has mounts of its own.
+// Adds the implied mentions, if the service has mounts of its own.
 #[tactic(auto, unfolding(crate::specs::systemd::Mentions::implied_of))]
 fn bring_implied(
     alloc: Global,
@@ -69,7 +69,7 @@ fn is_ro(kind: &Kind) -> bool
     matches!(kind, Kind::Ro)
 }
 
-// Returns whether a mention would make read-only what is left as it is.
+// Returns whether a mention would make /dev or /sys read-only although systemd leaves it as it is.
 fn is_vain(devices: bool, sysfs: bool, mention: &Mention) -> bool
     ensures { result ≡ is_vain devices sysfs mention.now }
 {
@@ -91,7 +91,8 @@ fn is_effective(
     !(is_vain(devices, sysfs, mention) && has_row(site, &mention.path))
 }
 
-/// Written and implied mentions. Those are left out that would make read-only what is left as it is.
+/// Returns the written and the implied mentions. It leaves out mentions that would make /dev or /sys read-only although
+/// systemd leaves it as it is.
 #[tactic(auto, unfolding(crate::specs::Settings::mentions_by))]
 pub(crate) fn mentions_by(
     alloc: Global,

@@ -8,7 +8,7 @@ use crate::systemd::rows::is_newer;
 use crate::written::WrittenPath;
 use dropin_merge::Version;
 
-// Returns whether a path is written that is none of a folder key.
+// Returns whether some written path is not a folder.
 fn writes_paths(paths: &[WrittenPath]) -> bool
     ensures { result ≡ writes_paths paths.now }
 {

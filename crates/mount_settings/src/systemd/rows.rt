@@ -1,4 +1,4 @@
-//! The paths of which each protection speaks, as systemd 252 and 257 have them (systemd.exec(5), Sandboxing).
+//! Lists the paths that each protection changes in systemd 252 and 257 (systemd.exec(5), Sandboxing).
 ghost use Rattle.std.specs.Prelude.{◌≡◌, ◌++◌, ◌&&◌, ◌||◌, filter, flat_map, OnOk};
 ghost use Rattle.mount_settings.specs.Effects.{stands};
 ghost use Rattle.mount_settings.specs.systemd.Rows.{is_newer, reads_files, is_full, is_strict, hides_homes, reads_homes, empties_homes, has_api, has_own_sysfs, leaves_devices, leaves_sysfs, rows_on, table, by_row};
@@ -126,7 +126,7 @@ fn empties_homes(home: HomeProtection) -> bool
     matches!(home, HomeProtection::Tmpfs)
 }
 
-// Returns whether the service has mounts of its own of what the kernel shows, and of /run.
+// Returns whether the service has its own mounts of the kernel's file systems and of /run.
 fn has_api(version: Version, protections: Protections, keys: FurtherKeys) -> bool
     ensures { result ≡ has_api version protections keys }
 {
@@ -138,28 +138,28 @@ fn has_api(version: Version, protections: Protections, keys: FurtherKeys) -> boo
         || is_newer(version) && keys.private_pids
 }
 
-// Returns whether the service has a /sys of its own, which shows its own network.
+// Returns whether the service has its own mount of /sys, which shows its own network.
 fn has_own_sysfs(version: Version, keys: FurtherKeys) -> bool
     ensures { result ≡ has_own_sysfs version keys }
 {
     is_newer(version) && keys.own_network
 }
 
-/// Returns whether no key makes /dev read-only.
+/// Returns whether systemd leaves its mount of /dev as it is, whichever key would make it read-only.
 pub(crate) fn leaves_devices(version: Version, protections: Protections, keys: FurtherKeys) -> bool
     ensures { result ≡ leaves_devices version protections keys }
 {
     is_newer(version) && has_api(version, protections, keys)
 }
 
-/// Returns whether no key makes /sys read-only.
+/// Returns whether systemd leaves its mount of /sys as it is, whichever key would make it read-only.
 pub(crate) fn leaves_sysfs(version: Version, protections: Protections, keys: FurtherKeys) -> bool
     ensures { result ≡ leaves_sysfs version protections keys }
 {
     leaves_devices(version, protections, keys) && !has_own_sysfs(version, keys)
 }
 
-// Which rows of the table are on.
+// Says which rows of the table are on.
 #[derive(Clone, Copy)]
 pub(crate) struct RowsOn {
     files: bool,
@@ -238,7 +238,7 @@ fn rows_on(
     }
 }
 
-// Adds what the rows bring that are on.
+// Adds the mentions of the rows that are on.
 fn bring_rows(
     alloc: Global,
     site: &SiteTable,
@@ -279,7 +279,7 @@ fn bring_rows(
     bring_groups(alloc, site, &rows, mentions)
 }
 
-/// Adds what the protections of a unit bring.
+/// Adds the mentions of the protections of a unit.
 pub(crate) fn bring_table(
     alloc: Global,
     site: &SiteTable,

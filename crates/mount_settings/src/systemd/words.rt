@@ -6,7 +6,7 @@ use crate::choices::{beside, read_choice};
 use dropin_merge::unit_values::KeyValue;
 use path_settings::read_bool;
 
-/// ProtectProc=: whether some processes are not seen.
+/// ProtectProc=: whether some processes are invisible.
 #[derive(Clone, Copy)]
 pub(crate) struct ProtectProc {
     pub(crate) is_limited: bool,
@@ -28,7 +28,7 @@ impl KeyValue for ProtectProc {
     }
 }
 
-/// ProcSubset=: whether the processes alone are seen.
+/// ProcSubset=: whether /proc has only the processes.
 #[derive(Clone, Copy)]
 pub(crate) struct ProcSubset {
     pub(crate) is_limited: bool,
@@ -61,7 +61,7 @@ impl KeyValue for NetworkPath {
     }
 }
 
-/// RuntimeDirectoryPreserve=: whether folders below /run are kept.
+/// RuntimeDirectoryPreserve=: whether systemd keeps folders below /run.
 #[derive(Clone, Copy)]
 pub(crate) struct Preserve {
     pub(crate) is_kept: bool,
@@ -76,7 +76,7 @@ impl KeyValue for Preserve {
     }
 }
 
-/// PrivateMounts=, of which an empty value says nothing.
+/// PrivateMounts=. An empty value unsets it.
 #[derive(Clone, Copy)]
 pub(crate) enum PrivateMounts {
     Unset,
@@ -113,7 +113,7 @@ impl PrivateMounts {
     }
 }
 
-/// ProtectControlGroups= of systemd 257.
+/// ProtectControlGroups= in systemd 257.
 #[derive(Clone, Copy)]
 pub(crate) enum ControlGroups {
     No,

@@ -1,6 +1,6 @@
--- The mentions that are kept, path by path in byte order, so that each path comes after those above it. The rules are this project's
--- profile of systemd.exec(5), Sandboxing. The host enters as a function `row_at`, which says if there is an object at a path, and then if
--- it is a directory.
+-- The mentions that are kept, path by path in byte order, so that each path follows the paths above it. The rules are this project's
+-- profile of systemd.exec(5), Sandboxing. The host is a function `row_at`: it says if there is an object at a path, and then if it is a
+-- directory.
 use Rattle.std.specs.Prelude.{◌≡◌, ◌||◌, ◌&&◌, Bool, true, false, not, List, [], ◌∷◌, ◌++◌, map, filter, Option, Some, None, option_map}
 use Rattle.std.specs.Prelude.{option_and_then, Result, Ok, Err, if◌then◌else◌}
 use Rattle.std.specs.List.{list_any, filter_map, AllByRecursion, Contains}
@@ -22,7 +22,7 @@ use Rattle.path_settings.specs.view_map.Rules.{fate_of}
 abbrev pub Host : Type 0
 Host = Path → Option Bool
 
--- why the mentions are refused: no object at the path, or one of the wrong kind
+-- the reason why mentions are refused: there is no object at the path, or one of the wrong kind
 pub data Refusal : Type 0 where
   missing : Path → Refusal
   wrong_kind : Path → Refusal
@@ -31,13 +31,13 @@ pub data Refusal : Type 0 where
 abbrev pub at_path : Path → List Mention → List Mention
 at_path path mentions = filter (λ mention. is_same mention.path path) mentions
 
--- on one path hidden beats what is put there, an empty file system beats a bind, and a later bind beats an earlier one
+-- at one path, hiding beats an empty file system and a bind, an empty file system beats a bind, and a later bind beats an earlier one
 abbrev pub is_beaten : List Mention → List Mention → Kind → Bool
 is_beaten here later kind =
     ((is_tmp kind || is_bind kind) && list_any (λ other. hides other.kind) here)
     || (is_bind kind && (list_any (λ other. is_tmp other.kind) here || list_any (λ other. is_bind other.kind) later))
 
--- those of the mentions at one path that no other beats
+-- the mentions at one path that no other mention there beats
 abbrev pub unbeaten_of : List Mention → List Mention → List Mention
 unbeaten_of here [] = []
 unbeaten_of here (mention ∷ later) = if is_beaten here later mention.kind then unbeaten_of here later else mention ∷ unbeaten_of here later
@@ -54,7 +54,7 @@ beneath_by row_at hidden = beneath.Hidden
 beneath_by row_at empty = beneath.Empty
 beneath_by row_at (on_host path) = beneath_row (row_at path)
 
--- what the longest kept mention above a path that says which object is there gives at the path
+-- what is at a path without the mentions at it: the longest kept mention above it that says which object is there decides
 abbrev pub beneath_at : Host → List Mention → Path → Beneath
 beneath_at row_at kept path = beneath_by row_at (object_from (longest is_origin (above path kept)) path)
 
@@ -66,12 +66,12 @@ abbrev pub is_kept : Fate → Bool
 is_kept fate.Kept = true
 is_kept _ = false
 
--- an empty file system or a bind that is kept
+-- the mention is an empty file system or a bind, and it is kept
 abbrev pub puts : Host → Beneath → Mention → Bool
 puts row_at here mention = (is_tmp mention.kind || is_bind mention.kind) && is_kept
     (fate_of (source_row row_at mention.kind) here true mention)
 
--- what becomes of a mention among those at its path
+-- the fate of a mention among the mentions at its path
 abbrev pub fate_among : Host → Beneath → List Mention → Mention → Fate
 fate_among row_at here mentions mention = fate_of (source_row row_at mention.kind) here (list_any (puts row_at here) mentions) mention
 
@@ -82,7 +82,7 @@ refusal_of mention fate.NoSource = option_map missing (source_of mention.kind)
 refusal_of mention fate.NoRow = Some (missing mention.path)
 refusal_of mention fate.WrongKind = Some (wrong_kind mention.path)
 
--- in the order of the rules: those that say which object is at the path, and then the flags
+-- the order of the rules: first the mentions that say which object is at the path, and then the flags
 abbrev pub in_order_of_rules : List Mention → List Mention
 in_order_of_rules here = filter (λ mention. is_origin mention.kind) here ++ filter (λ mention. not (is_origin mention.kind)) here
 
@@ -90,17 +90,17 @@ abbrev pub refusals : Host → Beneath → List Mention → List Refusal
 refusals row_at here mentions = filter_map (λ mention. refusal_of mention (fate_among row_at here mentions mention))
     (in_order_of_rules mentions)
 
--- the first refusal, or what is found
+-- the first refusal, or these mentions if there is none
 abbrev pub unless_refused : List Refusal → List Mention → Result (List Mention) Refusal
 unless_refused [] found = Ok found
 unless_refused (refusal ∷ refusals) found = Err refusal
 
--- the mentions at one path that are kept, by what stands beneath and by one another
+-- the mentions at one path that are kept, by the object beneath them and by one another
 abbrev pub kept_among : Host → Beneath → List Mention → Result (List Mention) Refusal
 kept_among row_at here mentions = unless_refused (refusals row_at here mentions)
     (filter (λ mention. is_kept (fate_among row_at here mentions mention)) mentions)
 
--- the mentions at the path that are kept, by the kept ones above it
+-- the mentions at the path that are kept, by the kept mentions above it
 abbrev pub kept_at : Host → List Mention → List Mention → Path → Result (List Mention) Refusal
 kept_at row_at mentions kept path = kept_among row_at (beneath_at row_at kept path) (unbeaten (at_path path mentions))
 
@@ -108,7 +108,7 @@ abbrev pub goes_on : Result (List Mention) Refusal → (List Mention → Result 
 goes_on (Err refusal) go = Err refusal
 goes_on (Ok more) go = go more
 
--- the kept mentions of these paths, one path after the other, after those that were kept before
+-- the kept mentions of these paths, one path after the other, after the mentions that were kept before
 abbrev pub kept_from : Host → List Mention → List Path → List Mention → Result (List Mention) Refusal
 kept_from row_at mentions [] kept = Ok kept
 kept_from row_at mentions (path ∷ paths) kept = goes_on (kept_at row_at mentions kept path)
@@ -118,8 +118,8 @@ kept_from row_at mentions (path ∷ paths) kept = goes_on (kept_at row_at mentio
 abbrev pub kept_of : Host → List Mention → Result (List Mention) Refusal
 kept_of row_at mentions = kept_from row_at mentions (in_byte_order (map (λ mention. mention.path) mentions)) []
 
--- the same with no order: at the path of each mention the rules, by the kept mentions themselves, refuse nothing and keep
--- those that are kept there
+-- the same without an order: at the path of each mention the rules refuse nothing, and keep just the kept mentions of that path, if they
+-- look at all kept mentions
 pub record KeepsByRules (row_at : Host) (mentions kept : List Mention) : Type 0 where
   pub rules : AllByRecursion (λ mention. kept_at row_at mentions kept mention.path ≡ Ok (at_path mention.path kept)) mentions
   pub among : AllByRecursion (Contains mentions) kept

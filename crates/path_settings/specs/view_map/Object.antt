@@ -1,4 +1,4 @@
--- The object at a path: the host's object at some path, nothing yet, or nothing to be seen.
+-- The object at a path: the host's object at some path, an empty file system, or nothing that is visible.
 use Rattle.std.specs.Prelude.{ℕ, List, ◌++◌, Option, Some, None}
 use Rattle.abs_path.specs.Paths.{Path}
 use Rattle.abs_path.specs.Prefix.{rest_of}
@@ -12,14 +12,14 @@ pub data Object : Type 0 where
   empty : Object
   hidden : Object
 
--- what a mention of this kind at the place gives at a path that it leads to: a bind gives its source followed by the rest
+-- the object that a mention of this kind gives at a path that its place leads to: a bind gives its source, followed by the rest
 abbrev pub object_by : Kind → Path → Path → Object
 object_by Hide place path = hidden
 object_by (Tmp read_only) place path = empty
 object_by (Bind source read_only) place path = on_host (source ++ rest_of place path)
 object_by _ place path = on_host path
 
--- without such a mention the host's own object is there
+-- if no mention decides, the host's own object is there
 abbrev pub object_from : Option (ℕ × Mention) → Path → Object
 object_from None path = on_host path
 object_from (Some one) path = object_by one.1.kind one.1.path path
@@ -27,7 +27,7 @@ object_from (Some one) path = object_by one.1.kind one.1.path path
 abbrev pub object_at : List Mention → Path → Object
 object_at kept path = object_from (origin_of kept path) path
 
--- what an object shows at a path further on
+-- the object that an object has at the rest of a path
 abbrev pub object_behind : Object → Path → Object
 object_behind (on_host path) rest = on_host (path ++ rest)
 object_behind empty rest = empty

@@ -5,7 +5,7 @@ use Rattle.abs_path.specs.Paths.{Path}
 use Rattle.abs_path.specs.Prefix.{is_prefix}
 use Rattle.path_settings.specs.declared.mentions.Mention.{Mention}
 
--- the place is the path or leads to it, and no kept mention stands between the two: each that leads to the path leads to
+-- the place is the path or leads to it, and no kept mention lies between the two: each mention that leads to the path leads to
 -- the place
 pub record HasNoneBetween (kept : List Mention) (place path : Path) : Type 0 where
   pub leads : is_prefix place path ≡ true

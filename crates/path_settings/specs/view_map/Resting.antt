@@ -6,7 +6,7 @@ use Rattle.path_settings.specs.declared.mentions.Mention.{Mention}
 use Rattle.path_settings.specs.view_map.Asked.{asked_of}
 use Rattle.path_settings.specs.view_map.Kept.{Host, kept_of, source_row}
 
--- both hosts have the same at these paths
+-- both hosts have the same objects at these paths
 abbrev pub AreSame : Host → Host → List Path → Type 0
 AreSame row_at other paths = AllByRecursion (λ path. other path ≡ row_at path) paths
 

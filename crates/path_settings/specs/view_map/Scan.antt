@@ -1,4 +1,4 @@
--- The longest mention as the code looks for it.
+-- The search for the longest mention, as the code does it.
 use Rattle.std.specs.Prelude.{ℕ, Bool, true, false, cond, nat_lt, nat_le, Option, Some, None}
 use Rattle.path_settings.specs.declared.mentions.Kind.{Kind}
 use Rattle.path_settings.specs.declared.mentions.Mention.{Mention}
@@ -8,7 +8,7 @@ use Rattle.path_settings.specs.declared.view_map.says.Says.TheVariants.{Origin, 
 use Rattle.path_settings.specs.view_map.View.{says_read_only, says_read_write, says_no_exec, says_exec, length_of}
 use denote.Ref.{Bor}
 
--- a mention behind its reference, with its position
+-- the mention of a reference, with its position
 abbrev pub shown : ℕ × Bor Mention → ℕ × Mention
 shown one = (one.0, one.1.now)
 
@@ -19,12 +19,12 @@ is_said ReadWrite = says_read_write
 is_said NoExec = says_no_exec
 is_said Exec = says_exec
 
--- the longer of two mentions, the first on a tie
+-- the longer of two mentions, or the first on a tie
 abbrev pub longer : Option (ℕ × Mention) → ℕ × Mention → Option (ℕ × Mention)
 longer None one = Some one
 longer (Some best) one = Some (cond (nat_lt (length_of best) (length_of one)) one best)
 
--- the first is there, and as long as the second
+-- the first mention exists, and it is as long as the second
 abbrev pub reaches_as_far : Option (ℕ × Mention) → Option (ℕ × Mention) → Bool
 reaches_as_far None other = false
 reaches_as_far (Some one) None = true

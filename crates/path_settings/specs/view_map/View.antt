@@ -1,5 +1,5 @@
--- What a service finds at a path by the kept mentions (systemd.exec(5), Sandboxing): three choices, each by the longest
--- mention that leads to the path.
+-- The view of a service at a path by the kept mentions (systemd.exec(5), Sandboxing): for each of three choices the longest mention that
+-- leads to the path decides.
 use Rattle.std.specs.Prelude.{ℕ, Bool, true, false, not, nat_le, List, length, filter, find, Option, option_map}
 use Rattle.std.specs.List.{list_any, list_all, enumerate_from}
 use Rattle.abs_path.specs.Paths.{Path, tail_of}
@@ -10,7 +10,7 @@ use Rattle.path_settings.specs.declared.mentions.Mention.{Mention}
 use Rattle.path_settings.specs.Mentions.{is_origin}
 use Rattle.path_settings.specs.declared.view_map.seen.Seen.{Seen}
 
--- an empty file system and a bind say of their own path whether it is read-only
+-- an empty file system and a bind say whether their own path is read-only
 abbrev pub says_read_only : Kind → Bool
 says_read_only Ro = true
 says_read_only (Tmp read_only) = read_only
@@ -35,30 +35,30 @@ says_exec _ = false
 abbrev pub Found : Type 0
 Found = List (ℕ × Mention)
 
--- those at the path and at the paths that lead to it, by whole parts
+-- the mentions at the path and at the paths that lead to it, by whole parts
 abbrev pub leading_to : Path → List Mention → Found
 leading_to path kept = filter (λ one. is_prefix one.1.path path) (enumerate_from 0 kept)
 
--- those at the paths that lead to it, without those at the path
+-- the mentions at the paths that lead to it, without the mentions at the path itself
 abbrev pub above : Path → List Mention → Found
 above path kept = filter (λ one. is_below path one.1.path) (enumerate_from 0 kept)
 
--- those that say this
+-- the mentions that say this
 abbrev pub saying : (Kind → Bool) → Found → Found
 saying says found = filter (λ one. says one.1.kind) found
 
--- the bytes of a mention's path, but for the root's lone slash
+-- the number of bytes of a mention's path, where the root has none
 abbrev pub length_of : ℕ × Mention → ℕ
 length_of one = length (tail_of one.1.path)
 
 abbrev pub is_as_long_as_each : Found → ℕ × Mention → Bool
 is_as_long_as_each others one = list_all (λ other. nat_le (length_of other) (length_of one)) others
 
--- the longest of those that say this, the first on a tie
+-- the longest of the mentions that say this, or the first on a tie
 abbrev pub longest : (Kind → Bool) → Found → Option (ℕ × Mention)
 longest says found = find (is_as_long_as_each (saying says found)) (saying says found)
 
--- one of those that say this is as long as each of those that deny it: on a tie it prevails
+-- some mention that says this is as long as each mention that denies it: on a tie it prevails
 abbrev pub prevails : (Kind → Bool) → (Kind → Bool) → Found → Bool
 prevails says denies found = list_any (is_as_long_as_each (saying denies found)) (saying says found)
 
@@ -71,7 +71,7 @@ is_read_only kept path = prevails says_read_only says_read_write (leading_to pat
 abbrev pub is_no_exec : List Mention → Path → Bool
 is_no_exec kept path = prevails says_no_exec says_exec (leading_to path kept)
 
--- what is seen at a path: which kept mention says which object is there, and how it may be used
+-- the view at a path: the kept mention that says which object is there, and how the object may be used
 abbrev pub seen_at : List Mention → Path → Seen
 seen_at kept path = record {
   origin = option_map (λ one. one.0) (origin_of kept path);

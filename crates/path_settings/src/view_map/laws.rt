@@ -1,4 +1,4 @@
-//! The laws of views and of kept mentions. Each is the contract of a function that does nothing.
+//! States the laws of views and of kept mentions. Each is the contract of a function that does nothing.
 
 ghost use Rattle.std.specs.Prelude.{◌≡◌, List, map, Ok, IsTrue};
 ghost use Rattle.std.specs.List.{AllByRecursion, Contains};
@@ -14,8 +14,8 @@ ghost use Rattle.path_settings.specs.view_map.Object.{object_at, object_behind};
 ghost use Rattle.path_settings.specs.view_map.OnTheWay.{HasNoneBetween};
 ghost use Rattle.path_settings.specs.view_map.Kept.{Host, kept_of, KeepsByRules};
 
-/// If no kept mention is between a place and a path below it, the service finds at the path what it finds at the
-/// place, carried on.
+/// If no kept mention lies between a place and a path below it, the same mentions decide at both. The service finds at
+/// the path what the object of the place has there.
 pub fn view_on_the_way()
     ensures same_mentions_decide { (kept : List Mention) (place path : Path)
         → HasNoneBetween kept place path → leading_to place kept ≡ leading_to path kept }
@@ -27,9 +27,9 @@ pub fn view_on_the_way()
         → HasNoneBetween kept place path → is_no_exec kept path ≡ is_no_exec kept place }
 {}
 
-/// The kept mentions are some of the given ones. They are those that the rules keep by the kept mentions themselves,
-/// so no order of paths matters. The host is asked only about places beneath the kept mentions and about the sources
-/// of binds. Nothing is kept below a hidden path.
+/// The kept mentions are some of the given ones. The rules keep just these if they are asked with the kept mentions
+/// themselves, so no order of paths matters. The rules ask the host only about places beneath the kept mentions and
+/// about the sources of binds. They keep nothing below a hidden path.
 pub fn kept_by_the_rules()
     ensures none_is_made_up { (row_at : Host) (mentions kept : List Mention)
         → kept_of row_at mentions ≡ Ok kept → AllByRecursion (Contains mentions) kept }

@@ -9,7 +9,7 @@ use crate::Mention;
 use crate::view_map::says::{Says, is_said};
 use abs_path::AbsPath;
 
-// The longer of two mentions, the first on a tie.
+// Returns the longer of two mentions, or the first on a tie.
 fn longer<'a>(
     best: Option<(usize, &'a Mention)>,
     index: usize,
@@ -23,7 +23,7 @@ fn longer<'a>(
     }
 }
 
-/// The longest of the mentions that say this and lead to the path, the first on a tie, with its position.
+/// Returns the longest of the mentions that say this and lead to the path, or the first on a tie, with its position.
 pub(crate) fn longest<'a>(
     kept: &'a [Mention],
     path: &AbsPath,
@@ -48,8 +48,8 @@ pub fn origin_at<'a>(kept: &'a [Mention], path: &AbsPath) -> Option<(usize, &'a 
     longest(kept, path, Says::Origin)
 }
 
-/// Returns the kept mention that says which object would be at the path without those at it, with its position: the
-/// longest one above the path.
+/// Returns the kept mention that would say which object is at the path if there were none at the path itself, with its
+/// position: the longest one above the path.
 pub fn origin_above<'a>(kept: &'a [Mention], path: &AbsPath) -> Option<(usize, &'a Mention)>
     ensures longest_above { option_map shown result ≡ longest is_origin (above path.now kept.now) }
 {

@@ -1,20 +1,20 @@
-//! Decides the fate of a mention, by what the kept mentions above its path give there.
+//! Decides the fate of a mention by what the kept mentions above its path give there.
 
 ghost use Rattle.std.specs.Prelude.{◌≡◌};
 ghost use Rattle.path_settings.specs.view_map.Rules.{unless_optional, bind_fate, tmp_fate, hide_fate, flag_fate, seen_fate, fate_of};
 
 use crate::{Kind, Mention};
 
-/// What the kept mentions above a path give at it.
+/// Says what the kept mentions above a path give at the path.
 #[derive(Clone, Copy, Debug, PartialEq, Eq)]
 pub enum Beneath {
-    /// The path lies below a hidden one.
+    /// The path lies below a hidden path.
     Hidden,
-    /// It lies below an empty file system.
+    /// The path lies below an empty file system.
     Empty,
-    /// It is a row of the host, or is shown by a bind of one.
+    /// The path is a row of the host, or a bind shows a row of the host there.
     Row { is_dir: bool },
-    /// It is no row.
+    /// There is no row.
     NoRow,
 }
 
@@ -23,11 +23,11 @@ pub enum Beneath {
 pub enum Fate {
     Kept,
     Dropped,
-    /// It is refused: the source of the bind is no row.
+    /// The mention is refused: the source of the bind is not a row.
     NoSource,
-    /// It is refused: its path is no row.
+    /// The mention is refused: its path is not a row.
     NoRow,
-    /// It is refused: a directory would cover a file, or a file a directory.
+    /// The mention is refused: a directory would cover a file, or a file a directory.
     WrongKind,
 }
 
@@ -37,7 +37,7 @@ fn unless_optional(optional: bool, refusal: Fate) -> Fate
     if optional { Fate::Dropped } else { refusal }
 }
 
-// A bind's source is a row, and of the kind of the row that it covers.
+// Returns the fate of a bind. Its source must be a row of the same kind as the row that it covers.
 fn bind_fate(source: Option<bool>, beneath: Beneath, optional: bool) -> Fate
     ensures { result ≡ bind_fate source beneath optional }
 {
@@ -50,7 +50,7 @@ fn bind_fate(source: Option<bool>, beneath: Beneath, optional: bool) -> Fate
     }
 }
 
-// An empty file system covers no file.
+// Returns the fate of an empty file system, which must not cover a file.
 fn tmp_fate(beneath: Beneath) -> Fate
     ensures { result ≡ tmp_fate beneath }
 {
@@ -60,7 +60,7 @@ fn tmp_fate(beneath: Beneath) -> Fate
     }
 }
 
-// What is hidden is a row, or lies below an empty file system.
+// Returns the fate of a mention that hides. There must be a row, or an empty file system above the path.
 fn hide_fate(beneath: Beneath, optional: bool) -> Fate
     ensures { result ≡ hide_fate beneath optional }
 {
@@ -70,7 +70,7 @@ fn hide_fate(beneath: Beneath, optional: bool) -> Fate
     }
 }
 
-// A flag is of a row, or of what an empty file system or a bind puts at the path.
+// Returns the fate of a flag. There must be a row, or an empty file system or a bind that is kept at the path.
 fn flag_fate(beneath: Beneath, optional: bool, is_put: bool) -> Fate
     ensures { result ≡ flag_fate beneath optional is_put }
 {
@@ -95,8 +95,8 @@ fn seen_fate(mention: &Mention, source: Option<bool>, beneath: Beneath, is_put: 
     }
 }
 
-/// Returns the fate of a mention that no other at its path beats. `source` says if the source of a bind is a row, and
-/// then if it is a directory. `is_put` says if an empty file system or a bind is kept at the path.
+/// Returns the fate of a mention that no other mention at its path beats. `source` says if the source of a bind is a
+/// row, and then if it is a directory. `is_put` says if an empty file system or a bind is kept at the path.
 pub fn fate_of(mention: &Mention, source: Option<bool>, beneath: Beneath, is_put: bool) -> Fate
     ensures by_the_rules { result ≡ fate_of source beneath is_put mention.now }
 {

@@ -1,4 +1,4 @@
-//! The statements of mentions about their paths, by their kinds.
+//! Says what mentions state about their paths, by their kinds.
 
 ghost use Rattle.std.specs.Prelude.{◌≡◌};
 ghost use Rattle.path_settings.specs.view_map.View.{says_read_only, says_read_write};
@@ -6,7 +6,7 @@ ghost use Rattle.path_settings.specs.view_map.Scan.{is_said};
 
 use crate::Kind;
 
-/// What a mention may say.
+/// A statement of a mention.
 #[derive(Clone, Copy)]
 pub(crate) enum Says {
     /// Which object is at the path.
@@ -37,7 +37,7 @@ fn says_read_write(kind: &Kind) -> bool
     }
 }
 
-/// Returns whether a mention of this kind says this; an empty file system and a bind say whether they are read-only.
+/// Returns whether a mention of this kind says this. An empty file system and a bind say whether they are read-only.
 pub(crate) fn is_said(says: Says, kind: &Kind) -> bool
     ensures { result ≡ is_said says kind.now }
 {

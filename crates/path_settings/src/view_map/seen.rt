@@ -12,7 +12,7 @@ use abs_path::AbsPath;
 /// What a service sees at a path.
 #[derive(Clone, Copy, Debug, PartialEq, Eq)]
 pub struct Seen {
-    /// The position of the kept mention that says which object is there, the first on a tie. None is the host itself.
+    /// The position of the kept mention that says which object is there, the first on a tie. None means the host's own object.
     pub origin: Option<usize>,
     pub read_only: bool,
     pub no_exec: bool,
@@ -34,17 +34,17 @@ fn reaches_as_far(one: Option<(usize, &Mention)>, other: Option<(usize, &Mention
     }
 }
 
-// Returns whether one of the mentions that say the one thing and lead to the path is as long as each that denies it.
+// Returns whether some mention that leads to the path and says the one thing is as long as each that denies it.
 fn prevails(kept: &[Mention], path: &AbsPath, says: Says, denies: Says) -> bool
     ensures { result ≡ prevails (is_said says) (is_said denies) (leading_to path.now kept.now) }
 {
     reaches_as_far(longest(kept, path, says), longest(kept, path, denies))
 }
 
-/// Returns the view at the path by the kept mentions (systemd.exec(5)). The longest that leads there says which
-/// object is there. The longest of RO and RW says if it is read-only, and the longest of EXEC and NOEXEC if it is
-/// executable. On a tie the first mention, RO and NOEXEC decide. Without a mention the host is read-write and
-/// executable.
+/// Returns the view at the path by the kept mentions (systemd.exec(5)). The longest mention that leads there decides each
+/// of three questions: which object is there, whether it is read-only (RO against RW), and whether it is executable
+/// (EXEC against NOEXEC). On a tie the first mention, RO and NOEXEC win. Without a mention the host's object is there,
+/// read-write and executable.
 pub fn view(kept: &Mentions, path: &AbsPath) -> Seen
     ensures origin_by_longest { result.origin ≡ option_map (λ one. one.0) (origin_of kept.now path.now) }
     ensures read_only_on_a_tie { result.read_only ≡ is_read_only kept.now path.now }
@@ -53,7 +53,7 @@ pub fn view(kept: &Mentions, path: &AbsPath) -> Seen
     view_of(kept.list(), path)
 }
 
-/// The same, by the kept mentions in a slice.
+/// Returns the same view, by the kept mentions in a slice.
 pub fn view_of(kept: &[Mention], path: &AbsPath) -> Seen
     ensures origin_by_longest { result.origin ≡ option_map (λ one. one.0) (origin_of kept.now path.now) }
     ensures read_only_on_a_tie { result.read_only ≡ is_read_only kept.now path.now }

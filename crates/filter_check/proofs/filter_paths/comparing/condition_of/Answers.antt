@@ -1,4 +1,4 @@
--- A comparison by bits is one of a masked word with 0.
+-- A comparison by bits compares a masked word with 0.
 use Rattle.std.proofs.Common.{◌≡◌, ℕ, Bool, true, false, not, refl, sym, ap, ◌∙◌, arith, cond}
 use Rattle.std.specs.Prelude.{bit_and, ◌==◌, nat_lt, nat_le, if◌then◌else◌}
 use Rattle.std.proofs.lemmas.Bool.{le-ltb, ne_eqb}

@@ -7,7 +7,7 @@ use Rattle.filter_check.specs.word_sets.Words.{is_in_some}
 use Rattle.filter_check.proofs.Steps.{both_lead, hit_cut, miss_cut, empty_leads, cut_leads, cut_either}
 use Rattle.filter_check.proofs.filter_paths.stepping.compared.Goals as goal
 
--- what is left of a set, where it is known whether a word is
+-- an equal set has the same words
 left : (some other : Option WordSet) (old : List Condition) (condition : Condition) → some ≡ other
     → ((word : ℕ) → word < 2 ^ 32 → is_in_some some word ≡ (meets_all old word && meets condition word))
     → (word : ℕ) → word < 2 ^ 32 → is_in_some other word ≡ (meets_all old word && meets condition word)

@@ -27,11 +27,11 @@ module _ (settings : FilterSettings) (places : List FilterPlace) (i : ℕ) (plac
       ∙ filter-append (is_installed settings) (map shown (take i places)) (shown place ∷ [])
       ∙ ap (λ ps. ps ++ cond (is_on settings place.name) (shown place ∷ []) []) (sym so_far)
 
-  -- a filter that is on comes behind the others
+  -- a filter that is on is added after the others
   on_more : is_on settings place.name ≡ true → on ++ shown place ∷ [] ≡ filter (is_installed settings) (map shown (take (i + 1) places))
   on_more e = sym (one_more ∙ ap (λ b. on ++ cond b (shown place ∷ []) []) e)
 
-  -- one that is off is left out
+  -- a filter that is off is left out
   off_more : is_on settings place.name ≡ false → on ≡ filter (is_installed settings) (map shown (take (i + 1) places))
   off_more e = sym (one_more ∙ ap (λ b. on ++ cond b (shown place ∷ []) []) e ∙ append-nil on)
 
