@@ -1,8 +1,13 @@
 -- A policy that weighs something weighs something of every unit.
-use Rattle.std.proofs.Common.{◌≡◌, ◌∙◌, ℕ, ◌<◌, Bool, true, List, Result, Ok, Err, sym, ap, arith}
-use Rattle.std.specs.Prelude.{◌↔◌, IsErrOf, nat_lt}
+use Rattle.std.proofs.Common.{◌≡◌, ◌∙◌, ℕ, ◌<◌, Bool, true, List, Option, Some, None, Result, Ok, Err, sym, ap, arith, subst}
+use Rattle.std.specs.Prelude.{◌↔◌, IfOk, IfSome, IsErrOf, nat_lt}
 use Rattle.std.specs.Result.{IsErrAnd}
 use Rattle.score_command.specs.call_table.Table.{Table}
+use Rattle.score_command.specs.host_io.Files.{Files}
+use Rattle.score_command.specs.site_table.Table.{Site}
+use Rattle.score_command.specs.unit_names.declared.version.Version.{Version}
+use Rattle.score_command.specs.dropin_merge.Changed.{read_by}
+use Rattle.score_command.specs.dropin_merge.Resolving.{resolved_of}
 use Rattle.score_command.specs.dropin_merge.declared.resolved.Resolved.{Resolved}
 use Rattle.score_command.specs.exec_settings.declared.service.Settings.{Settings}
 use Rattle.score_command.specs.exposure_score.Rows.{counted_weight}
@@ -12,7 +17,9 @@ use Rattle.score_command.specs.exposure_score.declared.policy_file.policy.Policy
 use Rattle.score_command.specs.exposure_score.policy_weights.Weights.{weight_of}
 use Rattle.score_command.proofs.OfExposureScore.Weights.{weighs_alike}
 use Rattle.score_command.specs.exposure_score.service_facts.Facts.{AreFacts}
+use Rattle.fleet_command.specs.fleet_report.Outcomes.{IsOutcome, IsOutcomeOf}
 use Rattle.fleet_command.specs.declared.fleet_report.errors.FleetError.{FleetError}
+use Rattle.fleet_command.specs.declared.fleet_report.rows.FleetOutcome.{FleetOutcome}
 use Rattle.fleet_command.specs.declared.fleet_report.errors.FleetError.TheVariants.{NoWeight}
 
 pub weighs_each : (unit : Resolved) (table : Table) (settings : Settings) (facts : Facts) (stored : StoredTests)
@@ -36,3 +43,16 @@ pub weighs_something : {T : Type 0} (result : Result T FleetError) (weight : ℕ
     → (IsErrOf result NoWeight → ⊥) → IsErrOf result NoWeight ↔ (weight ≡ 0)
 weighs_something result weight answer is some never =
     (λ weightless. absurd (never weightless), λ none. absurd (weight_is_some (sym some ∙ is ∙ ap (nat_lt 0) none)))
+
+-- the outcome of a unit that its files resolve to, and that the systemd of the site reads
+module _ (table : Table) (site : Site) (policy : List PolicyTest) (stored : StoredTests) (told : Option Files) (text : List ℕ) where
+  pub outcome_read : (systemd : Option Version) (unit read : Resolved) (result : Result FleetOutcome FleetError) → systemd ≡ site.systemd
+      → IfSome told (λ files. resolved_of files text ≡ Ok unit) → read ≡ read_by systemd unit
+      → IfOk result (IsOutcomeOf table site policy stored read)
+      → IfSome told (λ files. IfOk result (IsOutcome table site policy stored (resolved_of files text)))
+  outcome_read systemd unit read result version resolves same made = by told resolves where
+    by : (some : Option Files) → IfSome some (λ files. resolved_of files text ≡ Ok unit)
+        → IfSome some (λ files. IfOk result (IsOutcome table site policy stored (resolved_of files text)))
+    by None none = tt
+    by (Some files) is = subst (λ found. IfOk result (IsOutcome table site policy stored found)) (sym is)
+        (subst (λ own. IfOk result (IsOutcomeOf table site policy stored own)) (same ∙ ap (λ own. read_by own unit) version) made)
