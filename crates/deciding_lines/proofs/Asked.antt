@@ -1,5 +1,5 @@
 -- What one verdict tells of a unit without some of its lines.
-use Rattle.std.proofs.Common.{◌≡◌, ◌∙◌, ℕ, Bool, true, false, List, Some, Result, Ok, Err, Vec, Global, refl, sym, ap, ap₂, subst}
+use Rattle.std.proofs.Common.{◌≡◌, ℕ, Bool, true, false, List, Some, Result, Ok, Err, Vec, Global, sym, ap, subst}
 use Rattle.std.specs.Prelude.{Contains, IfOk}
 use Rattle.std.specs.declared.alloc.AllocError.{AllocError}
 use Rattle.asked_service.proofs.Exact.{all_at}

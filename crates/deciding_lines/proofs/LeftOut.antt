@@ -1,12 +1,12 @@
 -- Things are left out, one after the other.
-use Rattle.std.proofs.Common.{◌≡◌, ◌⊎◌, inl, inr, ◌+◌, ◌≤◌, List, [], ◌∷◌, ◌++◌, Option, Some, None, Result, Ok, Err, Vec, Global, length}
-use Rattle.std.proofs.Common.{refl, sym, ap, ◌∙◌, subst, arith, append_assoc, append-nil, length-append}
+use Rattle.std.proofs.Common.{◌≡◌, ◌⊎◌, inl, inr, List, [], ◌∷◌, ◌++◌, Some, None, Result, Ok, Err, length}
+use Rattle.std.proofs.Common.{sym, ap, ◌∙◌, subst, arith, append_assoc, append-nil, length-append}
 use Rattle.std.specs.Prelude.{IfOk}
 use Rattle.std.specs.declared.alloc.AllocError.{AllocError}
 use Rattle.deciding_lines.specs.Least.{AreNeeded, IsPartOf, Tells}
 use Rattle.deciding_lines.specs.LeavingOut.{IsHeld, IsRound, LeavesOut}
 use Rattle.deciding_lines.specs.declared.leaving_out.Serving.{Serving}
-use Rattle.deciding_lines.proofs.Parts.{part_as_long, part_no_longer, part_of_part, part_self, part_without}
+use Rattle.deciding_lines.proofs.Parts.{part_no_longer, part_of_part, part_self, part_without}
 
 module _ {T F : Type 0} (Serves : List T → F → Type 0) (Fails : List T → Type 0) where
   -- nothing is tried yet

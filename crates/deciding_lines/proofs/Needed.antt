@@ -1,23 +1,21 @@
 -- Lines that stay, since the unit needs them.
-use Rattle.std.proofs.Common.{◌≡◌, ◌∙◌, ◌⊎◌, inl, inr, ℕ, Bool, true, false, List, [], ◌∷◌, ◌++◌, Option, map, filter, refl, sym, ap, ap₂, subst}
+use Rattle.std.proofs.Common.{◌≡◌, ◌∙◌, inl, inr, ℕ, Bool, true, false, List, [], ◌∷◌, ◌++◌, Option, map, filter, refl, sym, ap, ap₂, subst}
 use Rattle.std.proofs.Common.{append_assoc, eq-eqb, cond}
-use Rattle.std.specs.Prelude.{◌==◌, ◌&&◌, ◌||◌, not, Result, Ok, Err, IfOk, Vec}
+use Rattle.std.specs.Prelude.{◌&&◌, ◌||◌, not, Result, Ok, Err, IfOk, Vec}
 use Rattle.std.specs.List.{enumerate_from}
 use Rattle.std.specs.declared.alloc.AllocError.{AllocError}
 use Rattle.std.specs.declared.alloc.Global.{Global}
 use Rattle.std.proofs.lemmas.List.Elements.{filter_agree}
-use Rattle.deciding_lines.specs.Least.{IsPartOf}
 use Rattle.asked_service.specs.dropin_merge.declared.resolved.Resolved.{Resolved}
 use Rattle.asked_service.specs.dropin_merge.declared.resolved.UnitFile.{UnitFile}
 use Rattle.asked_service.specs.dropin_merge.declared.unit_values.value.Place.{Place}
 use Rattle.asked_service.specs.unit_grammar.declared.unit.Assignment.{Assignment}
 use Rattle.asked_service.specs.launcher.declared.launched.Launched.{Launched as Service}
 use Rattle.asked_service.specs.started_units.Starting.{StartsAs, given}
-use Rattle.asked_service.specs.unit_inputs.Inputs.{Inputs}
 use Rattle.asked_service.specs.declared.unit_launch.launching.UnitLaunch.TheVariants.{Launched}
-use Rattle.deciding_lines.specs.Deciding.{AreDeciding, AreNeededOf, CanGo, IsLaunchedWith, IsReasonAt, all_go, needed_stay}
+use Rattle.deciding_lines.specs.Deciding.{AreNeededOf, IsLaunchedWith, IsReasonAt, all_go, needed_stay}
 use Rattle.deciding_lines.specs.Searching.{DeniesWithout}
-use Rattle.deciding_lines.specs.Tried.{IsNotLaunched, IsOpenWithout, IsShutWithout, TellsOpen, Tried, inputs_without}
+use Rattle.deciding_lines.specs.Tried.{IsNotLaunched, Tried, inputs_without}
 use Rattle.asked_service.specs.unit_names.declared.version.Version.{Version}
 use Rattle.deciding_lines.specs.unit_lines.Without.{all_but, file_without, is_among, is_place, is_taken, left_of, without}
 use Rattle.deciding_lines.specs.unit_lines.Lines.{is_in_force}

@@ -1,5 +1,5 @@
 -- Which assignments in force of a unit deny a question.
-use Rattle.std.specs.Prelude.{◌≡◌, ℕ, List}
+use Rattle.std.specs.Prelude.{ℕ, List}
 use Rattle.deciding_lines.specs.Least.{AreNeeded, IsPartOf}
 use Rattle.asked_service.specs.started_units.Starting.{StartsAs}
 use Rattle.asked_service.specs.declared.unit_launch.launching.UnitLaunch.TheVariants.{Launched}

@@ -1,6 +1,5 @@
 -- Where two lists of programs have the same replies, a list that answers each call as one of the two has them too.
-use Rattle.std.proofs.Common.{◌≡◌, ℕ, List, [], ◌∷◌, refl, ap, ◌∙◌, sym, subst}
-use Rattle.std.specs.List.{AllByRecursion}
+use Rattle.std.proofs.Common.{◌≡◌, List, [], ◌∷◌, refl, ap, ◌∙◌, sym, subst}
 use Rattle.asked_service.specs.bpf_code.declared.machine.Insn.{Insn}
 use Rattle.asked_service.specs.call_table.Table.{Table}
 use Rattle.asked_service.specs.kernel_model.declared.kernel_calls.call.Call.{Call}

@@ -28,7 +28,6 @@ use Rattle.asked_service.specs.unit_grammar.declared.unit.Assignment.{Assignment
 use Rattle.asked_service.specs.unit_grammar.declared.unit.UnitText.{UnitText}
 use Rattle.asked_service.specs.unit_names.Expansion.{expansion, longest_value}
 use Rattle.asked_service.specs.unit_names.Names.{Name}
-use Rattle.asked_service.specs.unit_names.declared.version.Version.{Version}
 use Rattle.asked_service.proofs.OfDropinMerge.OneMore.{after_last-push}
 use Rattle.asked_service.specs.dropin_merge.unit_values.Assignments.{service_assignments, service_from, service_in}
 use Rattle.asked_service.specs.dropin_merge.unit_values.Listed.{is_reset, listed, unit_listed}
@@ -140,9 +139,14 @@ module _ (unit : Resolved) (table : Table) (named : list_all (λ (line : CallLin
         ∙ ap (λ rest. filter_map asks (service_assignments unit) ++ rest) unasked
         ∙ append-nil (filter_map asks (service_assignments unit)))
 
-  no_path : filter_map (assigned_by unit.systemd unit.name) two ≡ []
+  no_path_in : (systemd : Option Version) → filter_map (assigned_by systemd unit.name) two ≡ []
   unfolding two
-  no_path = refl
+  no_path_in None = refl
+  no_path_in (Some V252) = refl
+  no_path_in (Some V257) = refl
+
+  no_path : filter_map (assigned_by unit.systemd unit.name) two ≡ []
+  no_path = no_path_in unit.systemd
 
   pub adds_calls : AddsCallsAlone unit files
   adds_calls = record {

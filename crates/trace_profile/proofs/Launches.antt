@@ -1,7 +1,7 @@
 -- Where launches by two lists of programs end well, the launch by a list that answers each call as one of the two does too.
 use Rattle.std.proofs.Common.{◌≡◌, ℕ, Bool, true, false, cond, codes, List, [], ◌∷◌, ◌++◌, Option, Some, ◌⊎◌, inl, inr, refl, ap, ◌∙◌, sym}
 use Rattle.std.proofs.Common.{subst, length, arith}
-use Rattle.std.specs.Prelude.{nat_le, ◌+◌, ◌<◌, ◌≤◌, ◌^◌, ◌||◌, not}
+use Rattle.std.specs.Prelude.{nat_le, ◌+◌, ◌≤◌, ◌||◌, not}
 use Rattle.std.proofs.lemmas.Bool.Decides.{nat_tests}
 use Rattle.std.proofs.lemmas.List.Sums.{sum_by-append, sum_by-cons}
 use Rattle.asked_service.specs.abs_path.Paths.{Path}

@@ -1,4 +1,4 @@
-use Rattle.std.proofs.Common.{List, length, ap, arith, subst, ◌∙◌}
+use Rattle.std.proofs.Common.{length, ap, arith, subst}
 use Rattle.deciding_lines.specs.Least.{IsPartOf}
 use Rattle.deciding_lines.proofs.LeftOut.{part_goes_on}
 use Rattle.deciding_lines.proofs.leaving_out.+least.Goals as goal

@@ -1,4 +1,4 @@
-use Rattle.std.proofs.Common.{List, ◌++◌, ◌∷◌, ap, refl, ◌∙◌}
+use Rattle.std.proofs.Common.{◌++◌, ◌∷◌, ap, refl, ◌∙◌}
 use Rattle.deciding_lines.proofs.LeftOut.{goes, stays}
 use Rattle.deciding_lines.proofs.leaving_out.leave_out.Goals as goal
 

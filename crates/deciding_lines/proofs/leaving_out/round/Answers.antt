@@ -1,4 +1,3 @@
-use Rattle.std.proofs.Common.{length}
 use Rattle.deciding_lines.proofs.LeftOut.{ends, starts_held, steps, with_last}
 use Rattle.deciding_lines.proofs.leaving_out.round.Goals as goal
 

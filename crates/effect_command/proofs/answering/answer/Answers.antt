@@ -24,7 +24,7 @@ returns-in_err-second-clause-answers c =
     (refusals_behind_dropin c.args.name.now inputs c.args.more) result) c.from_residual-in_err-second.result c.in_err-second.field-0.0
     c.from_residual-in_err-second.ensures.1
     (answers_refused_with c.args.name.now inputs c.args.more c.in_ok-first.first c.in_ok-first.ensures.starts c.in_err-second.field-0.0
-    (with_longer c.args.name.now c.args.calls.now c.args.site.now c.args.unit.now c.args.more c.in_ok-longer.longer c.in_ok-longer.ensures
+    (with_longer c.args.name.now c.args.calls.now c.args.site.now c.args.unit.now c.args.more c.in_ok-longer.longer c.in_ok-longer.ensures.one_more_file
     (Err c.in_err-second.field-0.0) c.in_err-second.ensures.starts))
 
 pub compare-requires : goal.compare-requires
@@ -42,7 +42,7 @@ pub returns-clause-answers : goal.returns-clause-answers
 returns-clause-answers c =
     let inputs = given c.args.unit.now c.args.calls.now c.args.site.now in
     answers_both c.args.name.now inputs c.args.more c.in_ok-first.first c.in_ok-first.ensures.starts c.in_ok-second.second
-    (with_longer c.args.name.now c.args.calls.now c.args.site.now c.args.unit.now c.args.more c.in_ok-longer.longer c.in_ok-longer.ensures
+    (with_longer c.args.name.now c.args.calls.now c.args.site.now c.args.unit.now c.args.more c.in_ok-longer.longer c.in_ok-longer.ensures.one_more_file
     (Ok c.in_ok-second.second) c.in_ok-second.ensures.starts)
     c.compare.result
     (c.compare.ensures.tells c.args.calls.now c.args.site.now

@@ -1,4 +1,4 @@
-use Rattle.std.proofs.Common.{ℕ, List, subst, ◌∙◌}
+use Rattle.std.proofs.Common.{List, subst, ◌∙◌}
 use Rattle.asked_service.specs.dropin_merge.declared.unit_values.value.Place.{Place}
 use Rattle.asked_service.specs.started_units.Starting.{StartsAs}
 use Rattle.asked_service.specs.declared.unit_launch.launching.UnitLaunch.TheVariants.{Launched}

@@ -1,4 +1,3 @@
-use Rattle.deciding_lines.specs.Tried.{TellsOpen, tried_of}
 use Rattle.deciding_lines.proofs.searching.TrialSearch.attempt.Goals as goal
 
 pub returns-then-is_open : goal.returns-then-is_open
