@@ -60,7 +60,7 @@ inputs_are_plain files unit inputs is = by (unit_in files unit) (calls_in files)
   where
     by : (unit : Result Resolved (List ℕ)) (calls : Result Table (List ℕ)) (site : Result Site (List ℕ)) → calls_in files ≡ calls
         → all_three unit calls site ≡ Some inputs → HasPlainNames inputs.calls
-    by (Ok unit) (Ok calls) (Ok site) e is = calls_are_plain files inputs.calls (e ∙ ap Ok (calls_of_inputs unit calls site inputs is))
+    by (Ok unit) (Ok calls) (Ok site) e is = calls_are_plain files inputs.calls (e ∙ ap Ok (calls_of_inputs (record unit { systemd = site.systemd }) calls site inputs is))
     by (Err line) calls site e is = cc
     by (Ok unit) (Err line) site e is = cc
     by (Ok unit) (Ok calls) (Err line) e is = cc

@@ -2,12 +2,9 @@
 use Rattle.std.specs.Prelude.{ℕ, List, [], ◌∷◌, ◌++◌, codes, Option, Some, Result, Ok, Err, option_map}
 use Rattle.std.specs.Fmt.{decimal}
 use Rattle.replay_command.specs.host_io.Files.{Files}
-use Rattle.replay_command.specs.call_table.Table.{Table}
-use Rattle.trace_profile.specs.dropin_merge.declared.resolved.Resolved.{Resolved}
 use Rattle.replay_command.specs.kernel_model.declared.kernel_calls.call.Call.{Call}
 use Rattle.replay_command.specs.unit_inputs.command_answers.Refusals.{refused_line}
 use Rattle.replay_command.specs.Scripts.{script_in}
-use Rattle.replay_command.specs.site_table.Table.{Site}
 use Rattle.replay_command.specs.asked_service.started_units.Starting.{start_refusals}
 use Rattle.trace_profile.specs.Extended.{open_unit}
 use Rattle.trace_profile.specs.Scripts.{first_seccomp}
