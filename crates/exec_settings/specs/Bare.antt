@@ -20,8 +20,8 @@ pub record HasCommandAlone (unit : Resolved) : Type 0 where
   pub alone : service_assignments unit ≡ (place, assignment) ∷ []
   pub command : assignment.key ≡ codes "ExecStart"
 
--- the superuser without further groups, whose bounding set has all capabilities. None is ambient, no filter is on, and no path is
--- mentioned. The notes are those of the grammar of unit files
+-- the superuser without further groups, whose bounding set has all capabilities. None is ambient, no filter is on, memory is not refused, and
+-- no path is mentioned. The notes are those of the grammar of unit files
 pub record AreBare (unit : Resolved) (made : Settings) : Type 0 where
   pub uid : made.uid ≡ 0
   pub gid : made.gid ≡ 0
@@ -29,6 +29,7 @@ pub record AreBare (unit : Resolved) (made : Settings) : Type 0 where
   pub bounding : made.bounding ≡ all
   pub ambient : made.ambient ≡ none
   pub new_privileges : made.no_new_privs ≡ false
+  pub memory : made.mdwe ≡ false
   pub filters : made.filters.items ≡ []
   pub mentions : made.mentions ≡ []
   pub notes : AreInOrder (grammar_notes unit) made.notes.items

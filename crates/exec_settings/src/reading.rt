@@ -60,6 +60,7 @@ pub fn settings(
             uid,
             ambient,
         ),
+        mdwe: made.mdwe,
         filters: made.filters,
         mentions,
         notes,
