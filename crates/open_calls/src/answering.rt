@@ -19,7 +19,7 @@ ghost use Rattle.ceilings.specs.kernel_laws.declared.question_types.question.Que
 use crate::first::call_of;
 use crate::ids::IdKind;
 use crate::service::{Made, Service};
-use ceilings::{CAP_SYS_ADMIN, CallLine, plain_line_at, rule_of};
+use ceilings::{CAP_SYS_ADMIN, CallLine, attaching, plain_line_at, rule_of};
 use questions::{Call, CallKind, NamespaceType, Payload, Question, Rule, World};
 use std::alloc::AllocError;
 
@@ -151,7 +151,7 @@ impl Service<'_> {
             Question::Namespace(kind) => self.push_space(calls, *kind),
             Question::MapWx => self.push_first(calls, CallKind::MapsWx),
             Question::ProtectX => self.push_first(calls, CallKind::ProtectsX),
-            Question::ShmX => self.push_first(calls, CallKind::AttachesX),
+            Question::ShmX => self.push_first(calls, attaching(self.world)),
             Question::Realtime => self.push_first(calls, CallKind::SchedulesRealtime),
             Question::Personality => self.push_first(calls, CallKind::TakesPersonality),
             Question::SuidBit => self.push_first(calls, CallKind::SetsMode),
