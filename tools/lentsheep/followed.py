@@ -16,6 +16,7 @@ FOLLOWED = frozenset(
     home-tmpfs
     hostname-files
     linked-folders
+    mdwe-prctl
     namespace-lines
     newer-values
     nnp-from-more

@@ -109,8 +109,8 @@ filters_alike said table (made ∷ filters) (made' ∷ filters') (code ∷ codes
 )
 
 -- what is asked of a launch, by its parts
-abbrev asked : Path → Identity → ℕ → ℕ → Bool → List (List ℕ) → Wanted
-asked program ids bounding ambient on programs = record {
+abbrev asked : Path → Identity → ℕ → ℕ → Bool → Bool → List (List ℕ) → Wanted
+asked program ids bounding ambient on memory programs = record {
   program = program;
   uid = ids.uid;
   gid = ids.gid;
@@ -118,16 +118,19 @@ asked program ids bounding ambient on programs = record {
   bounding = bounding;
   ambient = ambient;
   no_new_privs = on;
+  mdwe = memory;
   programs = programs;
 }
 
-same_asked : (program program' : Path) (ids ids' : Identity) (bounding bounding' ambient ambient' : ℕ) (on on' : Bool)
-    (programs : List (List ℕ)) → program ≡ program' → ids ≡ ids' → bounding ≡ bounding' → ambient ≡ ambient' → on ≡ on'
-    → asked program ids bounding ambient on programs ≡ asked program' ids' bounding' ambient' on' programs
-same_asked program program' ids ids' bounding bounding' ambient ambient' on on' programs a b c d e =
-    ap (λ own. asked own ids bounding ambient on programs) a ∙ ap (λ own. asked program' own bounding ambient on programs) b
-    ∙ ap (λ own. asked program' ids' own ambient on programs) c ∙ ap (λ own. asked program' ids' bounding' own on programs) d
-    ∙ ap (λ own. asked program' ids' bounding' ambient' own programs) e
+same_asked : (program program' : Path) (ids ids' : Identity) (bounding bounding' ambient ambient' : ℕ) (on on' memory memory' : Bool)
+    (programs : List (List ℕ)) → program ≡ program' → ids ≡ ids' → bounding ≡ bounding' → ambient ≡ ambient' → on ≡ on' → memory ≡ memory'
+    → asked program ids bounding ambient on memory programs ≡ asked program' ids' bounding' ambient' on' memory' programs
+same_asked program program' ids ids' bounding bounding' ambient ambient' on on' memory memory' programs a b c d e f =
+    ap (λ own. asked own ids bounding ambient on memory programs) a ∙ ap (λ own. asked program' own bounding ambient on memory programs) b
+    ∙ ap (λ own. asked program' ids' own ambient on memory programs) c
+    ∙ ap (λ own. asked program' ids' bounding' own on memory programs) d
+    ∙ ap (λ own. asked program' ids' bounding' ambient' own memory programs) e
+    ∙ ap (λ own. asked program' ids' bounding' ambient' on' own programs) f
 
 abbrev ids_of : Settings → Identity
 ids_of settings = record { uid = settings.uid; gid = settings.gid; groups = settings.groups }
@@ -148,10 +151,11 @@ module _ (unit : Resolved) (table : calls.Table) (site : Site) where
   same_wanted settings settings' are are' programs =
       let ids : ids_of settings ≡ ids_of settings' = ok_identity _ _ (sym are.runs_as ∙ are'.runs_as) in
       same_asked settings.program settings'.program (ids_of settings) (ids_of settings') settings.bounding settings'.bounding
-      settings.ambient settings'.ambient settings.no_new_privs settings'.no_new_privs programs
+      settings.ambient settings'.ambient settings.no_new_privs settings'.no_new_privs settings.mdwe settings'.mdwe programs
       (some_path settings.program settings'.program (sym are.launches_the_first_command ∙ are'.launches_the_first_command)) ids
       (are.bounding_without_what_is_taken ∙ sym are'.bounding_without_what_is_taken) (are.ambient ∙ sym are'.ambient)
       (are.new_privileges ∙ ap (λ (own : Identity). unit_new_privileges unit table own.uid) ids ∙ sym are'.new_privileges)
+      (are.refuses_memory ∙ sym are'.refuses_memory)
 
   same_launch : (settings settings' : Settings) (plan : Table) → AreSettings unit table site settings
       → AreSettings unit table site settings' → (programs : List (List ℕ))

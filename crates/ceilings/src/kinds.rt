@@ -18,6 +18,9 @@ const EXEC: u64 = 4;
 /// SHM_EXEC of shmat(2).
 const SHM_EXEC: u64 = 0x8000;
 
+/// SHM_EXEC and SHM_RDONLY of shmat(2).
+const SHM_EXEC_AND_RDONLY: u64 = 0x9000;
+
 /// SCHED_FIFO of sched(7).
 const SCHED_FIFO: u64 = 1;
 
@@ -85,6 +88,7 @@ fn known_words(kind: CallKind, rule: CallRule) -> Option<[u64; 6]>
         (CallKind::MapsWx, CallRule::Map) => one_word(2, WRITE_AND_EXEC),
         (CallKind::ProtectsX, CallRule::Protect) => one_word(2, EXEC),
         (CallKind::AttachesX, CallRule::Attach) => one_word(2, SHM_EXEC),
+        (CallKind::AttachesReadOnlyX, CallRule::Attach) => one_word(2, SHM_EXEC_AND_RDONLY),
         (CallKind::SchedulesRealtime, CallRule::Schedule) => one_word(1, SCHED_FIFO),
         (CallKind::TakesPersonality, CallRule::Personality) => one_word(0, PER_LINUX32),
         (CallKind::SetsMode, CallRule::SetMode(mode)) => one_word(mode.place(), S_ISUID),

@@ -16,6 +16,7 @@ mod ids;
 mod kinds;
 mod leads;
 mod making;
+mod memory;
 mod passing;
 mod powers;
 mod programs;
@@ -41,6 +42,7 @@ pub use kernel_ways::{
 pub use kinds::words;
 pub use leads::{RowLeads, reach_by};
 pub use making::ceiling;
+pub use memory::{attaching, refuses_memory};
 pub use passing::PathCalls;
 pub use programs::{can_run, is_barred};
 pub use ruled::{LineRules, can_make_user};

@@ -43,6 +43,7 @@ use Rattle.filter_settings.specs.CallLists.{call_list, call_notes, unit_call_lis
 use Rattle.filter_settings.specs.ErrorActions.{default_action, error_action_value, unit_error_action}
 use Rattle.filter_settings.specs.FamilyLists.{family_list, family_notes, unit_family_list, unit_family_list_notes}
 use Rattle.filter_settings.specs.Lines.{in_force}
+use Rattle.filter_settings.specs.filter_rules.Memory.{marks_memory}
 use Rattle.filter_settings.specs.Namespaces.{namespaces_notes, namespaces_of, unit_namespaces, unit_namespaces_notes}
 use Rattle.filter_settings.specs.Settings.{filter_notes, list_notes, protection_notes as flag_protection_notes, restriction_notes}
 use Rattle.filter_settings.specs.Settings.{settings_of}
@@ -511,6 +512,7 @@ module _ (unit : Resolved) (h : HasCommandAlone unit) where
         bounding = are.bounding_without_what_is_taken ∙ bounding_all table;
         ambient = are.ambient ∙ ambient_none table;
         new_privileges = are.new_privileges ∙ no_new table made.uid;
+        memory = are.refuses_memory ∙ ap marks_memory (filters_bare table);
         filters = no_names made.filters.items (are.filters_as_wanted.exactly_those_on ∙ none_on table);
         mentions = are.mentions_written_and_implied ∙ no_mentions site;
         notes = subst (λ notes. AreInOrder notes made.notes.items)

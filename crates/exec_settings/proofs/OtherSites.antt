@@ -145,6 +145,7 @@ settings_rest unit table site other made same own = record {
   bounding_without_what_is_taken = own.bounding_without_what_is_taken;
   ambient = own.ambient;
   new_privileges = own.new_privileges;
+  refuses_memory = own.refuses_memory;
   filters_as_wanted = own.filters_as_wanted;
   mentions_written_and_implied = own.mentions_written_and_implied ∙ sym (mentions_same unit site other same.implied);
   leaves_the_root = own.leaves_the_root;

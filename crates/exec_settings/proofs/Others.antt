@@ -22,6 +22,7 @@ use Rattle.filter_settings.specs.CallLists.{call_list, call_notes, unit_call_lis
 use Rattle.filter_settings.specs.ErrorActions.{default_action, error_action_value, unit_error_action}
 use Rattle.filter_settings.specs.FamilyLists.{family_list, family_notes, unit_family_list, unit_family_list_notes}
 use Rattle.filter_settings.specs.Lines.{in_force}
+use Rattle.filter_settings.specs.filter_rules.Memory.{marks_memory}
 use Rattle.filter_settings.specs.Architectures.{is_second, is_read, value_notes, unit_refuses_second, unit_architectures_notes}
 use Rattle.filter_settings.specs.Namespaces.{namespaces_notes, namespaces_of, unit_namespaces, unit_namespaces_notes}
 use Rattle.filter_settings.specs.Settings.{filter_notes, list_notes, protection_notes as flag_protection_notes, restriction_notes}
@@ -440,6 +441,7 @@ module _ (unit : Resolved) where
     bounding_without_what_is_taken = are.bounding_without_what_is_taken ∙ bounding table;
     ambient = are.ambient ∙ ambient table;
     new_privileges = are.new_privileges ∙ new_privileges table made.uid;
+    refuses_memory = are.refuses_memory ∙ ap marks_memory (filters table);
     filters_as_wanted = subst (λ settings. AreFilters settings table made.filters.items) (filters table) are.filters_as_wanted;
     mentions_written_and_implied = are.mentions_written_and_implied ∙ mentions site;
     leaves_the_root = are.leaves_the_root;
@@ -454,6 +456,7 @@ module _ (unit : Resolved) where
     bounding_without_what_is_taken = are.bounding_without_what_is_taken ∙ sym (bounding table);
     ambient = are.ambient ∙ sym (ambient table);
     new_privileges = are.new_privileges ∙ sym (new_privileges table made.uid);
+    refuses_memory = are.refuses_memory ∙ sym (ap marks_memory (filters table));
     filters_as_wanted = subst (λ settings. AreFilters settings table made.filters.items) (sym (filters table)) are.filters_as_wanted;
     mentions_written_and_implied = are.mentions_written_and_implied ∙ sym (mentions site);
     leaves_the_root = are.leaves_the_root;

@@ -9,6 +9,7 @@ use Rattle.cred_settings.specs.dropin_merge.declared.resolved.Resolved.{Resolved
 use Rattle.filter_settings.specs.filter_rules.Costs.{HasShortCases, most_room}
 use Rattle.filter_settings.specs.filter_rules.Refusing.{AreRefusing}
 use Rattle.filter_settings.specs.filter_rules.Installed.{place_of, installed}
+use Rattle.filter_settings.specs.filter_rules.Memory.{marks_memory}
 use Rattle.filter_settings.specs.filter_rules.Wanted.{wanted_action}
 use Rattle.filter_settings.specs.declared.filter_rules.installed.Filter.{Filter}
 use Rattle.filter_settings.specs.declared.filter_rules.settings.FilterSettings.{FilterSettings}
@@ -45,6 +46,7 @@ pub record AreSettings (unit : Resolved) (table : Table) (site : Site) (made : S
   pub bounding_without_what_is_taken : made.bounding ≡ unit_bounding unit table
   pub ambient : made.ambient ≡ unit_ambient unit table
   pub new_privileges : made.no_new_privs ≡ unit_new_privileges unit table made.uid
+  pub refuses_memory : made.mdwe ≡ marks_memory (unit_filters unit table)
   pub filters_as_wanted : AreFilters (unit_filters unit table) table made.filters.items
   pub mentions_written_and_implied : made.mentions ≡ unit_mentions unit site
   pub leaves_the_root : IsTrue (leaves_the_root made.mentions)

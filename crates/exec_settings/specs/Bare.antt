@@ -21,7 +21,7 @@ pub record HasCommandAlone (unit : Resolved) : Type 0 where
   pub command : assignment.key ≡ codes "ExecStart"
 
 -- the service runs as the superuser without further groups, and its bounding set has all capabilities. No capability is ambient, no filter
--- is on, and no path is mentioned. All notes are of the grammar of unit files
+-- is on, no memory is refused, and no path is mentioned. All notes are of the grammar of unit files
 pub record AreBare (unit : Resolved) (made : Settings) : Type 0 where
   pub uid : made.uid ≡ 0
   pub gid : made.gid ≡ 0
@@ -29,6 +29,7 @@ pub record AreBare (unit : Resolved) (made : Settings) : Type 0 where
   pub bounding : made.bounding ≡ all
   pub ambient : made.ambient ≡ none
   pub new_privileges : made.no_new_privs ≡ false
+  pub memory : made.mdwe ≡ false
   pub filters : made.filters.items ≡ []
   pub mentions : made.mentions ≡ []
   pub notes : AreInOrder (grammar_notes unit) made.notes.items

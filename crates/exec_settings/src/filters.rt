@@ -1,6 +1,7 @@
 //! Reads the keys of the filters of system calls, or names the group of calls that the table lacks.
 ghost use Rattle.std.specs.Prelude.{◌≡◌, ◌++◌, IfOk, OnOk};
 ghost use Rattle.filter_settings.specs.filter_rules.Known.{HasKnownFamilies};
+ghost use Rattle.filter_settings.specs.filter_rules.Memory.{marks_memory};
 ghost use Rattle.filter_settings.specs.filter_rules.Refusing.{AreRefusing};
 ghost use Rattle.filter_settings.specs.Settings.{filter_notes};
 ghost use Rattle.exec_settings.specs.AreSettings.{AreFilters};
@@ -14,7 +15,7 @@ use crate::dynamic::with_dynamic_user;
 use crate::errors::SettingsError;
 use crate::groups::missing_group;
 use cred_settings::{CapSet, FileNote, Resolved, Text};
-use filter_settings::filter_rules::{Filter, FilterSettings, filters};
+use filter_settings::filter_rules::{Filter, FilterSettings, filters, marks_memory};
 use filter_settings::{CallTable, filter_settings};
 use mount_settings::Switches;
 use std::alloc::Global;
@@ -24,6 +25,8 @@ use std::alloc::Global;
 pub struct Restrictions {
     /// The filters that are on, in the order in which they are installed.
     pub filters: Vec<Filter>,
+    /// Whether the kernel is to refuse memory that can be both written and executed, without a filter.
+    pub mdwe: bool,
     /// The capabilities that these keys take from the bounding set.
     pub taken: CapSet,
     /// The values of the keys that also imply paths.
@@ -77,6 +80,7 @@ pub fn read_filters(
     requires { is_dynamic ≡ is_dynamic_of unit.now }
     ensures refuses_first { RefusesFirst (group_refusal unit.now calls.now) result }
     ensures as_wanted { IfOk result (λ made. AreFilters (unit_filters unit.now calls.now) calls.now made.filters.items) }
+    ensures marks { IfOk result (λ made. made.mdwe ≡ marks_memory (unit_filters unit.now calls.now)) }
     ensures taken { IfOk result (λ made. made.taken ≡ taken_caps (unit_filters unit.now calls.now)) }
     ensures switches { IfOk result (λ made. made.switches ≡ unit_switches unit.now) }
     ensures noted { OnOk result (notes.new.items ≡ notes.old.items ++ filter_notes unit.now calls.now) }
@@ -84,6 +88,7 @@ pub fn read_filters(
     let found = found_filters(alloc, unit, calls, is_dynamic, notes)?;
     Ok(Restrictions {
         filters: filters(alloc, calls, &found)?,
+        mdwe: marks_memory(&found),
         taken: taken_caps(&found),
         switches: switches_of(is_dynamic, &found),
     })

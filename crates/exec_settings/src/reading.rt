@@ -59,6 +59,7 @@ pub fn settings(
             uid,
             ambient,
         ),
+        mdwe: made.mdwe,
         filters: made.filters,
         mentions,
         notes,

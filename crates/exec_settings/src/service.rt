@@ -21,6 +21,8 @@ pub struct Settings {
     pub ambient: CapSet,
     /// Whether execve(2) can give it no new privileges.
     pub no_new_privs: bool,
+    /// Whether the kernel is to refuse it memory that it can both write and execute, PR_SET_MDWE of prctl(2).
+    pub mdwe: bool,
     /// The filters of system calls that are on, in the order in which they are installed.
     pub filters: Vec<Filter>,
     /// The written mentions, and after them the implied ones.

@@ -4,6 +4,7 @@ pub mod NamespaceTypes
 pub mod Names
 pub mod Families
 pub mod Mapping
+pub mod Memory
 pub mod Realtime
 pub mod Suid
 pub mod Namespaces

@@ -26,7 +26,7 @@ use Rattle.ceilings.specs.launcher.Launch.{Wanted, LaunchStep, Makes, Mounts, La
 use Rattle.ceilings.specs.launcher.Launch.{launch_step, launch_steps, launch_on, launch_from, is_privileged_row, mount_steps, with_unshare}
 use Rattle.ceilings.specs.launcher.Launch.{if_user, has_flags, capbset_drop, cap_ambient, ambient_raise, set_mode_filter, identity_steps}
 use Rattle.ceilings.specs.launcher.Launch.{filter_steps, program_steps, group_steps, drop_steps, inherit_steps, user_steps, raise_steps}
-use Rattle.ceilings.specs.launcher.Launch.{left_steps, privilege_steps}
+use Rattle.ceilings.specs.launcher.Launch.{left_steps, privilege_steps, memory_steps}
 use Rattle.ceilings.specs.launcher.Launches.{HasLaunchCalls, Leaves}
 use Rattle.ceilings.proofs.OfLauncher.HostRoot.{begins_at_host}
 use Rattle.ceilings.proofs.OfLauncher.LaunchCalls.{launch_calls}
@@ -101,23 +101,25 @@ module _ (site other : Site) where
   mounted_site world entry None = refl
   mounted_site world entry (Some process) = refl
 
-  step_there : (world : World) (step : LaunchStep) → world.site ≡ site → other.user_namespaces ≡ site.user_namespaces → NamesNone step
+  step_there : (world : World) (step : LaunchStep) → world.site ≡ site → other.user_namespaces ≡ site.user_namespaces
+      → other.systemd ≡ site.systemd → NamesNone step
       → launch_step (with_site other world) step ≡ sited site other (launch_step world step)
-  step_there world (Makes call) at spaces none = step_sited site other world call at spaces
+  step_there world (Makes call) at spaces version none = step_sited site other world call at spaces version
       (λ process lives. none_same call.payload (table_of world process.namespace) none)
-  step_there world (Mounts entry) at spaces none = ap (λ (v : World). (w.Done 0, v)) (mounted_there world entry (living_of world 1))
+  step_there world (Mounts entry) at spaces version none = ap (λ (v : World). (w.Done 0, v)) (mounted_there world entry (living_of world 1))
 
   site_there : (world : World) (step : LaunchStep) → (launch_step world step).1.site ≡ world.site
   site_there world (Makes call) = site_kept world call
   site_there world (Mounts entry) = mounted_site world entry (living_of world 1)
 
   leads_there : (world last : World) (steps : List LaunchStep) → world.site ≡ site → other.user_namespaces ≡ site.user_namespaces
+      → other.systemd ≡ site.systemd
       → AllByRecursion NamesNone steps → Leads world steps last
       → Leads (with_site other world) steps (with_site other last) × (last.site ≡ site)
-  leads_there world last [] at spaces none l = (ap (with_site other) l, ap (λ (v : World). v.site) (sym l) ∙ at)
-  leads_there world last (step ∷ steps) at spaces none l =
-      let there = step_there world step at spaces none.0 in
-      let more = leads_there (launch_step world step).1 last steps (site_there world step ∙ at) spaces none.1 l.1 in
+  leads_there world last [] at spaces version none l = (ap (with_site other) l, ap (λ (v : World). v.site) (sym l) ∙ at)
+  leads_there world last (step ∷ steps) at spaces version none l =
+      let there = step_there world step at spaces version none.0 in
+      let more = leads_there (launch_step world step).1 last steps (site_there world step ∙ at) spaces version none.1 l.1 in
       ((subst (λ (out : Reply × World). IsDone out.0) (sym there) l.0, subst (λ (out : Reply × World). Leads out.1 steps (with_site other last)) (sym there) more.0), more.1)
 
 -- ---- the steps before the program
@@ -150,8 +152,9 @@ module _ (lines : calls.Table) where
       let three = all_appended NamesNone (group_steps own wanted ++ drop_steps own wanted ++ inherit_steps own wanted) (user_steps own wanted) two (none_user wanted.uid _ (tt, (tt, tt))) in
       let four = all_appended NamesNone (group_steps own wanted ++ drop_steps own wanted ++ inherit_steps own wanted ++ user_steps own wanted) (raise_steps own wanted) three raised in
       let five = all_appended NamesNone (group_steps own wanted ++ drop_steps own wanted ++ inherit_steps own wanted ++ user_steps own wanted ++ raise_steps own wanted) (left_steps own wanted) four (none_user wanted.uid _ (tt, tt)) in
+      let six = all_appended NamesNone (group_steps own wanted ++ drop_steps own wanted ++ inherit_steps own wanted ++ user_steps own wanted ++ raise_steps own wanted ++ left_steps own wanted) (privilege_steps own wanted) five (all_if NamesNone wanted.no_new_privs _ tt) in
       all_appended NamesNone (group_steps own wanted ++ drop_steps own wanted ++ inherit_steps own wanted ++ user_steps own wanted ++
-      raise_steps own wanted ++ left_steps own wanted) (privilege_steps own wanted) five (all_if NamesNone wanted.no_new_privs _ tt)
+      raise_steps own wanted ++ left_steps own wanted ++ privilege_steps own wanted) (memory_steps own wanted) six (all_if NamesNone wanted.mdwe _ tt)
 
   none_filters : (programs : List (List ℕ)) → AllByRecursion NamesNone (filter_steps lines.calls programs)
   none_filters programs = all_map NamesNone (λ bytes. makes lines.calls (codes "seccomp") set_mode_filter 0 0 (pay.Code bytes)) programs
@@ -221,8 +224,8 @@ launch_is_blind folder lines site other wanted plan last steps whole can small f
         let ready = ready_at lines site calls' wanted plan filters.mid (begins_at_host (host_of site) plan can) small filters.before in
         let pushed = filtered lines site calls' [] plan (IsReady wanted.uid wanted.ambient) wanted.programs [] filters.mid parts.mid ready filters.after in
         let none = all_appended NamesNone (before_filters lines wanted plan) (filter_steps lines.calls wanted.programs) (all_appended NamesNone (with_unshare lines.calls (mount_steps plan)) (identity_steps lines.calls wanted) (none_plan lines plan) (none_identity lines wanted)) (none_filters lines wanted.programs) in
-        let there = leads_there site other (start_world lines site) parts.mid (before_program lines wanted plan) refl agree.spaces none parts.before in
-        let stepped = step_sited site other parts.mid (first_call lines.calls (codes "execve") (0 ∷ 0 ∷ 0 ∷ 0 ∷ 0 ∷ 0 ∷ []) (pay.OnePath wanted.program)) there.1 agree.spaces
+        let there = leads_there site other (start_world lines site) parts.mid (before_program lines wanted plan) refl agree.spaces agree.systemd none parts.before in
+        let stepped = step_sited site other parts.mid (first_call lines.calls (codes "execve") (0 ∷ 0 ∷ 0 ∷ 0 ∷ 0 ∷ 0 ∷ []) (pay.OnePath wanted.program)) there.1 agree.spaces agree.systemd
         (λ process lives. subst (λ (t : Table). FindsSame site other t wanted.program) (sym (living_solo lines site (IsReady wanted.uid wanted.ambient) pushed.codes' plan parts.mid pushed.at process lives)) same) in
         let exec : Leads (with_site other parts.mid) (program_steps lines.calls wanted.program) (with_site other last) =
         (subst (λ (out : Reply × World). IsDone out.0) (sym stepped) parts.after.0, ap (λ (out : Reply × World). out.1) stepped ∙ ap (with_site other) parts.after.1) in

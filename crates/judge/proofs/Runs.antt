@@ -39,12 +39,12 @@ use Rattle.ceilings.specs.kernel_model.declared.kernel_calls.payload.Payload.The
 use Rattle.ceilings.specs.kernel_model.declared.kernel_calls.rule.Rule.{Rule}
 use Rattle.ceilings.specs.kernel_model.declared.kernel_calls.rule.Rule.TheVariants as rule
 use Rattle.ceilings.specs.kernel_model.Effects as f
-use Rattle.ceilings.specs.kernel_model.Effects.{Effect, effect_of, looks, creds_effect, table_effect, with_admin, with_own}
+use Rattle.ceilings.specs.kernel_model.Effects.{Effect, effect_of, looks, creds_effect, table_effect, with_admin, with_own, prctl_effect_of}
 use Rattle.ceilings.specs.kernel_model.Runs.{run, replies}
 use Rattle.ceilings.specs.kernel_model.Step.{most_processes, most_namespaces, step, step_by, decided, answered, applied, child_of, child_in}
 use Rattle.ceilings.specs.kernel_model.Step.{moved_in, has_user_left, decision_of}
 use Rattle.ceilings.specs.kernel_model.World.{World, living_of, mounts_of, table_of, with_process, with_copy, with_child, moved_to, host_of}
-use Rattle.ceilings.specs.kernel_model.World.{caller_of, with_user, entered_by, owner_of, is_newer}
+use Rattle.ceilings.specs.kernel_model.World.{caller_of, has_mdwe, with_user, entered_by, owner_of, is_newer}
 use Rattle.ceilings.specs.kernel_model.declared.process.Process.{Process}
 use Rattle.ceilings.specs.kernel_model.declared.reply.Reply.{Reply}
 use Rattle.ceilings.specs.kernel_model.declared.reply.Reply.TheVariants as w
@@ -93,7 +93,7 @@ module _ (site other : Site) where
   abbrev pub sited : Reply × World → Reply × World
   sited out = (out.0, with_site other out.1)
 
-  module _ (world : World) (at_site : world.site ≡ site) (spaces : other.user_namespaces ≡ site.user_namespaces) (pid : ℕ) (process : Process) where
+  module _ (world : World) (at_site : world.site ≡ site) (spaces : other.user_namespaces ≡ site.user_namespaces) (version : other.systemd ≡ site.systemd) (pid : ℕ) (process : Process) where
     abbrev table : Table
     table = table_of world process.namespace
 
@@ -265,6 +265,13 @@ module _ (site other : Site) where
         ∙ ap (λ (own : Site). after_mount (row_at own.rows) (mounts_of world process.namespace) source target flags)
         (sym at_site))
 
+    -- both kernels have the same operations of prctl(2)
+    mdwe_same : has_mdwe other ≡ has_mdwe world.site
+    mdwe_same = ap (λ own. has_mdwe (record world.site { systemd = own })) (version ∙ ap (λ (s : Site). s.systemd) (sym at_site))
+
+    prctl_here : (option value third fourth fifth : ℕ) → Same (d.Prctl option value third fourth fifth)
+    prctl_here option value third fourth fifth = ap (λ mdwe. prctl_effect_of mdwe process.creds option value third fourth fifth) mdwe_same
+
     known_goes : (own : CallRule) (args : List ℕ) (payload : Payload) → PayloadSame table payload → Goes (known_operation own args payload)
     known_goes known.See args payload same = path_goes d.See (λ path s. ap (λ found. looks (see_answer 0 found)) (here path s)) payload same
     known_goes (known.Open at) args payload same = path_goes (d.Open (low_word args (place_of at)))
@@ -298,7 +305,8 @@ module _ (site other : Site) where
     known_goes known.Setresgid args payload same = bare_goes _ refl payload
     known_goes known.Setgroups args payload same = ids_goes payload
     known_goes known.Capset args payload same = sets_goes payload
-    known_goes known.Prctl args payload same = bare_goes _ refl payload
+    known_goes known.Prctl args payload same =
+        bare_goes _ (prctl_here (low_word args 0) (low_word args 1) (low_word args 2) (low_word args 3) (low_word args 4)) payload
     known_goes known.Seccomp args payload same = code_goes _ _ payload
 
     rule_goes : (own : Rule) (args : List ℕ) (payload : Payload) → PayloadSame table payload → Goes (operation_by own args payload)
@@ -320,13 +328,14 @@ module _ (site other : Site) where
     decided_goes call own same decision.Kill = refl
 
   pub step_sited : (world : World) (call : Call) → world.site ≡ site → other.user_namespaces ≡ site.user_namespaces
+      → other.systemd ≡ site.systemd
       → ((process : Process) → living_of world call.pid ≡ Some process → PayloadSame (table_of world process.namespace) call.payload)
       → step (with_site other world) call ≡ sited (step world call)
-  step_sited world call at_site spaces same = by (living_of world call.pid) refl
+  step_sited world call at_site spaces version same = by (living_of world call.pid) refl
     where
       by : (o : Option Process) → living_of world call.pid ≡ o → step_by (with_site other world) call o ≡ sited (step_by world call o)
       by None is = refl
-      by (Some process) is = decided_goes world at_site spaces call.pid process call refl (same process is) (decision_of world call process)
+      by (Some process) is = decided_goes world at_site spaces version call.pid process call refl (same process is) (decision_of world call process)
 
 -- ---- runs
 module _ (folder : Path) (site other : Site) (agree : AgreeOutside folder site other) where
@@ -378,7 +387,7 @@ pub replies_are_blind : RepliesAreBlind
 replies_are_blind folder other world [] agree blind fit = record { replies = refl; runs = refl }
 replies_are_blind folder other world (call ∷ calls) agree blind fit =
     let now : Exposes folder world → ⊥ = blind [] tt in
-    let stepped = step_sited world.site other world call refl agree.spaces (λ process lives. payload_same folder world.site other agree world call.pid process lives now call.payload fit.0.payload) in
+    let stepped = step_sited world.site other world call refl agree.spaces agree.systemd (λ process lives. payload_same folder world.site other agree world call.pid process lives now call.payload fit.0.payload) in
     let next : World = (step world call).1 in
     let more = replies_are_blind folder other next calls (subst (λ (s : Site). AgreeOutside folder s other) (sym (site_kept world call)) agree) (λ list fits. blind (call ∷ list) (fit.0, fits)) fit.1 in
     record {

@@ -8,7 +8,7 @@ ghost use Rattle.ceilings.specs.Own.{IsCeilingOf};
 use crate::ids::{is_gid_open, is_uid_open};
 use crate::lines::{is_call_open, is_namespace_open, is_socket_open, passes};
 use crate::rows::is_path_open;
-use ceilings::Ceiling;
+use ceilings::{Ceiling, attaching, refuses_memory};
 use questions::{CallKind, Question, World};
 
 // Returns whether the question is open, by the ceiling of the launched world and the calls that its filters let
@@ -23,9 +23,9 @@ pub(crate) fn is_open(world: &World<'_>, ceiling: &Ceiling, question: &Question)
         Question::Call(at) => is_call_open(world, ceiling, *at),
         Question::Socket(at) => is_socket_open(world, ceiling, *at),
         Question::Namespace(kind) => is_namespace_open(world, ceiling, *kind),
-        Question::MapWx => passes(world, ceiling, CallKind::MapsWx),
+        Question::MapWx => !refuses_memory(world) && passes(world, ceiling, CallKind::MapsWx),
         Question::ProtectX => passes(world, ceiling, CallKind::ProtectsX),
-        Question::ShmX => passes(world, ceiling, CallKind::AttachesX),
+        Question::ShmX => passes(world, ceiling, attaching(world)),
         Question::Realtime => passes(world, ceiling, CallKind::SchedulesRealtime),
         Question::Personality => passes(world, ceiling, CallKind::TakesPersonality),
         Question::SuidBit => passes(world, ceiling, CallKind::SetsMode),

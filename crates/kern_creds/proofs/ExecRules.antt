@@ -75,10 +75,11 @@ module _ (creds now : Creds) (file : FileCreds) (nosuid : Bool) where
 
   pub rest_stays : after_exec creds file nosuid ≡ Ok now → (now.uids.real ≡ creds.uids.real) × (now.gids.real ≡ creds.gids.real) ×
       (now.groups ≡ creds.groups) × (now.inheritable ≡ creds.inheritable) × (now.bounding ≡ creds.bounding) ×
-      (now.no_new_privs ≡ creds.no_new_privs)
+      (now.no_new_privs ≡ creds.no_new_privs) × (now.mdwe ≡ creds.mdwe)
   rest_stays = done (λ new. (new.uids.real ≡ creds.uids.real) × (new.gids.real ≡ creds.gids.real) × (new.groups ≡ creds.groups) ×
-      (new.inheritable ≡ creds.inheritable) × (new.bounding ≡ creds.bounding) × (new.no_new_privs ≡ creds.no_new_privs))
-      (refl, refl, refl, refl, refl, refl)
+      (new.inheritable ≡ creds.inheritable) × (new.bounding ≡ creds.bounding) × (new.no_new_privs ≡ creds.no_new_privs) ×
+      (new.mdwe ≡ creds.mdwe))
+      (refl, refl, refl, refl, refl, refl, refl)
 
   -- ---- root
 

@@ -5,7 +5,7 @@ use Rattle.kern_creds.specs.Setresuid.{after_setresuid, after_setresgid}
 use Rattle.kern_creds.specs.Setgroups.{after_setgroups}
 use Rattle.kern_creds.specs.Capset.{after_capset}
 use Rattle.kern_creds.specs.Prctl.{after_drop_bounding, after_raise, after_lower, after_clear_ambient, after_set_keepcaps}
-use Rattle.kern_creds.specs.Prctl.{after_set_no_new_privs}
+use Rattle.kern_creds.specs.Prctl.{after_set_no_new_privs, after_set_mdwe}
 use Rattle.kern_creds.specs.Exec.{after_exec}
 use Rattle.kern_creds.specs.declared.file.FileCreds.{FileCreds}
 use Rattle.kern_creds.specs.declared.creds.Creds.{Creds}
@@ -23,6 +23,7 @@ pub data Call : Type 0 where
   ClearAmbient : Call
   SetKeepcaps : Bool → Call
   SetNoNewPrivs : Call
+  SetMdwe : Call
   Exec : FileCreds → Bool → Call
 
 -- the result of a call
@@ -39,4 +40,5 @@ after creds (Lower cap) = after_lower creds cap
 after creds ClearAmbient = Ok (after_clear_ambient creds)
 after creds (SetKeepcaps on) = Ok (after_set_keepcaps creds on)
 after creds SetNoNewPrivs = Ok (after_set_no_new_privs creds)
+after creds SetMdwe = Ok (after_set_mdwe creds)
 after creds (Exec file nosuid) = after_exec creds file nosuid

@@ -36,3 +36,7 @@ after_set_keepcaps creds on = record creds { keepcaps = on }
 -- PR_SET_NO_NEW_PRIVS
 abbrev pub after_set_no_new_privs : Creds → Creds
 after_set_no_new_privs creds = record creds { no_new_privs = true }
+
+-- PR_SET_MDWE, with PR_MDWE_REFUSE_EXEC_GAIN
+abbrev pub after_set_mdwe : Creds → Creds
+after_set_mdwe creds = record creds { mdwe = true }

@@ -19,5 +19,6 @@ start = record {
   bounding = all;
   ambient = none;
   no_new_privs = false;
+  mdwe = false;
   keepcaps = false;
 }

@@ -22,6 +22,7 @@ pub struct Creds {
     pub(crate) bounding: CapSet,
     pub(crate) ambient: CapSet,
     pub(crate) no_new_privs: bool,
+    pub(crate) mdwe: bool,
     pub(crate) keepcaps: bool,
 }
 
@@ -41,6 +42,7 @@ impl Creds {
             bounding: CapSet::full(),
             ambient: CapSet::empty(),
             no_new_privs: false,
+            mdwe: false,
             keepcaps: false,
         }
     }
@@ -59,6 +61,7 @@ impl Creds {
             bounding: self.bounding,
             ambient: self.ambient,
             no_new_privs: self.no_new_privs,
+            mdwe: self.mdwe,
             keepcaps: self.keepcaps,
         })
     }
@@ -130,6 +133,13 @@ impl Creds {
         self.no_new_privs
     }
 
+    /// Whether the process is refused memory that it can both write and execute, PR_GET_MDWE of prctl(2).
+    pub fn mdwe(&self) -> bool
+        ensures as_held { result ≡ self.now.mdwe }
+    {
+        self.mdwe
+    }
+
     /// Whether the process keeps its permitted set when none of its uids is 0 any more, PR_GET_KEEPCAPS of prctl(2).
     pub fn keepcaps(&self) -> bool
         ensures as_held { result ≡ self.now.keepcaps }
@@ -138,7 +148,8 @@ impl Creds {
     }
 
     /// Moves the process into a user namespace of its own, user_namespaces(7). The permitted, effective and bounding sets
-    /// become full, the inheritable and ambient sets empty, and keepcaps is cleared. The ids, the groups and no_new_privs stay.
+    /// become full, the inheritable and ambient sets empty, and keepcaps is cleared. The ids, the groups, no_new_privs and mdwe
+    /// stay.
     pub fn enter(&mut self)
         ensures entered { self.new ≡ entered self.old }
     {

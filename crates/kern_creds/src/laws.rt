@@ -46,6 +46,11 @@ pub fn no_new_privs_holds()
         → IsWithin now.permitted creds.permitted }
 {}
 
+/// No call clears mdwe: a process that is refused memory which it can both write and execute is refused it for good.
+pub fn mdwe_holds()
+    ensures stays_on { (creds now : Creds) → Reaches creds now → creds.mdwe ≡ true → now.mdwe ≡ true }
+{}
+
 /// Only execve without no_new_privs extends the permitted set. The result is within the inheritable and the bounding set.
 pub fn permitted_grows_by_execve()
     ensures by_nothing_else { (creds now : Creds) (call : Call) → Leads creds call now → may_gain creds call ≡ false
@@ -66,7 +71,7 @@ pub fn ids_are_guarded()
 {}
 
 /// Each execve clears keepcaps and copies the effective ids to the saved ones. It keeps the real ids, the groups, the
-/// inheritable set, the bounding set and no_new_privs.
+/// inheritable set, the bounding set, no_new_privs and mdwe.
 pub fn execve_leaves_by_rule()
     ensures keepcaps_is_cleared { (creds now : Creds) (file : FileCreds) (nosuid : Bool) → after_exec creds file nosuid ≡ Ok now
         → now.keepcaps ≡ false }
@@ -80,7 +85,8 @@ pub fn execve_leaves_by_rule()
         → file.setgid ≡ Some group → after_exec creds file nosuid ≡ Ok now → now.gids.effective ≡ group }
     ensures the_rest_stays { (creds now : Creds) (file : FileCreds) (nosuid : Bool) → after_exec creds file nosuid ≡ Ok now
         → (now.uids.real ≡ creds.uids.real) × (now.gids.real ≡ creds.gids.real) × (now.groups ≡ creds.groups)
-        × (now.inheritable ≡ creds.inheritable) × (now.bounding ≡ creds.bounding) × (now.no_new_privs ≡ creds.no_new_privs) }
+        × (now.inheritable ≡ creds.inheritable) × (now.bounding ≡ creds.bounding) × (now.no_new_privs ≡ creds.no_new_privs)
+        × (now.mdwe ≡ creds.mdwe) }
 {}
 
 /// If the real or the effective uid is 0 after execve, the process gets the inheritable and the bounding set as its permitted
@@ -119,12 +125,13 @@ pub fn execve_gives_others()
         → after_exec creds file nosuid ≡ Ok now → now.ambient ≡ creds.ambient }
 {}
 
-/// A process that enters a user namespace of its own gets every capability there, and keeps its ids, its groups and
-/// no_new_privs. In a newer user namespace, execve ignores set-id bits and gives root no more than other users.
+/// A process that enters a user namespace of its own gets every capability there, and keeps its ids, its groups,
+/// no_new_privs and mdwe. In a newer user namespace, execve ignores set-id bits and gives root no more than other users.
 pub fn user_namespaces()
     ensures entering_is_sound { (creds : Creds) → IsSound (entered creds) }
     ensures entering_keeps { (creds : Creds) → ((entered creds).uids ≡ creds.uids) × ((entered creds).gids ≡ creds.gids)
-        × ((entered creds).groups ≡ creds.groups) × ((entered creds).no_new_privs ≡ creds.no_new_privs) }
+        × ((entered creds).groups ≡ creds.groups) × ((entered creds).no_new_privs ≡ creds.no_new_privs)
+        × ((entered creds).mdwe ≡ creds.mdwe) }
     ensures execve_stays_sound { (creds now : Creds) (file : FileCreds) (nosuid : Bool) → IsSound creds
         → exec_in true creds file nosuid ≡ Ok now → IsSound now }
     ensures execve_keeps_ids { (creds now : Creds) (file : FileCreds) (nosuid : Bool) → exec_in true creds file nosuid ≡ Ok now

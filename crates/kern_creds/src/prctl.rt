@@ -3,7 +3,7 @@
 ghost use Rattle.std.specs.Prelude.{◌≡◌};
 ghost use Rattle.kern_creds.specs.Answer.{Becomes};
 ghost use Rattle.kern_creds.specs.Capset.{may_capset, after_capset};
-ghost use Rattle.kern_creds.specs.Prctl.{after_drop_bounding, after_raise, after_lower, after_clear_ambient, after_set_keepcaps, after_set_no_new_privs};
+ghost use Rattle.kern_creds.specs.Prctl.{after_drop_bounding, after_raise, after_lower, after_clear_ambient, after_set_keepcaps, after_set_no_new_privs, after_set_mdwe};
 
 use crate::creds::Creds;
 use crate::sets::single;
@@ -114,5 +114,12 @@ impl Creds {
         ensures set { self.new ≡ after_set_no_new_privs self.old }
     {
         self.no_new_privs = true;
+    }
+
+    /// PR_SET_MDWE with PR_MDWE_REFUSE_EXEC_GAIN: from now on the process is refused memory that it can both write and execute.
+    pub fn set_mdwe(&mut self)
+        ensures set { self.new ≡ after_set_mdwe self.old }
+    {
+        self.mdwe = true;
     }
 }

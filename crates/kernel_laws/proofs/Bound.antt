@@ -209,6 +209,7 @@ module _ (launch : Launch) (uids gids : Bool) (power : Power) (l : IsLaunched la
   pub kept_launch : Keeps top c
   kept_launch = record {
     no_new_privs = λ n. n;
+    mdwe = λ n. n;
     bounding = within_self _;
     inheritable = above_if (lets launch SetsCaps) c.bounding c.inheritable c.inheritable (λ p. l.inheritable_bounding) (λ p. within_self _);
     permitted = above_if c.no_new_privs c.effective (union caps files) c.permitted (λ n. same_within _ _ (sym l.full))

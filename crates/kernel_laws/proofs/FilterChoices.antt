@@ -97,6 +97,7 @@ kind-Attach : (kind : CallKind) (args first : List ℕ) → asks kind (d.Attach 
     → words kind (rule.Known known.Attach) ≡ Some first → has_bits (low_word args 2) 0x8000 ≡ true
 kind-Attach (k.ForPath wish) args first h e = no_wish (d.Attach (low_word args 2)) refl wish h
 kind-Attach k.AttachesX args first h e = h
+kind-Attach k.AttachesReadOnlyX args first h e = (and_parts (has_all 0x8000 (low_word args 2)) (has_all 0x1000 (low_word args 2)) h).0
 kind-Attach kind args first h e = cc
 
 realtime_is : (policy : ℕ) → (policy == 1 || policy == 2) ≡ true → not (is_ordinary policy) ≡ true

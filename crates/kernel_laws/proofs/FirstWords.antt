@@ -93,6 +93,7 @@ given-Protect args kind h = cc
 
 given-Attach : (args : List ℕ) → Given (d.Attach (low_word args 2)) (rule.Known known.Attach)
 given-Attach args k.AttachesX h = record { args = _; are = refl }
+given-Attach args k.AttachesReadOnlyX h = record { args = _; are = refl }
 given-Attach args (k.ForPath wish) h = no_wish (d.Attach (low_word args 2)) refl wish h
 given-Attach args kind h = cc
 
@@ -178,8 +179,11 @@ given-Capset p e i k.SetsCaps h = record { args = _; are = refl }
 given-Capset p e i (k.ForPath wish) h = no_wish (d.Capset p e i) refl wish h
 given-Capset p e i kind h = cc
 
-given-Prctl : (args : List ℕ) → Given (d.Prctl (low_word args 0) (low_word args 1) (low_word args 2)) (rule.Known known.Prctl)
-given-Prctl args (k.ForPath wish) h = no_wish (d.Prctl (low_word args 0) (low_word args 1) (low_word args 2)) refl wish h
+abbrev prctl_of : List ℕ → Operation
+prctl_of args = d.Prctl (low_word args 0) (low_word args 1) (low_word args 2) (low_word args 3) (low_word args 4)
+
+given-Prctl : (args : List ℕ) → Given (prctl_of args) (rule.Known known.Prctl)
+given-Prctl args (k.ForPath wish) h = no_wish (prctl_of args) refl wish h
 given-Prctl args kind h = cc
 
 given-Seccomp : (args : List ℕ) (bytes : List ℕ) → Given (d.Seccomp (low_word args 0) (low_word args 1) bytes) (rule.Known known.Seccomp)
@@ -273,7 +277,7 @@ has_words (rule.Known known.Capset) args (pay.Sets p e i) operation f =
     by_same (d.Capset p e i) operation (rule.Known known.Capset) (given-Capset p e i) (cc)
 has_words (rule.Known known.Capset) args payload operation f = cc
 has_words (rule.Known known.Prctl) args pay.Nothing operation f =
-    by_same (d.Prctl (low_word args 0) (low_word args 1) (low_word args 2)) operation (rule.Known known.Prctl) (given-Prctl args) (cc)
+    by_same (prctl_of args) operation (rule.Known known.Prctl) (given-Prctl args) (cc)
 has_words (rule.Known known.Prctl) args payload operation f = cc
 has_words (rule.Known known.Seccomp) args (pay.Code bytes) operation f =
     by_same (d.Seccomp (low_word args 0) (low_word args 1) bytes) operation (rule.Known known.Seccomp) (given-Seccomp args bytes) (cc)

@@ -6,7 +6,7 @@ use Rattle.kernel_model.specs.cap_sets.Sets.{has, union, single, IsWithin}
 use Rattle.kernel_model.specs.kern_creds.declared.creds.Creds.{Creds}
 use Rattle.kernel_model.specs.kern_creds.Capset.{may_capset, with_sets, after_capset}
 use Rattle.kernel_model.specs.kern_creds.Prctl.{after_drop_bounding, after_raise, after_lower, after_clear_ambient, after_set_keepcaps}
-use Rattle.kernel_model.specs.kern_creds.Prctl.{after_set_no_new_privs}
+use Rattle.kernel_model.specs.kern_creds.Prctl.{after_set_no_new_privs, after_set_mdwe}
 use Rattle.kernel_model.proofs.OfKernCreds.Answers.{Leaves, left_err, left_ok, left_if}
 use Rattle.kernel_laws.specs.Bounds.{Bounds, Keeps}
 use Rattle.kernel_model.proofs.OfCapSets.Members.{within_self, within_through, none_within, cut_within_left, cut_within_right, within_cut}
@@ -44,6 +44,9 @@ module _ (top : Bounds) (creds : Creds) (k : Keeps top creds) where
   pub kept-no_new_privs : Keeps top (after_set_no_new_privs creds)
   kept-no_new_privs = search rules
 
+  pub kept-mdwe : Keeps top (after_set_mdwe creds)
+  kept-mdwe = search rules
+
   pub kept-keepcaps : (on : Bool) → Keeps top (after_set_keepcaps creds on)
   kept-keepcaps on = search rules
 
@@ -65,6 +68,7 @@ module _ (top : Bounds) (creds : Creds) (k : Keeps top creds) where
       let i' = within_through i (union creds.inheritable creds.bounding) top.inheritable facts.inheritable (union_within _ _ _ k.inheritable (within_through creds.bounding top.bounding top.inheritable k.bounding bi)) in
       left_ok (Keeps top) (with_sets creds p e i) record {
         no_new_privs = k.no_new_privs;
+        mdwe = k.mdwe;
         bounding = k.bounding;
         inheritable = i';
         permitted = p';

@@ -121,6 +121,7 @@ module _ (top : Bounds) (creds : Creds) (file : FileCreds) (nosuid : Bool) (k : 
   pub kept-done : Keeps top (exec_done creds file nosuid)
   kept-done = record {
     no_new_privs = k.no_new_privs;
+    mdwe = k.mdwe;
     bounding = k.bounding;
     inheritable = k.inheritable;
     permitted = permitted_top;

@@ -43,6 +43,7 @@ module _ (top : Bounds) where
   kept-switch true false creds pe k = search (rules, none_within)
   kept-switch false true creds pe k = record {
     no_new_privs = k.no_new_privs;
+    mdwe = k.mdwe;
     bounding = k.bounding;
     inheritable = k.inheritable;
     permitted = k.permitted;

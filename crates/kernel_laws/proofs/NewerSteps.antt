@@ -12,7 +12,7 @@ use Rattle.kernel_model.specs.site_table.Table.{row_at}
 use Rattle.filter_settings.specs.linux_numbers.Limits.{no_id}
 use Rattle.kernel_model.specs.kern_creds.declared.creds.Creds.{Creds}
 use Rattle.kernel_model.specs.kern_creds.Prctl.{after_drop_bounding, after_raise, after_lower, after_clear_ambient, after_set_keepcaps}
-use Rattle.kernel_model.specs.kern_creds.Prctl.{after_set_no_new_privs}
+use Rattle.kernel_model.specs.kern_creds.Prctl.{after_set_no_new_privs, after_set_mdwe}
 use Rattle.kernel_model.proofs.OfKernCreds.Answers.{Leaves}
 use Rattle.kernel_model.specs.kern_mounts.Finds.{Found, finds}
 use Rattle.kernel_model.specs.kern_mounts.Mounts.{Mounts as Table, steps_of}
@@ -27,7 +27,8 @@ use Rattle.kernel_model.specs.kernel_calls.Operation.{Operation}
 use Rattle.kernel_model.specs.Effects.{Effect, Refuse, Answer, SetCreds, Push, Child, OwnTable, UserChild, OwnUser, Caller, effect_of}
 use Rattle.kernel_model.specs.Effects.{looks, creds_effect, table_effect, first_alone, with_cap_of, with_admin, with_own, socket_effect}
 use Rattle.kernel_model.specs.Effects.{socketcall_effect, clone_effect, unshare_effect, ambient_effect, prctl_effect, push_effect}
-use Rattle.kernel_model.specs.Effects.{seccomp_effect, newuser, other_spaces, newns}
+use Rattle.kernel_model.specs.Effects.{seccomp_effect, newuser, other_spaces, newns, protect_effect, attach_effect, set_mdwe_effect}
+use Rattle.kernel_model.specs.Effects.{prctl_effect_of}
 use Rattle.kernel_laws.specs.Bounds.{Bounds, KeepsIds}
 use Rattle.kernel_laws.specs.Ceiling.{TableIn, IsStable, IsSafe}
 use Rattle.kernel_laws.specs.Kinds.{asks}
@@ -38,7 +39,7 @@ use Rattle.kernel_laws.specs.declared.question_types.power.Power.{Power}
 use Rattle.kernel_laws.specs.declared.question_types.kind.CallKind.TheVariants as k
 use Rattle.kernel_laws.proofs.MaskBits.{user_flag}
 use Rattle.kernel_laws.proofs.Newer.{ids-clear_ambient, ids-no_new_privs, ids-keepcaps, ids-lower, ids-drop_bounding, ids-raise, ids-capset}
-use Rattle.kernel_laws.proofs.Newer.{ids-exec}
+use Rattle.kernel_laws.proofs.Newer.{ids-exec, ids-mdwe}
 
 module _ (launch : Launch) (power : Power) (top : Bounds) (below : Table → Type 0) (stable : IsStable launch power below) (ours : Bool) where
   abbrev Safe : Effect → Type 0
@@ -113,6 +114,28 @@ module _ (launch : Launch) (power : Power) (top : Bounds) (below : Table → Typ
       (λ e. safe_creds _ (ids-drop_bounding top creds held value)) λ e.
       safe_if (eqb option 47) (ambient_effect creds value third) (Refuse 22) (λ e. safe_ambient creds value third held) (λ e. tt)
 
+  safe_set_mdwe : (creds : Creds) (value : ℕ) (alone : Bool) → KeepsIds top creds → Safe (set_mdwe_effect creds value alone)
+  safe_set_mdwe creds value alone held =
+      safe_if (not alone) (Refuse 22) _ (λ e. tt) λ e.
+      safe_if (eqb value 1) (SetCreds (after_set_mdwe creds)) _ (λ e. ids-mdwe top creds held) λ e.
+      safe_if (eqb value 0) (cond creds.mdwe (Refuse 1) (Answer 0)) (Refuse 22)
+      (λ e. safe_if creds.mdwe (Refuse 1) (Answer 0) (λ e. tt) (λ e. tt)) (λ e. tt)
+
+  safe_prctl_of : (mdwe : Bool) (creds : Creds) (option value third fourth fifth : ℕ) → KeepsIds top creds
+      → Safe (prctl_effect_of mdwe creds option value third fourth fifth)
+  safe_prctl_of mdwe creds option value third fourth fifth held =
+      safe_if (eqb option 65 && mdwe) (set_mdwe_effect creds value ((eqb third 0 && eqb fourth 0) && eqb fifth 0)) _
+      (λ e. safe_set_mdwe creds value ((eqb third 0 && eqb fourth 0) && eqb fifth 0) held) λ e.
+      safe_if (eqb option 66 && mdwe) (Answer (cond creds.mdwe 1 0)) (prctl_effect creds option value third) (λ e. tt)
+      (λ e. safe_prctl creds option value third held)
+
+  safe_protect : (creds : Creds) (protection : ℕ) → Safe (protect_effect creds protection)
+  safe_protect creds protection = safe_if (has_all 6 protection && creds.mdwe) (Refuse 13) (Answer 0) (λ e. tt) (λ e. tt)
+
+  safe_attach : (creds : Creds) (flags : ℕ) → Safe (attach_effect creds flags)
+  safe_attach creds flags = safe_if ((has_all 0x8000 flags && not (has_all 0x1000 flags)) && creds.mdwe) (Refuse 13) (Answer 0) (λ e. tt)
+      (λ e. tt)
+
   safe_push : (stack : List (List Insn)) (program : Option (List Insn)) → Safe (push_effect stack program)
   safe_push stack None = tt
   safe_push stack (Some program) = safe_if (nat_le (room_of stack + length program) 32768) (Push program) (Refuse 12) (λ e. tt) (λ e. tt)
@@ -162,37 +185,38 @@ module _ (launch : Launch) (power : Power) (top : Bounds) (below : Table → Typ
     abbrev pub newer_caller : Creds → List (List Insn) → Caller
     newer_caller creds stack = record { creds = creds; stack = stack; table = table; newer = true; owns = owns }
 
-    pub safe_newer : (families : List CallLine) (creds : Creds) (stack : List (List Insn)) (operation : Operation) → KeepsIds top creds
+    pub safe_newer : (families : List CallLine) (mdwe : Bool) (creds : Creds) (stack : List (List Insn)) (operation : Operation) → KeepsIds top creds
         → Through operation
-        → Safe (effect_of (record { rows = row_at launch.site.rows; families = families }) (newer_caller creds stack) operation)
-    safe_newer families creds stack (d.See path) held p = safe_looks _
-    safe_newer families creds stack (d.Open flags path) held p = safe_looks _
-    safe_newer families creds stack (d.Create path) held p = safe_looks _
-    safe_newer families creds stack (d.Truncate path) held p = safe_looks _
-    safe_newer families creds stack (d.Execve path) held p =
+        → Safe (effect_of (record { rows = row_at launch.site.rows; families = families; mdwe = mdwe }) (newer_caller creds stack) operation)
+    safe_newer families mdwe creds stack (d.See path) held p = safe_looks _
+    safe_newer families mdwe creds stack (d.Open flags path) held p = safe_looks _
+    safe_newer families mdwe creds stack (d.Create path) held p = safe_looks _
+    safe_newer families mdwe creds stack (d.Truncate path) held p = safe_looks _
+    safe_newer families mdwe creds stack (d.Execve path) held p =
         safe_exec creds (program_answer (flags_at (steps_of table) path) (finds (row_at launch.site.rows) (steps_of table) path)) held
-    safe_newer families creds stack (d.SetMode mode) held p = tt
-    safe_newer families creds stack (d.Map protection) held p = tt
-    safe_newer families creds stack (d.Protect protection) held p = tt
-    safe_newer families creds stack (d.Attach flags) held p = tt
-    safe_newer families creds stack (d.Schedule policy) held p = safe_looks _
-    safe_newer families creds stack (d.Personality domain) held p = tt
-    safe_newer families creds stack (d.Socket family) held p = safe_socket creds _
-    safe_newer families creds stack (d.Socketcall op family) held p = safe_socketcall creds op _
-    safe_newer families creds stack d.Enter held p = tt
-    safe_newer families creds stack d.Fork held p = tt
-    safe_newer families creds stack (d.Clone flags) held p = safe_clone creds flags (p (k.ForNamespace User))
-    safe_newer families creds stack (d.Unshare flags) held p = safe_unshare creds flags (p (k.ForNamespace User))
-    safe_newer families creds stack d.Exit held p = tt
-    safe_newer families creds stack (d.Mount source target flags) held p = safe_mount creds source target flags
-    safe_newer families creds stack (d.Umount path flags) held p = safe_umount creds path flags
-    safe_newer families creds stack (d.Setuid id) held p = tt
-    safe_newer families creds stack (d.Setgid id) held p = tt
-    safe_newer families creds stack (d.Setresuid real effective saved) held p = safe_ids real effective saved
-    safe_newer families creds stack (d.Setresgid real effective saved) held p = safe_ids real effective saved
-    safe_newer families creds stack (d.Setgroups ids) held p = tt
-    safe_newer families creds stack (d.Capset permitted effective inheritable) held p =
+    safe_newer families mdwe creds stack (d.SetMode mode) held p = tt
+    safe_newer families mdwe creds stack (d.Map protection) held p = safe_protect creds protection
+    safe_newer families mdwe creds stack (d.Protect protection) held p = safe_protect creds protection
+    safe_newer families mdwe creds stack (d.Attach flags) held p = safe_attach creds flags
+    safe_newer families mdwe creds stack (d.Schedule policy) held p = safe_looks _
+    safe_newer families mdwe creds stack (d.Personality domain) held p = tt
+    safe_newer families mdwe creds stack (d.Socket family) held p = safe_socket creds _
+    safe_newer families mdwe creds stack (d.Socketcall op family) held p = safe_socketcall creds op _
+    safe_newer families mdwe creds stack d.Enter held p = tt
+    safe_newer families mdwe creds stack d.Fork held p = tt
+    safe_newer families mdwe creds stack (d.Clone flags) held p = safe_clone creds flags (p (k.ForNamespace User))
+    safe_newer families mdwe creds stack (d.Unshare flags) held p = safe_unshare creds flags (p (k.ForNamespace User))
+    safe_newer families mdwe creds stack d.Exit held p = tt
+    safe_newer families mdwe creds stack (d.Mount source target flags) held p = safe_mount creds source target flags
+    safe_newer families mdwe creds stack (d.Umount path flags) held p = safe_umount creds path flags
+    safe_newer families mdwe creds stack (d.Setuid id) held p = tt
+    safe_newer families mdwe creds stack (d.Setgid id) held p = tt
+    safe_newer families mdwe creds stack (d.Setresuid real effective saved) held p = safe_ids real effective saved
+    safe_newer families mdwe creds stack (d.Setresgid real effective saved) held p = safe_ids real effective saved
+    safe_newer families mdwe creds stack (d.Setgroups ids) held p = tt
+    safe_newer families mdwe creds stack (d.Capset permitted effective inheritable) held p =
         safe_creds _ (ids-capset top creds held permitted effective inheritable)
-    safe_newer families creds stack (d.Prctl option value third) held p = safe_prctl creds option value third held
-    safe_newer families creds stack (d.Seccomp op flags bytes) held p = safe_seccomp creds stack op flags bytes
-    safe_newer families creds stack (d.Plain cap') held p = safe_alone cap' creds 0
+    safe_newer families mdwe creds stack (d.Prctl option value third fourth fifth) held p =
+        safe_prctl_of mdwe creds option value third fourth fifth held
+    safe_newer families mdwe creds stack (d.Seccomp op flags bytes) held p = safe_seccomp creds stack op flags bytes
+    safe_newer families mdwe creds stack (d.Plain cap') held p = safe_alone cap' creds 0

@@ -104,6 +104,7 @@ known_fit (k.ForNamespace space) known.Unshare first h e = by_same (one_word 0 (
 known_fit k.MapsWx known.Map first h e = by_same (one_word 2 6) first (word_words 2 6 (omega arith)) e
 known_fit k.ProtectsX known.Protect first h e = by_same (one_word 2 4) first (word_words 2 4 (omega arith)) e
 known_fit k.AttachesX known.Attach first h e = by_same (one_word 2 0x8000) first (word_words 2 0x8000 (omega arith)) e
+known_fit k.AttachesReadOnlyX known.Attach first h e = by_same (one_word 2 0x9000) first (word_words 2 0x9000 (omega arith)) e
 known_fit k.SchedulesRealtime known.Schedule first h e = by_same (one_word 1 1) first (word_words 1 1 (omega arith)) e
 known_fit k.TakesPersonality known.Personality first h e = by_same (one_word 0 8) first (word_words 0 8 (omega arith)) e
 known_fit k.SetsMode (known.SetMode at) first h e = by_same (one_word (place_of at) 0x800) first

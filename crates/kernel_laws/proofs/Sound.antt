@@ -1,7 +1,7 @@
 -- What closed bounds rule out is reached by no list of calls.
 use Rattle.std.proofs.Common.{◌≡◌, ℕ, Bool, true, false, Option, Some, None, Result, Ok, Err, ◌⊎◌, inl, inr, refl, cond, ap, ◌∙◌, sym}
 use Rattle.std.proofs.Common.{subst, eqb}
-use Rattle.std.specs.Prelude.{not, nat_lt, length}
+use Rattle.std.specs.Prelude.{not, nat_lt, length, ◌&&◌}
 use Rattle.std.specs.List.{AllByRecursion}
 use Rattle.std.proofs.lemmas.Bool.{eqb-true, and_parts, and_from}
 use Rattle.kernel_model.specs.abs_path.Paths.{Path}
@@ -26,7 +26,7 @@ use Rattle.kernel_model.specs.kernel_calls.Operation.{Operation}
 use Rattle.kernel_model.specs.Effects as f
 use Rattle.kernel_model.specs.Effects.{Effect, effect_of, looks, creds_effect, with_admin, newuser, other_spaces, newns}
 use Rattle.kernel_model.specs.kern_files.Looking.{flags_by, flags_at, access_mode, is_writing, see_answer, write_answer, open_answer}
-use Rattle.filter_settings.specs.linux_numbers.Errnos.{eperm, eagain, enospc, eisdir, einval, erofs}
+use Rattle.filter_settings.specs.linux_numbers.Errnos.{eperm, eagain, eacces, enospc, eisdir, einval, erofs}
 use Rattle.kernel_model.specs.declared.kern_files.program.Program.{Program}
 use Rattle.kernel_model.specs.kern_files.Executing.{marks_of, program_answer, executed_in, exec_answer_in}
 use Rattle.kernel_model.specs.World.{World, table_of, host_of, caller_of, is_newer, with_user, entered_by}
@@ -43,7 +43,8 @@ use Rattle.kernel_laws.specs.declared.question_types.power.Power.{Power}
 use Rattle.kernel_laws.specs.declared.question_types.power.Power.TheVariants.{None as Nowise, Unmount as Unmounting, Mount as Mounting}
 use Rattle.filter_settings.specs.declared.filter_rules.namespace_types.NamespaceType.TheVariants as namespace
 use Rattle.kernel_laws.specs.Questions.{flag_of}
-use Rattle.kernel_laws.specs.Denied.{path_for, asks_space}
+use Rattle.kernel_laws.specs.Denied.{path_for, asks_space, asks_map, asks_attach}
+use Rattle.kernel_laws.specs.Kinds.{asks_attach_read}
 use Rattle.kernel_laws.specs.Reach.{fits}
 use Rattle.kernel_laws.specs.Bound.{is_user}
 use Rattle.kernel_laws.specs.Ceiling.{CanHave}
@@ -312,3 +313,31 @@ cap_done world pid process true (Some own) value number e h = absurd h
 cap_done world pid process false (Some own) value number e h =
     let same : own ≡ number = cc in
     (refl, ap (has process.creds.effective) (sym same) ∙ (when' world pid process (has process.creds.effective own) 1 (f.Answer value) h).0)
+
+-- ---- memory
+-- mmap(2) of memory to be both written and executed is done for a process without the mark alone
+pub map_done : (world : World) (pid : ℕ) (process : Process) (operation : Operation) → asks_map operation ≡ true
+    → DoneBy world pid process (effect_of (host_of world) (caller_of world process) operation) → process.creds.mdwe ≡ false
+map_done world pid process (d.Map protection) asked h =
+    rest (has_all 6 protection) process.creds.mdwe asked
+    (unless world pid process (has_all 6 protection && process.creds.mdwe) eacces (f.Answer 0) h).0
+  where
+    rest : (x m : Bool) → x ≡ true → (x && m) ≡ false → m ≡ false
+    rest true m a e = e
+    rest false m a e = cc
+map_done world pid process operation asked h = cc
+
+-- shmat(2) of memory to be executed is done for a process with the mark if it is not to be written
+pub attach_done : (world : World) (pid : ℕ) (process : Process) (operation : Operation) → asks_attach operation ≡ true
+    → DoneBy world pid process (effect_of (host_of world) (caller_of world process) operation) → process.creds.mdwe ≡ true
+    → asks_attach_read operation ≡ true
+attach_done world pid process (d.Attach flags) asked h on =
+    rest (has_all 0x8000 flags) (has_all 0x1000 flags) process.creds.mdwe asked on
+    (unless world pid process ((has_all 0x8000 flags && not (has_all 0x1000 flags)) && process.creds.mdwe) eacces (f.Answer 0) h).0
+  where
+    rest : (x r m : Bool) → x ≡ true → m ≡ true → ((x && not r) && m) ≡ false → (x && r) ≡ true
+    rest true true m a b e = refl
+    rest true false true a b e = cc
+    rest true false false a b e = cc
+    rest false r m a b e = cc
+attach_done world pid process operation asked h on = cc

@@ -14,7 +14,7 @@ use Rattle.kernel_model.specs.kern_creds.declared.creds.Creds.{Creds}
 use Rattle.kernel_model.specs.kern_creds.declared.file.FileCreds.{FileCreds}
 use Rattle.kernel_model.specs.kern_creds.Exec.{honours, is_refused, after_exec}
 use Rattle.kernel_model.specs.kern_creds.Prctl.{after_drop_bounding, after_raise, after_lower, after_clear_ambient, after_set_keepcaps}
-use Rattle.kernel_model.specs.kern_creds.Prctl.{after_set_no_new_privs}
+use Rattle.kernel_model.specs.kern_creds.Prctl.{after_set_no_new_privs, after_set_mdwe}
 use Rattle.kernel_model.proofs.OfKernCreds.Answers.{Leaves}
 use Rattle.kernel_model.specs.kern_mounts.Finds.{Found, row, empty_directory, nothing, finds}
 use Rattle.kernel_model.specs.kern_files.Bits.{has_some, has_all}
@@ -29,7 +29,7 @@ use Rattle.kernel_model.specs.kernel_calls.Operation.{Operation}
 use Rattle.kernel_model.specs.Effects.{Effect, Refuse, Answer, SetCreds, Push, Child, OwnTable, UserChild, OwnUser, Caller, effect_of}
 use Rattle.kernel_model.specs.Effects.{looks, creds_effect, table_effect, with_cap_of, with_admin, socket_effect, clone_effect}
 use Rattle.kernel_model.specs.Effects.{unshare_effect, ambient_effect, prctl_effect, push_effect, seccomp_effect, newuser, other_spaces}
-use Rattle.kernel_model.specs.Effects.{newns, socketcall_effect}
+use Rattle.kernel_model.specs.Effects.{newns, socketcall_effect, protect_effect, attach_effect, set_mdwe_effect, prctl_effect_of}
 use Rattle.kernel_model.specs.kern_files.Looking.{flags_at}
 use Rattle.kernel_model.specs.declared.kern_files.program.Program.{Program}
 use Rattle.kernel_model.specs.kern_files.Executing.{marks_of, program_answer, executed, exec_answer}
@@ -45,7 +45,7 @@ use Rattle.kernel_laws.specs.Ceiling.{CanHave, CanHold, IsClosed, IsSafe}
 use Rattle.kernel_laws.specs.Spared.{Uses}
 use Rattle.kernel_laws.proofs.MaskBits.{user_flag}
 use Rattle.kernel_laws.proofs.Kept.{kept-clear_ambient, kept-no_new_privs, kept-keepcaps, kept-lower, kept-drop_bounding, kept-raise}
-use Rattle.kernel_laws.proofs.Kept.{kept-capset}
+use Rattle.kernel_laws.proofs.Kept.{kept-capset, kept-mdwe}
 use Rattle.kernel_laws.proofs.KeptIds.{kept-setuid, kept-setresuid, kept-setgid, kept-setresgid, kept-setgroups}
 use Rattle.kernel_laws.proofs.KeptExec.{kept-exec, off}
 use Rattle.kernel_laws.proofs.Ran.{ran_program}
@@ -146,6 +146,28 @@ module _ (launch : Launch) (may_uids may_gids : Bool) (power : Power) (top : Bou
       (λ e. safe_creds _ (kept-drop_bounding top creds held value)) λ e.
       safe_if (eqb option 47) (ambient_effect creds value third) (Refuse 22) (λ e. safe_ambient creds value third held) (λ e. tt)
 
+  safe_set_mdwe : (creds : Creds) (value : ℕ) (alone : Bool) → Keeps top creds → Safe (set_mdwe_effect creds value alone)
+  safe_set_mdwe creds value alone held =
+      safe_if (not alone) (Refuse 22) _ (λ e. tt) λ e.
+      safe_if (eqb value 1) (SetCreds (after_set_mdwe creds)) _ (λ e. kept-mdwe top creds held) λ e.
+      safe_if (eqb value 0) (cond creds.mdwe (Refuse 1) (Answer 0)) (Refuse 22)
+      (λ e. safe_if creds.mdwe (Refuse 1) (Answer 0) (λ e. tt) (λ e. tt)) (λ e. tt)
+
+  safe_prctl_of : (mdwe : Bool) (creds : Creds) (option value third fourth fifth : ℕ) → Keeps top creds
+      → Safe (prctl_effect_of mdwe creds option value third fourth fifth)
+  safe_prctl_of mdwe creds option value third fourth fifth held =
+      safe_if (eqb option 65 && mdwe) (set_mdwe_effect creds value ((eqb third 0 && eqb fourth 0) && eqb fifth 0)) _
+      (λ e. safe_set_mdwe creds value ((eqb third 0 && eqb fourth 0) && eqb fifth 0) held) λ e.
+      safe_if (eqb option 66 && mdwe) (Answer (cond creds.mdwe 1 0)) (prctl_effect creds option value third) (λ e. tt)
+      (λ e. safe_prctl creds option value third held)
+
+  safe_protect : (creds : Creds) (protection : ℕ) → Safe (protect_effect creds protection)
+  safe_protect creds protection = safe_if (has_all 6 protection && creds.mdwe) (Refuse 13) (Answer 0) (λ e. tt) (λ e. tt)
+
+  safe_attach : (creds : Creds) (flags : ℕ) → Safe (attach_effect creds flags)
+  safe_attach creds flags = safe_if ((has_all 0x8000 flags && not (has_all 0x1000 flags)) && creds.mdwe) (Refuse 13) (Answer 0) (λ e. tt)
+      (λ e. tt)
+
   safe_push : (stack : List (List Insn)) (program : Option (List Insn)) → Safe (push_effect stack program)
   safe_push stack None = tt
   safe_push stack (Some program) = safe_if (nat_le (room_of stack + length program) 32768) (Push program) (Refuse 12) (λ e. tt) (λ e. tt)
@@ -195,47 +217,48 @@ module _ (launch : Launch) (may_uids may_gids : Bool) (power : Power) (top : Bou
   abbrev pub first_caller : Creds → List (List Insn) → Mounts → Caller
   first_caller creds stack table = record { creds = creds; stack = stack; table = table; newer = false; owns = true }
 
-  pub safe_effect : (families : List CallLine) (creds : Creds) (stack : List (List Insn)) (table : Mounts) (operation : Operation)
+  pub safe_effect : (families : List CallLine) (mdwe : Bool) (creds : Creds) (stack : List (List Insn)) (table : Mounts) (operation : Operation)
       → Keeps top creds → CanHold power launch.table table → Through operation → Uses may_uids may_gids creds operation
-      → Safe (effect_of (record { rows = row_at launch.site.rows; families = families }) (first_caller creds stack table) operation)
-  safe_effect families creds stack table (d.See path) held allowed p u = safe_looks _
-  safe_effect families creds stack table (d.Open flags path) held allowed p u = safe_looks _
-  safe_effect families creds stack table (d.Create path) held allowed p u = safe_looks _
-  safe_effect families creds stack table (d.Truncate path) held allowed p u = safe_looks _
-  safe_effect families creds stack table (d.Execve path) held allowed p u =
+      → Safe (effect_of (record { rows = row_at launch.site.rows; families = families; mdwe = mdwe }) (first_caller creds stack table) operation)
+  safe_effect families mdwe creds stack table (d.See path) held allowed p u = safe_looks _
+  safe_effect families mdwe creds stack table (d.Open flags path) held allowed p u = safe_looks _
+  safe_effect families mdwe creds stack table (d.Create path) held allowed p u = safe_looks _
+  safe_effect families mdwe creds stack table (d.Truncate path) held allowed p u = safe_looks _
+  safe_effect families mdwe creds stack table (d.Execve path) held allowed p u =
       safe_exec creds (steps_of table) path held allowed.entries _ refl
-  safe_effect families creds stack table (d.SetMode mode) held allowed p u = tt
-  safe_effect families creds stack table (d.Map protection) held allowed p u = tt
-  safe_effect families creds stack table (d.Protect protection) held allowed p u = tt
-  safe_effect families creds stack table (d.Attach flags) held allowed p u = tt
-  safe_effect families creds stack table (d.Schedule policy) held allowed p u = safe_looks _
-  safe_effect families creds stack table (d.Personality domain) held allowed p u = tt
-  safe_effect families creds stack table (d.Socket family) held allowed p u = safe_socket creds _
-  safe_effect families creds stack table (d.Socketcall op family) held allowed p u = safe_socketcall creds op _
-  safe_effect families creds stack table d.Enter held allowed p u = tt
-  safe_effect families creds stack table d.Fork held allowed p u = tt
-  safe_effect families creds stack table (d.Clone flags) held allowed p u = safe_clone creds flags held (p (k.ForNamespace User))
-  safe_effect families creds stack table (d.Unshare flags) held allowed p u = safe_unshare creds flags held (p (k.ForNamespace User))
-  safe_effect families creds stack table d.Exit held allowed p u = tt
-  safe_effect families creds stack table (d.Mount source target flags) held allowed p u =
+  safe_effect families mdwe creds stack table (d.SetMode mode) held allowed p u = tt
+  safe_effect families mdwe creds stack table (d.Map protection) held allowed p u = safe_protect creds protection
+  safe_effect families mdwe creds stack table (d.Protect protection) held allowed p u = safe_protect creds protection
+  safe_effect families mdwe creds stack table (d.Attach flags) held allowed p u = safe_attach creds flags
+  safe_effect families mdwe creds stack table (d.Schedule policy) held allowed p u = safe_looks _
+  safe_effect families mdwe creds stack table (d.Personality domain) held allowed p u = tt
+  safe_effect families mdwe creds stack table (d.Socket family) held allowed p u = safe_socket creds _
+  safe_effect families mdwe creds stack table (d.Socketcall op family) held allowed p u = safe_socketcall creds op _
+  safe_effect families mdwe creds stack table d.Enter held allowed p u = tt
+  safe_effect families mdwe creds stack table d.Fork held allowed p u = tt
+  safe_effect families mdwe creds stack table (d.Clone flags) held allowed p u = safe_clone creds flags held (p (k.ForNamespace User))
+  safe_effect families mdwe creds stack table (d.Unshare flags) held allowed p u = safe_unshare creds flags held (p (k.ForNamespace User))
+  safe_effect families mdwe creds stack table d.Exit held allowed p u = tt
+  safe_effect families mdwe creds stack table (d.Mount source target flags) held allowed p u =
       safe_admin creds (table_effect (after_mount (row_at launch.site.rows) table source target flags)) held
       (λ h. safe_mount table source target flags allowed (closed.mount (p k.ChangesMounts refl) h))
-  safe_effect families creds stack table (d.Umount path flags) held allowed p u =
+  safe_effect families mdwe creds stack table (d.Umount path flags) held allowed p u =
       safe_admin creds (table_effect (umount_answer table path flags)) held
       (λ h. safe_umount table path flags allowed (closed.umount (p k.RemovesMounts refl) h))
-  safe_effect families creds stack table (d.Setuid id) held allowed p u =
+  safe_effect families mdwe creds stack table (d.Setuid id) held allowed p u =
       safe_creds _ (kept-setuid top creds held closed.settled (λ h. closed.any_uid (u.0 refl h) (held.effective.each 7 h)) id)
-  safe_effect families creds stack table (d.Setgid id) held allowed p u =
+  safe_effect families mdwe creds stack table (d.Setgid id) held allowed p u =
       safe_creds _ (kept-setgid top creds held (λ h. closed.any_gid (u.1 refl h) (held.effective.each 6 h)) id)
-  safe_effect families creds stack table (d.Setresuid r e s) held allowed p u =
+  safe_effect families mdwe creds stack table (d.Setresuid r e s) held allowed p u =
       safe_creds _ (kept-setresuid top creds held closed.settled (λ h. closed.any_uid (u.0 refl h) (held.effective.each 7 h)) r e s)
-  safe_effect families creds stack table (d.Setresgid r e s) held allowed p u =
+  safe_effect families mdwe creds stack table (d.Setresgid r e s) held allowed p u =
       safe_creds _ (kept-setresgid top creds held (λ h. closed.any_gid (u.1 refl h) (held.effective.each 6 h)) r e s)
-  safe_effect families creds stack table (d.Setgroups ids) held allowed p u =
+  safe_effect families mdwe creds stack table (d.Setgroups ids) held allowed p u =
       safe_creds _ (kept-setgroups top creds held (λ h. closed.any_gid (u.1 refl h) (held.effective.each 6 h)) ids)
-  safe_effect families creds stack table (d.Capset permitted effective inheritable) held allowed p u =
+  safe_effect families mdwe creds stack table (d.Capset permitted effective inheritable) held allowed p u =
       safe_creds _ (kept-capset top creds held permitted effective inheritable (closed.capset_effective (p k.SetsCaps refl))
       (closed.capset_inheritable (p k.SetsCaps refl)))
-  safe_effect families creds stack table (d.Prctl option value third) held allowed p u = safe_prctl creds option value third held
-  safe_effect families creds stack table (d.Seccomp op flags bytes) held allowed p u = safe_seccomp creds stack op flags bytes
-  safe_effect families creds stack table (d.Plain cap') held allowed p u = safe_cap_of cap' creds 0
+  safe_effect families mdwe creds stack table (d.Prctl option value third fourth fifth) held allowed p u =
+      safe_prctl_of mdwe creds option value third fourth fifth held
+  safe_effect families mdwe creds stack table (d.Seccomp op flags bytes) held allowed p u = safe_seccomp creds stack op flags bytes
+  safe_effect families mdwe creds stack table (d.Plain cap') held allowed p u = safe_cap_of cap' creds 0

@@ -68,7 +68,10 @@ use Rattle.kernel_laws.proofs.Filters.{bare_is, lets_through, line_lets, HasRule
 use Rattle.kernel_laws.proofs.Filters.{found_all, among_all, all_in, slice_all}
 use Rattle.kernel_laws.proofs.Reach.{leads, reaches_if}
 use Rattle.kernel_laws.proofs.Held.{AllHeld, launched_held, ceiling_step, ceiling_run, cap_within, uid_within, gid_within}
+use Rattle.kernel_laws.proofs.KeptExec.{off}
+use Rattle.kernel_laws.proofs.Newer.{ids_of}
 use Rattle.kernel_laws.proofs.Sound.{DoneBy, MadeSpace, wish_fits, run_taken, honours_at, honours_below, space_done, cap_done}
+use Rattle.kernel_laws.proofs.Sound.{map_done, attach_done}
 
 module _ (launch : Launch) (l : IsLaunched launch) (below : Mounts → Type 0) (stable : IsStable launch (power_of launch) below) where
   abbrev power : Power
@@ -329,6 +332,37 @@ module _ (launch : Launch) (l : IsLaunched launch) (below : Mounts → Type 0) (
           by_space false first = or_left (has top.effective 21) (can_make_user launch)
               (has_top now call held (was_done now call p.done) first 21 made.1)
 
+  -- ---- memory
+  -- who has the mark of the launch has it for good
+  mark_stays : (now : World) (call : Call) → All now → (w : WasDone now call) → launch.creds.mdwe ≡ true → w.process.creds.mdwe ≡ true
+  mark_stays now call held w = (ids_of (is_newer w.process) top w.process.creds (held_of now call held w).creds).mdwe
+
+  map_open : (now : World) (call : Call) → IsCall call → All now → Performs asks_map (moment_at now call)
+      → is_open launch asking.MapWx ≡ true
+  map_open now call fit held p =
+      let w = was_done now call p.done in
+      let same = same_operation now call p.operation w.operation p.is w.asks in
+      let asked : asks_map w.operation ≡ true = ap asks_map (sym same) ∙ p.such in
+      let free = off launch.creds.mdwe w.process.creds.mdwe (mark_stays now call held w) (map_done now call.pid w.process w.operation asked w.done) in
+      and_from _ _ (ap not free) (kind_lets now call fit held w k.MapsWx asked)
+
+  shm_open : (now : World) (call : Call) → IsCall call → All now → Performs asks_attach (moment_at now call)
+      → is_open launch asking.ShmX ≡ true
+  shm_open now call fit held p = by launch.creds.mdwe refl
+    where
+      such : (w : WasDone now call) → p.operation ≡ w.operation → asks_attach w.operation ≡ true
+      such w same = ap asks_attach (sym same) ∙ p.such
+
+      by : (m : Bool) → launch.creds.mdwe ≡ m → lets launch (cond m k.AttachesReadOnlyX k.AttachesX) ≡ true
+      by true on =
+          let w = was_done now call p.done in
+          let asked = such w (same_operation now call p.operation w.operation p.is w.asks) in
+          kind_lets now call fit held w k.AttachesReadOnlyX
+          (attach_done now call.pid w.process w.operation asked w.done (mark_stays now call held w on))
+      by false free =
+          let w = was_done now call p.done in
+          kind_lets now call fit held w k.AttachesX (such w (same_operation now call p.operation w.operation p.is w.asks))
+
   -- ---- states
   -- what is reached by a call from a world that is held, or holds there, is open
   reached_open : LeadsToReached → (question : Question) → IsAsked launch.calls question → (now : World) (call : Call) → IsCall call
@@ -337,9 +371,9 @@ module _ (launch : Launch) (l : IsLaunched launch) (below : Mounts → Type 0) (
   reached_open less (asking.Call place) asked now call fit held r = plain_open place now call asked fit held r
   reached_open less (asking.Socket place) asked now call fit held r = socket_open place now call fit held r
   reached_open less (asking.Namespace space) asked now call fit held r = space_open space now call fit held r
-  reached_open less asking.MapWx asked now call fit held r = kind_of now call fit held asks_map r k.MapsWx (λ operation e. e)
+  reached_open less asking.MapWx asked now call fit held r = map_open now call fit held r
   reached_open less asking.ProtectX asked now call fit held r = kind_of now call fit held asks_protect r k.ProtectsX (λ operation e. e)
-  reached_open less asking.ShmX asked now call fit held r = kind_of now call fit held asks_attach r k.AttachesX (λ operation e. e)
+  reached_open less asking.ShmX asked now call fit held r = shm_open now call fit held r
   reached_open less asking.Realtime asked now call fit held r = kind_of now call fit held asks_realtime r k.SchedulesRealtime (λ operation e. e)
   reached_open less asking.Personality asked now call fit held r =
       kind_of now call fit held asks_personality r k.TakesPersonality (λ operation e. e)

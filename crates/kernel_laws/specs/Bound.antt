@@ -15,8 +15,9 @@ use Rattle.kernel_model.specs.declared.kernel_calls.rule.Rule.TheVariants.{Plain
 use Rattle.kernel_model.specs.kernel_calls.Rules.{rule_of}
 use Rattle.kernel_laws.specs.declared.question_types.power.Power.{Power}
 use Rattle.kernel_laws.specs.declared.question_types.power.Power.TheVariants.{None as Nowise, Unmount as Unmounting, Mount as Mounting}
+use Rattle.kernel_laws.specs.declared.question_types.kind.CallKind.{CallKind}
 use Rattle.kernel_laws.specs.declared.question_types.kind.CallKind.TheVariants.{ForPath, PlainCall, ForFamily, ForNamespace, MapsWx}
-use Rattle.kernel_laws.specs.declared.question_types.kind.CallKind.TheVariants.{ProtectsX, AttachesX, SchedulesRealtime, TakesPersonality}
+use Rattle.kernel_laws.specs.declared.question_types.kind.CallKind.TheVariants.{ProtectsX, AttachesX, AttachesReadOnlyX, SchedulesRealtime, TakesPersonality}
 use Rattle.kernel_laws.specs.declared.question_types.kind.CallKind.TheVariants.{SetsMode, ChangesMounts, RemovesMounts, SetsCaps, TakesUid}
 use Rattle.kernel_laws.specs.declared.question_types.kind.CallKind.TheVariants.{TakesGid}
 use Rattle.kernel_laws.specs.declared.question_types.wish.Wish.{Wish}
@@ -119,6 +120,7 @@ grouped_by launch power id row = can_run launch power row && is_owner id row.set
 abbrev pub bounds_by : Launch → Bool → Bool → Power → Bounds
 bounds_by launch uids gids power = record {
   no_new_privs = launch.creds.no_new_privs;
+  mdwe = launch.creds.mdwe;
   bounding = launch.creds.bounding;
   inheritable = if lets launch SetsCaps then launch.creds.bounding else launch.creds.inheritable;
   effective = caps_by launch uids power;
@@ -186,6 +188,10 @@ abbrev pub is_call_open : Launch → Bounds → CallLine → Bool
 is_call_open launch top line = list_any (λ other. bytes_eq line.name other.name && lets_line launch PlainCall other)
     (every_call launch.calls) && can_have_for top (rule_of line)
 
+-- shmat(2) of memory to be executed: once PR_SET_MDWE of prctl(2) refuses memory to be both written and executed, it is not to be written
+abbrev pub attaching : Launch → CallKind
+attaching launch = if launch.creds.mdwe then AttachesReadOnlyX else AttachesX
+
 -- the verdict: open or denied
 abbrev pub open_at : Launch → Power → Bounds → Question → Bool
 open_at launch power top (ByPath wish place) = if_listed (can_reach launch power wish) (slice_get launch.site.rows place)
@@ -195,9 +201,9 @@ open_at launch power top (Socket place) = if_listed (λ line. lets launch (ForFa
 open_at launch power top (Ns space) =
     if is_user space then can_make_user launch else lets launch (ForNamespace space) &&
     (has top.effective cap_sys_admin || can_make_user launch)
-open_at launch power top MapWx = lets launch MapsWx
+open_at launch power top MapWx = not launch.creds.mdwe && lets launch MapsWx
 open_at launch power top ProtectX = lets launch ProtectsX
-open_at launch power top ShmX = lets launch AttachesX
+open_at launch power top ShmX = lets launch (attaching launch)
 open_at launch power top Realtime = lets launch SchedulesRealtime
 open_at launch power top Personality = lets launch TakesPersonality
 open_at launch power top SuidBit = lets launch SetsMode

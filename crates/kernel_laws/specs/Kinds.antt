@@ -9,10 +9,11 @@ use Rattle.kernel_model.specs.declared.kernel_calls.rule.Rule.{Rule}
 use Rattle.kernel_model.specs.declared.kernel_calls.rule.Rule.TheVariants as rule
 use Rattle.kernel_model.specs.kernel_calls.Operation as operation
 use Rattle.kernel_model.specs.kernel_calls.Operation.{Operation}
+use Rattle.kernel_model.specs.kern_files.Bits.{has_all}
 use Rattle.kernel_laws.specs.declared.question_types.wish.Wish.TheVariants.{See as ToSee, Read as ToRead, Write as ToWrite, Exec as ToExec}
 use Rattle.kernel_laws.specs.declared.question_types.kind.CallKind.{CallKind}
 use Rattle.kernel_laws.specs.declared.question_types.kind.CallKind.TheVariants.{ForPath, PlainCall, ForFamily, ForNamespace, MapsWx}
-use Rattle.kernel_laws.specs.declared.question_types.kind.CallKind.TheVariants.{ProtectsX, AttachesX, SchedulesRealtime, TakesPersonality}
+use Rattle.kernel_laws.specs.declared.question_types.kind.CallKind.TheVariants.{ProtectsX, AttachesX, AttachesReadOnlyX, SchedulesRealtime, TakesPersonality}
 use Rattle.kernel_laws.specs.declared.question_types.kind.CallKind.TheVariants.{SetsMode, ChangesMounts, RemovesMounts, SetsCaps, TakesUid}
 use Rattle.kernel_laws.specs.declared.question_types.kind.CallKind.TheVariants.{TakesGid}
 use Rattle.kernel_laws.specs.Questions.{flag_of}
@@ -26,6 +27,11 @@ abbrev pub asks_number : ℕ → Operation → Bool
 asks_number family (operation.Socket own) = own == family
 asks_number family (operation.Socketcall op own) = op == 1 && own == family
 asks_number family _ = false
+
+-- shmat(2): SHM_EXEC and SHM_RDONLY
+abbrev pub asks_attach_read : Operation → Bool
+asks_attach_read (operation.Attach flags) = has_all 0x8000 flags && has_all 0x1000 flags
+asks_attach_read _ = false
 
 abbrev pub asks_mount : Operation → Bool
 asks_mount (operation.Mount source target flags) = true
@@ -59,6 +65,7 @@ asks (ForNamespace space) operation = asks_space space operation
 asks MapsWx operation = asks_map operation
 asks ProtectsX operation = asks_protect operation
 asks AttachesX operation = asks_attach operation
+asks AttachesReadOnlyX operation = asks_attach_read operation
 asks SchedulesRealtime operation = asks_realtime operation
 asks TakesPersonality operation = asks_personality operation
 asks SetsMode operation = asks_mode operation
@@ -77,8 +84,8 @@ abbrev pub one_word : ℕ → ℕ → List ℕ
 one_word at value = set no_words at value
 
 -- the words with which a call of the rule asks for the kind first, or none if it cannot ask for it. The flags and values are O_WRONLY of
--- open(2), PROT_WRITE and PROT_EXEC of mmap(2), PROT_EXEC of mprotect(2), SHM_EXEC of shmat(2), SCHED_FIFO of sched(7), PER_LINUX32 of
--- personality(2), S_ISUID of inode(7) and SYS_SOCKET of socketcall(2)
+-- open(2), PROT_WRITE and PROT_EXEC of mmap(2), PROT_EXEC of mprotect(2), SHM_EXEC and SHM_RDONLY of shmat(2), SCHED_FIFO of sched(7),
+-- PER_LINUX32 of personality(2), S_ISUID of inode(7) and SYS_SOCKET of socketcall(2)
 abbrev pub words : CallKind → Rule → Option (List ℕ)
 words (ForPath ToSee) (rule.Known known.See) = Some no_words
 words (ForPath ToRead) (rule.Known (known.Open flags)) = Some no_words
@@ -94,6 +101,7 @@ words (ForNamespace space) (rule.Known known.Clone) = Some (one_word 0 (flag_of 
 words MapsWx (rule.Known known.Map) = Some (one_word 2 6)
 words ProtectsX (rule.Known known.Protect) = Some (one_word 2 4)
 words AttachesX (rule.Known known.Attach) = Some (one_word 2 0x8000)
+words AttachesReadOnlyX (rule.Known known.Attach) = Some (one_word 2 0x9000)
 words SchedulesRealtime (rule.Known known.Schedule) = Some (one_word 1 1)
 words TakesPersonality (rule.Known known.Personality) = Some (one_word 0 8)
 words SetsMode (rule.Known (known.SetMode mode)) = Some (one_word (place_of mode) 0x800)

@@ -76,7 +76,7 @@ known_form known.Setresuid args = bare_form (Setresuid (low_word args 0) (low_wo
 known_form known.Setresgid args = bare_form (Setresgid (low_word args 0) (low_word args 1) (low_word args 2))
 known_form known.Setgroups args = by_ids_form Setgroups
 known_form known.Capset args = by_sets_form Capset
-known_form known.Prctl args = bare_form (Prctl (low_word args 0) (low_word args 1) (low_word args 2))
+known_form known.Prctl args = bare_form (Prctl (low_word args 0) (low_word args 1) (low_word args 2) (low_word args 3) (low_word args 4))
 known_form known.Seccomp args = by_code_form (Seccomp (low_word args 0) (low_word args 1))
 
 pub form_decides : (rule : Rule) (args : List ℕ) (payload : Payload)
@@ -93,6 +93,13 @@ three_low : (operation : ℕ → ℕ → ℕ → Operation) (args other : List �
     → bare (operation (low_word args 0) (low_word args 1) (low_word args 2)) payload
     ≡ bare (operation (low_word other 0) (low_word other 1) (low_word other 2)) payload
 three_low operation args other payload same = rw (same 0 (omega arith), same 1 (omega arith), same 2 (omega arith)) refl
+
+five_low : (operation : ℕ → ℕ → ℕ → ℕ → ℕ → Operation) (args other : List ℕ) (payload : Payload)
+    → ((at : ℕ) → at < 6 → low_word args at ≡ low_word other at)
+    → bare (operation (low_word args 0) (low_word args 1) (low_word args 2) (low_word args 3) (low_word args 4)) payload
+    ≡ bare (operation (low_word other 0) (low_word other 1) (low_word other 2) (low_word other 3) (low_word other 4)) payload
+five_low operation args other payload same =
+    rw (same 0 (omega arith), same 1 (omega arith), same 2 (omega arith), same 3 (omega arith), same 4 (omega arith)) refl
 
 known_low : (rule : CallRule) (args other : List ℕ) (payload : Payload) → ((at : ℕ) → at < 6 → low_word args at ≡ low_word other at)
     → known_operation rule args payload ≡ known_operation rule other payload
@@ -113,7 +120,7 @@ known_low known.Setuid args other payload same = ap (λ w. bare (Setuid w) paylo
 known_low known.Setgid args other payload same = ap (λ w. bare (Setgid w) payload) (same 0 (omega arith))
 known_low known.Setresuid args other payload same = three_low Setresuid args other payload same
 known_low known.Setresgid args other payload same = three_low Setresgid args other payload same
-known_low known.Prctl args other payload same = three_low Prctl args other payload same
+known_low known.Prctl args other payload same = five_low Prctl args other payload same
 known_low known.Seccomp args other payload same = ap (λ w. by_code (Seccomp w (low_word args 1)) payload) (same 0 (omega arith))
     ∙ ap (λ w. by_code (Seccomp (low_word other 0) w) payload) (same 1 (omega arith))
 known_low call args other payload same = refl

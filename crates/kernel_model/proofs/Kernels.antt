@@ -10,11 +10,11 @@ use Rattle.site_table.specs.cap_sets.Sets.{has}
 use Rattle.kern_mounts.specs.linux_numbers.Errnos.{eperm, eacces, einval, enomem}
 use Rattle.kern_mounts.specs.linux_numbers.Capabilities.{cap_sys_admin, cap_last_cap}
 use Rattle.kern_mounts.specs.linux_numbers.Limits.{max_insns_per_path, no_id}
-use Rattle.kernel_model.specs.kern_files.Bits.{has_some}
+use Rattle.kernel_model.specs.kern_files.Bits.{has_some, has_all}
 use Rattle.call_table.specs.declared.listed.CallLine.{CallLine}
 use Rattle.kern_creds.specs.declared.creds.Creds.{Creds}
 use Rattle.kern_creds.specs.Prctl.{after_drop_bounding, after_raise, after_lower, after_clear_ambient, after_set_keepcaps}
-use Rattle.kern_creds.specs.Prctl.{after_set_no_new_privs}
+use Rattle.kern_creds.specs.Prctl.{after_set_no_new_privs, after_set_mdwe}
 use Rattle.kern_creds.specs.Setuid.{after_setuid, after_setgid}
 use Rattle.kern_creds.specs.Setresuid.{after_setresuid, after_setresgid}
 use Rattle.kern_creds.specs.Setgroups.{after_setgroups}
@@ -31,7 +31,8 @@ use Rattle.kernel_model.specs.Effects as f
 use Rattle.kernel_model.specs.Effects.{Effect, Host, Caller, thread_flag, newns, newuser, other_spaces, no_spaces, effect_of, looks}
 use Rattle.kernel_model.specs.Effects.{creds_effect, table_effect, with_cap, with_cap_of, with_admin, socket_effect, clone_effect}
 use Rattle.kernel_model.specs.Effects.{unshare_effect, is_set_effect, ambient_effect, no_new_privs_effect, keepcaps_effect, prctl_effect}
-use Rattle.kernel_model.specs.Effects.{push_effect, seccomp_effect, first_alone, socketcall_effect}
+use Rattle.kernel_model.specs.Effects.{push_effect, seccomp_effect, first_alone, socketcall_effect, protect_effect, attach_effect}
+use Rattle.kernel_model.specs.Effects.{set_mdwe_effect, prctl_effect_of}
 use Rattle.kernel_model.specs.World.{World, living_of, of_number, table_or, mounts_of, with_process, with_table, with_child, with_copy}
 use Rattle.kernel_model.specs.World.{moved_to, ended, host_of, caller_of, owner_of, with_user, entered_by}
 use Rattle.kernel_model.specs.Step.{step, most_processes, most_namespaces}
@@ -250,6 +251,30 @@ roots_prctl creds option value third = set (option == 38)
     set true = roots_no_new_privs creds value
     set false = get (option == 39)
 
+roots_set_mdwe : (creds : Creds) (value : ℕ) (alone : Bool) → MakesRooted (set_mdwe_effect creds value alone)
+roots_set_mdwe creds value false = refuses einval
+roots_set_mdwe creds value true =
+    roots_if (value == 1) (f.SetCreds (after_set_mdwe creds)) (cond (value == 0) (cond creds.mdwe (f.Refuse eperm) (f.Answer 0)) (f.Refuse einval))
+    (roots_clear (after_set_mdwe creds))
+    (roots_if (value == 0) (cond creds.mdwe (f.Refuse eperm) (f.Answer 0)) (f.Refuse einval)
+    (roots_if creds.mdwe (f.Refuse eperm) (f.Answer 0) (refuses eperm) (gives 0)) (refuses einval))
+
+roots_prctl_of : (mdwe : Bool) (creds : Creds) (option value third fourth fifth : ℕ)
+    → MakesRooted (prctl_effect_of mdwe creds option value third fourth fifth)
+roots_prctl_of mdwe creds option value third fourth fifth =
+    let alone = (third == 0 && fourth == 0) && fifth == 0 in
+    let rest : Effect = prctl_effect creds option value third in
+    let get : Effect = f.Answer (cond creds.mdwe 1 0) in
+    roots_if (option == 65 && mdwe) (set_mdwe_effect creds value alone) (cond (option == 66 && mdwe) get rest) (roots_set_mdwe creds value alone)
+    (roots_if (option == 66 && mdwe) get rest (gives (cond creds.mdwe 1 0)) (roots_prctl creds option value third))
+
+roots_protect : (creds : Creds) (protection : ℕ) → MakesRooted (protect_effect creds protection)
+roots_protect creds protection = roots_if (has_all 6 protection && creds.mdwe) (f.Refuse eacces) (f.Answer 0) (refuses eacces) (gives 0)
+
+roots_attach : (creds : Creds) (flags : ℕ) → MakesRooted (attach_effect creds flags)
+roots_attach creds flags = roots_if ((has_all 0x8000 flags && not (has_all 0x1000 flags)) && creds.mdwe) (f.Refuse eacces) (f.Answer 0)
+    (refuses eacces) (gives 0)
+
 pushes : (program : List Insn) → MakesRooted (f.Push program)
 pushes program = record { rooted = tt }
 
@@ -279,9 +304,9 @@ roots_effect host caller (d.Create path) h = roots_looks _
 roots_effect host caller (d.Truncate path) h = roots_looks _
 roots_effect host caller (d.Execve path) h = roots_creds _
 roots_effect host caller (d.SetMode mode) h = gives 0
-roots_effect host caller (d.Map protection) h = gives 0
-roots_effect host caller (d.Protect protection) h = gives 0
-roots_effect host caller (d.Attach flags) h = gives 0
+roots_effect host caller (d.Map protection) h = roots_protect caller.creds protection
+roots_effect host caller (d.Protect protection) h = roots_protect caller.creds protection
+roots_effect host caller (d.Attach flags) h = roots_attach caller.creds flags
 roots_effect host caller (d.Schedule policy) h = roots_looks _
 roots_effect host caller (d.Personality persona) h = gives 0
 roots_effect host caller (d.Socket family) h = roots_socket caller.newer caller.creds _
@@ -315,7 +340,7 @@ roots_effect host caller (d.Setresgid real effective saved) h =
 roots_effect host caller (d.Setgroups ids) h = roots_if caller.newer (f.Refuse eperm) (creds_effect (after_setgroups caller.creds ids))
     (refuses eperm) (roots_creds _)
 roots_effect host caller (d.Capset permitted effective inheritable) h = roots_creds _
-roots_effect host caller (d.Prctl option value third) h = roots_prctl caller.creds option value third
+roots_effect host caller (d.Prctl option value third fourth fifth) h = roots_prctl_of host.mdwe caller.creds option value third fourth fifth
 roots_effect host caller (d.Seccomp op flags bytes) h = roots_seccomp caller.creds caller.stack op flags bytes
 roots_effect host caller (d.Plain cap) h = roots_alone caller.newer cap caller.creds 0
 

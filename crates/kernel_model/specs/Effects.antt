@@ -18,10 +18,10 @@ use Rattle.kern_creds.specs.Setresuid.{after_setresuid, after_setresgid}
 use Rattle.kern_creds.specs.Setgroups.{after_setgroups}
 use Rattle.kern_creds.specs.Capset.{after_capset}
 use Rattle.kern_creds.specs.Prctl.{after_drop_bounding, after_raise, after_lower, after_clear_ambient, after_set_keepcaps}
-use Rattle.kern_creds.specs.Prctl.{after_set_no_new_privs}
+use Rattle.kern_creds.specs.Prctl.{after_set_no_new_privs, after_set_mdwe}
 use Rattle.kern_mounts.specs.Finds.{finds}
 use Rattle.kern_mounts.specs.Mounts.{Mounts as Table, steps_of}
-use Rattle.kernel_model.specs.kern_files.Bits.{has_some}
+use Rattle.kernel_model.specs.kern_files.Bits.{has_some, has_all}
 use Rattle.kernel_model.specs.kern_files.Looking.{flags_at, see_answer, write_answer, open_answer}
 use Rattle.kernel_model.specs.kern_files.Executing.{exec_answer_in}
 use Rattle.kernel_model.specs.kernel_calls.Operation.{Operation, See, Open, Create, Truncate, Execve, SetMode, Map, Protect, Attach, Schedule}
@@ -63,10 +63,11 @@ pub record Caller : Type 0 where
   -- its mount namespace belongs to its user namespace
   pub owns : Bool
 
--- the host: its rows, and the families of sockets
+-- the host: its rows, the families of sockets, and whether its prctl(2) has PR_SET_MDWE and PR_GET_MDWE
 pub record Host : Type 0 where
   pub rows : Path → Option Row
   pub families : List CallLine
+  pub mdwe : Bool
 
 -- the effect of a rule that changes nothing
 abbrev pub looks : Result ℕ ℕ → Effect
@@ -118,6 +119,15 @@ with_mapped_ids newer real effective saved effect =
 -- setgroups(2) there: EPERM, because its group ids are not mapped
 abbrev pub with_groups : Bool → Effect → Effect
 with_groups newer effect = if newer then Refuse eperm else effect
+
+-- mmap(2), mprotect(2) and pkey_mprotect(2): EACCES for memory with PROT_WRITE and PROT_EXEC, if PR_SET_MDWE of prctl(2) refuses such
+-- memory to the process
+abbrev pub protect_effect : Creds → ℕ → Effect
+protect_effect creds protection = if has_all 6 protection && creds.mdwe then Refuse eacces else Answer 0
+
+-- shmat(2): the same for SHM_EXEC without SHM_RDONLY
+abbrev pub attach_effect : Creds → ℕ → Effect
+attach_effect creds flags = if (has_all 0x8000 flags && not (has_all 0x1000 flags)) && creds.mdwe then Refuse eacces else Answer 0
 
 -- sched(7): SCHED_OTHER, SCHED_FIFO, SCHED_RR, SCHED_BATCH and SCHED_IDLE, which are 0 to 3 and 5
 abbrev pub is_policy : ℕ → Bool
@@ -212,6 +222,22 @@ prctl_effect creds option value third =
     else if option == 47 then ambient_effect creds value third
     else Refuse einval
 
+-- PR_SET_MDWE, with its value and whether its further arguments are 0: EINVAL if they are not, and for any value but 0 and
+-- PR_MDWE_REFUSE_EXEC_GAIN, which is 1. Nothing clears the mark: once it is set, 0 is EPERM
+abbrev pub set_mdwe_effect : Creds → ℕ → Bool → Effect
+set_mdwe_effect creds value alone =
+    if not alone then Refuse einval
+    else if value == 1 then SetCreds (after_set_mdwe creds)
+    else if value == 0 then (if creds.mdwe then Refuse eperm else Answer 0)
+    else Refuse einval
+
+-- prctl(2) of a host, with the operation and its four arguments: PR_SET_MDWE 65 and PR_GET_MDWE 66 if the host has them; else as above
+abbrev pub prctl_effect_of : Bool → Creds → ℕ → ℕ → ℕ → ℕ → ℕ → Effect
+prctl_effect_of mdwe creds option value third fourth fifth =
+    if option == 65 && mdwe then set_mdwe_effect creds value ((third == 0 && fourth == 0) && fifth == 0)
+    else if option == 66 && mdwe then Answer (if creds.mdwe then 1 else 0)
+    else prctl_effect creds option value third
+
 -- EINVAL if the bytes are no program; ENOMEM if the programs would be too long together, where each but the newest counts 4
 -- instructions more
 abbrev pub push_effect : List (List Insn) → Option (List Insn) → Effect
@@ -238,9 +264,9 @@ effect_of host caller (Execve path) =
     creds_effect (exec_answer_in caller.newer caller.creds (flags_at (steps_of caller.table) path)
     (finds host.rows (steps_of caller.table) path))
 effect_of host caller (SetMode mode) = Answer 0
-effect_of host caller (Map protection) = Answer 0
-effect_of host caller (Protect protection) = Answer 0
-effect_of host caller (Attach flags) = Answer 0
+effect_of host caller (Map protection) = protect_effect caller.creds protection
+effect_of host caller (Protect protection) = protect_effect caller.creds protection
+effect_of host caller (Attach flags) = attach_effect caller.creds flags
 effect_of host caller (Schedule policy) = looks (schedule_answer policy)
 effect_of host caller (Personality persona) = Answer 0
 effect_of host caller (Socket family) = socket_effect caller.newer caller.creds (numbered family host.families)
@@ -262,6 +288,6 @@ effect_of host caller (Setresgid real effective saved) = with_mapped_ids caller.
     (creds_effect (after_setresgid caller.creds real effective saved))
 effect_of host caller (Setgroups ids) = with_groups caller.newer (creds_effect (after_setgroups caller.creds ids))
 effect_of host caller (Capset permitted effective inheritable) = creds_effect (after_capset caller.creds permitted effective inheritable)
-effect_of host caller (Prctl option value third) = prctl_effect caller.creds option value third
+effect_of host caller (Prctl option value third fourth fifth) = prctl_effect_of host.mdwe caller.creds option value third fourth fifth
 effect_of host caller (Seccomp op flags bytes) = seccomp_effect caller.creds caller.stack op flags bytes
 effect_of host caller (Plain cap) = first_alone caller.newer cap (with_cap_of cap caller.creds (Answer 0))

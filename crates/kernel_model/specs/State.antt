@@ -9,7 +9,7 @@ use Rattle.kernel_model.specs.declared.reply.Reply.{Reply}
 use Rattle.kernel_model.specs.declared.told.Told.{Told}
 use Rattle.kernel_model.specs.kernel_calls.Operation.{Operation}
 use Rattle.kernel_model.specs.Effects.{Effect, Host, effect_of}
-use Rattle.kernel_model.specs.World.{World, if_alive, host_of, caller_of}
+use Rattle.kernel_model.specs.World.{World, if_alive, has_mdwe, host_of, caller_of}
 use Rattle.kernel_model.specs.Step.{applied}
 
 -- number n is at place n - 1
@@ -27,7 +27,7 @@ abbrev pub world_with : Told → State → World
 world_with told state = world_of told.calls.now told.site.now state
 
 abbrev pub host_by : calls.Table → Site → Host
-host_by calls site = record { rows = row_at site.rows; families = calls.families }
+host_by calls site = record { rows = row_at site.rows; families = calls.families; mdwe = has_mdwe site }
 
 abbrev pub host_with : Told → Host
 host_with told = host_by told.calls.now told.site.now

@@ -3,6 +3,7 @@ use Rattle.std.specs.Prelude.{ℕ, ◌+◌, ◌-◌, ◌==◌, not, Bool, true, 
 use Rattle.std.specs.Prelude.{if◌then◌else◌}
 use Rattle.call_table.specs.Table as calls
 use Rattle.site_table.specs.Table.{Site, row_at}
+use Rattle.unit_names.specs.Versions.{is_257}
 use Rattle.kern_creds.specs.Start as creds
 use Rattle.kern_creds.specs.Enter.{entered}
 use Rattle.kern_mounts.specs.Copying.{copied}
@@ -62,9 +63,13 @@ with_table world namespace table = record world { tables = put_number world.tabl
 abbrev pub ended : Process → Process
 ended process = record process { alive = false }
 
+-- the kernel beside systemd 257 has PR_SET_MDWE and PR_GET_MDWE, prctl(2)
+abbrev pub has_mdwe : Site → Bool
+has_mdwe site = is_257 site.systemd
+
 -- the tables of the host, as a rule sees them
 abbrev pub host_of : World → Host
-host_of world = record { rows = row_at world.site.rows; families = world.calls.families }
+host_of world = record { rows = row_at world.site.rows; families = world.calls.families; mdwe = has_mdwe world.site }
 
 -- the user namespace that owns a mount namespace
 abbrev pub owner_or : Option ℕ → ℕ

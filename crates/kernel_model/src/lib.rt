@@ -16,6 +16,7 @@ pub mod kernel_calls;
 pub mod laws;
 mod looks;
 mod makers;
+mod memory;
 mod mounts;
 mod outcome;
 mod perform;

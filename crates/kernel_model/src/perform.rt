@@ -15,10 +15,10 @@ use crate::clones::{clone, unshare};
 use crate::identity::setgroups;
 use crate::kernel_calls::Operation;
 use crate::looks::{schedule, with_cap_of};
+use crate::memory::{attach, protect};
 use crate::mounts::umount;
 use crate::outcome::Outcome;
 use crate::outcome::Outcome::{MakesChild, Replied};
-use crate::prctl::prctl;
 use crate::process::Process;
 use crate::reply::{Reply, zero_reply};
 use crate::seccomp::seccomp;
@@ -83,11 +83,11 @@ pub(crate) fn perform(
         Operation::Create(path) => Ok(Replied(told.create(table, path))),
         Operation::Truncate(path) => Ok(Replied(told.truncate(table, path))),
         Operation::Execve(path) => Ok(left(told.execute(&mut caller.creds, newer, table, path))),
-        Operation::SetMode(_)
-        | Operation::Map(_)
-        | Operation::Protect(_)
-        | Operation::Attach(_)
-        | Operation::Personality(_) => Ok(Replied(Reply::Done(0))),
+        Operation::SetMode(_) | Operation::Personality(_) => Ok(Replied(Reply::Done(0))),
+        Operation::Map(protection) | Operation::Protect(protection) => {
+            Ok(Replied(protect(&caller.creds, protection)))
+        }
+        Operation::Attach(flags) => Ok(Replied(attach(&caller.creds, flags))),
         Operation::Schedule(policy) => Ok(Replied(schedule(policy))),
         Operation::Socket(family) => Ok(Replied(told.socket(&caller.creds, newer, family))),
         Operation::Socketcall(op, family) => {
@@ -123,9 +123,14 @@ pub(crate) fn perform(
         Operation::Capset(permitted, effective, inheritable) => {
             Ok(left(caller.creds.capset(permitted, effective, inheritable)))
         }
-        Operation::Prctl(option, value, third) => {
-            Ok(Replied(prctl(&mut caller.creds, option, value, third)))
-        }
+        Operation::Prctl(option, value, third, fourth, fifth) => Ok(Replied(told.prctl(
+            &mut caller.creds,
+            option,
+            value,
+            third,
+            fourth,
+            fifth,
+        ))),
         Operation::Seccomp(op, flags, bytes) => {
             let stack = &mut caller.stack;
             Ok(Replied(seccomp(alloc, &caller.creds, stack, op, flags, bytes)?))

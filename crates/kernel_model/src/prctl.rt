@@ -1,12 +1,17 @@
 //! prctl(2): the operations that the kernel models.
 
+ghost use Rattle.std.specs.Prelude.{◌≡◌, ◌==◌, ◌&&◌};
 ghost use Rattle.kernel_model.specs.Effects.{is_set_effect, ambient_effect, no_new_privs_effect, keepcaps_effect, prctl_effect};
+ghost use Rattle.kernel_model.specs.Effects.{prctl_effect_of, set_mdwe_effect};
 ghost use Rattle.kernel_model.specs.Replies.{Answers, Changes};
+ghost use Rattle.kernel_model.specs.World.{has_mdwe};
 
 use crate::reply::{Reply, zero_reply};
+use crate::told::Told;
 use kern_creds::Creds;
 use kern_mounts::linux_numbers::capabilities::CAP_LAST_CAP;
-use kern_mounts::linux_numbers::errnos::EINVAL;
+use kern_mounts::linux_numbers::errnos::{EINVAL, EPERM};
+use site_table::Version;
 
 // The options.
 const PR_SET_KEEPCAPS: u32 = 8;
@@ -18,6 +23,13 @@ const PR_SET_NO_NEW_PRIVS: u32 = 38;
 const PR_GET_NO_NEW_PRIVS: u32 = 39;
 
 const PR_CAP_AMBIENT: u32 = 47;
+
+const PR_SET_MDWE: u32 = 65;
+
+const PR_GET_MDWE: u32 = 66;
+
+// The value of PR_SET_MDWE that refuses memory to be both written and executed.
+const PR_MDWE_REFUSE_EXEC_GAIN: u32 = 1;
 
 // The operations of PR_CAP_AMBIENT.
 const PR_CAP_AMBIENT_IS_SET: u32 = 1;
@@ -76,8 +88,27 @@ fn set_keepcaps(creds: &mut Creds, value: u32) -> Reply
     Reply::Done(0)
 }
 
-/// prctl(2), with the option and the next two arguments. Returns EINVAL for an unknown option.
-pub(crate) fn prctl(creds: &mut Creds, option: u32, value: u32, third: u32) -> Reply
+// PR_SET_MDWE. Returns EINVAL for a further argument, and for any value but 0 and PR_MDWE_REFUSE_EXEC_GAIN. The value 0 changes nothing;
+// once the mark is set it returns EPERM.
+fn set_mdwe(creds: &mut Creds, value: u32, third: u32, fourth: u32, fifth: u32) -> Reply
+    ensures { Changes creds.old result creds.new (set_mdwe_effect creds.old value ((third == 0 && fourth == 0) && fifth == 0)) }
+{
+    if third != 0 || fourth != 0 || fifth != 0 {
+        return Reply::Refused(EINVAL);
+    }
+    match value {
+        PR_MDWE_REFUSE_EXEC_GAIN => {
+            creds.set_mdwe();
+            Reply::Done(0)
+        }
+        0 if creds.mdwe() => Reply::Refused(EPERM),
+        0 => Reply::Done(0),
+        _ => Reply::Refused(EINVAL),
+    }
+}
+
+// prctl(2) without the operations on memory, with the option and the next two arguments. Returns EINVAL for an unknown option.
+fn prctl(creds: &mut Creds, option: u32, value: u32, third: u32) -> Reply
     ensures { Changes creds.old result creds.new (prctl_effect creds.old option value third) }
 {
     match option {
@@ -87,5 +118,33 @@ pub(crate) fn prctl(creds: &mut Creds, option: u32, value: u32, third: u32) -> R
         PR_CAPBSET_DROP => zero_reply(creds.drop_bounding(value)),
         PR_CAP_AMBIENT => ambient(creds, value, third),
         _ => Reply::Refused(EINVAL),
+    }
+}
+
+impl<'a> Told<'a> {
+    // Whether the host's prctl(2) has PR_SET_MDWE and PR_GET_MDWE.
+    fn has_mdwe(&self) -> bool
+        ensures { result ≡ has_mdwe self.now.site.now }
+    {
+        matches!(self.site.systemd(), Some(Version::V257))
+    }
+
+    /// prctl(2), with the option and its four arguments. Returns EINVAL for an unknown option.
+    pub fn prctl(
+        &self,
+        creds: &mut Creds,
+        option: u32,
+        value: u32,
+        third: u32,
+        fourth: u32,
+        fifth: u32,
+    ) -> Reply
+        ensures by_the_option { Changes creds.old result creds.new (prctl_effect_of (has_mdwe self.now.site.now) creds.old option value third fourth fifth) }
+    {
+        match option {
+            PR_SET_MDWE if self.has_mdwe() => set_mdwe(creds, value, third, fourth, fifth),
+            PR_GET_MDWE if self.has_mdwe() => Reply::Done(creds.mdwe().into()),
+            _ => prctl(creds, option, value, third),
+        }
     }
 }

@@ -27,6 +27,7 @@ pub data Choice : CallKind → Rule → List ℕ → Type 0 where
   maps : Choice k.MapsWx (rule.Known known.Map) (one_word 2 6)
   protects : Choice k.ProtectsX (rule.Known known.Protect) (one_word 2 4)
   attaches : Choice k.AttachesX (rule.Known known.Attach) (one_word 2 0x8000)
+  attaches_to_read : Choice k.AttachesReadOnlyX (rule.Known known.Attach) (one_word 2 0x9000)
   schedules : Choice k.SchedulesRealtime (rule.Known known.Schedule) (one_word 1 1)
   personality : Choice k.TakesPersonality (rule.Known known.Personality) (one_word 0 8)
   mode : (at : Argument) → Choice k.SetsMode (rule.Known (known.SetMode at)) (one_word (place_of at) 0x800)
@@ -57,6 +58,7 @@ of_words (k.ForNamespace space) (rule.Known known.Clone) args = as_asked (clone 
 of_words k.MapsWx (rule.Known known.Map) args = as_asked maps
 of_words k.ProtectsX (rule.Known known.Protect) args = as_asked protects
 of_words k.AttachesX (rule.Known known.Attach) args = as_asked attaches
+of_words k.AttachesReadOnlyX (rule.Known known.Attach) args = as_asked attaches_to_read
 of_words k.SchedulesRealtime (rule.Known known.Schedule) args = as_asked schedules
 of_words k.TakesPersonality (rule.Known known.Personality) args = as_asked personality
 of_words k.SetsMode (rule.Known (known.SetMode at)) args = as_asked (mode at)

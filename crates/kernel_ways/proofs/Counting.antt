@@ -14,7 +14,7 @@ use Rattle.launcher.specs.cap_sets.Sets.{has}
 use Rattle.launcher.specs.kern_creds.declared.creds.Creds.{Creds}
 use Rattle.launcher.specs.kern_creds.Capset.{after_capset}
 use Rattle.launcher.specs.kern_creds.Prctl.{after_drop_bounding, after_raise, after_lower, after_clear_ambient, after_set_keepcaps}
-use Rattle.launcher.specs.kern_creds.Prctl.{after_set_no_new_privs}
+use Rattle.launcher.specs.kern_creds.Prctl.{after_set_no_new_privs, after_set_mdwe}
 use Rattle.launcher.specs.kern_creds.Setgroups.{after_setgroups}
 use Rattle.launcher.specs.kern_creds.Setresuid.{after_setresuid, after_setresgid}
 use Rattle.launcher.specs.kern_creds.Setuid.{after_setuid, after_setgid}
@@ -37,7 +37,8 @@ use Rattle.launcher.specs.kernel_model.Effects as f
 use Rattle.launcher.specs.kernel_model.Effects.{Effect, Host, Caller, looks, creds_effect, table_effect, with_cap_of, with_admin}
 use Rattle.launcher.specs.kernel_model.Effects.{first_alone, schedule_answer, socket_effect, is_set_effect, ambient_effect}
 use Rattle.launcher.specs.kernel_model.Effects.{no_new_privs_effect, keepcaps_effect, prctl_effect, push_effect, seccomp_effect, effect_of}
-use Rattle.launcher.specs.kernel_model.Effects.{socketcall_effect}
+use Rattle.launcher.specs.kernel_model.kern_files.Bits.{has_all}
+use Rattle.launcher.specs.kernel_model.Effects.{socketcall_effect, protect_effect, attach_effect, set_mdwe_effect, prctl_effect_of}
 use Rattle.launcher.specs.kernel_model.MountStep.{with_step, stepped_by}
 use Rattle.launcher.specs.kernel_model.Step.{step}
 use Rattle.launcher.specs.kernel_model.StepCases as case
@@ -51,8 +52,8 @@ use Rattle.launcher.proofs.OfKernelModel.Lists.{each-append, length-set, length-
 use Rattle.launcher.specs.kernel_laws.Questions.{if_so, count_from}
 use Rattle.launcher.specs.Launch.{Wanted, LaunchStep, Makes, Mounts, number_of, first_call, makes, capset_step, prctl_step, launch_step}
 use Rattle.launcher.specs.Launch.{launch_steps, mount_steps, with_unshare, group_steps, drop_steps, inherit_steps, user_steps, raise_steps}
-use Rattle.launcher.specs.Launch.{left_steps, privilege_steps, identity_steps, filter_steps, program_steps, call_steps, set_keepcaps}
-use Rattle.launcher.specs.Launch.{capbset_drop, set_no_new_privs, cap_ambient, ambient_raise, set_mode_filter}
+use Rattle.launcher.specs.Launch.{left_steps, privilege_steps, memory_steps, identity_steps, filter_steps, program_steps, call_steps, set_keepcaps}
+use Rattle.launcher.specs.Launch.{capbset_drop, set_no_new_privs, cap_ambient, ambient_raise, set_mdwe, refuse_exec_gain, set_mode_filter}
 use Rattle.launcher.specs.Launches.{HasLaunchCalls}
 use Rattle.launcher.proofs.Leading.{Leads, leads_parts}
 use Rattle.launcher.specs.linux_numbers.Capabilities.{cap_sys_admin, cap_last_cap}
@@ -153,6 +154,29 @@ stays_prctl creds option value third =
     (either (eqb option 24) drop five (stays_creds (after_drop_bounding creds value))
     (either (eqb option 47) (ambient_effect creds value third) (f.Refuse einval) (stays_ambient creds value third) tt))))
 
+stays_prctl_of : (mdwe : Bool) (creds : Creds) (option value third fourth fifth : ℕ)
+    → Stays (prctl_effect_of mdwe creds option value third fourth fifth)
+stays_prctl_of mdwe creds option value third fourth fifth =
+    let alone = (eqb third 0 && eqb fourth 0) && eqb fifth 0 in
+    let rest : Effect = prctl_effect creds option value third in
+    let get : Effect = f.Answer (cond creds.mdwe 1 0) in
+    either (eqb option 65 && mdwe) (set_mdwe_effect creds value alone) (cond (eqb option 66 && mdwe) get rest) (stays_set alone)
+    (either (eqb option 66 && mdwe) get rest tt (stays_prctl creds option value third))
+  where
+    stays_set : (alone : Bool) → Stays (set_mdwe_effect creds value alone)
+    stays_set false = tt
+    stays_set true =
+        let clear : Effect = cond creds.mdwe (f.Refuse eperm) (f.Answer 0) in
+        let two : Effect = cond (eqb value 0) clear (f.Refuse einval) in
+        either (eqb value 1) (f.SetCreds (after_set_mdwe creds)) two tt
+        (either (eqb value 0) clear (f.Refuse einval) (either creds.mdwe (f.Refuse eperm) (f.Answer 0) tt tt) tt)
+
+stays_protect : (creds : Creds) (protection : ℕ) → Stays (protect_effect creds protection)
+stays_protect creds protection = either (has_all 6 protection && creds.mdwe) (f.Refuse eacces) (f.Answer 0) tt tt
+
+stays_attach : (creds : Creds) (flags : ℕ) → Stays (attach_effect creds flags)
+stays_attach creds flags = either ((has_all 0x8000 flags && not (has_all 0x1000 flags)) && creds.mdwe) (f.Refuse eacces) (f.Answer 0) tt tt
+
 stays_seccomp : (creds : Creds) (stack : List (List Insn)) (op flags : ℕ) (code : List ℕ)
     → Stays (seccomp_effect creds stack op flags code)
 stays_seccomp creds stack op flags code =
@@ -174,9 +198,9 @@ effect_stays host caller (d.Execve path) e =
     stays_creds (exec_answer_in caller.newer caller.creds (flags_at (steps_of caller.table) path)
     (finds host.rows (steps_of caller.table) path))
 effect_stays host caller (d.SetMode mode) e = tt
-effect_stays host caller (d.Map protection) e = tt
-effect_stays host caller (d.Protect protection) e = tt
-effect_stays host caller (d.Attach flags) e = tt
+effect_stays host caller (d.Map protection) e = stays_protect caller.creds protection
+effect_stays host caller (d.Protect protection) e = stays_protect caller.creds protection
+effect_stays host caller (d.Attach flags) e = stays_attach caller.creds flags
 effect_stays host caller (d.Schedule policy) e = stays_looks (schedule_answer policy)
 effect_stays host caller (d.Personality persona) e = tt
 effect_stays host caller (d.Socket family) e = stays_socket caller.newer caller.creds (numbered family host.families)
@@ -209,7 +233,8 @@ effect_stays host caller (d.Setgroups ids) e = either caller.newer (f.Refuse epe
     (stays_creds (after_setgroups caller.creds ids))
 effect_stays host caller (d.Capset permitted effective inheritable) e =
     stays_creds (after_capset caller.creds permitted effective inheritable)
-effect_stays host caller (d.Prctl option value third) e = stays_prctl caller.creds option value third
+effect_stays host caller (d.Prctl option value third fourth fifth) e =
+    stays_prctl_of host.mdwe caller.creds option value third fourth fifth
 effect_stays host caller (d.Seccomp op flags code) e = stays_seccomp caller.creds caller.stack op flags code
 effect_stays host caller (d.Plain cap') e = stays_alone caller.newer cap' caller.creds 0
 
@@ -368,6 +393,7 @@ module _ (table : calls.Table) where
         let raises : AreQuiet (raise_steps lines wanted) = each_made (λ cap. prctl_step lines cap_ambient ambient_raise cap) (λ cap. prctl_quiet cap_ambient ambient_raise cap) (filter (has wanted.ambient) (count_from 0 41)) in
         let left' : AreQuiet (left_steps lines wanted) = unless_quiet (eqb wanted.uid 0) _ (capset_quiet wanted.ambient wanted.ambient wanted.ambient, tt) in
         let marks : AreQuiet (privilege_steps lines wanted) = if_quiet wanted.no_new_privs _ (prctl_quiet set_no_new_privs 1 0) in
+        let memory : AreQuiet (memory_steps lines wanted) = if_quiet wanted.mdwe _ (prctl_quiet set_mdwe refuse_exec_gain 0) in
         let filters : AreQuiet (filter_steps lines wanted.programs) = each_made (λ bytes. makes lines (codes "seccomp") set_mode_filter 0 0 (Code bytes)) (λ bytes. quiet_call (codes "seccomp") _ (Code bytes) (Known known.Seccomp) _ calls'.seccomp refl refl) wanted.programs in
         let program : AreQuiet (program_steps lines wanted.program) = (quiet_call (codes "execve") _ (OnePath wanted.program) (Known known.Execve) (d.Execve wanted.program) calls'.execve refl refl, tt) in
         let one = join (group_steps lines wanted) (drop_steps lines wanted) groups drops in
@@ -376,8 +402,9 @@ module _ (table : calls.Table) where
         let four = join (group_steps lines wanted ++ drop_steps lines wanted ++ inherit_steps lines wanted ++ user_steps lines wanted) (raise_steps lines wanted) three raises in
         let five = join (group_steps lines wanted ++ drop_steps lines wanted ++ inherit_steps lines wanted ++ user_steps lines wanted ++ raise_steps lines wanted) (left_steps lines wanted) four left' in
         let six = join (group_steps lines wanted ++ drop_steps lines wanted ++ inherit_steps lines wanted ++ user_steps lines wanted ++ raise_steps lines wanted ++ left_steps lines wanted) (privilege_steps lines wanted) five marks in
-        let seven = join (identity_steps lines wanted) (filter_steps lines wanted.programs) six filters in
-        join (identity_steps lines wanted ++ filter_steps lines wanted.programs) (program_steps lines wanted.program) seven program
+        let seven = join (group_steps lines wanted ++ drop_steps lines wanted ++ inherit_steps lines wanted ++ user_steps lines wanted ++ raise_steps lines wanted ++ left_steps lines wanted ++ privilege_steps lines wanted) (memory_steps lines wanted) six memory in
+        let eight = join (identity_steps lines wanted) (filter_steps lines wanted.programs) seven filters in
+        join (identity_steps lines wanted ++ filter_steps lines wanted.programs) (program_steps lines wanted.program) eight program
 
     -- the mounts in a namespace of their own
     unshared : (steps : List LaunchStep) (world mid : World) → world.calls ≡ table → AreQuiet steps

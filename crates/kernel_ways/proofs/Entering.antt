@@ -21,7 +21,7 @@ use Rattle.launcher.specs.kernel_model.Effects as f
 use Rattle.launcher.specs.kernel_model.Effects.{Effect, effect_of}
 use Rattle.launcher.specs.kernel_model.Runs.{moment_at, moments, run, IsDone}
 use Rattle.launcher.specs.kernel_model.Step.{step, step_by, decided, answered, applied, decision_by, decision_of}
-use Rattle.launcher.specs.kernel_model.World.{World, living_of, mounts_of, table_of, owner_of, host_of, caller_of, is_newer}
+use Rattle.launcher.specs.kernel_model.World.{World, has_mdwe, living_of, mounts_of, table_of, owner_of, host_of, caller_of, is_newer}
 use Rattle.launcher.specs.kernel_model.declared.process.Process.{Process}
 use Rattle.launcher.specs.kernel_model.declared.reply.Reply.{Reply}
 use Rattle.launcher.specs.kernel_laws.Denied.{path_for, ReachesRow, Performs, Reaches, asks_family, asks_space, asks_map, asks_protect}
@@ -71,8 +71,8 @@ module _ (launch : Launch) (creds : Creds) (table : Table) (pid : ℕ) (world : 
 
     comes_to : effect_of (host_of world) (caller_of world own) operation ≡ effect
     comes_to =
-        ap (λ (s : Site). effect_of (record { rows = row_at s.rows; families = world.calls.families }) (caller_of world own) operation) e.site
-        ∙ ap (λ (c : calls.Table). effect_of (record { rows = row_at launch.site.rows; families = c.families })
+        ap (λ (s : Site). effect_of (record { rows = row_at s.rows; families = world.calls.families; mdwe = has_mdwe s }) (caller_of world own) operation) e.site
+        ∙ ap (λ (c : calls.Table). effect_of (record { rows = row_at launch.site.rows; families = c.families; mdwe = has_mdwe launch.site })
         (caller_of world own) operation) e.calls
         ∙ ap (λ (c : Creds). effect_of (host_at launch)
         (record { creds = c; stack = own.stack; table = mounts_of world own.namespace; newer = is_newer own; owns = owns }) operation) e.has

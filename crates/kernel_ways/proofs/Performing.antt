@@ -1,8 +1,9 @@
 -- Calls that ask for a thing and name no path.
 use Rattle.std.proofs.Common.{◌≡◌, ℕ, Bool, true, false, List, [], ◌∷◌, Option, Some, None, refl, ap, ◌∙◌, subst, cond, arith, ◌<◌}
-use Rattle.std.specs.Prelude.{◌^◌, ◌%◌}
+use Rattle.std.specs.Prelude.{◌^◌, ◌%◌, not}
+use Rattle.std.proofs.lemmas.Bool.{and_parts, not-true}
 use Rattle.launcher.specs.cap_sets.Sets.{has}
-use Rattle.launcher.specs.linux_numbers.Errnos.{eperm}
+use Rattle.launcher.specs.linux_numbers.Errnos.{eacces, eperm}
 use Rattle.launcher.specs.call_table.declared.call_names.rule.Argument.TheVariants as argument
 use Rattle.launcher.specs.call_table.declared.call_names.rule.CallRule.TheVariants as known
 use Rattle.launcher.specs.call_table.declared.listed.CallLine.{CallLine}
@@ -15,16 +16,17 @@ use Rattle.launcher.specs.kernel_model.kernel_calls.Rules.{rule_of, rule_at}
 use Rattle.launcher.specs.kernel_model.declared.kernel_calls.payload.Payload.TheVariants as pay
 use Rattle.launcher.specs.kernel_model.declared.kernel_calls.rule.Rule.{Rule}
 use Rattle.launcher.specs.kernel_model.declared.kernel_calls.rule.Rule.TheVariants as rule
+use Rattle.launcher.specs.kernel_model.kern_files.Bits.{has_all}
 use Rattle.launcher.specs.kernel_model.Effects as f
 use Rattle.launcher.specs.kernel_model.Effects.{Effect, effect_of, with_cap_of, socket_effect}
 use Rattle.launcher.specs.kernel_laws.Bound.{is_user}
-use Rattle.launcher.specs.kernel_laws.Denied.{asks_space}
+use Rattle.launcher.specs.kernel_laws.Denied.{asks_space, asks_attach}
 use Rattle.launcher.specs.kernel_laws.declared.question_types.kind.CallKind.{CallKind}
 use Rattle.launcher.specs.filter_settings.declared.filter_rules.namespace_types.NamespaceType.{NamespaceType}
 use Rattle.launcher.specs.kernel_laws.declared.question_types.kind.CallKind.TheVariants as kinds
 use Rattle.launcher.specs.filter_settings.declared.filter_rules.namespace_types.NamespaceType.TheVariants as namespace
 use Rattle.launcher.specs.kernel_laws.Kinds as k
-use Rattle.launcher.specs.kernel_laws.Kinds.{AreWords, asks_plain, family_payload, no_words, one_word}
+use Rattle.launcher.specs.kernel_laws.Kinds.{AreWords, asks_attach_read, asks_plain, family_payload, no_words, one_word}
 use Rattle.launcher.specs.kernel_laws.Launched.{Launch, passes}
 use Rattle.launcher.specs.kernel_laws.Questions.{flag_of}
 use Rattle.kernel_ways.specs.Ways.{effect_on, host_at, caller_at, CallAt, IsCallAt, rule_there, passes_at, place_of}
@@ -42,15 +44,21 @@ cap_lets : (creds : Creds) (o : Option ℕ) (effect : Effect) → CapAtHand cred
 cap_lets creds None effect h = refl
 cap_lets creds (Some number) effect h = ap (λ b. cond b effect (f.Refuse eperm)) h
 
--- a call asks for it by its words alone, and every process may
-abbrev pub is_free : CallKind → Bool
-is_free kinds.MapsWx = true
-is_free kinds.ProtectsX = true
-is_free kinds.AttachesX = true
-is_free kinds.SchedulesRealtime = true
-is_free kinds.TakesPersonality = true
-is_free kinds.SetsMode = true
-is_free kind = false
+-- memory that is only read is attached too
+pub read_attaches : (operation : Operation) → asks_attach_read operation ≡ true → asks_attach operation ≡ true
+read_attaches (d.Attach flags) e = (and_parts (has_all 0x8000 flags) (has_all 0x1000 flags) e).0
+read_attaches operation e = cc
+
+-- a call asks for it by its words alone, and every process may, by whether it has the mark that refuses memory
+abbrev pub is_free : CallKind → Bool → Bool
+is_free kinds.MapsWx marked = not marked
+is_free kinds.ProtectsX marked = true
+is_free kinds.AttachesX marked = not marked
+is_free kinds.AttachesReadOnlyX marked = true
+is_free kinds.SchedulesRealtime marked = true
+is_free kinds.TakesPersonality marked = true
+is_free kinds.SetsMode marked = true
+is_free kind marked = false
 
 module _ (launch : Launch) (creds : Creds) (table : Table) where
   -- a call without a payload, by its number and its words
@@ -66,15 +74,22 @@ module _ (launch : Launch) (creds : Creds) (table : Table) where
     such = such;
   }
 
+  -- what the mark refuses
+  unrefused : not creds.mdwe ≡ true → cond creds.mdwe (f.Refuse eacces) (f.Answer 0) ≡ f.Answer 0
+  unrefused h = ap (λ b. cond b (f.Refuse eacces) (f.Answer 0)) (not-true creds.mdwe h)
+
   free_by : {kind : CallKind} {own : Rule} {args : List ℕ} → (nr : CallAt) → IsCallAt nr → rule_there launch nr ≡ Some own
-      → passes_at launch nr args → is_free kind ≡ true → choices.Choice kind own args
+      → passes_at launch nr args → is_free kind creds.mdwe ≡ true → choices.Choice kind own args
       → Performed launch creds table (k.asks kind) (first_by nr args pay.Nothing)
   free_by nr n at t h choices.maps = bare_call (k.asks kinds.MapsWx) nr (rule.Known known.Map) (one_word 2 6) (d.Map 6) (f.Answer 0) n
-      (six 0 0 6 0 (omega arith) (omega arith) (omega arith) (omega arith)) at t refl refl tt refl
+      (six 0 0 6 0 (omega arith) (omega arith) (omega arith) (omega arith)) at t refl (unrefused h) tt refl
   free_by nr n at t h choices.protects = bare_call (k.asks kinds.ProtectsX) nr (rule.Known known.Protect) (one_word 2 4) (d.Protect 4)
       (f.Answer 0) n (six 0 0 4 0 (omega arith) (omega arith) (omega arith) (omega arith)) at t refl refl tt refl
   free_by nr n at t h choices.attaches = bare_call (k.asks kinds.AttachesX) nr (rule.Known known.Attach) (one_word 2 0x8000)
-      (d.Attach 0x8000) (f.Answer 0) n (six 0 0 0x8000 0 (omega arith) (omega arith) (omega arith) (omega arith)) at t refl refl tt refl
+      (d.Attach 0x8000) (f.Answer 0) n (six 0 0 0x8000 0 (omega arith) (omega arith) (omega arith) (omega arith)) at t refl (unrefused h) tt
+      refl
+  free_by nr n at t h choices.attaches_to_read = bare_call (k.asks kinds.AttachesReadOnlyX) nr (rule.Known known.Attach) (one_word 2 0x9000)
+      (d.Attach 0x9000) (f.Answer 0) n (six 0 0 0x9000 0 (omega arith) (omega arith) (omega arith) (omega arith)) at t refl refl tt refl
   free_by nr n at t h choices.schedules = bare_call (k.asks kinds.SchedulesRealtime) nr (rule.Known known.Schedule) (one_word 1 1)
       (d.Schedule 1) (f.Answer 0) n (six 0 1 0 0 (omega arith) (omega arith) (omega arith) (omega arith)) at t refl refl tt refl
   free_by nr n at t h choices.personality = bare_call (k.asks kinds.TakesPersonality) nr (rule.Known known.Personality) (one_word 0 8)
@@ -87,7 +102,7 @@ module _ (launch : Launch) (creds : Creds) (table : Table) where
       refl refl tt refl
   free_by nr n at t h choice = cc
 
-  pub free : (kind : CallKind) → is_free kind ≡ true → (line : Line launch kind)
+  pub free : (kind : CallKind) → is_free kind creds.mdwe ≡ true → (line : Line launch kind)
       → Performed launch creds table (k.asks kind) (first_by (place_of line.line) line.args pay.Nothing)
   free kind h line = free_by (place_of line.line) line.number line.at line.through h (choice_of line)
 

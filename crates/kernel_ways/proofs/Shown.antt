@@ -54,7 +54,8 @@ use Rattle.kernel_ways.proofs.Solo.{way_join}
 use Rattle.kernel_ways.proofs.Lines.{same_rule, Line, first_by, low_number, some_line, line_at, any_at, of_abi}
 use Rattle.kernel_ways.proofs.Operations.{PathCall, Performed, see_path, read_path, write_path, exec_path}
 use Rattle.kernel_ways.proofs.Performing as performing
-use Rattle.kernel_ways.proofs.Performing.{CapAtHand, is_free}
+use Rattle.std.proofs.Common.{cond}
+use Rattle.kernel_ways.proofs.Performing.{CapAtHand, is_free, read_attaches}
 use Rattle.kernel_ways.proofs.Rows.{IsKnown, known_at}
 use Rattle.kernel_ways.proofs.Exposing.{exposed, way_mounts, mounts_pass}
 use Rattle.kernel_ways.proofs.Attained.{Gained, attained, admin_gained}
@@ -216,7 +217,7 @@ module _ (world : World) (launch : Launch) (l : IsLaunched launch) (o : Offers l
   by_performed question p {calls = calls} creds now way {call = call} x a = (calls ++ call ∷ [], calls_show launch launch.creds creds launch.table now world calls question x.operation call x.effect s way x.makes x.doable a)
 
   -- what every process may ask for
-  shown_free : (question : Question) (kind : CallKind) → is_free kind ≡ true
+  shown_free : (question : Question) (kind : CallKind) → is_free kind launch.creds.mdwe ≡ true
       → ((call : Call) (x : Performed launch launch.creds launch.table (k.asks kind) call)
       → Answers launch launch.table question call x.operation) → lets launch kind ≡ true → IsShown world question
   shown_free question kind h answers e = let x = performing.free launch launch.creds launch.table kind h (some_line launch l kind e) in by_performed question (k.asks kind) launch.creds launch.table here x (answers _ x)
@@ -305,6 +306,15 @@ module _ (world : World) (launch : Launch) (l : IsLaunched launch) (o : Offers l
   shown_ns namespace.Pid e = other namespace.Pid refl e
   shown_ns namespace.Uts e = other namespace.Uts refl e
 
+  -- memory that is only read is attached where the mark refuses other memory
+  shown_attached : is_open launch asking.ShmX ≡ true → IsShown world asking.ShmX
+  shown_attached e = by launch.creds.mdwe refl e
+    where
+      by : (m : Bool) → launch.creds.mdwe ≡ m → lets launch (cond m kinds.AttachesReadOnlyX kinds.AttachesX) ≡ true
+          → IsShown world asking.ShmX
+      by true on h = shown_free asking.ShmX kinds.AttachesReadOnlyX refl (λ call x. read_attaches x.operation x.such) h
+      by false off h = shown_free asking.ShmX kinds.AttachesX (ap not off) (λ call x. x.such) h
+
   pub shown : (question : Question) → IsFit launch.site question → is_open launch question ≡ true → IsShown world question
   shown (asking.Path wish place) fit e = let x = listed_is (can_reach launch (power_of launch) wish) (slice_get launch.site.rows place) e in shown_row place x.0 x.1 wish fit x.2
   shown (asking.Call place) fit e =
@@ -316,9 +326,11 @@ module _ (world : World) (launch : Launch) (l : IsLaunched launch) (o : Offers l
       let both = and_parts (lets launch (kinds.ForFamily x.0.number)) (can_have_cap (ceiling launch) x.0.cap) x.2 in
       shown_socket place x.0 x.1 both.0 both.1
   shown (asking.Namespace space) fit e = shown_ns space e
-  shown asking.MapWx fit e = shown_free asking.MapWx kinds.MapsWx refl (λ call x. x.such) e
+  shown asking.MapWx fit e =
+      let both = and_parts (not launch.creds.mdwe) (lets launch kinds.MapsWx) e in
+      shown_free asking.MapWx kinds.MapsWx both.0 (λ call x. x.such) both.1
   shown asking.ProtectX fit e = shown_free asking.ProtectX kinds.ProtectsX refl (λ call x. x.such) e
-  shown asking.ShmX fit e = shown_free asking.ShmX kinds.AttachesX refl (λ call x. x.such) e
+  shown asking.ShmX fit e = shown_attached e
   shown asking.Realtime fit e = shown_free asking.Realtime kinds.SchedulesRealtime refl (λ call x. x.such) e
   shown asking.Personality fit e = shown_free asking.Personality kinds.TakesPersonality refl (λ call x. x.such) e
   shown asking.SuidBit fit e = shown_free asking.SuidBit kinds.SetsMode refl (λ call x. x.such) e

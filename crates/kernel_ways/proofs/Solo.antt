@@ -68,7 +68,7 @@ effect_by host creds stack table (d.Setresuid r e s) = refl
 effect_by host creds stack table (d.Setresgid r e s) = refl
 effect_by host creds stack table (d.Setgroups ids) = refl
 effect_by host creds stack table (d.Capset p e i) = refl
-effect_by host creds stack table (d.Prctl option value third) = refl
+effect_by host creds stack table (d.Prctl option value third fourth fifth) = refl
 effect_by host creds stack table (d.Seccomp op flags bytes) = refl
 effect_by host creds stack table (d.Plain cap) = refl
 

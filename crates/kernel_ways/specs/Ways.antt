@@ -16,7 +16,7 @@ use Rattle.launcher.specs.kernel_model.declared.kernel_calls.rule.Rule.{Rule}
 use Rattle.launcher.specs.kernel_model.kernel_calls.Operation.{Operation, See, Open, Create, Truncate, Execve, Does, asked_of}
 use Rattle.launcher.specs.kernel_model.Effects.{Effect, SetCreds, SetTable, Host, Caller, effect_of, looks, creds_effect}
 use Rattle.launcher.specs.kernel_model.Step.{most_namespaces}
-use Rattle.launcher.specs.kernel_model.World.{World}
+use Rattle.launcher.specs.kernel_model.World.{World, has_mdwe}
 use Rattle.launcher.specs.kernel_model.declared.process.Process.{Process}
 use Rattle.launcher.specs.kernel_laws.Launched.{Launch, passes}
 
@@ -41,7 +41,7 @@ pub record IsSolo (launch : Launch) (creds : Creds) (table : Table) (world : Wor
 
 -- the rows and families of the host, and what process 1 has, as a rule sees them
 abbrev pub host_at : Launch → Host
-host_at launch = record { rows = row_at launch.site.rows; families = launch.calls.families }
+host_at launch = record { rows = row_at launch.site.rows; families = launch.calls.families; mdwe = has_mdwe launch.site }
 
 abbrev pub caller_at : Launch → Creds → Table → Caller
 caller_at launch creds table = record { creds = creds; stack = launch.stack; table = map plain table; newer = false; owns = true }

@@ -329,7 +329,7 @@ module _ (one other : List (List Insn)) (world : World) (call : Call) where
     operation_alike (d.Setresgid r e s) asks = inl refl
     operation_alike (d.Setgroups ids) asks = inl refl
     operation_alike (d.Capset p e i) asks = inl refl
-    operation_alike (d.Prctl option value third) asks = inl refl
+    operation_alike (d.Prctl option value third fourth fifth) asks = inl refl
     operation_alike (d.Seccomp op flags bytes) asks = seccomp_alike op flags bytes asks (not (eqb op 1 && eqb flags 0))
         (not (process.creds.no_new_privs || has process.creds.effective cap_sys_admin))
     operation_alike (d.Plain cap) asks = inl refl

@@ -15,7 +15,7 @@ use Rattle.kernel_laws.specs.linux_numbers.Limits.{max_insns_per_path}
 use Rattle.launcher.specs.declared.filters.FilterProgram.{FilterProgram}
 use Rattle.launcher.specs.Answers.{AreProgramsOf, codes_of, given_bytes}
 use Rattle.launcher.specs.Launch.{Wanted, LaunchStep, makes, prctl_step, group_steps, drop_steps, inherit_steps, user_steps, raise_steps}
-use Rattle.launcher.specs.Launch.{left_steps, privilege_steps, identity_steps, filter_steps, program_steps, call_steps, set_mode_filter}
+use Rattle.launcher.specs.Launch.{left_steps, privilege_steps, memory_steps, identity_steps, filter_steps, program_steps, call_steps, set_mode_filter}
 use Rattle.launcher.specs.Launch.{capbset_drop, cap_ambient, ambient_raise}
 
 counted : (from count : ℕ) → length (count_from from count) ≡ count
@@ -53,7 +53,7 @@ so_one false one = omega arith
 behind : (first then : List LaunchStep) (m n : ℕ) → length first ≤ m → length then ≤ n → length (first ++ then) ≤ m + n
 behind first then m n one two = let e = length-append first then in omega (arith, e, one, two)
 
-few_identity : (lines : List CallLine) (wanted : Wanted) → length (identity_steps lines wanted) ≤ 89
+few_identity : (lines : List CallLine) (wanted : Wanted) → length (identity_steps lines wanted) ≤ 90
 few_identity lines wanted =
     let groups : length (group_steps lines wanted) ≤ 2 = omega arith in
     let drops : length (drop_steps lines wanted) ≤ 41 = each_cap (λ cap. prctl_step lines capbset_drop cap 0) (λ cap. not (has wanted.bounding cap)) in
@@ -62,13 +62,15 @@ few_identity lines wanted =
     let raises : length (raise_steps lines wanted) ≤ 41 = each_cap (λ cap. prctl_step lines cap_ambient ambient_raise cap) (has wanted.ambient) in
     let left : length (left_steps lines wanted) ≤ 1 = if_one (eqb wanted.uid 0) _ in
     let privileges : length (privilege_steps lines wanted) ≤ 1 = so_one wanted.no_new_privs _ in
+    let memory : length (memory_steps lines wanted) ≤ 1 = so_one wanted.mdwe _ in
     let two = behind (group_steps lines wanted) (drop_steps lines wanted) 2 41 groups drops in
     let three = behind (group_steps lines wanted ++ drop_steps lines wanted) (inherit_steps lines wanted) 43 1 two inherit in
     let four = behind (group_steps lines wanted ++ drop_steps lines wanted ++ inherit_steps lines wanted) (user_steps lines wanted) 44 2 three user in
     let five = behind (group_steps lines wanted ++ drop_steps lines wanted ++ inherit_steps lines wanted ++ user_steps lines wanted) (raise_steps lines wanted) 46 41 four raises in
     let six = behind (group_steps lines wanted ++ drop_steps lines wanted ++ inherit_steps lines wanted ++ user_steps lines wanted ++ raise_steps lines wanted) (left_steps lines wanted) 87 1 five left in
+    let seven = behind (group_steps lines wanted ++ drop_steps lines wanted ++ inherit_steps lines wanted ++ user_steps lines wanted ++ raise_steps lines wanted ++ left_steps lines wanted) (privilege_steps lines wanted) 88 1 six privileges in
     behind (group_steps lines wanted ++ drop_steps lines wanted ++ inherit_steps lines wanted ++ user_steps lines wanted ++ raise_steps
-    lines wanted ++ left_steps lines wanted) (privilege_steps lines wanted) 88 1 six privileges
+    lines wanted ++ left_steps lines wanted ++ privilege_steps lines wanted) (memory_steps lines wanted) 89 1 seven memory
 
 few_filters : (filters : List Filter) (made : List FilterProgram) → AreProgramsOf filters made → length made ≤ most_room filters
 few_filters [] [] are = omega arith

@@ -18,7 +18,7 @@ use Rattle.kernel_laws.specs.kern_creds.RootChange.{has_root, with_uids, after_s
 use Rattle.kernel_laws.specs.kern_creds.Setresuid.{after_setresuid, after_setresgid}
 use Rattle.kernel_laws.specs.kern_creds.Setgroups.{after_setgroups}
 use Rattle.kernel_laws.specs.kern_creds.Capset.{after_capset, may_capset, with_sets}
-use Rattle.kernel_laws.specs.kern_creds.Prctl.{after_drop_bounding, after_raise, after_set_keepcaps, after_set_no_new_privs}
+use Rattle.kernel_laws.specs.kern_creds.Prctl.{after_drop_bounding, after_raise, after_set_keepcaps, after_set_no_new_privs, after_set_mdwe}
 use Rattle.launcher.specs.Launches.{IsLaunchedCreds}
 use Rattle.kernel_laws.specs.kern_creds.Exec.{is_privileged, is_set_id, owner_or, exec_ids, exec_uids, exec_ambient, exec_gains}
 use Rattle.kernel_laws.specs.kern_creds.Exec.{exec_permitted, exec_effective, exec_done, honours, runs_as_root, is_refused, after_exec}
@@ -239,6 +239,11 @@ pub no_new_privs : (uid i : ℕ) (creds now : Creds) → IsReady uid i creds
     → ◌≡◌ {A = Result Creds ℕ} (Ok (after_set_no_new_privs creds)) (Ok now) → IsReady uid i now
 no_new_privs uid i creds now r is =
     subst (IsReady uid i) (ok_is (after_set_no_new_privs creds) now is) (record { sets = r.sets; has = let h = r.has in search rules; inherits = r.inherits; root = r.root; raised = r.raised })
+
+pub refuses_memory : (uid i : ℕ) (creds now : Creds) → IsReady uid i creds
+    → ◌≡◌ {A = Result Creds ℕ} (Ok (after_set_mdwe creds)) (Ok now) → IsReady uid i now
+refuses_memory uid i creds now r is =
+    subst (IsReady uid i) (ok_is (after_set_mdwe creds) now is) (record { sets = r.sets; has = let h = r.has in search rules; inherits = r.inherits; root = r.root; raised = r.raised })
 
 pub ready_root : (uid amb : ℕ) (creds : Creds) → eqb uid 0 ≡ true → Has uid all all amb creds → IsReady uid amb creds
 ready_root uid amb creds e h = record { sets = all; has = h; inherits = within_through amb creds.bounding all h.inheritable_bounding h.bounding; root = λ _. refl; raised = λ o. absurd (differ o) }

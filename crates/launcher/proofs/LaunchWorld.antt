@@ -1,6 +1,6 @@
 -- A launch, part by part.
 use Rattle.std.proofs.Common.{◌≡◌, ℕ, Bool, true, false, cond, codes, List, [], ◌∷◌, ◌++◌, Ok, Err, refl, ap, ◌∙◌, sym, subst, length}
-use Rattle.std.proofs.Common.{arith, eqb}
+use Rattle.std.proofs.Common.{arith, eqb, Result}
 use Rattle.std.specs.Prelude.{not, map, filter, ◌<◌, ◌^◌, ◌%◌, ◌&&◌}
 use Rattle.std.specs.List.{AllByRecursion}
 use Rattle.std.proofs.lemmas.Bool.{eqb-true}
@@ -19,7 +19,7 @@ use Rattle.kernel_laws.specs.kern_creds.Start as creds
 use Rattle.kernel_laws.specs.kern_creds.Setresuid.{after_setresuid, after_setresgid}
 use Rattle.kernel_laws.specs.kern_creds.Setgroups.{after_setgroups}
 use Rattle.kernel_laws.specs.kern_creds.Capset.{after_capset}
-use Rattle.kernel_laws.specs.kern_creds.Prctl.{after_drop_bounding, after_raise, after_set_keepcaps, after_set_no_new_privs}
+use Rattle.kernel_laws.specs.kern_creds.Prctl.{after_drop_bounding, after_raise, after_set_keepcaps, after_set_no_new_privs, after_set_mdwe}
 use Rattle.kernel_laws.specs.kern_creds.Exec.{is_privileged, after_exec}
 use Rattle.kernel_laws.specs.kern_mounts.Finds.{Found, row, empty_directory, nothing, finds}
 use Rattle.kernel_laws.specs.kern_mounts.Table as mounts
@@ -29,20 +29,20 @@ use Rattle.kernel_laws.specs.kernel_model.declared.kernel_calls.payload.Payload.
 use Rattle.kernel_laws.specs.kernel_model.declared.kernel_calls.rule.Rule.TheVariants as rule
 use Rattle.kernel_laws.specs.call_table.declared.call_names.rule.CallRule.TheVariants as known
 use Rattle.kernel_laws.specs.kernel_model.kernel_calls.Operation as d
-use Rattle.kernel_laws.specs.kernel_model.Effects.{Effect, creds_effect}
+use Rattle.kernel_laws.specs.kernel_model.Effects.{Effect, SetCreds, Refuse, creds_effect, effect_of}
 use Rattle.kernel_laws.specs.kernel_model.kern_files.Looking.{flags_at}
 use Rattle.kernel_laws.specs.kernel_model.kern_files.Executing.{marks_of, executed as executed_by, exec_answer}
 use Rattle.launcher.specs.Launch.{Wanted, LaunchStep, Launched, PrivilegedProgram, makes, first_call, prctl_step, capset_step, launch_step}
 use Rattle.launcher.specs.Launch.{launch_steps, launch_from, mount_steps, with_unshare, is_privileged_row, group_steps, drop_steps}
-use Rattle.launcher.specs.Launch.{inherit_steps, user_steps, raise_steps, left_steps, privilege_steps, identity_steps, filter_steps}
-use Rattle.launcher.specs.Launch.{program_steps, set_keepcaps, capbset_drop, set_no_new_privs, cap_ambient, ambient_raise, set_mode_filter}
+use Rattle.launcher.specs.Launch.{inherit_steps, user_steps, raise_steps, left_steps, privilege_steps, memory_steps, identity_steps, filter_steps}
+use Rattle.launcher.specs.Launch.{program_steps, set_keepcaps, capbset_drop, set_no_new_privs, cap_ambient, ambient_raise, set_mdwe, set_mode_filter}
 use Rattle.kernel_laws.specs.Launched.{launch_of}
 use Rattle.exec_settings.specs.site_table.Kinds.{is_exe}
 use Rattle.kernel_laws.specs.kern_mounts.Mounts.{Mounts as MountList, first_mounts, plain as plain_mount}
 use Rattle.kernel_laws.specs.kern_mounts.Split.{Table}
 use Rattle.kernel_laws.specs.Questions.{if_so, count_from}
 use Rattle.kernel_laws.specs.kernel_model.Runs.{IsDone}
-use Rattle.kernel_laws.specs.kernel_model.World.{World, start_world, of_number}
+use Rattle.kernel_laws.specs.kernel_model.World.{World, has_mdwe, start_world, of_number}
 use Rattle.kernel_laws.specs.kernel_model.declared.reply.Reply.{Reply}
 use Rattle.kernel_laws.specs.kernel_model.Step.{step, applied}
 use Rattle.launcher.specs.Launches.{HasLaunchCalls, AreRead, IsLaunchedCreds, Leaves, LaunchLeaves}
@@ -51,11 +51,11 @@ use Rattle.launcher.proofs.HostRoot.{BeginsAtHostRoot, begins_at_host}
 use Rattle.launcher.proofs.Leading.{Leads, launched_leads, leads_parts, leads_map, append_assoc, append_none, append_parts}
 use Rattle.launcher.proofs.MakingPlan.{plan_mounted}
 use Rattle.launcher.proofs.RaisedAll.{counted_small, filter_keeps, all_raised}
-use Rattle.launcher.proofs.Solo.{ones_number, ones_length, At, solo, only, weaker, makes_creds, makes_push, does, creds_done, own_table}
+use Rattle.launcher.proofs.Solo.{ones_number, ones_length, At, solo, only, weaker, makes_creds, makes_creds_here, own_host, makes_push, does, creds_done, own_table}
 use Rattle.launcher.proofs.LaunchCreds.{Has, starts, set_groups, set_gids, drops, set_all, keeps_caps, set_uid, Raised, raises, set_ambient}
-use Rattle.launcher.proofs.LaunchCreds.{IsReady, no_new_privs, ready_root, ready_user, executed}
+use Rattle.launcher.proofs.LaunchCreds.{IsReady, no_new_privs, refuses_memory, ready_root, ready_user, executed}
 use Rattle.launcher.proofs.LaunchCalls.{launch_calls}
-use Rattle.kernel_laws.specs.linux_numbers.Errnos.{eacces}
+use Rattle.kernel_laws.specs.linux_numbers.Errnos.{eacces, einval}
 
 module _ (table : calls.Table) (site : Site) (calls' : HasLaunchCalls table.calls) where
   abbrev Here : (Creds → Type 0) → List (List Insn) → Table → World → Type 0
@@ -86,7 +86,7 @@ module _ (table : calls.Table) (site : Site) (calls' : HasLaunchCalls table.call
         → Here (Has 0 all all none) stack plan (launch_step world (prctl_step table.calls capbset_drop cap 0)).1
     dropped cap world at done =
         makes_creds table site (Has 0 all all none) (Has 0 all all none) (codes "prctl") 24 cap 0 Nothing (rule.Known known.Prctl)
-        (d.Prctl 24 (cap % 2 ^ 32) 0) (λ c. after_drop_bounding c (cap % 2 ^ 32)) calls'.prctl refl
+        (d.Prctl 24 (cap % 2 ^ 32) 0 0 0) (λ c. after_drop_bounding c (cap % 2 ^ 32)) calls'.prctl refl
         (λ host creds stack mounts owns. refl)
         (λ c now h is. drops 0 all all (cap % 2 ^ 32) c now h is) stack plan world at done
 
@@ -109,7 +109,7 @@ module _ (table : calls.Table) (site : Site) (calls' : HasLaunchCalls table.call
     raised_all uid p e i low (cap ∷ caps) world last small at l =
         let same : cap % 2 ^ 32 ≡ cap = omega arith in
         let own : ℕ = cap % 2 ^ 32 in
-        let next = makes_creds table site (λ c. Has uid p e i c × IsWithin low c.ambient) (λ c. Has uid p e i c × IsWithin (union low (single own)) c.ambient) (codes "prctl") 47 2 cap Nothing (rule.Known known.Prctl) (d.Prctl 47 2 own) (λ c. after_raise c own) calls'.prctl refl (λ host creds stack mounts owns. refl)
+        let next = makes_creds table site (λ c. Has uid p e i c × IsWithin low c.ambient) (λ c. Has uid p e i c × IsWithin (union low (single own)) c.ambient) (codes "prctl") 47 2 cap Nothing (rule.Known known.Prctl) (d.Prctl 47 2 own 0 0) (λ c. after_raise c own) calls'.prctl refl (λ host creds stack mounts owns. refl)
         (λ c now h is. by c now h (raises uid p e i own c now h.0 is)) stack plan world at l.0 in
         weaker table site _ _ stack plan last (λ c h. (h.0, within_through low (union low (single own)) c.ambient (within_union_left low low (single own) (within_self low)) h.1, (ap (has c.ambient) (sym same) ∙ (h.1).each own (in_union own), h.2)))
         (raised_all uid p e i (union low (single own)) caps (launch_step world (prctl_step table.calls cap_ambient ambient_raise cap)).1
@@ -143,10 +143,31 @@ module _ (table : calls.Table) (site : Site) (calls' : HasLaunchCalls table.call
         → Leads world (if_so b (prctl_step table.calls set_no_new_privs 1 0)) last → Here (IsReady uid i) own plan last
     nothing_new true uid i own world last at l =
         subst (Here (IsReady uid i) own plan) l.1
-        (makes_creds table site (IsReady uid i) (IsReady uid i) (codes "prctl") 38 1 0 Nothing (rule.Known known.Prctl) (d.Prctl 38 1 0)
+        (makes_creds table site (IsReady uid i) (IsReady uid i) (codes "prctl") 38 1 0 Nothing (rule.Known known.Prctl) (d.Prctl 38 1 0 0 0)
         (λ c. Ok (after_set_no_new_privs c)) calls'.prctl refl (λ host creds stack mounts owns. refl)
         (λ c now h is. no_new_privs uid i c now h is) own plan world at l.0)
     nothing_new false uid i own world last at l = subst (Here (IsReady uid i) own plan) l at
+
+    -- the mark that refuses memory, by whether the host has it
+    abbrev marked : Bool → Creds → Result Creds ℕ
+    marked mdwe c = cond mdwe (Ok (after_set_mdwe c)) (Err einval)
+
+    mark_set : (mdwe : Bool) (c : Creds) → cond mdwe (SetCreds (after_set_mdwe c)) (Refuse einval) ≡ creds_effect (marked mdwe c)
+    mark_set true c = refl
+    mark_set false c = refl
+
+    mark_ready : (mdwe : Bool) (uid i : ℕ) (c now : Creds) → IsReady uid i c → marked mdwe c ≡ Ok now → IsReady uid i now
+    mark_ready true uid i c now h is = refuses_memory uid i c now h is
+    mark_ready false uid i c now h is = cc
+
+    no_memory : (b : Bool) (uid i : ℕ) (own : List (List Insn)) (world last : World) → Here (IsReady uid i) own plan world
+        → Leads world (if_so b (prctl_step table.calls set_mdwe 1 0)) last → Here (IsReady uid i) own plan last
+    no_memory true uid i own world last at l =
+        subst (Here (IsReady uid i) own plan) l.1
+        (makes_creds_here table site (IsReady uid i) (IsReady uid i) (codes "prctl") 65 1 0 Nothing (rule.Known known.Prctl)
+        (d.Prctl 65 1 0 0 0) (marked (has_mdwe site)) calls'.prctl refl (λ creds stack mounts owns. mark_set (has_mdwe site) creds)
+        (λ c now h is. mark_ready (has_mdwe site) uid i c now h is) own plan world at l.0)
+    no_memory false uid i own world last at l = subst (Here (IsReady uid i) own plan) l at
 
   -- ---- the program
   record Executes (creds : Creds) (effect : Effect) : Type 0 where
@@ -226,7 +247,7 @@ module _ (table : calls.Table) (site : Site) (calls' : HasLaunchCalls table.call
     user_ready false is world one two last at l m n =
         let other : eqb (uid % 2 ^ 32) 0 ≡ false = ap (λ u. eqb u 0) low ∙ is in
         let taken : eqb (uid % 2 ^ 32) no_id ≡ false = grind (arith, nat_tests) in
-        let kept = makes_creds table site (Has 0 all all amb) (λ c. Has 0 all all amb c × (c.keepcaps ≡ true)) (codes "prctl") 8 1 0 Nothing (rule.Known known.Prctl) (d.Prctl 8 1 0) (λ c. Ok (after_set_keepcaps c true)) calls'.prctl refl (λ host creds stack mounts owns. refl)
+        let kept = makes_creds table site (Has 0 all all amb) (λ c. Has 0 all all amb c × (c.keepcaps ≡ true)) (codes "prctl") 8 1 0 Nothing (rule.Known known.Prctl) (d.Prctl 8 1 0 0 0) (λ c. Ok (after_set_keepcaps c true)) calls'.prctl refl (λ host creds stack mounts owns. refl)
         (λ c now h is'. keeps_caps 0 all all amb c now h is') [] plan world at l.0 in
         let next : World = (launch_step world (prctl_step table.calls set_keepcaps 1 0)).1 in
         let u : ℕ = uid % 2 ^ 32 in
@@ -251,7 +272,8 @@ module _ (table : calls.Table) (site : Site) (calls' : HasLaunchCalls table.call
       let lines = table.calls in
       let start : Here (Has 0 all all none) [] mounts.start (start_world table site) = record { creds = creds.start; namespace = 1; tables = first_mounts ∷ []; as_asked = starts; is = refl; own = refl } in
       let own = leads_parts (start_world table site) (with_unshare lines (mount_steps plan)) (identity_steps lines wanted) last l in
-      let privs = leads_parts own.mid (group_steps lines wanted ++ drop_steps lines wanted ++ inherit_steps lines wanted ++ user_steps lines wanted ++ raise_steps lines wanted ++ left_steps lines wanted) (privilege_steps lines wanted) last own.after in
+      let memory = leads_parts own.mid (group_steps lines wanted ++ drop_steps lines wanted ++ inherit_steps lines wanted ++ user_steps lines wanted ++ raise_steps lines wanted ++ left_steps lines wanted ++ privilege_steps lines wanted) (memory_steps lines wanted) last own.after in
+      let privs = leads_parts own.mid (group_steps lines wanted ++ drop_steps lines wanted ++ inherit_steps lines wanted ++ user_steps lines wanted ++ raise_steps lines wanted ++ left_steps lines wanted) (privilege_steps lines wanted) memory.mid memory.before in
       let left' = leads_parts own.mid (group_steps lines wanted ++ drop_steps lines wanted ++ inherit_steps lines wanted ++ user_steps lines wanted ++ raise_steps lines wanted) (left_steps lines wanted) privs.mid privs.before in
       let raise = leads_parts own.mid (group_steps lines wanted ++ drop_steps lines wanted ++ inherit_steps lines wanted ++ user_steps lines wanted) (raise_steps lines wanted) left'.mid left'.before in
       let user = leads_parts own.mid (group_steps lines wanted ++ drop_steps lines wanted ++ inherit_steps lines wanted) (user_steps lines wanted) raise.mid raise.before in
@@ -265,7 +287,8 @@ module _ (table : calls.Table) (site : Site) (calls' : HasLaunchCalls table.call
       let set = all_set [] plan wanted.ambient inherit.mid dropped' inherit.after.0 in
       let done_set : Here (Has 0 all all wanted.ambient) [] plan user.mid = subst (Here (Has 0 all all wanted.ambient) [] plan) inherit.after.1 set in
       let ready = user_ready plan wanted.uid wanted.ambient small (eqb wanted.uid 0) refl user.mid raise.mid left'.mid privs.mid done_set user.after raise.after left'.after in
-      nothing_new [] plan wanted.no_new_privs wanted.uid wanted.ambient [] privs.mid last ready privs.after
+      let new = nothing_new [] plan wanted.no_new_privs wanted.uid wanted.ambient [] privs.mid memory.mid ready privs.after in
+      no_memory [] plan wanted.mdwe wanted.uid wanted.ambient [] memory.mid last new memory.after
 
   -- what the steps before the program leave, and the steps of the program
   pub record BeforeProgram (wanted : Wanted) (plan : Table) (last : World) : Type 0 where

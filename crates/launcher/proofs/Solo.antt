@@ -9,7 +9,7 @@ use Rattle.kernel_laws.specs.bpf_code.Stack.{decision_on, room_of}
 use Rattle.kernel_laws.specs.bpf_code.ProgramOf.{program_of}
 use Rattle.exec_settings.specs.cap_sets.Sets.{has}
 use Rattle.kernel_laws.specs.call_table.Table as calls
-use Rattle.exec_settings.specs.site_table.Table.{Site}
+use Rattle.exec_settings.specs.site_table.Table.{Site, row_at}
 use Rattle.kernel_laws.specs.kern_creds.declared.creds.Creds.{Creds}
 use Rattle.kernel_laws.specs.kern_mounts.declared.step.MountStep.{MountStep}
 use Rattle.kernel_laws.specs.kernel_model.declared.kernel_calls.call.Call.{Call}
@@ -34,7 +34,7 @@ use Rattle.std.proofs.lemmas.List.{map-append}
 use Rattle.exec_settings.specs.abs_path.Paths.{is_root}
 use Rattle.kernel_laws.specs.kernel_model.Runs.{IsDone}
 use Rattle.kernel_laws.specs.kernel_model.declared.reply.Reply.TheVariants as w
-use Rattle.kernel_laws.specs.kernel_model.World.{World, of_number, mounts_of, table_of, table_or, host_of, caller_of, owner_of, owner_or}
+use Rattle.kernel_laws.specs.kernel_model.World.{World, has_mdwe, of_number, mounts_of, table_of, table_or, host_of, caller_of, owner_of, owner_or}
 use Rattle.kernel_laws.specs.kern_mounts.Copying.{copied}
 use Rattle.kernel_laws.specs.kernel_model.declared.process.Process.{Process}
 use Rattle.kernel_laws.specs.kernel_model.declared.reply.Reply.{Reply}
@@ -147,7 +147,39 @@ module _ (table : calls.Table) (site : Site) where
     pub own_table : (mounts : Table) → of_number tables namespace ≡ Some (map plain mounts) → table_of world namespace ≡ mounts
     own_table mounts own = ap (λ (t : MountList). steps_of t) (own_mounts mounts own) ∙ steps_plain mounts
 
-  -- a call of the launch that changes credentials
+  -- the host, as a rule sees it
+  abbrev pub own_host : Host
+  own_host = record { rows = row_at site.rows; families = table.families; mdwe = has_mdwe site }
+
+  -- a call of the launch that changes credentials, as this host has it
+  pub makes_creds_here : (Q R : Creds → Type 0) (name : List ℕ) (one two three : ℕ) (payload : Payload) (rule' : Rule) (operation : Operation)
+      (answer : Creds → Result Creds ℕ)
+      → rule_at table.calls (number_of table.calls name) ≡ Some rule'
+      → operation_by rule' (one ∷ two ∷ three ∷ 0 ∷ 0 ∷ 0 ∷ []) payload ≡ Some operation
+      → ((creds : Creds) (stack : List (List Insn)) (mounts : MountList) (owns : Bool)
+      → effect_of own_host (record { creds = creds; stack = stack; table = mounts; newer = false; owns = owns }) operation
+      ≡ creds_effect (answer creds))
+      → ((creds now : Creds) → Q creds → answer creds ≡ Ok now → R now)
+      → (stack : List (List Insn)) (mounts : Table) (world' : World) → At Q stack mounts world'
+      → IsDone (launch_step world' (makes table.calls name one two three payload)).0
+      → At R stack mounts (launch_step world' (makes table.calls name one two three payload)).1
+  makes_creds_here Q R name one two three payload rule' operation answer by_rule is effect to stack mounts world' at done =
+      let own : World = solo at.creds stack at.namespace at.tables in
+      let call : Call = first_call table.calls name (one ∷ two ∷ three ∷ 0 ∷ 0 ∷ 0 ∷ []) payload in
+      let done' : IsDone (step own call).0 = subst (λ (v : World). IsDone (step v call).0) at.is done in
+      let stepped = does at.creds stack at.namespace at.tables call.nr call.args payload rule' operation by_rule is done'
+      ∙ ap (λ (e : Effect). applied own 1 (only at.creds stack at.namespace) e) (effect at.creds stack (mounts_of own at.namespace) (eqb (owner_of own at.namespace) 1)) in
+      let found = creds_done at.creds stack at.namespace at.tables (answer at.creds) (subst (λ (out : Reply × World). IsDone out.0) stepped done') in
+      record {
+        creds = found.0;
+        namespace = at.namespace;
+        tables = at.tables;
+        as_asked = to at.creds found.0 at.as_asked found.1;
+        is = ap (λ (v : World). (step v call).1) at.is ∙ ap (λ (out : Reply × World). out.1) stepped ∙ found.2;
+        own = at.own;
+      }
+
+  -- the same of every host
   pub makes_creds : (Q R : Creds → Type 0) (name : List ℕ) (one two three : ℕ) (payload : Payload) (rule' : Rule) (operation : Operation)
       (answer : Creds → Result Creds ℕ)
       → rule_at table.calls (number_of table.calls name) ≡ Some rule'
@@ -160,20 +192,7 @@ module _ (table : calls.Table) (site : Site) where
       → IsDone (launch_step world' (makes table.calls name one two three payload)).0
       → At R stack mounts (launch_step world' (makes table.calls name one two three payload)).1
   makes_creds Q R name one two three payload rule' operation answer by_rule is effect to stack mounts world' at done =
-      let own : World = solo at.creds stack at.namespace at.tables in
-      let call : Call = first_call table.calls name (one ∷ two ∷ three ∷ 0 ∷ 0 ∷ 0 ∷ []) payload in
-      let done' : IsDone (step own call).0 = subst (λ (v : World). IsDone (step v call).0) at.is done in
-      let stepped = does at.creds stack at.namespace at.tables call.nr call.args payload rule' operation by_rule is done'
-      ∙ ap (λ (e : Effect). applied own 1 (only at.creds stack at.namespace) e) (effect (host_of own) at.creds stack (mounts_of own at.namespace) (eqb (owner_of own at.namespace) 1)) in
-      let found = creds_done at.creds stack at.namespace at.tables (answer at.creds) (subst (λ (out : Reply × World). IsDone out.0) stepped done') in
-      record {
-        creds = found.0;
-        namespace = at.namespace;
-        tables = at.tables;
-        as_asked = to at.creds found.0 at.as_asked found.1;
-        is = ap (λ (v : World). (step v call).1) at.is ∙ ap (λ (out : Reply × World). out.1) stepped ∙ found.2;
-        own = at.own;
-      }
+      makes_creds_here Q R name one two three payload rule' operation answer by_rule is (effect own_host) to stack mounts world' at done
 
   -- a program that is pushed
   push_done : (creds : Creds) (stack : List (List Insn)) (namespace : ℕ) (tables : List MountList) (read : Option (List Insn))

@@ -27,6 +27,7 @@ wanted_of settings programs = record {
   bounding = settings.bounding;
   ambient = settings.ambient;
   no_new_privs = settings.no_new_privs;
+  mdwe = settings.mdwe;
   programs = programs;
 }
 

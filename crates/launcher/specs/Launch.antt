@@ -36,6 +36,7 @@ pub record Wanted : Type 0 where
   pub bounding : ℕ
   pub ambient : ℕ
   pub no_new_privs : Bool
+  pub mdwe : Bool
   pub programs : List (List ℕ)
 
 -- a call of process 1, or an entry that process 1 is given; the launcher makes the mount points itself
@@ -43,7 +44,8 @@ pub data LaunchStep : Type 0 where
   Makes : Call → LaunchStep
   Mounts : MountStep → LaunchStep
 
--- PR_SET_KEEPCAPS, PR_CAPBSET_DROP, PR_SET_NO_NEW_PRIVS, and PR_CAP_AMBIENT with PR_CAP_AMBIENT_RAISE, prctl(2)
+-- PR_SET_KEEPCAPS, PR_CAPBSET_DROP, PR_SET_NO_NEW_PRIVS, PR_CAP_AMBIENT with PR_CAP_AMBIENT_RAISE, and PR_SET_MDWE with
+-- PR_MDWE_REFUSE_EXEC_GAIN, prctl(2)
 abbrev pub set_keepcaps : ℕ
 set_keepcaps = 8
 
@@ -58,6 +60,12 @@ cap_ambient = 47
 
 abbrev pub ambient_raise : ℕ
 ambient_raise = 2
+
+abbrev pub set_mdwe : ℕ
+set_mdwe = 65
+
+abbrev pub refuse_exec_gain : ℕ
+refuse_exec_gain = 1
 
 -- SECCOMP_SET_MODE_FILTER, seccomp(2)
 abbrev pub set_mode_filter : ℕ
@@ -132,6 +140,10 @@ left_steps lines wanted = if_user wanted.uid (capset_step lines wanted.ambient w
 abbrev pub privilege_steps : List CallLine → Wanted → List LaunchStep
 privilege_steps lines wanted = if_so wanted.no_new_privs (prctl_step lines set_no_new_privs 1 0)
 
+-- memory to be both written and executed is refused
+abbrev pub memory_steps : List CallLine → Wanted → List LaunchStep
+memory_steps lines wanted = if_so wanted.mdwe (prctl_step lines set_mdwe refuse_exec_gain 0)
+
 abbrev pub filter_steps : List CallLine → List (List ℕ) → List LaunchStep
 filter_steps lines programs = map (λ bytes. makes lines (codes "seccomp") set_mode_filter 0 0 (Code bytes)) programs
 
@@ -139,11 +151,11 @@ abbrev pub program_steps : List CallLine → Path → List LaunchStep
 program_steps lines program = makes lines (codes "execve") 0 0 0 (OnePath program) ∷ []
 
 -- what the service is made before its filters: the groups and gids, the bounding set, the ambient set made inheritable, the
--- uids, the ambient set, no_new_privs
+-- uids, the ambient set, no_new_privs, the mark that refuses memory
 abbrev pub identity_steps : List CallLine → Wanted → List LaunchStep
 identity_steps lines wanted =
     group_steps lines wanted ++ drop_steps lines wanted ++ inherit_steps lines wanted ++ user_steps lines wanted
-    ++ raise_steps lines wanted ++ left_steps lines wanted ++ privilege_steps lines wanted
+    ++ raise_steps lines wanted ++ left_steps lines wanted ++ privilege_steps lines wanted ++ memory_steps lines wanted
 
 -- then the filters, and the program
 abbrev pub call_steps : List CallLine → Wanted → List LaunchStep

@@ -2,7 +2,7 @@
 
 ghost use Rattle.std.specs.Prelude.{◌≡◌, [], ◌++◌, IfOk, OnOk};
 ghost use Rattle.launcher.specs.Answers.{wanted_of};
-ghost use Rattle.launcher.specs.Launch.{group_steps, drop_steps, inherit_steps, user_steps, raise_steps, left_steps, privilege_steps, identity_steps};
+ghost use Rattle.launcher.specs.Launch.{group_steps, drop_steps, inherit_steps, user_steps, raise_steps, left_steps, privilege_steps, memory_steps, identity_steps};
 
 use crate::calls::{CallSteps, capset, first_call, prctl};
 use exec_settings::{CapSet, Settings};
@@ -24,6 +24,12 @@ const CAP_AMBIENT: u64 = 47;
 
 /// PR_CAP_AMBIENT_RAISE, prctl(2).
 const AMBIENT_RAISE: u64 = 2;
+
+/// PR_SET_MDWE, prctl(2).
+const SET_MDWE: u64 = 65;
+
+/// PR_MDWE_REFUSE_EXEC_GAIN, prctl(2).
+const REFUSE_EXEC_GAIN: u64 = 1;
 
 // setgroups(2), and setresgid(2) of all three gids.
 fn group_steps(
@@ -124,7 +130,19 @@ fn privilege_steps(
     steps.push_if(settings.no_new_privs, prctl(table, SET_NO_NEW_PRIVS, 1, 0))
 }
 
-/// Returns the calls before the filters: groups and gids, the bounding set, the uids, the ambient set, no_new_privs.
+// The mark that refuses memory to be both written and executed, where the settings ask for it.
+fn memory_steps(
+    steps: &mut CallSteps,
+    table: &CallTable,
+    settings: &Settings,
+) -> Result<(), AllocError>
+    ensures { OnOk result (steps.new ≡ steps.old ++ memory_steps table.now.calls (wanted_of settings.now [])) }
+{
+    steps.push_if(settings.mdwe, prctl(table, SET_MDWE, REFUSE_EXEC_GAIN, 0))
+}
+
+/// Returns the calls before the filters: groups and gids, the bounding set, the uids, the ambient set, no_new_privs, the mark that
+/// refuses memory.
 pub fn identity_steps(
     alloc: Global,
     table: &CallTable,
@@ -140,5 +158,6 @@ pub fn identity_steps(
     raise_steps(&mut steps, table, settings)?;
     left_steps(&mut steps, table, settings)?;
     privilege_steps(&mut steps, table, settings)?;
+    memory_steps(&mut steps, table, settings)?;
     Ok(steps)
 }

@@ -2,11 +2,13 @@
 use Rattle.std.proofs.Common.{◌≡◌, ℕ, Bool, true, false, cond, Option, Some, None, refl, ap, ◌∙◌, sym, eqb, inl, inr}
 use Rattle.std.specs.Prelude.{find, ◌&&◌, ◌||◌, not}
 use Rattle.std.specs.List.{list_any}
+use Rattle.std.proofs.lemmas.Bool.{and_parts}
 use Rattle.ceilings.specs.site_table.declared.row.Row.{Row}
 use Rattle.ceilings.specs.kernel_laws.Bound.{any_gid, any_uid, can_run, caps_at, ceiling, grouped_by, is_open, owned_by, power_of}
 use Rattle.ceilings.specs.kernel_laws.declared.question_types.kind.CallKind.{CallKind}
-use Rattle.ceilings.specs.kernel_laws.declared.question_types.kind.CallKind.TheVariants.{TakesUid, TakesGid}
+use Rattle.ceilings.specs.kernel_laws.declared.question_types.kind.CallKind.TheVariants.{MapsWx, TakesUid, TakesGid}
 use Rattle.ceilings.specs.kernel_laws.declared.question_types.power.Power.{Power}
+use Rattle.ceilings.specs.kernel_laws.declared.question_types.question.Question.TheVariants.{MapWx}
 use Rattle.ceilings.specs.kernel_laws.declared.question_types.power.Power.TheVariants.{None as Nowise}
 use Rattle.ceilings.specs.kernel_laws.Launched.{Launch, lets}
 use Rattle.ceilings.specs.kernel_ways.Offers.{Offers}
@@ -52,3 +54,7 @@ pub id_is_open : (launch : Launch) (kind : IdKind) (id : ℕ) → is_open launch
     → IsIdOpen launch (meant_kind kind) (gives kind id)
 id_is_open launch User id h off = uid_is_open launch id h off
 id_is_open launch Group id h off = gid_is_open launch id h off
+
+-- memory to be both written and executed is mapped by a call that passes
+pub map_passes : (launch : Launch) → is_open launch MapWx ≡ true → lets launch MapsWx ≡ true
+map_passes launch e = (and_parts (not launch.creds.mdwe) (lets launch MapsWx) e).1

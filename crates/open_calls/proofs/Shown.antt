@@ -1,6 +1,6 @@
 -- The calls that are chosen for an open question show it.
 use Rattle.std.proofs.Common.{◌≡◌, ℕ, Bool, true, false, List, [], ◌∷◌, ◌++◌, Option, Some, None, refl, ap, ◌∙◌, sym, subst, cond, inl}
-use Rattle.std.specs.Prelude.{slice_get, nat_lt, ◌&&◌, ◌||◌, unwrap_or}
+use Rattle.std.specs.Prelude.{slice_get, nat_lt, not, ◌&&◌, ◌||◌, unwrap_or}
 use Rattle.std.specs.List.{list_any}
 use Rattle.std.specs.Option.{option_map_or}
 use Rattle.std.specs.Str.{bytes_eq}
@@ -21,7 +21,7 @@ use Rattle.ceilings.specs.kernel_model.declared.kernel_calls.payload.Payload.The
 use Rattle.ceilings.specs.kernel_model.declared.kernel_calls.rule.Rule.{Rule}
 use Rattle.ceilings.specs.kernel_model.World.{World}
 use Rattle.ceilings.specs.kernel_laws.Bound.{is_user, can_reach, can_have_cap, can_have_for, if_listed, power_of, ceiling, is_open}
-use Rattle.ceilings.specs.kernel_laws.Bound.{is_call_open}
+use Rattle.ceilings.specs.kernel_laws.Bound.{attaching, is_call_open}
 use Rattle.ceilings.specs.kernel_laws.Denied.{asks_space, asks_family, is_family, Shows}
 use Rattle.ceilings.specs.kernel_laws.Kinds as k
 use Rattle.ceilings.specs.kernel_laws.declared.question_types.kind.CallKind.{CallKind}
@@ -41,7 +41,7 @@ use Rattle.ceilings.proofs.OfKernelWays.Choices as choices
 use Rattle.ceilings.proofs.OfKernelWays.Operations.{Performed}
 use Rattle.ceilings.proofs.OfKernelWays.Lines.{choice_of, first_by, low_number, line_at, of_abi, same_rule}
 use Rattle.ceilings.proofs.OfKernelWays.Performing as performing
-use Rattle.ceilings.proofs.OfKernelWays.Performing.{CapAtHand, is_free}
+use Rattle.ceilings.proofs.OfKernelWays.Performing.{CapAtHand, is_free, read_attaches}
 use Rattle.ceilings.proofs.OfKernelWays.Showing.{calls_show, creds_show}
 use Rattle.ceilings.proofs.OfKernelWays.Starts.{starts_solo, performs}
 use Rattle.open_calls.specs.chosen_calls.Chosen.{plain_cap, row_calls, plain_calls, socket_calls, space_calls, user_call, pid_inside}
@@ -66,7 +66,7 @@ module _ (world : World) (launch : Launch) (l : IsLaunched launch) (o : Offers l
       calls_show launch launch.creds creds launch.table now world front question x.operation call x.effect s way x.makes x.doable a
 
   -- the first call of a kind that every process may ask for
-  shown_free : (question : Question) (kind : CallKind) → is_free kind ≡ true → lets launch kind ≡ true
+  shown_free : (question : Question) (kind : CallKind) → is_free kind launch.creds.mdwe ≡ true → lets launch kind ≡ true
       → ((call : Call) (x : Performed launch launch.creds launch.table (k.asks kind) call)
       → Answers launch launch.table question call x.operation)
       → Shows world question (call_by launch kind Nothing ∷ [])
@@ -220,6 +220,15 @@ module _ (world : World) (launch : Launch) (l : IsLaunched launch) (o : Offers l
       → Shows world question (calls x) → Shows world question (option_map_or calls listed [])
   of_listed question calls listed x e h = let P : List Call → Type 0 = λ list. Shows world question list in subst P (sym (ap (λ o. option_map_or calls o []) e)) h
 
+  -- memory that is only read is attached where the mark refuses other memory
+  shown_attached : is_open launch asking.ShmX ≡ true → Shows world asking.ShmX (call_by launch (attaching launch) Nothing ∷ [])
+  shown_attached e = by launch.creds.mdwe refl e
+    where
+      by : (m : Bool) → launch.creds.mdwe ≡ m → lets launch (cond m kinds.AttachesReadOnlyX kinds.AttachesX) ≡ true
+          → Shows world asking.ShmX (call_by launch (cond m kinds.AttachesReadOnlyX kinds.AttachesX) Nothing ∷ [])
+      by true on h = shown_free asking.ShmX kinds.AttachesReadOnlyX refl h (λ call x. read_attaches x.operation x.such)
+      by false off h = shown_free asking.ShmX kinds.AttachesX (ap not off) h (λ call x. x.such)
+
   pub shown : (question : Question) → IsFit launch.site question → is_open launch question ≡ true
       → Shows world question (calls_for launch program question)
   unfolding calls_for
@@ -238,9 +247,11 @@ module _ (world : World) (launch : Launch) (l : IsLaunched launch) (o : Offers l
       of_listed (asking.Socket place) (socket_calls launch program) (slice_get launch.calls.families place) x.0 x.1
       (shown_socket place x.0 x.1 both.0 both.1)
   shown (asking.Namespace space) fit e = shown_ns space e
-  shown asking.MapWx fit e = shown_free asking.MapWx kinds.MapsWx refl e (λ call x. x.such)
+  shown asking.MapWx fit e =
+      let both = and_parts (not launch.creds.mdwe) (lets launch kinds.MapsWx) e in
+      shown_free asking.MapWx kinds.MapsWx both.0 both.1 (λ call x. x.such)
   shown asking.ProtectX fit e = shown_free asking.ProtectX kinds.ProtectsX refl e (λ call x. x.such)
-  shown asking.ShmX fit e = shown_free asking.ShmX kinds.AttachesX refl e (λ call x. x.such)
+  shown asking.ShmX fit e = shown_attached e
   shown asking.Realtime fit e = shown_free asking.Realtime kinds.SchedulesRealtime refl e (λ call x. x.such)
   shown asking.Personality fit e = shown_free asking.Personality kinds.TakesPersonality refl e (λ call x. x.such)
   shown asking.SuidBit fit e = shown_free asking.SuidBit kinds.SetsMode refl e (λ call x. x.such)

@@ -14,12 +14,13 @@ ghost use Rattle.ceilings.specs.kernel_laws.Launched.{launch_of, lets};
 ghost use Rattle.ceilings.specs.kernel_laws.Questions.{questions};
 ghost use Rattle.ceilings.specs.kernel_ways.Laws.{IsServedWorld};
 ghost use Rattle.ceilings.specs.kernel_ways.Offers.{RunsProgram};
-ghost use Rattle.ceilings.specs.kernel_laws.declared.question_types.question.Question.TheVariants.{Call as CallQuestion, Namespace as Ns, Socket};
+ghost use Rattle.ceilings.specs.kernel_laws.declared.question_types.question.Question.TheVariants.{Call as CallQuestion, MapWx, Namespace as Ns, Socket};
+ghost use Rattle.ceilings.specs.kernel_laws.declared.question_types.kind.CallKind.TheVariants.{MapsWx};
 
 use crate::first::call_of;
 use crate::ids::IdKind;
 use crate::service::{Made, Service};
-use ceilings::{CAP_SYS_ADMIN, CallLine, plain_line_at, rule_of};
+use ceilings::{CAP_SYS_ADMIN, CallLine, attaching, plain_line_at, rule_of};
 use questions::{Call, CallKind, NamespaceType, Payload, Question, Rule, World};
 use std::alloc::AllocError;
 
@@ -113,6 +114,15 @@ impl Service<'_> {
         Ok(())
     }
 
+    // Adds the call that maps memory to be both written and executed.
+    #[tactic(auto, using(crate::proofs::Opening::map_passes))]
+    fn push_map(&self, calls: &mut Vec<Call>) -> Made<()>
+        requires reachable { is_open (launch_of self.now.world.now) MapWx ≡ true }
+        ensures { OnOk result (calls.new.items ≡ calls.old.items ++ call_by (launch_of self.now.world.now) MapsWx Nothing ∷ []) }
+    {
+        self.push_first(calls, CallKind::MapsWx)
+    }
+
     // Adds the calls that make a namespace of the type. A user namespace needs no capability. Any other namespace needs
     // CAP_SYS_ADMIN if the service can gain it, else a user namespace first.
     fn push_space(&self, calls: &mut Vec<Call>, kind: NamespaceType) -> Made<()>
@@ -149,9 +159,9 @@ impl Service<'_> {
             Question::Call(at) => self.push_plain(calls, *at),
             Question::Socket(at) => self.push_socket(calls, *at),
             Question::Namespace(kind) => self.push_space(calls, *kind),
-            Question::MapWx => self.push_first(calls, CallKind::MapsWx),
+            Question::MapWx => self.push_map(calls),
             Question::ProtectX => self.push_first(calls, CallKind::ProtectsX),
-            Question::ShmX => self.push_first(calls, CallKind::AttachesX),
+            Question::ShmX => self.push_first(calls, attaching(self.world)),
             Question::Realtime => self.push_first(calls, CallKind::SchedulesRealtime),
             Question::Personality => self.push_first(calls, CallKind::TakesPersonality),
             Question::SuidBit => self.push_first(calls, CallKind::SetsMode),

@@ -36,7 +36,7 @@ pub(crate) fn names_of(kind: CallKind) -> &'static [&'static str]
         CallKind::ForNamespace(_) => &["unshare", "clone"],
         CallKind::MapsWx => &["mmap"],
         CallKind::ProtectsX => &["mprotect", "pkey_mprotect"],
-        CallKind::AttachesX => &["shmat"],
+        CallKind::AttachesX | CallKind::AttachesReadOnlyX => &["shmat"],
         CallKind::SchedulesRealtime => &["sched_setscheduler"],
         CallKind::TakesPersonality => &["personality"],
         CallKind::SetsMode => &[

@@ -35,6 +35,7 @@ are_plain n settings own = record {
     groups = (let few : length settings.groups ≡ 0 = ap length own.groups in omega (arith, few));
     ambient = subst (λ set. IsWithin set settings.bounding) (sym own.ambient) (none_within settings.bounding);
     bounding = subst (λ set. IsWithin set all) (sym own.bounding) (within_self all);
+    memory = own.memory;
   };
 }
 

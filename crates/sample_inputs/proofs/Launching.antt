@@ -23,7 +23,8 @@ use Rattle.launcher.specs.kernel_model.kernel_calls.Operation as d
 use Rattle.launcher.specs.kernel_laws.Questions.{if_so, count_from}
 use Rattle.launcher.specs.kernel_model.World.{World}
 use Rattle.launcher.specs.Launch.{Wanted, makes, prctl_step, capset_step, group_steps, drop_steps, inherit_steps, user_steps, raise_steps}
-use Rattle.launcher.specs.Launch.{left_steps, privilege_steps, identity_steps, set_keepcaps, capbset_drop, set_no_new_privs, cap_ambient}
+use Rattle.launcher.specs.Launch.{left_steps, privilege_steps, memory_steps, identity_steps, set_keepcaps, capbset_drop, set_no_new_privs, cap_ambient}
+use Rattle.launcher.specs.Launch.{set_mdwe, refuse_exec_gain}
 use Rattle.launcher.specs.Launch.{ambient_raise}
 use Rattle.launcher.specs.Launches.{HasLaunchCalls}
 use Rattle.launcher.proofs.LaunchCreds.{Has, set_groups, set_gids, drops, set_all, keeps_caps, set_uid}
@@ -100,7 +101,7 @@ module _ (table : calls.Table) (site : Site) (calls' : HasLaunchCalls table.call
       let known' : cap < 41 = dropped.0 in
       let same : cap ≡ own = omega (arith, known') in
       let below : own < 41 = subst (λ n. n < 41) same known' in
-      goes_creds table site Root Root (codes "prctl") 24 cap 0 Nothing (rule.Known known.Prctl) (d.Prctl 24 own 0)
+      goes_creds table site Root Root (codes "prctl") 24 cap 0 Nothing (rule.Known known.Prctl) (d.Prctl 24 own 0 0 0)
       (λ c. after_drop_bounding c own) (λ c. record c { bounding = minus c.bounding (single own) }) calls'.prctl refl
       (λ host process mounts owns. refl)
       (λ c has'. drop_granted c own has'.0.effective below)
@@ -145,7 +146,7 @@ module _ (table : calls.Table) (site : Site) (calls' : HasLaunchCalls table.call
       let taken : eqb u no_id ≡ false = ap (λ n. eqb n no_id) low ∙ grind (arith, nat_tests, small) in
       goes_on (Here Keeping) (Here Kept) world (prctl_step table.calls set_keepcaps 1 0 ∷ [])
       (makes table.calls (codes "setresuid") wanted.uid wanted.uid wanted.uid Nothing ∷ [])
-      (goes_creds table site Ready Keeping (codes "prctl") 8 1 0 Nothing (rule.Known known.Prctl) (d.Prctl 8 1 0)
+      (goes_creds table site Ready Keeping (codes "prctl") 8 1 0 Nothing (rule.Known known.Prctl) (d.Prctl 8 1 0 0 0)
       (λ c. Ok (after_set_keepcaps c true)) (λ c. after_set_keepcaps c true) calls'.prctl refl (λ host process mounts owns. refl)
       (λ c own. refl) (λ c own. keeps_caps 0 all all wanted.ambient c (after_set_keepcaps c true) own refl) plan world at)
       (λ mid own. goes_creds table site Keeping Kept (codes "setresuid") wanted.uid wanted.uid wanted.uid Nothing
@@ -165,7 +166,7 @@ module _ (table : calls.Table) (site : Site) (calls' : HasLaunchCalls table.call
       let same : cap ≡ own = omega (arith, known') in
       let below : own < 41 = subst (λ n. n < 41) same known' in
       let wants : has wanted.ambient own ≡ true = subst (λ n. has wanted.ambient n ≡ true) same raised.1 in
-      goes_creds table site Kept Kept (codes "prctl") 47 2 cap Nothing (rule.Known known.Prctl) (d.Prctl 47 2 own)
+      goes_creds table site Kept Kept (codes "prctl") 47 2 cap Nothing (rule.Known known.Prctl) (d.Prctl 47 2 own 0 0)
       (λ c. after_raise c own) (λ c. record c { ambient = union c.ambient (single own) }) calls'.prctl refl
       (λ host process mounts owns. refl)
       (λ c has'. raise_granted c own below (ap (λ s. has s own) has'.0 ∙ ambient_known.each own wants) (ap (λ s. has s own) has'.1 ∙ wants))
@@ -203,10 +204,15 @@ module _ (table : calls.Table) (site : Site) (calls' : HasLaunchCalls table.call
   goes_privileges : (b : Bool) (world : World) → Here Any world
       → Goes (Here Any) world (if_so b (prctl_step table.calls set_no_new_privs 1 0))
   goes_privileges true world at =
-      goes_creds table site Any Any (codes "prctl") 38 1 0 Nothing (rule.Known known.Prctl) (d.Prctl 38 1 0)
+      goes_creds table site Any Any (codes "prctl") 38 1 0 Nothing (rule.Known known.Prctl) (d.Prctl 38 1 0 0 0)
       (λ c. Ok (after_set_no_new_privs c)) after_set_no_new_privs calls'.prctl refl (λ host process mounts owns. refl)
       (λ c own. refl) (λ c own. tt) plan world at
   goes_privileges false world at = stays (Here Any) world at
+
+  goes_memory : (world : World) → Here Any world → Goes (Here Any) world (memory_steps table.calls wanted)
+  goes_memory world at =
+      let P : Bool → Type 0 = λ b. Goes (Here Any) world (if_so b (prctl_step table.calls set_mdwe refuse_exec_gain 0)) in
+      subst P (sym plain.memory) (stays (Here Any) world at)
 
   pub goes_identity : (world : World) → Here Root world → Goes (Here Any) world (identity_steps table.calls wanted)
   goes_identity world at =
@@ -217,7 +223,9 @@ module _ (table : calls.Table) (site : Site) (calls' : HasLaunchCalls table.call
       let taking = inheriting ++ user_steps lines wanted in
       let raising = taking ++ raise_steps lines wanted in
       let leaving = raising ++ left_steps lines wanted in
-      goes_on (Here Any) (Here Any) world leaving (privilege_steps lines wanted)
+      let holding = leaving ++ privilege_steps lines wanted in
+      goes_on (Here Any) (Here Any) world holding (memory_steps lines wanted)
+      (goes_on (Here Any) (Here Any) world leaving (privilege_steps lines wanted)
       (goes_on (Here Kept) (Here Any) world raising (left_steps lines wanted)
       (goes_on (Here Kept) (Here Kept) world taking (raise_steps lines wanted)
       (goes_on (Here Ready) (Here Kept) world inheriting (user_steps lines wanted)
@@ -227,4 +235,5 @@ module _ (table : calls.Table) (site : Site) (calls' : HasLaunchCalls table.call
       (goes_user (eqb wanted.uid 0) refl))
       goes_raises)
       (goes_left (eqb wanted.uid 0)))
-      (goes_privileges wanted.no_new_privs)
+      (goes_privileges wanted.no_new_privs))
+      goes_memory

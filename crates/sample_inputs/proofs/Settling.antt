@@ -55,6 +55,7 @@ use Rattle.launcher.specs.dropin_merge.unit_values.Words.{unit_words}
 use Rattle.launcher.proofs.OfFilterSettings.Joined.{made}
 use Rattle.sample_inputs.specs.Facts.{program}
 use Rattle.sample_inputs.specs.sample_launch.Mentions.{sample_mentions}
+use Rattle.launcher.specs.filter_settings.filter_rules.Memory.{marks_memory}
 use Rattle.sample_inputs.specs.sample_launch.Settled.{AreSampleSettings, SettingsAreNotRefused, SettingsAreTheSamples}
 use Rattle.sample_inputs.proofs.SampleLaunchTurns.{same_half}
 use Rattle.sample_inputs.proofs.Alike.{below_four, site_by, same_mentions, same_twice, site_is, turn_below, unit_by, unit_is}
@@ -194,6 +195,7 @@ module _ (unit : Resolved) (table : Table) (site : Site) (made : Settings) (m : 
     ambient = are.ambient ∙ no_ambient unit m h;
     filters = its_filters;
     new_privileges = its_privileges;
+    memory = are.refuses_memory ∙ ap marks_memory (unfiltered unit table m h);
     mentions = are.mentions_written_and_implied ∙ mentioned unit (site_by site) m h;
   }
 
@@ -208,6 +210,7 @@ of_its_turn n m made same are = record {
   ambient = are.ambient;
   filters = are.filters;
   new_privileges = are.new_privileges ∙ ap (λ half. half == 0) (sym (same_half n m same));
+  memory = are.memory;
   mentions = are.mentions ∙ sym (same_mentions n m same);
 }
 

@@ -76,6 +76,7 @@ use Rattle.trace_profile.proofs.AsEither.{HasPrograms, gives, installed_same, pr
 use Rattle.trace_profile.proofs.ExtendedUnit.{adds_calls, filters_are, tails_are}
 use Rattle.trace_profile.proofs.Lists.{every_are_names, some_are_names}
 use Rattle.trace_profile.proofs.PushesNone.{pushes_none}
+use Rattle.asked_service.specs.filter_settings.filter_rules.Memory.{marks_memory}
 use Rattle.trace_profile.proofs.SameButCalls as but
 use Rattle.trace_profile.proofs.SameLists.{at_member, has, own_has, same_lists}
 
@@ -187,6 +188,10 @@ module _ (unit : Resolved) (table : calls.Table) (site : Site) (sound : IsSite s
         (installed_same table base (mentions names are) (mentions others are_too))
         ∙ sym (privileges others are_too uid)
 
+    -- a list of calls does not decide about memory
+    memory_same : marks_memory (unit_filters (extended unit table names) table) ≡ marks_memory (unit_filters (extended unit table others) table)
+    memory_same = ap marks_memory (filters names are) ∙ sym (ap marks_memory (filters others are_too))
+
     some_same : {X : Type 0} (a b : X) → Some a ≡ Some b → a ≡ b
     some_same a b e = cc
 
@@ -194,11 +199,12 @@ module _ (unit : Resolved) (table : calls.Table) (site : Site) (sound : IsSite s
     ok_same a b e = cc
 
     wanted_same : (program program' : Path) (uid uid' gid gid' : ℕ) (groups groups' : List ℕ) (bounding bounding' ambient ambient' : ℕ)
-        (on on' : Bool) (programs : List (List ℕ))
+        (on on' memory memory' : Bool) (programs : List (List ℕ))
         → program ≡ program' → uid ≡ uid' → gid ≡ gid' → groups ≡ groups' → bounding ≡ bounding' → ambient ≡ ambient' → on ≡ on'
-        → ◌≡◌ {A = Wanted} (record { program = program; uid = uid; gid = gid; groups = groups; bounding = bounding; ambient = ambient; no_new_privs = on; programs = programs })
-        (record { program = program'; uid = uid'; gid = gid'; groups = groups'; bounding = bounding'; ambient = ambient'; no_new_privs = on'; programs = programs })
-    wanted_same program program' uid uid' gid gid' groups groups' bounding bounding' ambient ambient' on on' programs a b c d e f g = cc
+        → memory ≡ memory'
+        → ◌≡◌ {A = Wanted} (record { program = program; uid = uid; gid = gid; groups = groups; bounding = bounding; ambient = ambient; no_new_privs = on; mdwe = memory; programs = programs })
+        (record { program = program'; uid = uid'; gid = gid'; groups = groups'; bounding = bounding'; ambient = ambient'; no_new_privs = on'; mdwe = memory'; programs = programs })
+    wanted_same program program' uid uid' gid gid' groups groups' bounding bounding' ambient ambient' on on' memory memory' programs a b c d e f g h = cc
 
     -- their launches are asked the same, but for the programs
     same_wanted : (settings settings' : Settings) → AreSettings (extended unit table names) table site settings
@@ -210,7 +216,7 @@ module _ (unit : Resolved) (table : calls.Table) (site : Site) (sound : IsSite s
         let uid : settings.uid ≡ settings'.uid = ap (λ (own : Identity). own.uid) ids in
         wanted_same settings.program settings'.program settings.uid settings'.uid settings.gid settings'.gid settings.groups
         settings'.groups settings.bounding settings'.bounding settings.ambient settings'.ambient settings.no_new_privs
-        settings'.no_new_privs programs
+        settings'.no_new_privs settings.mdwe settings'.mdwe programs
         (some_same settings.program settings'.program (sym fit.launches_the_first_command ∙ program names are
         ∙ sym (program others are_too) ∙ fit'.launches_the_first_command))
         uid (ap (λ (own : Identity). own.gid) ids) (ap (λ (own : Identity). own.groups) ids)
@@ -218,6 +224,7 @@ module _ (unit : Resolved) (table : calls.Table) (site : Site) (sound : IsSite s
         (fit.ambient ∙ ambient names are ∙ sym (ambient others are_too) ∙ sym fit'.ambient)
         (fit.new_privileges ∙ same_privileges settings.uid ∙ ap (unit_new_privileges (extended unit table others) table) uid
         ∙ sym fit'.new_privileges)
+        (fit.refuses_memory ∙ memory_same ∙ sym fit'.refuses_memory)
 
     ok_plan : (a b : List PathMention) → ◌≡◌ {A = Result (List PathMention) Refusal} (Ok a) (Ok b) → a ≡ b
     ok_plan a b e = cc

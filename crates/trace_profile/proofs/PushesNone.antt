@@ -128,7 +128,8 @@ known_off known.Setresuid args payload off = bare_off (d.Setresuid (low_word arg
 known_off known.Setresgid args payload off = bare_off (d.Setresgid (low_word args 0) (low_word args 1) (low_word args 2)) refl payload
 known_off known.Setgroups args payload off = ids_off payload
 known_off known.Capset args payload off = sets_off payload
-known_off known.Prctl args payload off = bare_off (d.Prctl (low_word args 0) (low_word args 1) (low_word args 2)) refl payload
+known_off known.Prctl args payload off =
+    bare_off (d.Prctl (low_word args 0) (low_word args 1) (low_word args 2) (low_word args 3) (low_word args 4)) refl payload
 known_off known.Seccomp args payload off = cc
 
 abbrev may_push : KnownCall → Bool

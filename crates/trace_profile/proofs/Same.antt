@@ -148,7 +148,7 @@ module _ (one other : List (List Insn)) (world : World) (call : Call) (nothing :
     operation_same (d.Setresgid r e s) asks = refl
     operation_same (d.Setgroups ids) asks = refl
     operation_same (d.Capset p e i) asks = refl
-    operation_same (d.Prctl option value third) asks = refl
+    operation_same (d.Prctl option value third fourth fifth) asks = refl
     operation_same (d.Seccomp op flags bytes) asks = absurd (nothing op flags bytes asks)
     operation_same (d.Plain cap) asks = refl
 

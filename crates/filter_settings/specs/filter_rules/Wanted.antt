@@ -17,6 +17,7 @@ use Rattle.dropin_merge.specs.linux_numbers.Errnos.{eperm, eafnosupport}
 use Rattle.filter_settings.specs.filter_rules.Actions.{unless_refused}
 use Rattle.filter_settings.specs.filter_rules.Families.{refuses_family}
 use Rattle.filter_settings.specs.filter_rules.Mapping.{refuses_mapping}
+use Rattle.filter_settings.specs.filter_rules.Memory.{marks_memory}
 use Rattle.filter_settings.specs.filter_rules.Realtime.{refuses_policy}
 use Rattle.filter_settings.specs.filter_rules.Suid.{suid_action}
 use Rattle.filter_settings.specs.filter_rules.Namespaces.{namespace_action}
@@ -29,7 +30,7 @@ use Rattle.filter_settings.specs.filter_rules.Calls.{call_action, rest_action}
 -- the settings ask for the filter
 abbrev pub is_on : FilterSettings → FilterName → Bool
 is_on settings Families = is_some settings.families
-is_on settings MemoryDenyWriteExecute = settings.memory_deny_write_execute
+is_on settings MemoryDenyWriteExecute = settings.memory_deny_write_execute && not (marks_memory settings)
 is_on settings Realtime = settings.restrict_realtime
 is_on settings Suid = settings.restrict_suid_sgid
 is_on settings Namespaces = not (list_all (permits settings.namespaces) all_types)

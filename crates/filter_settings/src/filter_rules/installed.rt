@@ -18,7 +18,7 @@ use crate::filter_rules::names::{FilterName, FilterPlace, all_programs};
 use crate::filter_rules::namespaces::forbids_a_type;
 use crate::filter_rules::order::ascending;
 use crate::filter_rules::rules::rule_set;
-use crate::filter_rules::settings::FilterSettings;
+use crate::filter_rules::settings::{FilterSettings, marks_memory};
 use call_rules::RuleSet;
 use call_table::{CallLine, CallTable};
 use std::alloc::{AllocError, Global};
@@ -38,7 +38,9 @@ fn is_on(settings: &FilterSettings, filter: FilterName) -> bool
 {
     match filter {
         FilterName::Families => settings.families.is_some(),
-        FilterName::MemoryDenyWriteExecute => settings.memory_deny_write_execute,
+        FilterName::MemoryDenyWriteExecute => {
+            settings.memory_deny_write_execute && !marks_memory(settings)
+        }
         FilterName::Realtime => settings.restrict_realtime,
         FilterName::Suid => settings.restrict_suid_sgid,
         FilterName::Namespaces => forbids_a_type(settings.namespaces),

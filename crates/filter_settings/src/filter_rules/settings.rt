@@ -1,4 +1,7 @@
 //! Defines the settings of a unit that its filters follow.
+ghost use Rattle.std.specs.Prelude.{◌≡◌};
+ghost use Rattle.filter_settings.specs.filter_rules.Memory.{marks_memory};
+
 use crate::filter_rules::mentions::{CallList, FamilyList};
 use crate::filter_rules::namespace_types::NamespaceTypes;
 use call_rules::Action;
@@ -30,4 +33,11 @@ pub struct FilterSettings {
     pub systemd: Option<Version>,
     /// ProtectKernelTunables=. Only a version of systemd has a filter for it.
     pub protect_kernel_tunables: bool,
+}
+
+/// Returns whether MemoryDenyWriteExecute= is a mark of the process, and no filter. systemd 257 sets it with PR_SET_MDWE of prctl(2).
+pub fn marks_memory(settings: &FilterSettings) -> bool
+    ensures as_set { result ≡ marks_memory settings.now }
+{
+    settings.memory_deny_write_execute && matches!(settings.systemd, Some(Version::V257))
 }

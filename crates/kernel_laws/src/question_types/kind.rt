@@ -20,6 +20,8 @@ pub enum CallKind {
     ProtectsX,
     /// Shared memory to be executed, shmat(2).
     AttachesX,
+    /// Shared memory to be executed and not written, shmat(2).
+    AttachesReadOnlyX,
     /// A realtime policy, sched(7).
     SchedulesRealtime,
     /// Another execution domain, personality(2).

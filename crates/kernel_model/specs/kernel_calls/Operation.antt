@@ -52,8 +52,8 @@ pub data Operation : Type 0 where
   Setgroups : List ℕ → Operation
   -- capset(2): the permitted, the effective and the inheritable set
   Capset : ℕ → ℕ → ℕ → Operation
-  -- prctl(2): the operation and its first two arguments
-  Prctl : ℕ → ℕ → ℕ → Operation
+  -- prctl(2): the operation and its four arguments
+  Prctl : ℕ → ℕ → ℕ → ℕ → ℕ → Operation
   -- seccomp(2): the operation, the flags and the bytes of the program
   Seccomp : ℕ → ℕ → List ℕ → Operation
   -- any other call: the capability of its line
@@ -157,7 +157,8 @@ known_operation known.Setresuid args payload = bare (Setresuid (low_word args 0)
 known_operation known.Setresgid args payload = bare (Setresgid (low_word args 0) (low_word args 1) (low_word args 2)) payload
 known_operation known.Setgroups args payload = by_ids Setgroups payload
 known_operation known.Capset args payload = by_sets Capset payload
-known_operation known.Prctl args payload = bare (Prctl (low_word args 0) (low_word args 1) (low_word args 2)) payload
+known_operation known.Prctl args payload =
+    bare (Prctl (low_word args 0) (low_word args 1) (low_word args 2) (low_word args 3) (low_word args 4)) payload
 known_operation known.Seccomp args payload = by_code (Seccomp (low_word args 0) (low_word args 1)) payload
 
 -- what a call of this rule asks for

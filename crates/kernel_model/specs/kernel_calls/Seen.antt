@@ -36,7 +36,7 @@ seen (lent.Setresuid real effective saved) = Setresuid real effective saved
 seen (lent.Setresgid real effective saved) = Setresgid real effective saved
 seen (lent.Setgroups ids) = Setgroups ids.now
 seen (lent.Capset permitted effective inheritable) = Capset permitted effective inheritable
-seen (lent.Prctl option value other) = Prctl option value other
+seen (lent.Prctl option value third fourth fifth) = Prctl option value third fourth fifth
 seen (lent.Seccomp op flags code) = Seccomp op flags code.now
 seen (lent.Plain cap) = Plain cap
 

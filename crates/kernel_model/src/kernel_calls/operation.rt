@@ -69,8 +69,8 @@ pub enum Operation<'a> {
     Setgroups(&'a [u32]),
     /// capset(2), with the permitted, the effective and the inheritable set.
     Capset(CapSet, CapSet, CapSet),
-    /// prctl(2), with the operation and its first two arguments.
-    Prctl(u32, u32, u32),
+    /// prctl(2), with the operation and its four arguments.
+    Prctl(u32, u32, u32, u32, u32),
     /// seccomp(2), with the operation, the flags and the bytes of the program.
     Seccomp(u32, u32, &'a [u8]),
     /// Any other call, with the capability that its line in the table names.
@@ -101,7 +101,9 @@ fn bare_operation<'a>(rule: CallRule, args: &[u64; 6]) -> Option<Operation<'a>>
         CallRule::Setgid => Operation::Setgid(first),
         CallRule::Setresuid => Operation::Setresuid(first, second, third),
         CallRule::Setresgid => Operation::Setresgid(first, second, third),
-        CallRule::Prctl => Operation::Prctl(first, second, third),
+        CallRule::Prctl => {
+            Operation::Prctl(first, second, third, low_word(args, 3), low_word(args, 4))
+        }
         _ => return None,
     };
     Some(operation)

@@ -18,13 +18,13 @@ use Rattle.ceilings.specs.cap_sets.Sets.{has}
 use Rattle.ceilings.specs.kernel_ways.Entering.{pid_in}
 use Rattle.ceilings.specs.kernel_model.declared.kernel_calls.rule.Rule.{Rule}
 use Rattle.ceilings.specs.kernel_model.declared.kernel_calls.rule.Rule.TheVariants.{Plain}
-use Rattle.ceilings.specs.kernel_laws.Bound.{is_barred, is_owner, is_to_exec, is_mounting, is_user, can_run, ceiling, power_of}
+use Rattle.ceilings.specs.kernel_laws.Bound.{attaching, is_barred, is_owner, is_to_exec, is_mounting, is_user, can_run, ceiling, power_of}
 use Rattle.ceilings.specs.kernel_laws.Kinds.{family_payload}
 use Rattle.ceilings.specs.kernel_laws.Launched.{Launch, lets, lets_line}
 use Rattle.ceilings.specs.kernel_laws.PlainCalls.{bare_call}
 use Rattle.ceilings.specs.kernel_laws.declared.question_types.kind.CallKind.{CallKind}
 use Rattle.ceilings.specs.kernel_laws.declared.question_types.kind.CallKind.TheVariants.{ForPath, ForFamily, ForNamespace, MapsWx}
-use Rattle.ceilings.specs.kernel_laws.declared.question_types.kind.CallKind.TheVariants.{ProtectsX, AttachesX, SchedulesRealtime}
+use Rattle.ceilings.specs.kernel_laws.declared.question_types.kind.CallKind.TheVariants.{ProtectsX, SchedulesRealtime}
 use Rattle.ceilings.specs.kernel_laws.declared.question_types.kind.CallKind.TheVariants.{TakesPersonality, SetsMode, TakesUid, TakesGid}
 use Rattle.ceilings.specs.kernel_laws.declared.question_types.kind.CallKind.TheVariants.{PlainCall}
 use Rattle.ceilings.specs.kernel_laws.declared.question_types.wish.Wish.{Wish}
@@ -174,7 +174,7 @@ calls_for launch program (asking.Socket place) = option_map_or (socket_calls lau
 calls_for launch program (asking.Namespace space) = space_calls launch program space
 calls_for launch program asking.MapWx = call_by launch MapsWx Nothing ∷ []
 calls_for launch program asking.ProtectX = call_by launch ProtectsX Nothing ∷ []
-calls_for launch program asking.ShmX = call_by launch AttachesX Nothing ∷ []
+calls_for launch program asking.ShmX = call_by launch (attaching launch) Nothing ∷ []
 calls_for launch program asking.Realtime = call_by launch SchedulesRealtime Nothing ∷ []
 calls_for launch program asking.Personality = call_by launch TakesPersonality Nothing ∷ []
 calls_for launch program asking.SuidBit = call_by launch SetsMode Nothing ∷ []

@@ -14,7 +14,7 @@ use Rattle.ceilings.specs.kernel_laws.Kinds.{words, no_words}
 use Rattle.ceilings.specs.kernel_laws.Launched.{Launch, lets_line}
 use Rattle.ceilings.specs.kernel_laws.declared.question_types.kind.CallKind.{CallKind}
 use Rattle.ceilings.specs.kernel_laws.declared.question_types.kind.CallKind.TheVariants.{ForPath, PlainCall, ForFamily, ForNamespace}
-use Rattle.ceilings.specs.kernel_laws.declared.question_types.kind.CallKind.TheVariants.{MapsWx, ProtectsX, AttachesX, SchedulesRealtime}
+use Rattle.ceilings.specs.kernel_laws.declared.question_types.kind.CallKind.TheVariants.{MapsWx, ProtectsX, AttachesX, AttachesReadOnlyX, SchedulesRealtime}
 use Rattle.ceilings.specs.kernel_laws.declared.question_types.kind.CallKind.TheVariants.{TakesPersonality, SetsMode, ChangesMounts}
 use Rattle.ceilings.specs.kernel_laws.declared.question_types.kind.CallKind.TheVariants.{RemovesMounts, SetsCaps, TakesUid, TakesGid}
 use Rattle.ceilings.specs.kernel_laws.declared.question_types.wish.Wish.TheVariants.{See as ToSee, Read as ToRead, Write as ToWrite}
@@ -34,6 +34,7 @@ names_of (ForNamespace space) = codes "unshare" ∷ codes "clone" ∷ []
 names_of MapsWx = codes "mmap" ∷ []
 names_of ProtectsX = codes "mprotect" ∷ codes "pkey_mprotect" ∷ []
 names_of AttachesX = codes "shmat" ∷ []
+names_of AttachesReadOnlyX = codes "shmat" ∷ []
 names_of SchedulesRealtime = codes "sched_setscheduler" ∷ []
 names_of TakesPersonality = codes "personality" ∷ []
 names_of SetsMode = codes "chmod" ∷ codes "fchmod" ∷ codes "fchmodat" ∷ codes "mkdir" ∷ codes "mkdirat" ∷ codes "mknod" ∷ codes "mknodat"

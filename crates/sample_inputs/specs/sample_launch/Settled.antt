@@ -20,6 +20,7 @@ pub record AreSampleSettings (n : ℕ) (made : Settings) : Type 0 where
   pub ambient : made.ambient ≡ none
   pub filters : made.filters.items ≡ []
   pub new_privileges : made.no_new_privs ≡ (n % 2 == 0)
+  pub memory : made.mdwe ≡ false
   pub mentions : made.mentions ≡ sample_mentions n
 
 -- nothing refuses a unit that says a sample, at a site that has its rows, whatever the table of calls

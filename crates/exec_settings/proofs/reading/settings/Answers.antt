@@ -54,6 +54,7 @@ returns-clause-settles c =
           (c.no_new_privs.ensures.set_or_implied
           ∙ ap (λ is. is_in_effect_in unit.systemd c.in_ok-own.own.sets_no_new_privs (not c.is_empty-has_filter.result) is
           c.in_ok-own.own.identity.uid c.ambient_within-ambient.result) c.either-is_filtered.ensures.one_of_two);
+      refuses_memory = c.in_ok-made.ensures.marks;
       filters_as_wanted = c.in_ok-made.ensures.as_wanted;
       mentions_written_and_implied = c.in_ok-mentions.ensures.mentions;
       leaves_the_root = c.in_ok-mentions.ensures.leaves_the_root c.in_ok-launched.ensures.leaves_the_root;
