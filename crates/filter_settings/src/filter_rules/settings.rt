@@ -1,6 +1,7 @@
 //! What the settings of a unit ask of its filters.
 use crate::filter_rules::mentions::{CallList, FamilyList};
 use crate::filter_rules::namespace_types::NamespaceTypes;
+use crate::filter_rules::personality::Domain;
 use call_rules::Action;
 use dropin_merge::Version;
 
@@ -30,4 +31,6 @@ pub struct FilterSettings {
     pub systemd: Option<Version>,
     /// ProtectKernelTunables=, which has a filter with a version of systemd alone.
     pub protect_kernel_tunables: bool,
+    /// Personality=: the domain that LockPersonality= lets be set with a version of systemd.
+    pub domain: Domain,
 }
