@@ -21,9 +21,9 @@ use std::collections::VecDeque;
 /// instructions, if each rule has short cases: at most 8, or each of them one test of one argument with all of its low
 /// 32 bits.
 ///
-/// The condition is at most 512 calls, at most 128 cases over all calls together, at most 2 tests a case, and at most
-/// 16 calls that look at the high 32 bits of an argument, as `can_compile` tests. The call fails only if memory runs
-/// out.
+/// The condition is at most 512 calls, at most 128 cases over all calls together, and at most 2 tests a case. At most
+/// 16 calls may look at the high 32 bits of an argument. `can_compile` tests the condition. The call fails only if
+/// memory runs out.
 pub fn compile(alloc: Global, rules: &RuleSet) -> Result<Program, AllocError>
     requires { CanCompile rules.now }
     ensures decides_every_call { IfOk result (λ program. Decides program rules.now) }

@@ -21,9 +21,9 @@ const ASKS_ONLY: u32 = 0xffff_ffff;
 /// An execution domain of personality(2) that Personality= can set (systemd.exec(5)).
 #[derive(Clone, Copy)]
 pub enum Domain {
-    /// PER_LINUX, that of the native architecture.
+    /// PER_LINUX, for programs of the native architecture.
     Linux,
-    /// PER_LINUX32, that of the programs of 32 bits on a machine of 64.
+    /// PER_LINUX32, for programs of 32 bits on a machine of 64.
     Linux32,
 }
 
