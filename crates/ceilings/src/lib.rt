@@ -23,7 +23,7 @@ mod ruled;
 mod searching;
 
 pub use bounds::Ceiling;
-pub use calls::{lets_line, passing_line, plain_line, plain_line_at, rule_of};
+pub use calls::{chosen_words, lets_line, passing_line, plain_line, plain_line_at, rule_of};
 pub use first::{launched_process, launched_table};
 pub use ids::IdList;
 pub use kernel_model::{
@@ -38,7 +38,6 @@ pub use kernel_ways::{
     SettingsError, Version, blindness, is_covered, is_read, launch, openness, plan, reach,
     settings,
 };
-pub use kinds::words;
 pub use leads::{RowLeads, reach_by};
 pub use making::ceiling;
 pub use passing::PathCalls;
