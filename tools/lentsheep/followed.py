@@ -9,6 +9,8 @@ FOLLOWED = frozenset(
     credentials-hidden
     device-folders
     disconnected-tmp
+    families-allow-bits
+    families-deny-bits
     families-none
     family-names
     folders-open
@@ -22,6 +24,7 @@ FOLLOWED = frozenset(
     nnp-from-more
     old-names-close
     old-names-open
+    personality-question
     private-folders
     run-writable
     strict-homes

@@ -2,10 +2,10 @@
 //!
 //! No memory is taken.
 ghost use Rattle.std.specs.Prelude.{◌≡◌, ◌==◌, find, option_copied};
-ghost use Rattle.call_rules.specs.Action.{test_holds, case_holds, call_action, case_action};
+ghost use Rattle.call_rules.specs.Action.{test_holds, case_holds, first_action, is_wide, call_action, case_action};
 
 use crate::actions::Action;
-use crate::rules::{CallRule, Case, RuleSet, Test};
+use crate::rules::{CallRule, Case, RuleSet, Test, Wide};
 use bpf_code::CallData;
 
 fn holds(test: Test, input: &CallData) -> bool
@@ -32,8 +32,8 @@ fn rule_of(calls: &[CallRule], number: u32) -> Option<&CallRule>
     calls.iter().find(|call| call.number == number)
 }
 
-fn action_of(call: &CallRule, input: &CallData) -> Action
-    ensures { result ≡ call_action input.now call.now }
+fn first_action(call: &CallRule, input: &CallData) -> Action
+    ensures { result ≡ first_action input.now call.now }
 {
     match first_passing(call.cases.list(), input) {
         Some(case) => case.action,
@@ -41,9 +41,24 @@ fn action_of(call: &CallRule, input: &CallData) -> Action
     }
 }
 
+fn is_wide(wide: Wide, input: &CallData) -> bool
+    ensures { result ≡ is_wide input.now wide.arg }
+{
+    input.args[wide.arg as usize] >> 32 != 0
+}
+
+fn action_of(call: &CallRule, input: &CallData) -> Action
+    ensures { result ≡ call_action input.now call.now }
+{
+    match call.wide {
+        Some(wide) if is_wide(wide, input) => wide.action,
+        _ => first_action(call, input),
+    }
+}
+
 /// Returns the action of the rules on a call. For another architecture than theirs that is the action for it. Else
-/// the first case of the call's rule whose tests all hold decides, else the rest of that rule, and for a number
-/// without a rule the rest of the set.
+/// the call's rule decides: the action for a wide argument, if the rule has one and the argument is wide, else the
+/// first case whose tests all hold, else the rest of the rule. A number without a rule gets the rest of the set.
 pub fn action(rules: &RuleSet, input: &CallData) -> Action
     ensures decides_by_case { result ≡ case_action rules.now input.now }
 {

@@ -14,7 +14,7 @@ pub use bpf_code::codes::{
 };
 pub use bpf_code::{CallData, Decision, Insn, Program, ProgramError, Stack, run};
 pub use decide::action;
-pub use rules::{CallRule, CallRules, Case, Cases, RuleSet, Test, Tests, are_ascending};
+pub use rules::{CallRule, CallRules, Case, Cases, RuleSet, Test, Tests, Wide, are_ascending};
 pub use text_forms::item_list::ItemList;
 pub use text_forms::line_text::read_text;
 pub use text_forms::{errno_number, read_bool};

@@ -51,10 +51,42 @@ pub struct Case {
 /// The cases of a call. The first one that passes decides.
 pub type Cases = ItemList<Case>;
 
-/// The rule of one call number: its cases, and the action if no case passes.
+/// What is done where argument `arg`, from 0 to 5, is wide: its high 32 bits are not 0. Tests do not look at these.
+#[derive(Clone, Copy)]
+pub struct Wide {
+    pub arg: u8,
+    pub action: Action,
+}
+
+impl Model for Wide {
+    ghost use Rattle.std.specs.Prelude.{◌≤◌};
+    ghost use Rattle.call_rules.specs.Widened.{Widened};
+
+    ghost Value = { Widened };
+
+    ghost view = { λ w. record { arg = w.arg; action = w.action } };
+
+    ghost invariant = { λ w. w.arg ≤ 5 };
+
+    ghost inverse = { λ v. record { arg = v.arg; action = v.action } };
+}
+
+impl Wide {
+    /// The action where argument `arg`, which a call has, is wide.
+    pub fn new(arg: u8, action: Action) -> Self
+        requires { arg ≤ 5 }
+        ensures as_given { result ≡ record { arg = arg; action = action } }
+    {
+        Wide { arg, action }
+    }
+}
+
+/// The rule of one call number: the action for a wide argument, if it has one, its cases, and the action if no case
+/// passes.
 #[derive(Drop)]
 pub struct CallRule {
     pub number: u32,
+    pub wide: Option<Wide>,
     pub cases: Cases,
     pub rest: Action,
 }

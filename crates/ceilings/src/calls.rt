@@ -5,9 +5,9 @@ ghost use Rattle.std.specs.Str.{bytes_eq};
 ghost use Rattle.kernel_ways.specs.call_table.Table.{arch_of, every_call};
 ghost use Rattle.kernel_ways.specs.kernel_model.kernel_calls.Rules.{rule_of};
 ghost use Rattle.kernel_ways.specs.kernel_laws.declared.question_types.kind.CallKind.TheVariants.{PlainCall};
-ghost use Rattle.kernel_ways.specs.kernel_laws.Launched.{launch_of, lets_line, lets_rule, lets_words};
+ghost use Rattle.kernel_ways.specs.kernel_laws.Launched.{chosen_words, launch_of, lets_line, lets_rule, lets_words};
 
-use crate::kinds::words;
+use crate::kinds::{wide_words, words};
 use kernel_model::kernel_calls::Rule;
 use kernel_model::{CallLine, CallTable, KnownCall, World, known_call};
 use kernel_ways::{CallData, CallKind, Decision};
@@ -56,8 +56,39 @@ fn lets_words(world: &World<'_>, abi: u8, number: u32, args: [u64; 6]) -> bool
     }
 }
 
+// Returns whether they let the call of this line through with these words, if there are any.
+fn lets_some_words(world: &World<'_>, line: &CallLine, args: Option<[u64; 6]>) -> bool
+    ensures { result ≡ lets_words (launch_of world.now) line.now.abi line.now.number args }
+{
+    match args {
+        None => false,
+        Some(args) => lets_words(world, line.abi, line.number, args),
+    }
+}
+
+/// The words with which the call of this line, which has this rule, is made: those that ask for the kind first, and
+/// wide ones only where the filters of the first process stop these. None where the call cannot ask for the kind.
+pub fn chosen_words(
+    world: &World<'_>,
+    kind: CallKind,
+    line: &CallLine,
+    rule: Rule,
+) -> Option<[u64; 6]>
+    ensures by_the_filters { result ≡ chosen_words (launch_of world.now) kind line.now.abi line.now.number rule }
+{
+    let first = words(kind, rule);
+    if lets_some_words(world, line, first) {
+        return first;
+    }
+    match wide_words(kind, rule) {
+        Some(wide) => Some(wide),
+        None => first,
+    }
+}
+
 // Returns whether the call of this line, which has this rule, can ask for the kind, and the filters of the first
-// process let it through with the words that ask for it first.
+// process let it through with the words that are chosen for it.
+#[tactic(auto, using(crate::proofs::Chosen::lets_either))]
 pub(crate) fn lets_rule(
     world: &World<'_>,
     kind: CallKind,
@@ -69,14 +100,13 @@ pub(crate) fn lets_rule(
     let Some(rule) = rule else {
         return false;
     };
-    match words(kind, rule) {
-        None => false,
-        Some(args) => lets_words(world, line.abi, line.number, args),
-    }
+    let first = lets_some_words(world, line, words(kind, rule));
+    let wide = lets_some_words(world, line, wide_words(kind, rule));
+    first || wide
 }
 
 /// Returns whether the call of this line can ask for the kind, and the filters of the first process let it through
-/// with the words that ask for it first, seccomp(2). Calls that cannot ask for the kind are not put to the filters.
+/// with the words that ask for it first or with wide ones, seccomp(2). Calls that cannot ask for the kind are not put to the filters.
 pub fn lets_line(world: &World<'_>, kind: CallKind, line: &CallLine) -> bool
     ensures passes_with_the_first_words { result ≡ lets_line (launch_of world.now) kind line.now }
 {

@@ -24,7 +24,7 @@ mod ruled;
 mod searching;
 
 pub use bounds::Ceiling;
-pub use calls::{lets_line, passing_line, plain_line, plain_line_at, rule_of};
+pub use calls::{chosen_words, lets_line, passing_line, plain_line, plain_line_at, rule_of};
 pub use first::{launched_process, launched_table};
 pub use ids::IdList;
 pub use kernel_model::{
@@ -39,7 +39,6 @@ pub use kernel_ways::{
     SettingsError, Version, blindness, is_covered, is_read, launch, openness, plan, reach,
     settings,
 };
-pub use kinds::words;
 pub use leads::{RowLeads, reach_by};
 pub use making::ceiling;
 pub use memory::{attaching, refuses_memory};

@@ -10,7 +10,7 @@ use Rattle.cred_settings.specs.dropin_merge.unit_values.Lines.{listed_line}
 use Rattle.cred_settings.proofs.OfDropinMerge.OneMore.{after_last-push}
 use Rattle.std.proofs.Common.{◌≡◌, ℕ, Bool, true, false, Ok, Option, Some, None, List, [], ◌∷◌, ◌++◌, map, codes, refl, sym, ap, ◌∙◌}
 use Rattle.std.proofs.Common.{append-nil, subst}
-use Rattle.std.specs.Prelude.{◌||◌, ◌&&◌, ◌==◌, not, is_some, nat_lt, length, slice_get, flat_map, Result, filter, find, cond}
+use Rattle.std.specs.Prelude.{◌||◌, ◌&&◌, ◌==◌, not, is_some, nat_lt, length, slice_get, flat_map, Result, filter, cond}
 use Rattle.std.specs.Prelude.{option_and_then}
 use Rattle.std.specs.List.{cons_option, filter_map, list_any}
 use Rattle.std.specs.Str.{bytes_eq}
@@ -87,6 +87,8 @@ use Rattle.exec_settings.specs.Mounts.{paths_refusal, unit_mentions, unit_switch
 use Rattle.exec_settings.specs.RunsAs.{unit_identity}
 use Rattle.exec_settings.specs.Filtered.{counts_as_filter, has_filter, has_value}
 use Rattle.exec_settings.specs.Settings.{ambient_within, program_path, unit_ambient, unit_bounding, unit_new_privileges, unit_program}
+use Rattle.filter_settings.specs.Domains.{domain_named}
+use Rattle.filter_settings.specs.declared.filter_rules.personality.Domain.TheVariants.{Linux}
 use Rattle.filter_settings.proofs.Joined.{made}
 use Rattle.exec_settings.proofs.FilterSame.{same_settings}
 use Rattle.mount_settings.proofs.SameUnits.{each_but, mentions_nothing, mount_keys, noted_keys, notes_nothing}
@@ -95,7 +97,7 @@ abbrev any_namespace : NamespaceTypes
 any_namespace = record { cgroup = true; ipc = true; net = true; mnt = true; pid = true; user = true; uts = true }
 
 abbrev bare : Option Version → FilterSettings
-bare systemd = made false false false false false false false false false KillProcess any_namespace None None false systemd false
+bare systemd = made false false false false false false false false false KillProcess any_namespace None None false systemd false Linux
 
 abbrev unswitched : Switches
 unswitched = record { private_devices = false; protect_kernel_modules = false; protect_kernel_logs = false; dynamic_user = false }
@@ -250,12 +252,13 @@ module _ (unit : Resolved) (h : HasCommandAlone unit) where
   settings_bare : (table : Table) → settings_of unit table ≡ bare unit.systemd
   settings_bare table =
       same_settings _ None _ KillProcess _ None _ any_namespace _ unit.systemd _ false _ false _ false _ false _ false _ false _ false
-      _ false _ false _ false _ false
+      _ false _ false _ false _ false _ Linux
       (no_calls table) killing (no_families table) all_namespaces refl (off (codes "MemoryDenyWriteExecute") refl)
       (off (codes "RestrictRealtime") refl) (off (codes "RestrictSUIDSGID") refl)
       (off (codes "LockPersonality") refl) (off (codes "ProtectHostname") refl) (off (codes "ProtectKernelModules") refl)
       (off (codes "ProtectKernelLogs") refl) (off (codes "ProtectClock") refl) (off (codes "PrivateDevices") refl)
       (no_second_refused table) (off (codes "ProtectKernelTunables") refl)
+      (unsaid (domain_named table) Linux (codes "Personality") refl)
 
   not_dynamic : is_dynamic unit ≡ false
   unfolding is_dynamic

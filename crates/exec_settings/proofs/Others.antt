@@ -69,6 +69,8 @@ use Rattle.exec_settings.specs.Sections.{SameWithoutOthers}
 use Rattle.exec_settings.specs.Filtered.{counts_as_filter, has_filter, has_value}
 use Rattle.exec_settings.specs.Settings.{ambient_within, program_path, unit_ambient, unit_bounding, unit_new_privileges, unit_program}
 use Rattle.mount_settings.proofs.SameUnits.{SameValues, each_of, mount_keys, noted_keys, same_mentions, same_protection_notes}
+use Rattle.filter_settings.specs.Domains.{domain_named, unit_domain}
+use Rattle.filter_settings.specs.declared.filter_rules.personality.Domain.TheVariants.{Linux}
 use Rattle.exec_settings.proofs.FilterSame.{same_settings}
 
 same_grammar : (number : ℕ) (files : List UnitFile) →
@@ -180,14 +182,14 @@ module _ (unit : Resolved) where
       _ (unit_flag unit (codes "ProtectHostname")) _ (unit_flag unit (codes "ProtectKernelModules")) _
       (unit_flag unit (codes "ProtectKernelLogs")) _ (unit_flag unit (codes "ProtectClock")) _
       (unit_flag unit (codes "PrivateDevices")) _ (unit_refuses_second unit table (codes "SystemCallArchitectures"))
-      _ (unit_flag unit (codes "ProtectKernelTunables")) (calls table (codes "SystemCallFilter"))
+      _ (unit_flag unit (codes "ProtectKernelTunables")) _ (unit_domain unit table (codes "Personality")) (calls table (codes "SystemCallFilter"))
       (ap (λ value. value.action) (last error_action_value default_action (codes "SystemCallErrorNumber")))
       (families table (codes "RestrictAddressFamilies")) (types (codes "RestrictNamespaces"))
       refl (flag (codes "MemoryDenyWriteExecute")) (flag (codes "RestrictRealtime")) (flag (codes "RestrictSUIDSGID"))
       (flag (codes "LockPersonality"))
       (flag (codes "ProtectHostname")) (flag (codes "ProtectKernelModules")) (flag (codes "ProtectKernelLogs"))
       (flag (codes "ProtectClock")) (flag (codes "PrivateDevices")) (unpermitted table (codes "SystemCallArchitectures"))
-      (flag (codes "ProtectKernelTunables"))
+      (flag (codes "ProtectKernelTunables")) (last (domain_named table) Linux (codes "Personality"))
 
   dynamic : is_dynamic alone ≡ is_dynamic unit
   unfolding is_dynamic

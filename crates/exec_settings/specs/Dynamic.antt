@@ -33,6 +33,7 @@ with_dynamic_user dynamic said = record {
   second_abi_refused = said.second_abi_refused;
   systemd = said.systemd;
   protect_kernel_tunables = said.protect_kernel_tunables;
+  domain = said.domain;
 }
 
 -- the settings of the filters, by their keys

@@ -7,7 +7,7 @@ use Rattle.call_rules.specs.bpf_code.declared.machine.CallData.{CallData}
 use Rattle.call_rules.specs.declared.actions.Action.{Action}
 use Rattle.call_rules.specs.Tested.{Tested}
 use Rattle.call_rules.specs.declared.rules.Case.{Case}
-use Rattle.call_rules.specs.Action.{test_holds, case_holds, call_action}
+use Rattle.call_rules.specs.Action.{test_holds, case_holds, unless_wide, call_action}
 use Rattle.filter_settings.specs.declared.filter_rules.choice.Choice.{Choice}
 use Rattle.filter_settings.specs.filter_rules.Choices.{case_with, rule_with, choice_action}
 
@@ -52,4 +52,5 @@ first_passing input given action rest (test ∷ tests) =
 
 pub rule_chooses : (input : CallData) (number : ℕ) (choice : Choice)
     → call_action input (rule_with number choice) ≡ choice_action input choice
-rule_chooses input number choice = first_passing input choice.given choice.action choice.rest choice.any
+rule_chooses input number choice =
+    ap (unless_wide input choice.wide) (first_passing input choice.given choice.action choice.rest choice.any)

@@ -7,7 +7,9 @@ mod KnownOnes
 pub mod Refusals
 pub mod Chosen
 pub mod Counted
+pub mod Lasting
 pub mod LowWords
+pub mod WideValues
 pub mod Mapped
 pub mod Marked
 pub mod Ordered

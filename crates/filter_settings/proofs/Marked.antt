@@ -1,7 +1,7 @@
 -- Marks at the calls of a table, word after word.
-use Rattle.std.proofs.Common.{◌≡◌, ◌∙◌, ℕ, zero, suc, ◌+◌, ◌<◌, ◌≤◌, Bool, true, false, cond, List, [], ◌∷◌, ◌++◌, length, get_or, take, reverse, replicate, find, map}
+use Rattle.std.proofs.Common.{◌≡◌, ◌∙◌, ℕ, zero, suc, ◌+◌, ◌<◌, ◌≤◌, Bool, true, false, cond, List, [], ◌∷◌, ◌++◌, length, get_or, take, replicate, find, map}
 use Rattle.std.proofs.Common.{Option, Some, None, refl, sym, ap, subst, arith, length-append}
-use Rattle.std.specs.Prelude.{◌==◌, ◌||◌, is_some, slice_get, unwrap_or, option_and_then}
+use Rattle.std.specs.Prelude.{◌==◌, ◌||◌, is_some, unwrap_or, option_and_then}
 use Rattle.std.specs.Option.{option_map, option_map_or}
 use Rattle.std.specs.List.{list_any}
 use Rattle.std.specs.Str.{bytes_eq}

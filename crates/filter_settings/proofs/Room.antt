@@ -18,10 +18,11 @@ use Rattle.call_table.specs.Table.{Abi, Table}
 
 -- the most room that a filter of this name takes
 abbrev most_taken : FilterName → ℕ
-most_taken name = 16 + 5 * (most_costs name).calls + 2 * (most_costs name).cases + 4 * (most_costs name).tests + 4
+most_taken name =
+    16 + 5 * (most_costs name).calls + 2 * (most_costs name).cases + 4 * (most_costs name).tests + 3 * (most_costs name).wides + 4
 
 one_fits : (made : Filter) → KeepsWithin (most_costs made.name) made.rules → most_insns made.rules + 4 ≤ most_taken made.name
-one_fits made within = omega (arith, within.calls, within.cases, within.tests)
+one_fits made within = omega (arith, within.calls, within.cases, within.tests, within.wides)
 
 -- the most room that its program for an ABI takes
 abbrev taken_at : Place → ℕ
@@ -42,8 +43,8 @@ all_fit (made ∷ filters) within =
 those_on : (test : Place → Bool) (places : List Place) → sum_by taken_at (filter test places) ≤ sum_by taken_at places
 those_on test places = omega (arith, sum_by-filter_both test (λ place. not (test place)) (λ place. refl) taken_at places)
 
--- the programs of one ABI take at most 11,889 together; the programs of two ABIs, with the one that ends the second, at most 23,798
-all_few : (second : Option Abi) → sum_by taken_at (all_programs second) ≤ 23798
+-- the programs of one ABI take at most 11,898 together, those of two and what ends the calls of the second at most 23,816
+all_few : (second : Option Abi) → sum_by taken_at (all_programs second) ≤ 23816
 all_few None = omega arith
 all_few (Some second) = omega arith
 

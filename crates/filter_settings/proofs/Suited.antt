@@ -13,7 +13,7 @@ use Rattle.call_rules.specs.declared.rules.CallRule.{CallRule}
 use Rattle.call_table.specs.declared.listed.CallLine.{CallLine}
 use Rattle.filter_settings.specs.declared.filter_rules.choice.Choice.{Choice}
 use Rattle.filter_settings.specs.filter_rules.Choices.{case_with, rule_with, whole}
-use Rattle.call_rules.specs.Sizes.{HaveFewTests}
+use Rattle.call_rules.specs.Sizes.{HaveFewTests, wide_len}
 use Rattle.filter_settings.specs.filter_rules.Costs.{HasShortCases, AreWhole}
 use Rattle.filter_settings.proofs.Walked.{rules_of}
 
@@ -24,31 +24,32 @@ pub record IsWhole (choice : Choice) : Type 0 where
   pub values : List ℕ
   pub are : choice.any ≡ map (whole at) values
 
--- the choice has at most this number of cases, and each case at most this number of tests
-pub record IsSmall (cases tests : ℕ) (choice : Choice) : Type 0 where
+-- so many cases at most, each with so many tests at most, and so many wide arguments at most
+pub record IsSmall (cases tests wides : ℕ) (choice : Choice) : Type 0 where
   pub cases_fit : length choice.any ≤ cases
   pub tests_fit : length (option_to_list choice.given) + 1 ≤ tests
+  pub wide_fits : wide_len choice.wide ≤ wides
   pub short : (length choice.any ≤ 8) ⊎ IsWhole choice
 
-abbrev pub AreSmall : ℕ → ℕ → (List ℕ → Option Choice) → Type 0
-AreSmall cases tests choose = (name : List ℕ) → IfSome (choose name) (IsSmall cases tests)
+abbrev pub AreSmall : ℕ → ℕ → ℕ → (List ℕ → Option Choice) → Type 0
+AreSmall cases tests wides choose = (name : List ℕ) → IfSome (choose name) (IsSmall cases tests wides)
 
--- if the rule of each small choice has a property, all rules have it
-each : (P : CallRule → Type 0) (cases tests : ℕ) (choose : List ℕ → Option Choice) → AreSmall cases tests choose
-    → ((number : ℕ) (choice : Choice) → IsSmall cases tests choice → P (rule_with number choice)) →
+-- what holds of the rule of each small choice holds of all rules
+each : (P : CallRule → Type 0) (cases tests wides : ℕ) (choose : List ℕ → Option Choice) → AreSmall cases tests wides choose
+    → ((number : ℕ) (choice : Choice) → IsSmall cases tests wides choice → P (rule_with number choice)) →
     (calls : List CallLine) → AllByRecursion P (rules_of choose calls)
-each P cases tests choose small h [] = tt
-each P cases tests choose small h (call ∷ calls) = one (choose call.name) (small call.name) (each P cases tests choose small h calls)
+each P cases tests wides choose small h [] = tt
+each P cases tests wides choose small h (call ∷ calls) = one (choose call.name) (small call.name) (each P cases tests wides choose small h calls)
   where
-    one : (o : Option Choice) → IfSome o (IsSmall cases tests) → AllByRecursion P (rules_of choose calls)
+    one : (o : Option Choice) → IfSome o (IsSmall cases tests wides) → AllByRecursion P (rules_of choose calls)
         → AllByRecursion P (cons_option (option_map (rule_with call.number) o) (rules_of choose calls))
     one None s rest = rest
     one (Some choice) s rest = (h call.number choice s, rest)
 
-pub all_rules : (P : CallRule → Type 0) (cases tests : ℕ) (choose : List ℕ → Option Choice) → AreSmall cases tests choose
-    → ((number : ℕ) (choice : Choice) → IsSmall cases tests choice → P (rule_with number choice)) →
+pub all_rules : (P : CallRule → Type 0) (cases tests wides : ℕ) (choose : List ℕ → Option Choice) → AreSmall cases tests wides choose
+    → ((number : ℕ) (choice : Choice) → IsSmall cases tests wides choice → P (rule_with number choice)) →
     (calls : List CallLine) → All P (rules_of choose calls)
-all_rules P cases tests choose small h calls = All-from_recursion P (rules_of choose calls) (each P cases tests choose small h calls)
+all_rules P cases tests wides choose small h calls = All-from_recursion P (rules_of choose calls) (each P cases tests wides choose small h calls)
 
 -- the number of tests of a case
 length_case : (given : Option Tested) (action : Action) (test : Tested)
@@ -67,29 +68,34 @@ cases_few : (most number : ℕ) (choice : Choice) → length (option_to_list cho
 cases_few most number choice h = All-from_recursion (λ case. length case.tests ≤ most)
     (map (case_with choice.given choice.action) choice.any) (each_case most choice.given choice.action choice.any h)
 
-pub few_tests : (cases tests : ℕ) → tests ≤ 2 → (number : ℕ) (choice : Choice) → IsSmall cases tests choice
+pub few_tests : (cases tests wides : ℕ) → tests ≤ 2 → (number : ℕ) (choice : Choice) → IsSmall cases tests wides choice
     → HaveFewTests ((rule_with number choice).cases)
-few_tests cases tests two number choice s = cases_few 2 number choice (omega (arith, s.tests_fit))
+few_tests cases tests wides two number choice s = cases_few 2 number choice (omega (arith, s.tests_fit))
 
--- the numbers of cases of a rule, and of tests over all its cases
-pub case_bound : (cases tests : ℕ) (number : ℕ) (choice : Choice) → IsSmall cases tests choice
+-- the wide argument of a rule, if it has one
+pub wide_bound : (cases tests wides : ℕ) (number : ℕ) (choice : Choice) → IsSmall cases tests wides choice
+    → wide_len ((rule_with number choice).wide) ≤ wides
+wide_bound cases tests wides number choice s = s.wide_fits
+
+-- the cases of a rule, and the tests of all its cases
+pub case_bound : (cases tests wides : ℕ) (number : ℕ) (choice : Choice) → IsSmall cases tests wides choice
     → length ((rule_with number choice).cases) ≤ cases
-case_bound cases tests number choice s = subst (λ n. n ≤ cases)
+case_bound cases tests wides number choice s = subst (λ n. n ≤ cases)
     (sym (length-map choice.any (case_with choice.given choice.action))) s.cases_fit
 
-pub test_bound : (cases tests : ℕ) (number : ℕ) (choice : Choice) → IsSmall cases tests choice
+pub test_bound : (cases tests wides : ℕ) (number : ℕ) (choice : Choice) → IsSmall cases tests wides choice
     → sum_by (λ case. length case.tests) ((rule_with number choice).cases) ≤ cases * tests
-test_bound cases tests number choice s =
+test_bound cases tests wides number choice s =
     let each_fits = sum_by-le (λ case. length case.tests) tests ((rule_with number choice).cases) (cases_few tests number choice s.tests_fit) in
-    le_trans each_fits (mul-le-mul (case_bound cases tests number choice s) (le_refl tests))
+    le_trans each_fits (mul-le-mul (case_bound cases tests wides number choice s) (le_refl tests))
 
 whole_cases : (at : ℕ) (action : Action) (values : List ℕ) → AllByRecursion (λ case. (value : ℕ) × (case.tests ≡ whole at value ∷ []))
     (map (case_with None action) (map (whole at) values))
 whole_cases at action [] = tt
 whole_cases at action (value ∷ values) = ((value, refl), whole_cases at action values)
 
-pub short_cases : (cases tests : ℕ) (number : ℕ) (choice : Choice) → IsSmall cases tests choice → HasShortCases (rule_with number choice)
-short_cases cases tests number choice s = by s.short
+pub short_cases : (cases tests wides : ℕ) (number : ℕ) (choice : Choice) → IsSmall cases tests wides choice → HasShortCases (rule_with number choice)
+short_cases cases tests wides number choice s = by s.short
   where
     by : (length choice.any ≤ 8) ⊎ IsWhole choice → HasShortCases (rule_with number choice)
     by (inl few) = inl (subst (λ n. n ≤ 8) (sym (length-map choice.any (case_with choice.given choice.action))) few)

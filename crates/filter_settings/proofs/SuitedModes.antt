@@ -34,13 +34,13 @@ suid_means : (name : List ℕ) (input : CallData) → option_map_or (choice_acti
     ≡ unless_refused eperm (refuses_mode name input)
 suid_means name input = by_arguments input (flags_argument name) (mode_argument name)
 
-suid_small : AreSmall 2 2 suid_choice
+suid_small : AreSmall 2 2 0 suid_choice
 suid_small name = one (flags_argument name) (mode_argument name)
   where
-    one : (flags mode : Option ℕ) → IfSome (option_map (mode_choice (option_map (λ at. bits at o_creat) flags)) mode) (IsSmall 2 2)
+    one : (flags mode : Option ℕ) → IfSome (option_map (mode_choice (option_map (λ at. bits at o_creat) flags)) mode) (IsSmall 2 2 0)
     one flags None = tt
-    one None (Some at) = record { cases_fit = omega arith; tests_fit = omega arith; short = inl (omega arith) }
-    one (Some other) (Some at) = record { cases_fit = omega arith; tests_fit = omega arith; short = inl (omega arith) }
+    one None (Some at) = record { cases_fit = omega arith; tests_fit = omega arith; wide_fits = omega arith; short = inl (omega arith) }
+    one (Some other) (Some at) = record { cases_fit = omega arith; tests_fit = omega arith; wide_fits = omega arith; short = inl (omega arith) }
 
 -- by the rules of a version of systemd
 module _ (input : CallData) where
@@ -65,14 +65,14 @@ suid_means_in (Some version) name input =
     later_by input (bytes_eq name (codes "openat2")) (bytes_eq name (codes "fchmodat2")) (refuses_mode name input) (suid_choice name)
     (not_moded name input) (suid_means name input)
 
-pub suid_small_in : (systemd : Option Version) → AreSmall 2 2 (suid_choice_in systemd)
+pub suid_small_in : (systemd : Option Version) → AreSmall 2 2 0 (suid_choice_in systemd)
 suid_small_in None name = suid_small name
 suid_small_in (Some version) name = one (bytes_eq name (codes "openat2")) (bytes_eq name (codes "fchmodat2")) (suid_choice name) (suid_small name)
   where
-    one : (openat2 fchmodat2 : Bool) (choice : Option Choice) → IfSome choice (IsSmall 2 2)
-        → IfSome (if openat2 then Some (always (Errno enosys)) else if fchmodat2 then Some (mode_choice None 2) else choice) (IsSmall 2 2)
-    one true fchmodat2 choice small = record { cases_fit = omega arith; tests_fit = omega arith; short = inl (omega arith) }
-    one false true choice small = record { cases_fit = omega arith; tests_fit = omega arith; short = inl (omega arith) }
+    one : (openat2 fchmodat2 : Bool) (choice : Option Choice) → IfSome choice (IsSmall 2 2 0)
+        → IfSome (if openat2 then Some (always (Errno enosys)) else if fchmodat2 then Some (mode_choice None 2) else choice) (IsSmall 2 2 0)
+    one true fchmodat2 choice small = record { cases_fit = omega arith; tests_fit = omega arith; wide_fits = omega arith; short = inl (omega arith) }
+    one false true choice small = record { cases_fit = omega arith; tests_fit = omega arith; wide_fits = omega arith; short = inl (omega arith) }
     one false false choice small = small
 
 abbrev first_names : List (List ℕ)

@@ -79,12 +79,12 @@ few_tests : (types : NamespaceTypes) (name : List ℕ) (at : ℕ) → length (na
 few_tests types name at =
     omega (arith, length-append (any_type_tests name) (map (flag_test at) (forbidden_types types)), length-map (forbidden_types types) (flag_test at), few_types types, few_any (bytes_eq name (codes "setns")))
 
-namespaces_small : (types : NamespaceTypes) → AreSmall 8 1 (namespaces_choice types)
+namespaces_small : (types : NamespaceTypes) → AreSmall 8 1 0 (namespaces_choice types)
 namespaces_small types name = one (types_argument name)
   where
-    one : (at : Option ℕ) → IfSome (option_map (λ at. refused_where (namespace_tests types name at)) at) (IsSmall 8 1)
+    one : (at : Option ℕ) → IfSome (option_map (λ at. refused_where (namespace_tests types name at)) at) (IsSmall 8 1 0)
     one None = tt
-    one (Some at) = record { cases_fit = few_tests types name at; tests_fit = omega arith; short = inl (few_tests types name at) }
+    one (Some at) = record { cases_fit = few_tests types name at; tests_fit = omega arith; wide_fits = omega arith; short = inl (few_tests types name at) }
 
 -- by the rules of a version of systemd
 time_test : (input : CallData) (clone : Bool) → list_any (test_holds input) (if clone then bits 0 clone_newtime ∷ [] else [])
@@ -144,15 +144,15 @@ few_tests_in : (types : NamespaceTypes) (name : List ℕ) (at : ℕ) → length 
 few_tests_in types name at =
     omega (arith, length-append (namespace_tests types name at) (time_tests name), length-append (any_type_tests name) (map (flag_test at) (forbidden_types types)), length-map (forbidden_types types) (flag_test at), few_types types, few_extra name)
 
-pub namespaces_small_in : (systemd : Option Version) (types : NamespaceTypes) → AreSmall 8 1 (namespaces_choice_in systemd types)
+pub namespaces_small_in : (systemd : Option Version) (types : NamespaceTypes) → AreSmall 8 1 0 (namespaces_choice_in systemd types)
 namespaces_small_in None types name = namespaces_small types name
 namespaces_small_in (Some version) types name = by (bytes_eq name (codes "clone3")) (types_argument name)
   where
     by : (b : Bool) (at : Option ℕ) → IfSome
-        (if b then Some (always (Errno enosys)) else option_map (λ at. refused_where (namespace_tests types name at ++ time_tests name)) at) (IsSmall 8 1)
-    by true at = record { cases_fit = omega arith; tests_fit = omega arith; short = inl (omega arith) }
+        (if b then Some (always (Errno enosys)) else option_map (λ at. refused_where (namespace_tests types name at ++ time_tests name)) at) (IsSmall 8 1 0)
+    by true at = record { cases_fit = omega arith; tests_fit = omega arith; wide_fits = omega arith; short = inl (omega arith) }
     by false None = tt
-    by false (Some at) = record { cases_fit = few_tests_in types name at; tests_fit = omega arith; short = inl (few_tests_in types name at) }
+    by false (Some at) = record { cases_fit = few_tests_in types name at; tests_fit = omega arith; wide_fits = omega arith; short = inl (few_tests_in types name at) }
 
 pub namespaces_names : List (List ℕ)
 namespaces_names = codes "clone3" ∷ codes "unshare" ∷ codes "clone" ∷ codes "setns" ∷ []

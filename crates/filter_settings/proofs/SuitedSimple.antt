@@ -5,6 +5,7 @@ use Rattle.std.specs.Prelude.{◌||◌, ◌&&◌, not, ◌==◌, is_some, if◌t
 use Rattle.std.specs.Option.{option_map_or, option_map, IfSome}
 use Rattle.std.specs.List.{list_any}
 use Rattle.std.specs.Str.{bytes_eq}
+use Rattle.dropin_merge.specs.unit_names.declared.version.Version.{Version}
 use Rattle.call_rules.specs.bpf_code.declared.machine.CallData.{CallData}
 use Rattle.call_table.specs.Table.{Table}
 use Rattle.filter_settings.specs.declared.filter_rules.choice.Choice.{Choice}
@@ -13,19 +14,21 @@ use Rattle.filter_settings.specs.declared.filter_rules.mentions.Mention.{Mention
 use Rattle.dropin_merge.specs.linux_numbers.Errnos.{eperm}
 use Rattle.call_rules.specs.declared.actions.Action.{Action}
 use Rattle.call_rules.specs.declared.actions.Action.TheVariants.{Errno, Allow}
-use Rattle.filter_settings.specs.filter_rules.Actions.{unless_refused, low, has_bits, is_one_of}
-use Rattle.filter_settings.specs.filter_rules.Choices.{choice_action, whole, allowed_where, always}
+use Rattle.filter_settings.specs.filter_rules.Actions.{unless_refused, low, meets, has_bits, is_one_of}
+use Rattle.filter_settings.specs.filter_rules.Choices.{choice_action, whole, allowed_values, always}
 use Rattle.filter_settings.specs.filter_rules.Mapping.{refuses_mapping, prot_write_exec, prot_exec, shm_exec}
 use Rattle.filter_settings.specs.filter_rules.MappingChoice.{mapping_choice, choice_of_bits, refused_bits}
-use Rattle.filter_settings.specs.filter_rules.Realtime.{refuses_policy, sched_other, sched_batch, sched_idle}
+use Rattle.filter_settings.specs.filter_rules.Realtime.{refuses_policy, is_ordinary, sched_other, sched_batch, sched_idle}
 use Rattle.filter_settings.specs.filter_rules.RealtimeChoice.{realtime_choice}
-use Rattle.filter_settings.specs.filter_rules.Personality.{refuses_personality}
-use Rattle.filter_settings.specs.filter_rules.PersonalityChoice.{personality_choice}
+use Rattle.filter_settings.specs.declared.filter_rules.personality.Domain.{Domain}
+use Rattle.filter_settings.specs.filter_rules.Personality.{number_of, permits_domain, refuses_personality}
+use Rattle.filter_settings.specs.filter_rules.PersonalityChoice.{permitted_values, personality_choice}
 use Rattle.filter_settings.specs.filter_rules.Blocked.{is_blocked}
 use Rattle.filter_settings.specs.filter_rules.BlockedChoice.{blocked_choice}
 use Rattle.filter_settings.specs.filter_rules.Calls.{call_action, rest_action, list_action, listed_by, listed_action, hidden_action, is_unknown}
 use Rattle.filter_settings.specs.filter_rules.CallsChoice.{calls_choice}
-use Rattle.filter_settings.proofs.LowWords.{or_false, some_whole}
+use Rattle.filter_settings.proofs.LowWords.{or_false}
+use Rattle.filter_settings.proofs.WideValues.{by_value_means, wide_few}
 use Rattle.filter_settings.proofs.Suited.{IsSmall, AreSmall}
 use Rattle.filter_settings.proofs.Counted.{AreAmong}
 
@@ -46,12 +49,12 @@ pub mapping_means : (name : List ℕ) (input : CallData) → option_map_or (choi
 mapping_means name input = by_bits input (bytes_eq name (codes "mmap")) (is_one_of name (codes "mprotect" ∷ codes "pkey_mprotect" ∷ []))
     (bytes_eq name (codes "shmat"))
 
-pub mapping_small : AreSmall 1 1 mapping_choice
+pub mapping_small : AreSmall 1 1 0 mapping_choice
 mapping_small name = one (refused_bits name)
   where
-    one : (o : Option ℕ) → IfSome (choice_of_bits o) (IsSmall 1 1)
+    one : (o : Option ℕ) → IfSome (choice_of_bits o) (IsSmall 1 1 0)
     one None = tt
-    one (Some mask) = record { cases_fit = omega arith; tests_fit = omega arith; short = inl (omega arith) }
+    one (Some mask) = record { cases_fit = omega arith; tests_fit = omega arith; wide_fits = omega arith; short = inl (omega arith) }
 
 pub mapping_names : List (List ℕ)
 mapping_names = codes "mmap" ∷ codes "mprotect" ∷ codes "pkey_mprotect" ∷ codes "shmat" ∷ []
@@ -76,46 +79,61 @@ length_mapping_names = refl
 
 -- one call with one list of allowed values
 
-allowed : (input : CallData) (at : ℕ) (values : List ℕ) (named : Bool) →
-    option_map_or (choice_action input) (if named then Some (allowed_where (map (whole at) values)) else None) Allow
-    ≡ unless_refused eperm (named && not (list_any (λ value. low input at == value) values))
-allowed input at values true = ap (λ b. cond b Allow (Errno eperm)) (some_whole input at values)
-    ∙ turned (list_any (λ value. low input at == value) values)
+allowed : (systemd : Option Version) (input : CallData) (at : ℕ) (values : List ℕ) (test : ℕ → Bool) (named : Bool)
+    → ((word : ℕ) → list_any (λ value. word == value) values ≡ test word) →
+    option_map_or (choice_action input) (if named then Some (allowed_values systemd at (map (whole at) values)) else None) Allow
+    ≡ unless_refused eperm (named && not (meets systemd input at test))
+allowed systemd input at values test true h =
+    by_value_means systemd input at values test Allow (Errno eperm) h ∙ turned (meets systemd input at test)
   where
     turned : (b : Bool) → cond b Allow (Errno eperm) ≡ cond (not b) (Errno eperm) Allow
     turned true = refl
     turned false = refl
-allowed input at values false = refl
+allowed systemd input at values test false h = refl
 
-pub realtime_means : (name : List ℕ) (input : CallData) → option_map_or (choice_action input) (realtime_choice name) Allow
-    ≡ unless_refused eperm (refuses_policy name input)
-realtime_means name input =
-    allowed input 1 (sched_other ∷ sched_batch ∷ sched_idle ∷ []) (bytes_eq name (codes "sched_setscheduler"))
-    ∙ ap (λ b. unless_refused eperm
-    (bytes_eq name (codes "sched_setscheduler") && not ((low input 1 == sched_other) || ((low input 1 == sched_batch) || b))))
-    (or_false (low input 1 == sched_idle))
+ordinary : (policy : ℕ) → list_any (λ value. policy == value) (sched_other ∷ sched_batch ∷ sched_idle ∷ []) ≡ is_ordinary policy
+ordinary policy = ap (λ b. (policy == sched_other) || ((policy == sched_batch) || b)) (or_false (policy == sched_idle))
 
-pub personality_means : (name : List ℕ) (input : CallData) → option_map_or (choice_action input) (personality_choice name) Allow
-    ≡ unless_refused eperm (refuses_personality name input)
-personality_means name input =
-    allowed input 0 (0 ∷ 0xffff_ffff ∷ []) (bytes_eq name (codes "personality"))
-    ∙ ap (λ b. unless_refused eperm (bytes_eq name (codes "personality") && not ((low input 0 == 0) || b)))
-    (or_false (low input 0 == 0xffff_ffff))
+pub realtime_means : (systemd : Option Version) (name : List ℕ) (input : CallData)
+    → option_map_or (choice_action input) (realtime_choice systemd name) Allow
+    ≡ unless_refused eperm (refuses_policy systemd name input)
+realtime_means systemd name input =
+    allowed systemd input 1 (sched_other ∷ sched_batch ∷ sched_idle ∷ []) is_ordinary (bytes_eq name (codes "sched_setscheduler")) ordinary
 
-pub realtime_small : AreSmall 3 1 realtime_choice
-realtime_small name = one (bytes_eq name (codes "sched_setscheduler"))
+permitted : (systemd : Option Version) (domain : Domain) (persona : ℕ)
+    → list_any (λ value. persona == value) (permitted_values systemd domain) ≡ permits_domain systemd domain persona
+permitted None domain persona = ap (λ b. (persona == 0) || b) (or_false (persona == 0xffff_ffff))
+permitted (Some version) domain persona = or_false (persona == number_of domain)
+
+pub personality_means : (systemd : Option Version) (domain : Domain) (name : List ℕ) (input : CallData)
+    → option_map_or (choice_action input) (personality_choice systemd domain name) Allow
+    ≡ unless_refused eperm (refuses_personality systemd domain name input)
+personality_means systemd domain name input =
+    allowed systemd input 0 (permitted_values systemd domain) (permits_domain systemd domain) (bytes_eq name (codes "personality"))
+    (permitted systemd domain)
+
+pub realtime_small : (systemd : Option Version) → AreSmall 3 1 1 (realtime_choice systemd)
+realtime_small systemd name = one (bytes_eq name (codes "sched_setscheduler"))
   where
     one : (b : Bool) → IfSome
-        (if b then Some (allowed_where (whole 1 sched_other ∷ whole 1 sched_batch ∷ whole 1 sched_idle ∷ [])) else None) (IsSmall 3 1)
-    one true = record { cases_fit = omega arith; tests_fit = omega arith; short = inl (omega arith) }
+        (if b then Some (allowed_values systemd 1 (whole 1 sched_other ∷ whole 1 sched_batch ∷ whole 1 sched_idle ∷ [])) else None)
+        (IsSmall 3 1 1)
+    one true = record {
+      cases_fit = omega arith;
+      tests_fit = omega arith;
+      wide_fits = wide_few systemd 1 (Errno eperm);
+      short = inl (omega arith);
+    }
     one false = tt
 
-pub personality_small : AreSmall 2 1 personality_choice
-personality_small name = one (bytes_eq name (codes "personality"))
+pub personality_small : (systemd : Option Version) (domain : Domain) → AreSmall 2 1 1 (personality_choice systemd domain)
+personality_small systemd domain name = one systemd (bytes_eq name (codes "personality"))
   where
-    one : (b : Bool) → IfSome (if b then Some (allowed_where (whole 0 0 ∷ whole 0 0xffff_ffff ∷ [])) else None) (IsSmall 2 1)
-    one true = record { cases_fit = omega arith; tests_fit = omega arith; short = inl (omega arith) }
-    one false = tt
+    one : (systemd : Option Version) (b : Bool) → IfSome
+        (if b then Some (allowed_values systemd 0 (map (whole 0) (permitted_values systemd domain))) else None) (IsSmall 2 1 1)
+    one None true = record { cases_fit = omega arith; tests_fit = omega arith; wide_fits = omega arith; short = inl (omega arith) }
+    one (Some version) true = record { cases_fit = omega arith; tests_fit = omega arith; wide_fits = omega arith; short = inl (omega arith) }
+    one systemd false = tt
 
 -- a choice for one name alone
 pub one_name : (only : List ℕ) (choose : List ℕ → Option Choice) → ((name : List ℕ) → bytes_eq name only ≡ false → choose name ≡ None)
@@ -124,13 +142,13 @@ one_name only choose h name some =
     elim (bytes_eq name only) as (λ b. bytes_eq name only ≡ b → (b || false) ≡ true)
     [ true ↦ λ e. refl | false ↦ λ e. sym (ap is_some (h name e)) ∙ some ] refl
 
-pub realtime_among : AreAmong (codes "sched_setscheduler" ∷ []) realtime_choice
-realtime_among = one_name (codes "sched_setscheduler") realtime_choice
-    (λ name e. ap (λ b. if b then Some (allowed_where (whole 1 sched_other ∷ whole 1 sched_batch ∷ whole 1 sched_idle ∷ [])) else None) e)
+pub realtime_among : (systemd : Option Version) → AreAmong (codes "sched_setscheduler" ∷ []) (realtime_choice systemd)
+realtime_among systemd = one_name (codes "sched_setscheduler") (realtime_choice systemd)
+    (λ name e. ap (λ b. if b then Some (allowed_values systemd 1 (whole 1 sched_other ∷ whole 1 sched_batch ∷ whole 1 sched_idle ∷ [])) else None) e)
 
-pub personality_among : AreAmong (codes "personality" ∷ []) personality_choice
-personality_among = one_name (codes "personality") personality_choice
-    (λ name e. ap (λ b. if b then Some (allowed_where (whole 0 0 ∷ whole 0 0xffff_ffff ∷ [])) else None) e)
+pub personality_among : (systemd : Option Version) (domain : Domain) → AreAmong (codes "personality" ∷ []) (personality_choice systemd domain)
+personality_among systemd domain = one_name (codes "personality") (personality_choice systemd domain)
+    (λ name e. ap (λ b. if b then Some (allowed_values systemd 0 (map (whole 0) (permitted_values systemd domain))) else None) e)
 
 -- blocked calls
 
@@ -143,13 +161,13 @@ blocked_means table words name input = by_test (is_blocked table words name)
     by_test true = refl
     by_test false = refl
 
-always_small : (action : Action) → IsSmall 0 1 (always action)
-always_small action = record { cases_fit = omega arith; tests_fit = omega arith; short = inl (omega arith) }
+always_small : (action : Action) → IsSmall 0 1 0 (always action)
+always_small action = record { cases_fit = omega arith; tests_fit = omega arith; wide_fits = omega arith; short = inl (omega arith) }
 
-pub blocked_small : (table : Table) (words : List (List ℕ)) → AreSmall 0 1 (blocked_choice table words)
+pub blocked_small : (table : Table) (words : List (List ℕ)) → AreSmall 0 1 0 (blocked_choice table words)
 blocked_small table words name = one (is_blocked table words name)
   where
-    one : (b : Bool) → IfSome (if b then Some (always (Errno eperm)) else None) (IsSmall 0 1)
+    one : (b : Bool) → IfSome (if b then Some (always (Errno eperm)) else None) (IsSmall 0 1 0)
     one true = always_small (Errno eperm)
     one false = tt
 
@@ -179,13 +197,13 @@ calls_mean table (Some list) default name input = by list.hides_unknown (listed_
     by false None = refl
     by false (Some mention) = refl
 
-pub calls_small : (table : Table) (calls : Option CallList) (default : Action) → AreSmall 0 1 (calls_choice table calls default)
+pub calls_small : (table : Table) (calls : Option CallList) (default : Action) → AreSmall 0 1 0 (calls_choice table calls default)
 calls_small table None default name = tt
 calls_small table (Some list) default name = one list.hides_unknown (listed_by table list.mentions name)
   where
     one : (hides : Bool) (o : Option Mention) → IfSome
         (if hides then Some (always (list_action table default name list))
-        else option_map (λ mention. always (listed_action list.mode default mention)) o) (IsSmall 0 1)
+        else option_map (λ mention. always (listed_action list.mode default mention)) o) (IsSmall 0 1 0)
     one true o = always_small (list_action table default name list)
     one false None = tt
     one false (Some mention) = always_small (listed_action list.mode default mention)

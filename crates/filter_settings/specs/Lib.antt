@@ -1,4 +1,5 @@
 pub mod Architectures
+pub mod Domains
 pub mod ErrorActions
 pub mod Lines
 pub mod Modes

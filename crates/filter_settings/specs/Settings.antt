@@ -8,6 +8,7 @@ use Rattle.dropin_merge.specs.unit_values.Flags.{unit_flag, unit_flag_notes}
 use Rattle.filter_settings.specs.declared.settings.Booleans.{Booleans}
 use Rattle.filter_settings.specs.ErrorActions.{unit_error_action, unit_error_action_notes}
 use Rattle.filter_settings.specs.Architectures.{unit_refuses_second, unit_architectures_notes}
+use Rattle.filter_settings.specs.Domains.{unit_domain}
 use Rattle.filter_settings.specs.CallLists.{unit_call_list, unit_call_list_notes}
 use Rattle.filter_settings.specs.FamilyLists.{unit_family_list, unit_family_list_notes}
 use Rattle.filter_settings.specs.Namespaces.{unit_namespaces, unit_namespaces_notes}
@@ -27,7 +28,7 @@ flags_of unit =
       private_devices = unit_flag unit (codes "PrivateDevices");
     }
 
--- the settings; the values of ProtectKernelTunables= are noted with the keys of paths
+-- what the keys come to; the values of ProtectKernelTunables= are noted where its paths are read, and those of Personality= by its key alone
 abbrev pub settings_of : Resolved → Table → FilterSettings
 settings_of unit table =
     record {
@@ -47,6 +48,7 @@ settings_of unit table =
       second_abi_refused = unit_refuses_second unit table (codes "SystemCallArchitectures");
       systemd = unit.systemd;
       protect_kernel_tunables = unit_flag unit (codes "ProtectKernelTunables");
+      domain = unit_domain unit table (codes "Personality");
     }
 
 -- the notes on the boolean keys that restrict the service, and on the boolean keys that protect the system from it

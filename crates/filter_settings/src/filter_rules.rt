@@ -33,4 +33,5 @@ pub use installed::{Filter, filters};
 pub use mentions::{CallList, FamilyList, FamilyMention, FamilyMentions, Mention, Mentions, Mode};
 pub use names::{FilterName, FilterPlace};
 pub use namespace_types::{NamespaceType, NamespaceTypes, all_types};
+pub use personality::Domain;
 pub use settings::{FilterSettings, marks_memory};

@@ -10,6 +10,7 @@
 mod architectures;
 mod call_lists;
 mod call_words;
+mod domains;
 mod error_actions;
 mod family_lists;
 pub mod filter_rules;

@@ -6,6 +6,7 @@ ghost use Rattle.filter_settings.specs.filter_rules.Refusing.{AreRefusing};
 ghost use Rattle.filter_settings.specs.Settings.{flags_of, settings_of, restriction_notes, protection_notes, filter_notes};
 
 use crate::architectures::second_refused_by_key;
+use crate::domains::domain_of_key;
 use crate::error_actions::error_action_of_key;
 use crate::filter_rules::FilterSettings;
 use crate::key_lists::list_of_key;
@@ -93,6 +94,7 @@ fn read_settings(
         )?.noted_in(notes)?,
         systemd: unit.systemd,
         protect_kernel_tunables: flag_of_key(alloc, unit, "ProtectKernelTunables")?.what,
+        domain: domain_of_key(alloc, unit, table, "Personality")?,
     })
 }
 

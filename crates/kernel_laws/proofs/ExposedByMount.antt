@@ -1,5 +1,5 @@
 -- With mount a new entry shows the whole host.
-use Rattle.std.proofs.Common.{◌≡◌, ℕ, true, false, [], ◌∷◌, ◌++◌, Option, Some, Ok, map, refl, cond, ap, ◌∙◌, sym, subst, length}
+use Rattle.std.proofs.Common.{◌≡◌, true, false, [], ◌∷◌, ◌++◌, Option, Some, Ok, map, refl, cond, ap, ◌∙◌, sym, subst, length}
 use Rattle.std.proofs.Common.{arith, ◌<◌}
 use Rattle.std.specs.Prelude.{option_and_then, codes, nat_lt, ◌+◌}
 use Rattle.std.specs.List.{AllByRecursion}

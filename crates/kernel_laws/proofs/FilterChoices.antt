@@ -1,7 +1,7 @@
 -- Each filter, by the names that it looks at.
 use Rattle.std.proofs.Common.{◌≡◌, ℕ, Bool, true, false, cond, List, [], ◌∷◌, Option, Some, None, ◌⊎◌, inl, inr, refl, ap, ◌∙◌, sym, subst}
 use Rattle.std.proofs.Common.{arith, eqb}
-use Rattle.std.specs.Prelude.{◌&&◌, ◌||◌, not, ◌==◌, ◌%◌, ◌^◌, codes, slice_index}
+use Rattle.std.specs.Prelude.{◌&&◌, ◌||◌, not, ◌==◌, ◌+◌, ◌/◌, ◌%◌, ◌^◌, ◌≤◌, codes, slice_index}
 use Rattle.std.specs.Str.{bytes_eq}
 use Rattle.std.specs.List.{list_any, AllByRecursion}
 use Rattle.std.specs.Option.{option_map_or}
@@ -22,13 +22,22 @@ use Rattle.filter_settings.specs.declared.filter_rules.names.FilterName.TheVaria
 use Rattle.filter_settings.specs.declared.filter_rules.namespace_types.NamespaceType.{NamespaceType}
 use Rattle.filter_settings.specs.declared.filter_rules.namespace_types.NamespaceTypes.{NamespaceTypes}
 use Rattle.filter_settings.specs.filter_rules.NamespaceTypes as spaces
-use Rattle.filter_settings.specs.filter_rules.Actions.{low, has_bits, unless_refused, is_one_of}
-use Rattle.filter_settings.specs.filter_rules.Families.{refuses_family, is_refused_family}
+use Rattle.filter_settings.specs.filter_rules.Actions.{low, meets, has_bits, unless_refused, is_one_of}
+use Rattle.filter_settings.specs.filter_rules.Families.{refuses_family, is_listed_family, is_refused_by}
+use Rattle.filter_settings.specs.declared.filter_rules.mentions.Mode.{Mode}
+use Rattle.filter_settings.specs.declared.filter_rules.mentions.Mode.TheVariants.{Allow, Deny}
 use Rattle.filter_settings.specs.filter_rules.Mapping.{refuses_mapping}
 use Rattle.filter_settings.specs.filter_rules.Realtime.{refuses_policy, is_ordinary}
 use Rattle.filter_settings.specs.filter_rules.Suid.{refuses_mode, sets_id_bit, has_mode, suid_action}
 use Rattle.filter_settings.specs.filter_rules.Namespaces.{refuses_namespace, has_forbidden, forbidden_types, clone_newtime, makes_time, namespace_action}
-use Rattle.filter_settings.specs.filter_rules.Personality.{refuses_personality, keeps_domain}
+use Rattle.filter_settings.specs.filter_rules.Personality.{refuses_personality, permits_domain, keeps_domain}
+use Rattle.filter_settings.specs.declared.filter_rules.personality.Domain.{Domain}
+use Rattle.filter_settings.specs.declared.filter_rules.personality.Domain.TheVariants.{Linux, Linux32}
+use Rattle.filter_settings.specs.declared.filter_rules.settings.FilterSettings.{FilterSettings}
+use Rattle.filter_settings.specs.declared.filter_rules.names.FilterName.{FilterName}
+use Rattle.filter_settings.specs.filter_rules.Wanted.{named_action}
+use Rattle.filter_settings.specs.call_table.Table.{Table}
+use Rattle.filter_settings.specs.call_rules.Action.{is_wide}
 use Rattle.kernel_model.specs.kernel_calls.Words.{low_word}
 use Rattle.kernel_model.specs.kern_files.Bits.{has_some, has_all}
 use Rattle.kernel_model.specs.declared.kernel_calls.payload.Payload.{Payload}
@@ -38,7 +47,7 @@ use Rattle.kernel_laws.specs.declared.question_types.kind.CallKind.{CallKind}
 use Rattle.kernel_laws.specs.declared.question_types.kind.CallKind.TheVariants as k
 use Rattle.filter_settings.specs.declared.filter_rules.namespace_types.NamespaceType.TheVariants as namespace
 use Rattle.kernel_laws.specs.declared.question_types.wish.Wish.TheVariants as wish_to
-use Rattle.kernel_laws.specs.Kinds.{asks, words, one_word, no_words}
+use Rattle.kernel_laws.specs.Kinds.{asks, words, wide_words, one_word, no_words}
 use Rattle.kernel_laws.specs.Questions as q
 use Rattle.filter_settings.specs.call_table.call_names.Known.{place_of}
 use Rattle.filter_settings.specs.call_table.declared.call_names.rule.Argument.{Argument}
@@ -50,7 +59,7 @@ use Rattle.kernel_model.specs.declared.kernel_calls.rule.Rule.TheVariants as rul
 use Rattle.filter_settings.specs.call_table.declared.call_names.rule.CallRule.TheVariants as known
 use Rattle.kernel_model.specs.declared.kernel_calls.rule.Rule.{Rule}
 use Rattle.kernel_model.specs.kernel_calls.Rules.{rule_of}
-use Rattle.kernel_laws.specs.FirstChoice.{FirstPasses}
+use Rattle.kernel_laws.specs.FirstChoice.{with_words, LetAsWell, FirstPasses}
 use Rattle.kernel_laws.proofs.Filters.{bare_is}
 use Rattle.kernel_laws.proofs.FirstWords.{no_wish}
 
@@ -80,6 +89,21 @@ kind-Socket (k.ForPath wish) args first h e = no_wish (d.Socket (low_word args 0
 kind-Socket (k.ForFamily family) args first h e = ap (λ (w : List ℕ). low_word w 0) (sym (first_is (one_word 0 family) first e))
     ∙ below family (slice_index args 0) h
 kind-Socket kind args first h e = cc
+
+-- the first words hold the family itself
+kind-Narrow : (kind : CallKind) (args first : List ℕ) → asks kind (d.Socket (low_word args 0)) ≡ true
+    → words kind (rule.Known known.Socket) ≡ Some first → slice_index first 0 ≡ low_word args 0
+kind-Narrow (k.ForPath wish) args first h e = no_wish (d.Socket (low_word args 0)) refl wish h
+kind-Narrow (k.ForFamily family) args first h e = ap (λ (w : List ℕ). slice_index w 0) (sym (first_is (one_word 0 family) first e))
+    ∙ sym (eqb-true (low_word args 0) family h)
+kind-Narrow kind args first h e = cc
+
+-- and the wide ones a higher bit as well
+kind-Wide : (kind : CallKind) (args : List ℕ) → asks kind (d.Socket (low_word args 0)) ≡ true
+    → (family : ℕ) × (wide_words kind (rule.Known known.Socket) ≡ Some (one_word 0 (2 ^ 32 + family)))
+kind-Wide (k.ForPath wish) args h = no_wish (d.Socket (low_word args 0)) refl wish h
+kind-Wide (k.ForFamily family) args h = (family, refl)
+kind-Wide kind args h = cc
 
 kind-Map : (kind : CallKind) (args first : List ℕ) → asks kind (d.Map (low_word args 2)) ≡ true
     → words kind (rule.Known known.Map) ≡ Some first → has_bits (low_word args 2) 6 ≡ true
@@ -114,6 +138,88 @@ kind-Personality : (kind : CallKind) (args first : List ℕ) → asks kind (d.Pe
 kind-Personality (k.ForPath wish) args first h e = no_wish (d.Personality (low_word args 0)) refl wish h
 kind-Personality k.TakesPersonality args first h e = h
 kind-Personality kind args first h e = cc
+
+first_persona : (kind : CallKind) (args first : List ℕ) → asks kind (d.Personality (low_word args 0)) ≡ true
+    → words kind (rule.Known known.Personality) ≡ Some first → first ≡ one_word 0 8
+first_persona (k.ForPath wish) args first h e = no_wish (d.Personality (low_word args 0)) refl wish h
+first_persona k.TakesPersonality args first h e = sym (first_is (one_word 0 8) first e)
+first_persona kind args first h e = cc
+
+not_linux : (persona : ℕ) → not (keeps_domain persona) ≡ true → not (persona == 0) ≡ true
+not_linux persona h = by (persona == 0) h
+  where
+    by : (b : Bool) → not (b || persona == 0xffff_ffff) ≡ true → not b ≡ true
+    by true h = cc
+    by false h = refl
+
+-- an argument whose low word fails a test does not meet it
+meets_none : (systemd : Option Version) (input : CallData) (at : ℕ) (test : ℕ → Bool) → not (test (low input at)) ≡ true
+    → not (meets systemd input at test) ≡ true
+meets_none None input at test h = h
+meets_none (Some version) input at test h = by (is_wide input at)
+  where
+    by : (b : Bool) → not (not b && test (low input at)) ≡ true
+    by true = refl
+    by false = h
+
+-- the domain of the first words, with a version of systemd
+persona_passes : (version : Version) (domain : Domain) (input first : CallData) → not (keeps_domain (low input 0)) ≡ true
+    → first.args ≡ one_word 0 8 → not (meets (Some version) first 0 (permits_domain (Some version) domain)) ≡ true
+    → not (meets (Some version) input 0 (permits_domain (Some version) domain)) ≡ true
+persona_passes version Linux input first kept is h =
+    meets_none (Some version) input 0 (permits_domain (Some version) Linux) (not_linux (low input 0) kept)
+persona_passes version Linux32 input first kept is h =
+    let P : List ℕ → Bool = λ args. not (not (not (slice_index args 0 / 2 ^ 32 == 0)) && (slice_index args 0 % 2 ^ 32 == 8)) in
+    let off : false ≡ true = ap P (sym is) ∙ h in
+    cc
+
+-- families
+nonzero : (n : ℕ) → 1 ≤ n → eqb n 0 ≡ false
+nonzero n h = grind (arith, nat_tests)
+
+high : (family : ℕ) → eqb ((2 ^ 32 + family) / 2 ^ 32) 0 ≡ false
+high family = nonzero ((2 ^ 32 + family) / 2 ^ 32) (omega arith)
+
+-- a low word has no high bit
+narrow : (n : ℕ) → not (n % 2 ^ 32 / 2 ^ 32 == 0) ≡ false
+narrow n = ap not (eq-eqb (n % 2 ^ 32 / 2 ^ 32) 0 (omega arith))
+
+low_twice : (n : ℕ) → n % 2 ^ 32 % 2 ^ 32 ≡ n % 2 ^ 32
+low_twice n = omega arith
+
+-- a list that allows lets no call through whose family it does not list
+allows_no_other : (wide listed wide' listed' : Bool) → wide ≡ false → listed ≡ listed' → not (not wide && listed) ≡ true
+    → not (not wide' && listed') ≡ false → ⊥
+allows_no_other wide listed true listed' n s e f = cc
+allows_no_other wide listed false false n s e f = cc
+allows_no_other true listed false true n s e f = cc
+allows_no_other false true false true n s e f = cc
+allows_no_other false false false true n s e f = cc
+
+abbrev refused : Option Version → Option FamilyList → CallData → Bool
+refused systemd families input =
+    option_map_or (λ list. is_refused_by list.mode (meets systemd input 0 (is_listed_family list.mentions))) families false
+
+-- where a family is refused, and a call for it passes, a wide one does
+wide_passes : (systemd : Option Version) (families : Option FamilyList) (input first : CallData) (family : ℕ)
+    → slice_index first.args 0 ≡ low_word input.args 0 → refused systemd families first ≡ true
+    → refused systemd families input ≡ false → refused systemd families (with_words input (one_word 0 (2 ^ 32 + family))) ≡ false
+wide_passes systemd None input first family word e f = cc
+wide_passes None (Some list) input first family word e f =
+    let same : refused None (Some list) first ≡ refused None (Some list) input = ap (λ n. is_refused_by list.mode (is_listed_family list.mentions n)) (ap (λ n. n % 2 ^ 32) word ∙ low_twice (slice_index input.args 0)) in
+    let clash : true ≡ false = sym e ∙ same ∙ f in
+    cc
+wide_passes (Some version) (Some list) input first family word e f = by list.mode e f
+  where
+    by : (mode : Mode) → is_refused_by mode (not (not (slice_index first.args 0 / 2 ^ 32 == 0)) && is_listed_family list.mentions (slice_index first.args 0 % 2 ^ 32)) ≡ true
+        → is_refused_by mode (not (is_wide input 0) && is_listed_family list.mentions (low input 0)) ≡ false
+        → is_refused_by mode (not (not ((2 ^ 32 + family) / 2 ^ 32 == 0)) && is_listed_family list.mentions ((2 ^ 32 + family) % 2 ^ 32)) ≡ false
+    by Allow e f =
+        absurd (allows_no_other (not (slice_index first.args 0 / 2 ^ 32 == 0)) (is_listed_family list.mentions (slice_index first.args 0 % 2 ^ 32)) (is_wide input 0)
+        (is_listed_family list.mentions (low input 0)) (ap (λ n. not (n / 2 ^ 32 == 0)) word ∙ narrow (slice_index input.args 0))
+        (ap (λ n. is_listed_family list.mentions (n % 2 ^ 32)) word
+        ∙ ap (is_listed_family list.mentions) (low_twice (slice_index input.args 0))) e f)
+    by Deny e f = ap (λ b. not (not b) && is_listed_family list.mentions ((2 ^ 32 + family) % 2 ^ 32)) (high family)
 
 -- a set-user-id or a set-group-id bit
 bit_is : (mode number : ℕ) → has mode number ≡ true → has_bits mode (2 ^ number) ≡ true
@@ -285,6 +391,12 @@ on_by false e = e
 module _ (line : CallLine) (rule' : Rule) (kind : CallKind) (payload : Payload) (operation : Operation) (input first : CallData)
     (is : rule_of line ≡ Some rule') (does : operation_by rule' input.args payload ≡ Some operation)
     (asked : asks kind operation ≡ true) (are : words kind rule' ≡ Some first.args) where
+  record IsWide (systemd : Option Version) (families : Option FamilyList) : Type 0 where
+    family : ℕ
+    wide_are : wide_words kind rule' ≡ Some (one_word 0 (2 ^ 32 + family))
+    name : line.name ≡ codes "socket"
+    passes : refused systemd families (with_words input (one_word 0 (2 ^ 32 + family))) ≡ false
+
   words_at : (own : Rule) → own ≡ rule' → words kind own ≡ Some first.args
   words_at own e = ap (λ (r : Rule). words kind r) e ∙ are
 
@@ -309,13 +421,22 @@ module _ (line : CallLine) (rule' : Rule) (kind : CallKind) (payload : Payload) 
   one_of (name ∷ names) h each = elim (or_cases (bytes_eq line.name name) (is_one_of line.name names) h)
       [ inl n ↦ each.0 n | inr m ↦ one_of names m each.1 ]
 
-  family_first : (families : Option FamilyList) → refuses_family families line.name first ≡ true
-      → refuses_family families line.name input ≡ true
+  -- socket(2) whose first words are refused where the call is not: the wide words are not
+  family_wide : (systemd : Option Version) (families : Option FamilyList) → refuses_family systemd families line.name first ≡ true
+      → refuses_family systemd families line.name input ≡ false → IsWide systemd families
   unfolding rule_of known_call
-  family_first families h =
-      let parts = and_parts (bytes_eq line.name (codes "socket")) (option_map_or (λ list. is_refused_family list (low first 0)) families false) h in
-      let same = by_rule (codes "socket") (rule.Known known.Socket) (d.Socket (low_word input.args 0)) refl (λ p. refl) (kind-Socket kind input.args first.args) parts.0 in
-      and_from _ _ parts.0 (ap (λ n. option_map_or (λ list. is_refused_family list n) families false) (sym same) ∙ parts.1)
+  family_wide systemd families e f =
+      let parts = and_parts (bytes_eq line.name (codes "socket")) (refused systemd families first) e in
+      let wide = by_rule (codes "socket") (rule.Known known.Socket) (d.Socket (low_word input.args 0)) refl (λ p. refl) (λ asked' are'. kind-Wide kind input.args asked') parts.0 in
+      record {
+        family = wide.0;
+        wide_are = ap (wide_words kind) (sym (rule_is (codes "socket") (rule.Known known.Socket) refl parts.0)) ∙ wide.1;
+        name = (bytes_eq-Decides line.name (codes "socket")).0 parts.0;
+        passes = wide_passes systemd families input first wide.0
+            (by_rule (codes "socket") (rule.Known known.Socket) (d.Socket (low_word input.args 0)) refl (λ p. refl)
+            (kind-Narrow kind input.args first.args) parts.0)
+            parts.1 (ap (λ b. b && refused systemd families input) (sym parts.0) ∙ f);
+      }
 
   mapping_first : refuses_mapping line.name first ≡ true → refuses_mapping line.name input ≡ true
   unfolding rule_of known_call
@@ -339,19 +460,33 @@ module _ (line : CallLine) (rule' : Rule) (kind : CallKind) (payload : Payload) 
           (kind-Attach kind input.args first.args) z
       by false false false x y z h = cc
 
-  realtime_first : refuses_policy line.name first ≡ true → refuses_policy line.name input ≡ true
+  realtime_first : (systemd : Option Version) → refuses_policy systemd line.name first ≡ true
+      → refuses_policy systemd line.name input ≡ true
   unfolding rule_of known_call
-  realtime_first h =
-      let parts = and_parts (bytes_eq line.name (codes "sched_setscheduler")) (not (is_ordinary (low first 1))) h in
-      and_from _ _ parts.0 (by_rule (codes "sched_setscheduler") (rule.Known known.Schedule) (d.Schedule (low_word input.args 1)) refl
-      (λ p. refl) (kind-Schedule kind input.args first.args) parts.0)
+  realtime_first systemd h =
+      let parts = and_parts (bytes_eq line.name (codes "sched_setscheduler")) (not (meets systemd first 1 is_ordinary)) h in
+      and_from _ _ parts.0 (meets_none systemd input 1 is_ordinary
+      (by_rule (codes "sched_setscheduler") (rule.Known known.Schedule) (d.Schedule (low_word input.args 1)) refl
+      (λ p. refl) (kind-Schedule kind input.args first.args) parts.0))
 
-  personality_first : refuses_personality line.name first ≡ true → refuses_personality line.name input ≡ true
+  personality_first : (systemd : Option Version) (domain : Domain) → refuses_personality systemd domain line.name first ≡ true
+      → refuses_personality systemd domain line.name input ≡ true
   unfolding rule_of known_call
-  personality_first h =
-      let parts = and_parts (bytes_eq line.name (codes "personality")) (not (keeps_domain (low first 0))) h in
-      and_from _ _ parts.0 (by_rule (codes "personality") (rule.Known known.Personality) (d.Personality (low_word input.args 0)) refl
-      (λ p. refl) (kind-Personality kind input.args first.args) parts.0)
+  personality_first systemd domain h =
+      let parts = and_parts (bytes_eq line.name (codes "personality")) (not (meets systemd first 0 (permits_domain systemd domain))) h in
+      and_from _ _ parts.0 (by systemd (kept parts.0) parts.0 parts.1)
+    where
+      kept : bytes_eq line.name (codes "personality") ≡ true → not (keeps_domain (low input 0)) ≡ true
+      kept = by_rule (codes "personality") (rule.Known known.Personality) (d.Personality (low_word input.args 0)) refl
+          (λ p. refl) (kind-Personality kind input.args first.args)
+
+      by : (systemd : Option Version) → not (keeps_domain (low input 0)) ≡ true → bytes_eq line.name (codes "personality") ≡ true
+          → not (meets systemd first 0 (permits_domain systemd domain)) ≡ true
+          → not (meets systemd input 0 (permits_domain systemd domain)) ≡ true
+      by None kept n h = kept
+      by (Some version) kept n h = persona_passes version domain input first kept
+          (by_rule (codes "personality") (rule.Known known.Personality) (d.Personality (low_word input.args 0)) refl
+          (λ p. refl) (first_persona kind input.args first.args) n) h
 
   -- at the name that the line has
   by_name : (refuses : List ℕ → CallData → Bool) (name : List ℕ) → bytes_eq line.name name ≡ true
@@ -495,28 +630,91 @@ module _ (line : CallLine) (rule' : Rule) (kind : CallKind) (payload : Payload) 
           (refuses_namespace types line.name first || makes_time line.name first) off-1
           (λ h. either (or_cases (refuses_namespace types line.name first) (makes_time line.name first) h))
 
+-- the first words pass each filter that the call passes, if they pass that of the families
+narrow_passes : (settings : FilterSettings) (table : Table) (line : CallLine) (rule' : Rule) (kind : CallKind) (payload : Payload)
+    (operation : Operation) (input : CallData) (first : List ℕ)
+    → rule_of line ≡ Some rule' → operation_by rule' input.args payload ≡ Some operation → asks kind operation ≡ true
+    → words kind rule' ≡ Some first
+    → (decision_of (word_of (unless_refused 97 (refuses_family settings.systemd settings.families line.name input))) ≡ decision.Pass
+    → decision_of (word_of (unless_refused 97 (refuses_family settings.systemd settings.families line.name (with_words input first)))) ≡ decision.Pass)
+    → LetAsWell settings table line input first
+narrow_passes settings table line r kind p operation input first is does asked are families filter.Families = families
+narrow_passes settings table line r kind p operation input first is does asked are families filter.MemoryDenyWriteExecute =
+    carry 1 (refuses_mapping line.name input) (refuses_mapping line.name (with_words input first)) off-1
+    (mapping_first line r kind p operation input (with_words input first) is does asked are)
+narrow_passes settings table line r kind p operation input first is does asked are families filter.Realtime =
+    carry 1 (refuses_policy settings.systemd line.name input) (refuses_policy settings.systemd line.name (with_words input first)) off-1
+    (realtime_first line r kind p operation input (with_words input first) is does asked are settings.systemd)
+narrow_passes settings table line r kind p operation input first is does asked are families filter.Suid =
+    suid_passes line r kind p operation input (with_words input first) is does asked are settings.systemd
+narrow_passes settings table line r kind p operation input first is does asked are families filter.Namespaces =
+    space_passes line r kind p operation input (with_words input first) is does asked are settings.systemd settings.namespaces
+narrow_passes settings table line r kind p operation input first is does asked are families filter.Tunables = λ e. e
+narrow_passes settings table line r kind p operation input first is does asked are families filter.Personality =
+    carry 1 (refuses_personality settings.systemd settings.domain line.name input)
+    (refuses_personality settings.systemd settings.domain line.name (with_words input first)) off-1
+    (personality_first line r kind p operation input (with_words input first) is does asked are settings.systemd settings.domain)
+narrow_passes settings table line r kind p operation input first is does asked are families filter.Hostname = λ e. e
+narrow_passes settings table line r kind p operation input first is does asked are families filter.Modules = λ e. e
+narrow_passes settings table line r kind p operation input first is does asked are families filter.Logs = λ e. e
+narrow_passes settings table line r kind p operation input first is does asked are families filter.Clock = λ e. e
+narrow_passes settings table line r kind p operation input first is does asked are families filter.Devices = λ e. e
+narrow_passes settings table line r kind p operation input first is does asked are families filter.Calls = λ e. e
+narrow_passes settings table line r kind p operation input first is does asked are families filter.Archs = λ e. e
+
+-- socket(2) is looked at by no other filter
+suid_socket : (systemd : Option Version) (input other : CallData)
+    → decision_of (word_of (suid_action systemd (codes "socket") input)) ≡ decision.Pass
+    → decision_of (word_of (suid_action systemd (codes "socket") other)) ≡ decision.Pass
+suid_socket None input other e = e
+suid_socket (Some version) input other e = e
+
+space_socket : (systemd : Option Version) (types : NamespaceTypes) (input other : CallData)
+    → decision_of (word_of (namespace_action systemd types (codes "socket") input)) ≡ decision.Pass
+    → decision_of (word_of (namespace_action systemd types (codes "socket") other)) ≡ decision.Pass
+space_socket None types input other e = e
+space_socket (Some version) types input other e = e
+
+socket_passes : (settings : FilterSettings) (table : Table) (line : CallLine) (input : CallData) (own : List ℕ)
+    → line.name ≡ codes "socket" → refused settings.systemd settings.families (with_words input own) ≡ false
+    → LetAsWell settings table line input own
+socket_passes settings table line input own is passes = λ filter. subst (Alike filter) (sym is) (by filter)
+  where
+    Alike : FilterName → List ℕ → Type 0
+    Alike filter name = decision_of (word_of (named_action filter settings table name input)) ≡ decision.Pass
+        → decision_of (word_of (named_action filter settings table name (with_words input own))) ≡ decision.Pass
+
+    by : (filter : FilterName) → Alike filter (codes "socket")
+    by filter.Families = λ e. ap (λ b. decision_of (word_of (unless_refused 97 b))) passes
+    by filter.MemoryDenyWriteExecute = λ e. e
+    by filter.Realtime = λ e. e
+    by filter.Suid = suid_socket settings.systemd input (with_words input own)
+    by filter.Namespaces = space_socket settings.systemd settings.namespaces input (with_words input own)
+    by filter.Tunables = λ e. e
+    by filter.Personality = λ e. e
+    by filter.Hostname = λ e. e
+    by filter.Modules = λ e. e
+    by filter.Logs = λ e. e
+    by filter.Clock = λ e. e
+    by filter.Devices = λ e. e
+    by filter.Calls = λ e. e
+    by filter.Archs = λ e. e
+
 pub first_passes : FirstPasses
-first_passes filter.Families settings table line r kind p operation input first is does asked are =
-    carry 97 (refuses_family settings.families line.name input) (refuses_family settings.families line.name first) off-97
-    (family_first line r kind p operation input first is does asked are settings.families)
-first_passes filter.MemoryDenyWriteExecute settings table line r kind p operation input first is does asked are =
-    carry 1 (refuses_mapping line.name input) (refuses_mapping line.name first) off-1
-    (mapping_first line r kind p operation input first is does asked are)
-first_passes filter.Realtime settings table line r kind p operation input first is does asked are =
-    carry 1 (refuses_policy line.name input) (refuses_policy line.name first) off-1
-    (realtime_first line r kind p operation input first is does asked are)
-first_passes filter.Suid settings table line r kind p operation input first is does asked are =
-    suid_passes line r kind p operation input first is does asked are settings.systemd
-first_passes filter.Namespaces settings table line r kind p operation input first is does asked are =
-    space_passes line r kind p operation input first is does asked are settings.systemd settings.namespaces
-first_passes filter.Tunables settings table line r kind p operation input first is does asked are = λ e. e
-first_passes filter.Personality settings table line r kind p operation input first is does asked are =
-    carry 1 (refuses_personality line.name input) (refuses_personality line.name first) off-1
-    (personality_first line r kind p operation input first is does asked are)
-first_passes filter.Hostname settings table line r kind p operation input first is does asked are = λ e. e
-first_passes filter.Modules settings table line r kind p operation input first is does asked are = λ e. e
-first_passes filter.Logs settings table line r kind p operation input first is does asked are = λ e. e
-first_passes filter.Clock settings table line r kind p operation input first is does asked are = λ e. e
-first_passes filter.Devices settings table line r kind p operation input first is does asked are = λ e. e
-first_passes filter.Calls settings table line r kind p operation input first is does asked are = λ e. e
-first_passes filter.Archs settings table line r kind p operation input first is does asked are = λ e. e
+first_passes settings table line r kind p operation input first is does asked are =
+    by (refuses_family settings.systemd settings.families line.name (with_words input first))
+    (refuses_family settings.systemd settings.families line.name input) refl refl
+  where
+    by : (a b : Bool) → refuses_family settings.systemd settings.families line.name (with_words input first) ≡ a
+        → refuses_family settings.systemd settings.families line.name input ≡ b
+        → LetAsWell settings table line input first
+        ⊎ ((wide : List ℕ) × (wide_words kind r ≡ Some wide) × LetAsWell settings table line input wide)
+    by false b e f =
+        inl (narrow_passes settings table line r kind p operation input first is does asked are
+        (λ g. ap (λ b. decision_of (word_of (unless_refused 97 b))) e))
+    by true true e f =
+        inl (narrow_passes settings table line r kind p operation input first is does asked are
+        (λ g. let off = off-97 (refuses_family settings.systemd settings.families line.name input) g in let clash : true ≡ false = sym f ∙ off in cc))
+    by true false e f =
+        let wide = family_wide line r kind p operation input (with_words input first) is does asked are settings.systemd settings.families e f in
+        inr (one_word 0 (2 ^ 32 + wide.family), wide.wide_are, socket_passes settings table line input (one_word 0 (2 ^ 32 + wide.family)) wide.name wide.passes)

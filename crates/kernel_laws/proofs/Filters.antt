@@ -26,7 +26,7 @@ use Rattle.kernel_model.specs.kernel_calls.Operation.{Operation, Does, asked_if,
 use Rattle.kernel_model.specs.declared.kernel_calls.payload.Payload.{Payload}
 use Rattle.kernel_model.specs.declared.kernel_calls.payload.Payload.TheVariants as pay
 use Rattle.kernel_laws.specs.declared.question_types.kind.CallKind.{CallKind}
-use Rattle.kernel_laws.specs.Kinds.{asks, words}
+use Rattle.kernel_laws.specs.Kinds.{asks}
 use Rattle.kernel_laws.specs.Launched.{Launch, data_at, is_pass, lets_words, lets_rule, lets_line, lets, Chosen, IsLaunched}
 
 -- what a stack above the launch programs lets through, of any kind, some call of that kind passes the launch programs with
@@ -177,7 +177,7 @@ among_all p table abi h = list_any-append p table.calls (second_calls table.seco
     either (suc (suc abi)) h (Some second) e = let none = sym (ap (λ (s : Option Abi). list_any p (option_map_or (λ found. found.calls) (slice_get (option_to_list s) (suc abi)) [])) e) ∙ h in cc
 
 lets_chosen : (launch : Launch) (kind : CallKind) (rule : Rule) (abi nr : ℕ) → Chosen launch kind rule abi nr
-    → lets_words launch abi nr (words kind rule) ≡ true
+    → lets_rule launch kind abi nr (Some rule) ≡ true
 lets_chosen launch kind rule abi nr c = ap (lets_words launch abi nr) c.are ∙ ap is_pass c.passes
 
 -- the line of a call that was let through lets its kinds through
@@ -191,8 +191,8 @@ line_lets launch l newer call operation fit p kind asked a h =
     let calls = calls_in launch.calls call.abi in
     let number : h.line.number ≡ call.nr = found_number calls call.nr h.line h.found in
     let abi : h.line.abi ≡ call.abi = found_all (λ line. line.abi ≡ call.abi) calls call.nr h.line (l.calls_of_abi call.abi) h.found in
-    ap (lets_rule launch kind h.line.abi h.line.number) h.is ∙ ap (λ n. lets_words launch h.line.abi n (words kind a.rule)) number
-    ∙ ap (λ n. lets_words launch n call.nr (words kind a.rule)) abi ∙ lets_chosen launch kind a.rule call.abi call.nr chosen
+    ap (lets_rule launch kind h.line.abi h.line.number) h.is ∙ ap (λ n. lets_rule launch kind h.line.abi n (Some a.rule)) number
+    ∙ ap (λ n. lets_rule launch kind n call.nr (Some a.rule)) abi ∙ lets_chosen launch kind a.rule call.abi call.nr chosen
 
 pub lets_through : (launch : Launch) → IsLaunched launch → LetsThrough launch
 unfolding lets

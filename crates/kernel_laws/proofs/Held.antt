@@ -5,7 +5,6 @@ use Rattle.std.specs.Prelude.{slice_get, not, ◌-◌}
 use Rattle.std.specs.List.{list_any, AllByRecursion}
 use Rattle.std.proofs.lemmas.Bool.{or_cases, eqb-true}
 use Rattle.kernel_model.specs.cap_sets.Sets.{has}
-use Rattle.kernel_model.specs.kern_creds.declared.creds.Creds.{Creds}
 use Rattle.kernel_model.specs.kern_mounts.Split.{Table}
 use Rattle.kernel_model.specs.kern_mounts.Mounts.{Mounts}
 use Rattle.kernel_model.specs.kern_mounts.Table.{StartsAtRoot}

@@ -1,6 +1,6 @@
 -- Calls of a process in a newer user namespace keep the bounds on its ids.
-use Rattle.std.proofs.Common.{◌≡◌, ℕ, Bool, true, false, rules, refl, cond, Ok, Err, eqb, arith}
-use Rattle.std.specs.Prelude.{◌+◌, not}
+use Rattle.std.proofs.Common.{◌≡◌, ℕ, Bool, true, false, rules, refl, Ok, Err, eqb, arith}
+use Rattle.std.specs.Prelude.{◌+◌}
 use Rattle.std.proofs.lemmas.Bool.Decides.{nat_tests}
 use Rattle.kernel_model.specs.kern_creds.declared.creds.Creds.{Creds}
 use Rattle.kernel_model.specs.kern_creds.declared.file.FileCreds.{FileCreds}
@@ -10,7 +10,7 @@ use Rattle.kernel_model.specs.kern_creds.Exec.{is_refused, exec_done_in, exec_in
 use Rattle.kernel_model.specs.kern_creds.Prctl.{after_drop_bounding, after_raise, after_lower, after_clear_ambient, after_set_keepcaps}
 use Rattle.kernel_model.specs.kern_creds.Prctl.{after_set_no_new_privs, after_set_mdwe}
 use Rattle.kernel_model.proofs.OfKernCreds.Answers.{Leaves, left_err, left_ok, left_if}
-use Rattle.kernel_laws.specs.Bounds.{Bounds, Keeps, KeepsIds, KeepsIn}
+use Rattle.kernel_laws.specs.Bounds.{Bounds, KeepsIds, KeepsIn}
 
 -- of a process in whatever user namespace
 pub ids_of : (newer : Bool) (top : Bounds) (creds : Creds) → KeepsIn newer top creds → KeepsIds top creds

@@ -7,18 +7,17 @@ use Rattle.filter_settings.specs.bpf_code.ProgramOf.{program_of}
 use Rattle.filter_settings.specs.bpf_code.Stack.{room_of}
 use Rattle.kernel_model.specs.cap_sets.Sets.{has}
 use Rattle.filter_settings.specs.call_table.declared.listed.CallLine.{CallLine}
-use Rattle.kernel_model.specs.site_table.declared.row.Row.{Row}
 use Rattle.kernel_model.specs.site_table.Table.{row_at}
 use Rattle.filter_settings.specs.linux_numbers.Limits.{no_id}
 use Rattle.kernel_model.specs.kern_creds.declared.creds.Creds.{Creds}
 use Rattle.kernel_model.specs.kern_creds.Prctl.{after_drop_bounding, after_raise, after_lower, after_clear_ambient, after_set_keepcaps}
 use Rattle.kernel_model.specs.kern_creds.Prctl.{after_set_no_new_privs, after_set_mdwe}
 use Rattle.kernel_model.proofs.OfKernCreds.Answers.{Leaves}
-use Rattle.kernel_model.specs.kern_mounts.Finds.{Found, finds}
+use Rattle.kernel_model.specs.kern_mounts.Finds.{finds}
 use Rattle.kernel_model.specs.kern_mounts.Mounts.{Mounts as Table, steps_of}
 use Rattle.kernel_model.specs.kern_files.Bits.{has_some, has_all}
 use Rattle.kernel_model.specs.kern_files.Looking.{flags_at}
-use Rattle.kernel_model.specs.kern_files.Executing.{program_answer, executed_in, exec_answer_in}
+use Rattle.kernel_model.specs.kern_files.Executing.{program_answer, executed_in}
 use Rattle.kernel_model.specs.kern_files.MountCall.{after_mount}
 use Rattle.kernel_model.specs.kern_files.UmountCall.{umount_answer}
 use Rattle.kernel_model.specs.declared.kern_files.program.Program.{Program}

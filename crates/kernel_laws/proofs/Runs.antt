@@ -21,7 +21,7 @@ use Rattle.kernel_model.specs.kernel_calls.Operation.{Operation, Asked, Lacking,
 use Rattle.kernel_model.specs.Effects as f
 use Rattle.kernel_model.specs.Effects.{Effect, effect_of}
 use Rattle.kernel_model.specs.declared.reply.Reply.TheVariants as reply
-use Rattle.kernel_model.specs.World.{World, table_or, mounts_of, table_of, with_process, with_child, with_copy, moved_to, ended, living_of}
+use Rattle.kernel_model.specs.World.{World, table_or, mounts_of, with_process, with_child, with_copy, moved_to, ended, living_of}
 use Rattle.kernel_model.specs.World.{has_mdwe, host_of, caller_of, owner_or, owner_of, is_newer, with_user, entered_by}
 use Rattle.kernel_model.specs.declared.process.Process.{Process}
 use Rattle.kernel_model.specs.declared.reply.Reply.{Reply}
@@ -35,7 +35,7 @@ use Rattle.kernel_laws.specs.declared.question_types.kind.CallKind.TheVariants.{
 use Rattle.filter_settings.specs.declared.filter_rules.namespace_types.NamespaceType.TheVariants.{User}
 use Rattle.kernel_laws.specs.Kinds.{asks}
 use Rattle.kernel_laws.specs.Launched.{Launch, data_at, lets, can_make_user}
-use Rattle.kernel_laws.specs.Ceiling.{CanHave, CanHold, IsClosed, IsHeld, AreHeld, IsSafe, IsStable, TableIn}
+use Rattle.kernel_laws.specs.Ceiling.{CanHold, IsClosed, IsHeld, AreHeld, IsSafe, IsStable, TableIn}
 use Rattle.kernel_laws.specs.Spared.{Uses, Spares, AllSpare}
 use Rattle.kernel_laws.proofs.Numbered.{get_put, put_some_at, get_push, push_some, push_last, not_first, get_number, lives}
 use Rattle.kernel_laws.proofs.Filters.{LetsThrough}

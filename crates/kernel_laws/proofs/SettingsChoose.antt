@@ -1,6 +1,6 @@
 -- Programs that answer as the settings say meet what the judge asks of first choices.
 use Rattle.std.proofs.Common.{◌≡◌, ℕ, zero, suc, Bool, true, false, eqb, cond, List, [], ◌∷◌, Option, Some, None, refl, ap, ◌∙◌, sym, subst}
-use Rattle.std.proofs.Common.{arith, length, ◌<◌}
+use Rattle.std.proofs.Common.{arith, length, ◌<◌, ◌+◌, inl, inr}
 use Rattle.std.specs.Prelude.{◌^◌, ◌==◌, IfSome, slice_get, set, ◌%◌, slice_index}
 use Rattle.std.specs.List.{AllByRecursion}
 use Rattle.std.specs.Option.{option_map_or}
@@ -9,7 +9,8 @@ use Rattle.std.proofs.lemmas.List.Elements.{All-from_recursion}
 use Rattle.filter_settings.specs.bpf_code.declared.machine.Insn.{Insn}
 use Rattle.filter_settings.specs.bpf_code.declared.decision.Decision.TheVariants as decision
 use Rattle.filter_settings.specs.bpf_code.Meaning.{IsCallData}
-use Rattle.filter_settings.specs.bpf_code.Stack.{answer_of, decision_of}
+use Rattle.filter_settings.specs.bpf_code.declared.decision.Decision.{Decision}
+use Rattle.filter_settings.specs.bpf_code.Stack.{answer_of, decision_of, decision_on}
 use Rattle.filter_settings.specs.call_table.declared.listed.CallLine.{CallLine}
 use Rattle.filter_settings.specs.call_table.Lookups.{numbered}
 use Rattle.filter_settings.specs.declared.filter_rules.settings.FilterSettings.{FilterSettings}
@@ -21,19 +22,19 @@ use Rattle.kernel_model.specs.kernel_calls.Words.{low_word}
 use Rattle.kernel_model.specs.declared.kernel_calls.payload.Payload.{Payload}
 use Rattle.kernel_model.specs.kernel_calls.Operation as d
 use Rattle.kernel_model.specs.kernel_calls.Operation.{Operation, operation_by}
-use Rattle.kernel_laws.specs.FirstChoice.{Means, SettingsChoose}
+use Rattle.kernel_laws.specs.FirstChoice.{LetAsWell, Means, SettingsChoose}
 use Rattle.kernel_laws.specs.declared.question_types.kind.CallKind.{CallKind}
 use Rattle.kernel_laws.specs.declared.question_types.kind.CallKind.TheVariants as k
 use Rattle.filter_settings.specs.declared.filter_rules.namespace_types.NamespaceType.{NamespaceType}
 use Rattle.filter_settings.specs.declared.filter_rules.namespace_types.NamespaceType.TheVariants as namespace
 use Rattle.kernel_laws.specs.declared.question_types.wish.Wish.TheVariants as wish_to
 use Rattle.kernel_laws.specs.declared.question_types.wish.Wish.{Wish}
-use Rattle.kernel_laws.specs.Kinds.{asks, words, one_word, no_words, AreWords}
+use Rattle.kernel_laws.specs.Kinds.{asks, words, wide_words, one_word, no_words, AreWords}
 use Rattle.filter_settings.specs.call_table.Table.{Abi, Table, native, abi_at, arch_of, calls_in}
 use Rattle.filter_settings.specs.filter_rules.Wanted.{other_action}
-use Rattle.std.specs.Option.{option_to_list}
+use Rattle.std.specs.Option.{option_to_list, option_or}
 use Rattle.std.proofs.lemmas.Bool.{false≢true}
-use Rattle.kernel_laws.specs.Launched.{Launch, data_at}
+use Rattle.kernel_laws.specs.Launched.{Launch, data_at, passes, is_pass, lets_words, Chosen}
 use Rattle.kernel_laws.specs.Questions as q
 use Rattle.kernel_model.specs.declared.kernel_calls.rule.Rule.TheVariants as rule
 use Rattle.filter_settings.specs.call_table.declared.call_names.rule.CallRule.{CallRule}
@@ -132,23 +133,34 @@ words_fit : (kind : CallKind) (rule' : Rule) (first : List ℕ) → family_or ki
 words_fit kind (rule.Known call) first h e = known_fit kind call first h e
 words_fit kind (rule.Plain cap') first h e = plain_fit kind cap' first e
 
-low_small : (args : List ℕ) (at : ℕ) → low_word args at < 2 ^ 64
+low_small : (args : List ℕ) (at : ℕ) → low_word args at < 2 ^ 32
 low_small args at = below (slice_index args at)
   where
-    below : (word : ℕ) → word % 2 ^ 32 < 2 ^ 64
+    below : (word : ℕ) → word % 2 ^ 32 < 2 ^ 32
     below word = omega arith
 
 -- a family that a call asks for is a low word
 family_small : (kind : CallKind) (args first : List ℕ) (rule' : Rule) (payload : Payload) (operation : Operation) → words kind rule' ≡ Some first
-    → operation_by rule' args payload ≡ Some operation → asks kind operation ≡ true → family_or kind rule' < 2 ^ 64
+    → operation_by rule' args payload ≡ Some operation → asks kind operation ≡ true → family_or kind rule' < 2 ^ 32
 family_small (k.ForFamily family) args first (rule.Known known.Socket) payload operation e is asked =
     let own = bare_is operation (d.Socket (low_word args 0)) payload is in
     let same : low_word args 0 ≡ family = eqb-true (low_word args 0) family (ap (asks (k.ForFamily family)) own ∙ asked) in
-    let P : ℕ → Type 0 = λ n. n < 2 ^ 64 in
+    let P : ℕ → Type 0 = λ n. n < 2 ^ 32 in
     subst P same (low_small args 0)
 family_small (k.ForFamily family) args first (rule.Known known.Socketcall) payload operation e is asked = omega arith
 family_small (k.ForFamily family) args first rule' payload operation e is asked = cc
 family_small kind args first rule' payload operation e is asked = omega arith
+
+-- wide words have 64 bits
+wide_fit : (kind : CallKind) (rule' : Rule) (wide : List ℕ) → family_or kind rule' < 2 ^ 32 → wide_words kind rule' ≡ Some wide → AreWords wide
+wide_fit (k.ForFamily family) (rule.Known known.Socket) wide h e =
+    by_same (one_word 0 (2 ^ 32 + family)) wide (word_words 0 (2 ^ 32 + family) (omega (arith, h))) e
+wide_fit kind rule' wide h e = cc
+
+pass_is : (d : Decision) → is_pass d ≡ true → d ≡ decision.Pass
+pass_is decision.Pass e = refl
+pass_is (decision.Errno errno) e = cc
+pass_is decision.Kill e = cc
 
 -- ABIs of one architecture are one
 pub same_abi : (native : Abi) (second : Option Abi) → IfSome second (λ other. other.arch == native.arch ≡ false) → (a b : ℕ) (x y : Abi)
@@ -193,46 +205,74 @@ is_there table abi nr line e (Some found) at = (found, at)
 pub settings_choose : SettingsChoose
 settings_choose launch settings arch differ each plain kind abi nr args rule' payload operation few fit at is asked p =
     let w = has_words rule' args payload operation is kind asked in
-    let fit' : AreWords w.args = words_fit kind rule' w.args (family_small kind args w.args rule' payload operation w.are is asked) w.are in
-    let one : IsCallData (data_at launch abi nr args) = record { nr = few; arch = arch abi; ip = omega arith; count = fit.count; args = fit.each } in
-    let other : IsCallData (data_at launch abi nr w.args) = record { nr = few; arch = arch abi; ip = omega arith; count = fit'.count; args = fit'.each } in
-    let h = has_rule (calls_in launch.calls abi) nr rule' at in
-    record { args = w.args; are = w.are; passes = stack_passes launch.stack (data_at launch abi nr args) (data_at launch abi nr w.args) (plain (data_at launch abi nr args) one) (plain (data_at launch abi nr w.args) other) (all_of w.args w.are one other h launch.stack each) p }
+    choose w.args w.are (has_rule (calls_in launch.calls abi) nr rule' at) (lets_words launch abi nr (words kind rule')) refl
   where
-    own_line : (first : List ℕ) → words kind rule' ≡ Some first → IsCallData (data_at launch abi nr args)
-        → IsCallData (data_at launch abi nr first) → HasRule (calls_in launch.calls abi) nr rule'
+    fits : (own : List ℕ) → AreWords own → IsCallData (data_at launch abi nr own)
+    fits own words' = record { nr = few; arch = arch abi; ip = omega arith; count = words'.count; args = words'.each }
+
+    own_line : (own : List ℕ) → AreWords own → (h : HasRule (calls_in launch.calls abi) nr rule')
+        → LetAsWell settings launch.calls h.line (data_at launch abi nr args) own
         → (code : List Insn) (m : Means settings launch.calls code) → abi ≡ m.abi
         → decision_of (answer_of code (data_at launch abi nr args)) ≡ decision.Pass
-        → decision_of (answer_of code (data_at launch abi nr first)) ≡ decision.Pass
-    own_line first are one other h code m same e =
-        let before = m.answers (data_at launch abi nr args) one ∙ ap word_of (ap (λ own. wanted_action m.filter settings launch.calls own (data_at launch abi nr args)) (sym same) ∙ at_line settings launch m.filter abi nr args h.line h.found) in
-        let after = m.answers (data_at launch abi nr first) other ∙ ap word_of (ap (λ own. wanted_action m.filter settings launch.calls own (data_at launch abi nr first)) (sym same) ∙ at_line settings launch m.filter abi nr first h.line h.found) in
-        ap decision_of after ∙ first_passes m.filter settings launch.calls h.line rule' kind payload operation (data_at launch abi nr args)
-        (data_at launch abi nr first) h.is is asked are (ap decision_of (sym before) ∙ e)
+        → decision_of (answer_of code (data_at launch abi nr own)) ≡ decision.Pass
+    own_line own fit' h lets code m same e =
+        let before = m.answers (data_at launch abi nr args) (fits args fit) ∙ ap word_of (ap (λ one. wanted_action m.filter settings launch.calls one (data_at launch abi nr args)) (sym same) ∙ at_line settings launch m.filter abi nr args h.line h.found) in
+        let after = m.answers (data_at launch abi nr own) (fits own fit') ∙ ap word_of (ap (λ one. wanted_action m.filter settings launch.calls one (data_at launch abi nr own)) (sym same) ∙ at_line settings launch m.filter abi nr own h.line h.found) in
+        ap decision_of after ∙ lets m.filter (ap decision_of (sym before) ∙ e)
 
-    either : (first : List ℕ) → words kind rule' ≡ Some first → IsCallData (data_at launch abi nr args)
-        → IsCallData (data_at launch abi nr first) → HasRule (calls_in launch.calls abi) nr rule'
+    either : (own : List ℕ) → AreWords own → (h : HasRule (calls_in launch.calls abi) nr rule')
+        → LetAsWell settings launch.calls h.line (data_at launch abi nr args) own
         → (code : List Insn) (m : Means settings launch.calls code)
         → (b : Bool) → eqb (arch_of launch.calls abi) (arch_of launch.calls m.abi) ≡ b
         → decision_of (answer_of code (data_at launch abi nr args)) ≡ decision.Pass
-        → decision_of (answer_of code (data_at launch abi nr first)) ≡ decision.Pass
-    either first are one other h code m true same e =
-        let own = is_there launch.calls abi nr h.line h.found (abi_at launch.calls abi) refl in
-        let archs : own.0.arch ≡ m.found.arch = ap (λ (o : Option Abi). option_map_or (λ found. found.arch) o 0) (sym own.1) ∙ eqb-true (arch_of launch.calls abi) (arch_of launch.calls m.abi) same ∙ ap (λ (o : Option Abi). option_map_or (λ found. found.arch) o 0) m.there in
-        own_line first are one other h code m
-        (same_abi (native launch.calls) launch.calls.second differ abi m.abi own.0 m.found own.1 m.there archs) e
-    either first are one other h code m false differs e =
-        let before = m.answers (data_at launch abi nr args) one ∙ ap word_of (at_other settings launch m.filter m.abi abi nr args differs) in
-        let after = m.answers (data_at launch abi nr first) other ∙ ap word_of (at_other settings launch m.filter m.abi abi nr first differs) in
+        → decision_of (answer_of code (data_at launch abi nr own)) ≡ decision.Pass
+    either own fit' h lets code m true same e =
+        let there = is_there launch.calls abi nr h.line h.found (abi_at launch.calls abi) refl in
+        let archs : there.0.arch ≡ m.found.arch = ap (λ (o : Option Abi). option_map_or (λ found. found.arch) o 0) (sym there.1) ∙ eqb-true (arch_of launch.calls abi) (arch_of launch.calls m.abi) same ∙ ap (λ (o : Option Abi). option_map_or (λ found. found.arch) o 0) m.there in
+        own_line own fit' h lets code m
+        (same_abi (native launch.calls) launch.calls.second differ abi m.abi there.0 m.found there.1 m.there archs) e
+    either own fit' h lets code m false differs e =
+        let before = m.answers (data_at launch abi nr args) (fits args fit) ∙ ap word_of (at_other settings launch m.filter m.abi abi nr args differs) in
+        let after = m.answers (data_at launch abi nr own) (fits own fit') ∙ ap word_of (at_other settings launch m.filter m.abi abi nr own differs) in
         ap decision_of (after ∙ sym before) ∙ e
 
-    all_of : (first : List ℕ) → words kind rule' ≡ Some first → IsCallData (data_at launch abi nr args)
-        → IsCallData (data_at launch abi nr first) → HasRule (calls_in launch.calls abi) nr rule' → (programs : List (List Insn))
+    all_of : (own : List ℕ) → AreWords own → (h : HasRule (calls_in launch.calls abi) nr rule')
+        → LetAsWell settings launch.calls h.line (data_at launch abi nr args) own → (programs : List (List Insn))
         → AllByRecursion (Means settings launch.calls) programs
         → AllByRecursion (λ (code : List Insn). decision_of (answer_of code (data_at launch abi nr args)) ≡ decision.Pass
-        → decision_of (answer_of code (data_at launch abi nr first)) ≡ decision.Pass) programs
-    all_of first are one other h [] each = tt
-    all_of first are one other h (code ∷ programs) each = (
-      λ e. either first are one other h code each.0 (eqb (arch_of launch.calls abi) (arch_of launch.calls each.0.abi)) refl e,
-      all_of first are one other h programs each.1,
+        → decision_of (answer_of code (data_at launch abi nr own)) ≡ decision.Pass) programs
+    all_of own fit' h lets [] each = tt
+    all_of own fit' h lets (code ∷ programs) each = (
+      λ e. either own fit' h lets code each.0 (eqb (arch_of launch.calls abi) (arch_of launch.calls each.0.abi)) refl e,
+      all_of own fit' h lets programs each.1,
     )
+
+    -- words that each filter lets through as well pass
+    through : (own : List ℕ) → AreWords own → (h : HasRule (calls_in launch.calls abi) nr rule')
+        → LetAsWell settings launch.calls h.line (data_at launch abi nr args) own → passes launch abi nr own
+    through own fit' h lets =
+        stack_passes launch.stack (data_at launch abi nr args) (data_at launch abi nr own)
+        (plain (data_at launch abi nr args) (fits args fit)) (plain (data_at launch abi nr own) (fits own fit'))
+        (all_of own fit' h lets launch.stack each) p
+
+    choose : (first : List ℕ) → words kind rule' ≡ Some first → HasRule (calls_in launch.calls abi) nr rule' → (b : Bool)
+        → lets_words launch abi nr (words kind rule') ≡ b → Chosen launch kind rule' abi nr
+    choose first are h true e = record {
+      args = first;
+      are = ap (λ b. cond b (words kind rule') (option_or (wide_words kind rule') (words kind rule'))) e ∙ are;
+      passes = pass_is (decision_on launch.stack (data_at launch abi nr first)) (sym (ap (lets_words launch abi nr) are) ∙ e);
+    }
+    choose first are h false e =
+        let small = family_small kind args first rule' payload operation are is asked in
+        elim (first_passes settings launch.calls h.line rule' kind payload operation (data_at launch abi nr args) first h.is is asked are) [
+          | inl narrow ↦
+              absurd (false≢true (sym (sym (ap (lets_words launch abi nr) are) ∙ e)
+              ∙ ap is_pass (through first (words_fit kind rule' first (omega (arith, small)) are) h narrow)))
+          | inr wide ↦ record {
+            args = wide.0;
+            are =
+                ap (λ b. cond b (words kind rule') (option_or (wide_words kind rule') (words kind rule'))) e
+                ∙ ap (λ (o : Option (List ℕ)). option_or o (words kind rule')) wide.1;
+            passes = through wide.0 (wide_fit kind rule' wide.0 small wide.1) h wide.2;
+          }
+        ]

@@ -1,5 +1,5 @@
 -- What the ceiling closes is denied.
-use Rattle.std.proofs.Common.{◌≡◌, ℕ, inl, inr, ◌⊎◌, cond, eqb, Bool, true, false, List, ◌++◌, Option, Some, None, refl, ap, ◌∙◌, sym}
+use Rattle.std.proofs.Common.{◌≡◌, ℕ, inl, inr, cond, eqb, Bool, true, false, List, ◌++◌, Option, Some, None, refl, ap, ◌∙◌, sym}
 use Rattle.std.proofs.Common.{subst}
 use Rattle.std.specs.Prelude.{slice_get, not, ◌&&◌, ◌||◌, ◌-◌, is_some, nat_le}
 use Rattle.std.specs.List as list
@@ -57,7 +57,6 @@ use Rattle.kernel_laws.specs.Bound.{power_of, ceiling, is_open, can_reach, is_to
 use Rattle.kernel_laws.specs.Bound.{can_have_for, if_listed, is_call_open}
 use Rattle.kernel_laws.specs.NewerTables.{CanHaveNewer}
 use Rattle.kernel_laws.proofs.NewerTables.{tables_stable, rows_are_reached}
-use Rattle.kernel_model.specs.kern_mounts.Split.{Table}
 use Rattle.kernel_model.specs.kern_mounts.Mounts.{Mounts, steps_of}
 use Rattle.kernel_model.specs.Step.{has_user_left}
 use Rattle.kernel_laws.specs.Laws.{DenialIsSound}

@@ -8,7 +8,7 @@ use Rattle.kernel_model.specs.site_table.Table.{row_at}
 use Rattle.kernel_model.specs.kern_mounts.Finds.{row, finds}
 use Rattle.kernel_model.specs.kern_mounts.Table.{StartsAtRoot}
 use Rattle.filter_settings.specs.linux_numbers.Capabilities.{cap_sys_admin, cap_setuid, cap_setgid}
-use Rattle.kernel_laws.specs.Bounds.{Bounds, Keeps, IsSettled, Admits, KeepsIn}
+use Rattle.kernel_laws.specs.Bounds.{Bounds, IsSettled, Admits, KeepsIn}
 use Rattle.kernel_model.specs.kern_mounts.Mounts.{Mounts, steps_of, ArePlain}
 use Rattle.kernel_model.specs.kern_mounts.Split.{Table}
 use Rattle.kernel_model.specs.site_table.Kinds.{is_exe}

@@ -1,5 +1,7 @@
 -- A launched service: what it begins with, what its filters let through, and the facts that a launch ensures.
-use Rattle.std.specs.Prelude.{◌≡◌, ℕ, ◌<◌, ◌^◌, ◌&&◌, nat_lt, Bool, true, false, List, [], ◌∷◌, length, All, slice_get, Option, Some, None}
+use Rattle.std.specs.Prelude.{◌≡◌, ℕ, ◌<◌, ◌^◌, ◌&&◌, nat_lt, Bool, true, false, if◌then◌else◌, List, [], ◌∷◌, length, All, slice_get}
+use Rattle.std.specs.Prelude.{Option, Some, None}
+use Rattle.std.specs.Option.{option_or}
 use Rattle.std.specs.List.{AllByRecursion, list_any}
 use Rattle.filter_settings.specs.bpf_code.declared.machine.Insn.{Insn}
 use Rattle.filter_settings.specs.bpf_code.declared.machine.CallData.{CallData}
@@ -27,7 +29,7 @@ use Rattle.kernel_model.specs.kernel_calls.Rules.{rule_of, rule_at}
 use Rattle.kernel_model.specs.kernel_calls.Operation.{Operation, operation_by}
 use Rattle.kernel_model.specs.declared.process.Process.{Process}
 use Rattle.kernel_model.specs.World.{World, of_number, process_of, mounts_of, table_of}
-use Rattle.kernel_laws.specs.Kinds.{asks, words, AreWords}
+use Rattle.kernel_laws.specs.Kinds.{asks, words, wide_words, AreWords}
 use Rattle.kernel_laws.specs.declared.question_types.kind.CallKind.{CallKind}
 use Rattle.kernel_laws.specs.declared.question_types.kind.CallKind.TheVariants.{ForNamespace}
 use Rattle.filter_settings.specs.declared.filter_rules.namespace_types.NamespaceType.TheVariants.{User}
@@ -60,12 +62,17 @@ abbrev pub lets_words : Launch → ℕ → ℕ → Option (List ℕ) → Bool
 lets_words launch abi nr None = false
 lets_words launch abi nr (Some args) = is_pass (decision_on launch.stack (data_at launch abi nr args))
 
--- they let a call of the rule through, if there is one, with the words that ask for the kind first
+-- the words with which a call of the rule is made: those that ask for the kind first, and the wide ones only where the filters stop these
+abbrev pub chosen_words : Launch → CallKind → ℕ → ℕ → Rule → Option (List ℕ)
+chosen_words launch kind abi nr rule =
+    if lets_words launch abi nr (words kind rule) then words kind rule else option_or (wide_words kind rule) (words kind rule)
+
+-- they let a call of the rule through, if there is one, with these words
 abbrev pub lets_rule : Launch → CallKind → ℕ → ℕ → Option Rule → Bool
 lets_rule launch kind abi nr None = false
-lets_rule launch kind abi nr (Some rule) = lets_words launch abi nr (words kind rule)
+lets_rule launch kind abi nr (Some rule) = lets_words launch abi nr (chosen_words launch kind abi nr rule)
 
--- the call of this line, by its ABI, can ask for the kind, and the filters let it through with the words that ask first
+-- the call of this line, by its ABI, can ask for the kind, and the filters let it through with these words
 abbrev pub lets_line : Launch → CallKind → CallLine → Bool
 lets_line launch kind line = lets_rule launch kind line.abi line.number (rule_of line)
 
@@ -77,10 +84,10 @@ lets launch kind = list_any (lets_line launch kind) (calls.every_call launch.cal
 abbrev pub can_make_user : Launch → Bool
 can_make_user launch = nat_lt 0 launch.site.user_namespaces && lets launch (ForNamespace User)
 
--- of calls that the filters let through and that ask for one kind, the first choice passes too
+-- of calls that the filters let through and that ask for one kind, the one with the chosen words passes too
 pub record Chosen (launch : Launch) (kind : CallKind) (rule : Rule) (abi nr : ℕ) : Type 0 where
   pub args : List ℕ
-  pub are : words kind rule ≡ Some args
+  pub are : chosen_words launch kind abi nr rule ≡ Some args
   pub passes : passes launch abi nr args
 
 -- what a launch leaves
@@ -112,7 +119,7 @@ pub record IsLaunched (launch : Launch) : Type 0 where
   pub rooted : StartsAtRoot launch.table
   pub ordered : IsOrdered launch.table
   pub honours : AllByRecursion (λ (step : MountStep). step.flags.no_suid ≡ false) launch.table
-  -- the programs refuse for good or let through, and look at no more words than the first choices need
+  -- the programs refuse for good or let through, and look at no more words than the chosen ones need
   pub plain : (input : CallData) → IsCallData input → ArePlain (answers_of launch.stack input)
   pub chosen : (kind : CallKind) (abi nr : ℕ) (args : List ℕ) (rule : Rule) (payload : Payload) (operation : Operation) → nr < 2 ^ 32
       → AreWords args

@@ -3,7 +3,7 @@ use Rattle.std.specs.Prelude.{◌≡◌, false}
 use Rattle.std.specs.List.{AllByRecursion}
 use Rattle.filter_settings.specs.call_table.Table as table
 use Rattle.kernel_model.specs.site_table.Table.{Site}
-use Rattle.kernel_laws.specs.Bound.{is_open, power_of}
+use Rattle.kernel_laws.specs.Bound.{is_open}
 use Rattle.kernel_laws.specs.Denied.{IsDenied}
 use Rattle.kernel_laws.specs.Launched.{launch_of, IsLaunchedWorld}
 use Rattle.kernel_laws.specs.declared.question_types.question.Question.{Question}

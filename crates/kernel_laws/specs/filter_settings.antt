@@ -2,6 +2,7 @@
 pub use Rattle.filter_settings.specs.Architectures as Architectures
 pub use Rattle.filter_settings.specs.CallLists as CallLists
 pub use Rattle.filter_settings.specs.CallWords as CallWords
+pub use Rattle.filter_settings.specs.Domains as Domains
 pub use Rattle.filter_settings.specs.ErrorActions as ErrorActions
 pub use Rattle.filter_settings.specs.FamilyLists as FamilyLists
 pub use Rattle.filter_settings.specs.Lines as Lines

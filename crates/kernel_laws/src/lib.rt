@@ -31,8 +31,8 @@ pub fn reach_laws()
     ensures by_unmounts { ReachByUnmounts }
 {}
 
-/// The filters of settings look at no more words of a call than its first choice needs. If a filter lets a call
-/// through that asks for a kind of thing, it lets the first choice through as well.
+/// The filters of settings look at no more words of a call than the chosen ones. If the filters let a call through
+/// that asks for a kind of thing, they let the words through as well that ask for it first, or the wide ones.
 pub fn first_choice()
     ensures first_passes { FirstPasses }
     ensures settings_choose { SettingsChoose }

@@ -1,5 +1,6 @@
 -- The rules that ask for each kind of call, with the words that ask first.
-use Rattle.std.proofs.Common.{◌≡◌, ℕ, List, Option, Some, subst}
+use Rattle.std.proofs.Common.{◌≡◌, ℕ, ◌+◌, ◌^◌, Bool, true, false, cond, List, Option, Some, None, refl, ◌∙◌, subst}
+use Rattle.std.specs.Option.{option_or}
 use Rattle.launcher.specs.call_table.call_names.Known.{place_of}
 use Rattle.launcher.specs.call_table.declared.call_names.rule.Argument.{Argument}
 use Rattle.launcher.specs.call_table.declared.call_names.rule.CallRule.TheVariants as known
@@ -10,7 +11,8 @@ use Rattle.launcher.specs.kernel_laws.declared.question_types.kind.CallKind.{Cal
 use Rattle.launcher.specs.kernel_laws.declared.question_types.wish.Wish.TheVariants as wish_to
 use Rattle.launcher.specs.kernel_laws.declared.question_types.kind.CallKind.TheVariants as k
 use Rattle.launcher.specs.kernel_laws.Questions.{flag_of}
-use Rattle.launcher.specs.kernel_laws.Kinds.{words, no_words, one_word}
+use Rattle.launcher.specs.kernel_laws.Kinds.{words, wide_words, no_words, one_word}
+use Rattle.launcher.specs.kernel_laws.Launched.{Launch, chosen_words, lets_words}
 
 pub data Choice : CallKind → Rule → List ℕ → Type 0 where
   sees : Choice (k.ForPath wish_to.See) (rule.Known known.See) no_words
@@ -21,6 +23,7 @@ pub data Choice : CallKind → Rule → List ℕ → Type 0 where
   execs : Choice (k.ForPath wish_to.Exec) (rule.Known known.Execve) no_words
   plain : (number : Option ℕ) → Choice k.PlainCall (rule.Plain number) no_words
   socket : (family : ℕ) → Choice (k.ForFamily family) (rule.Known known.Socket) (one_word 0 family)
+  wide_socket : (family : ℕ) → Choice (k.ForFamily family) (rule.Known known.Socket) (one_word 0 (2 ^ 32 + family))
   socketcall : (family : ℕ) → Choice (k.ForFamily family) (rule.Known known.Socketcall) (one_word 0 1)
   unshare : (space : NamespaceType) → Choice (k.ForNamespace space) (rule.Known known.Unshare) (one_word 0 (flag_of space))
   clone : (space : NamespaceType) → Choice (k.ForNamespace space) (rule.Known known.Clone) (one_word 0 (flag_of space))
@@ -71,3 +74,18 @@ of_words k.TakesGid (rule.Known known.Setgid) args = as_asked setgid
 of_words k.TakesGid (rule.Known known.Setresgid) args = as_asked setresgid
 of_words k.TakesGid (rule.Known known.Setgroups) args = as_asked setgroups
 of_words kind own args = λ e. cc
+
+of_wide : (kind : CallKind) (own : Rule) (args : List ℕ) → wide_words kind own ≡ Some args → Choice kind own args
+of_wide (k.ForFamily family) (rule.Known known.Socket) args = as_asked (wide_socket family)
+of_wide kind own args = λ e. cc
+
+-- the words with which a call is made
+pub of_chosen : (launch : Launch) (kind : CallKind) (abi nr : ℕ) (own : Rule) (args : List ℕ)
+    → chosen_words launch kind abi nr own ≡ Some args → Choice kind own args
+of_chosen launch kind abi nr own args = by (lets_words launch abi nr (words kind own)) (wide_words kind own) refl
+  where
+    by : (b : Bool) (wide : Option (List ℕ)) → wide_words kind own ≡ wide → cond b (words kind own) (option_or wide (words kind own)) ≡ Some args
+        → Choice kind own args
+    by true wide is e = of_words kind own args e
+    by false None is e = of_words kind own args e
+    by false (Some wide) is e = of_wide kind own args (is ∙ e)

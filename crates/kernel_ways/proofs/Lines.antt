@@ -1,4 +1,4 @@
--- A line of the table whose call passes with the words that ask for a kind first.
+-- A line of the table whose call passes with the words that are chosen for a kind.
 use Rattle.std.proofs.Common.{◌≡◌, ℕ, Bool, true, List, [], ◌∷◌, Option, Some, None, refl, ap, ◌∙◌, subst, sym, ◌++◌, zero, suc, arith, ◌<◌}
 use Rattle.std.proofs.Common.{inl, inr, ◌⊎◌}
 use Rattle.std.specs.Prelude.{slice_get, get_or, option_and_then, ◌^◌, All}
@@ -23,15 +23,15 @@ use Rattle.launcher.specs.kernel_model.kernel_calls.Rules.{rule_of, rule_at, rul
 use Rattle.launcher.specs.kernel_model.kernel_calls.Operation.{Operation, operation_by, asked_by, asked_if}
 use Rattle.launcher.specs.kernel_model.Effects.{Effect, effect_of}
 use Rattle.launcher.specs.kernel_laws.declared.question_types.kind.CallKind.{CallKind}
-use Rattle.launcher.specs.kernel_laws.Kinds.{words, no_words, AreWords}
+use Rattle.launcher.specs.kernel_laws.Kinds.{no_words, AreWords}
 use Rattle.launcher.specs.filter_settings.declared.filter_rules.namespace_types.NamespaceType.{NamespaceType}
 use Rattle.launcher.specs.filter_settings.declared.filter_rules.namespace_types.NamespaceType.TheVariants as namespace
 use Rattle.launcher.specs.kernel_laws.Questions.{flag_of}
-use Rattle.launcher.specs.kernel_laws.Launched.{Launch, IsLaunched, data_at, passes, is_pass, lets_words, lets_rule, lets_line, lets}
+use Rattle.launcher.specs.kernel_laws.Launched.{Launch, IsLaunched, data_at, passes, is_pass, chosen_words, lets_words, lets_rule, lets_line, lets}
 use Rattle.launcher.specs.kern_mounts.Split.{Table}
 use Rattle.launcher.proofs.OfKernelLaws.Filters.{at_position, slice_all}
 use Rattle.kernel_ways.specs.Ways.{effect_on, Makes, host_at, caller_at, CallAt, IsCallAt, rule_there, passes_at, place_of}
-use Rattle.kernel_ways.proofs.Choices.{Choice, of_words}
+use Rattle.kernel_ways.proofs.Choices.{Choice, of_chosen}
 
 pub record Line (launch : Launch) (kind : CallKind) : Type 0 where
   pub line : CallLine
@@ -40,11 +40,11 @@ pub record Line (launch : Launch) (kind : CallKind) : Type 0 where
   pub is : rule_of line ≡ Some own
   pub at : rule_there launch (place_of line) ≡ Some own
   pub args : List ℕ
-  pub are : words kind own ≡ Some args
+  pub are : chosen_words launch kind line.abi line.number own ≡ Some args
   pub through : passes_at launch (place_of line) args
 
 pub choice_of : {launch : Launch} {kind : CallKind} → (line : Line launch kind) → Choice kind line.own line.args
-choice_of {launch} {kind} line = of_words kind line.own line.args line.are
+choice_of {launch} {kind} line = of_chosen launch kind line.line.abi line.line.number line.own line.args line.are
 
 -- numbers of lines have 32 bits
 pub low_number : (lines : List CallLine) → All IsInRange lines → (at : ℕ) (line : CallLine) → slice_get lines at ≡ Some line
@@ -121,7 +121,7 @@ pub line_at : (launch : Launch) → IsLaunched launch → (kind : CallKind) (at 
     → (x : Line launch kind) × (x.line ≡ line)
 line_at launch l kind at line listed e = by (rule_of line) refl e
   where
-    by_words : (own : Rule) → rule_of line ≡ Some own → (w : Option (List ℕ)) → words kind own ≡ w
+    by_words : (own : Rule) → rule_of line ≡ Some own → (w : Option (List ℕ)) → chosen_words launch kind line.abi line.number own ≡ w
         → lets_words launch line.abi line.number w ≡ true → (x : Line launch kind) × (x.line ≡ line)
     by_words own is None are e = cc
     by_words own is (Some args) are e =
@@ -133,7 +133,7 @@ line_at launch l kind at line listed e = by (rule_of line) refl e
     by : (r : Option Rule) → rule_of line ≡ r → lets_rule launch kind line.abi line.number r ≡ true
         → (x : Line launch kind) × (x.line ≡ line)
     by None is e = cc
-    by (Some own) is e = by_words own is (words kind own) refl e
+    by (Some own) is e = by_words own is (chosen_words launch kind line.abi line.number own) refl e
 
 pub some_line : (launch : Launch) → IsLaunched launch → (kind : CallKind) → lets launch kind ≡ true → Line launch kind
 unfolding lets

@@ -1,7 +1,8 @@
 -- Calls that ask for a thing and name no path.
-use Rattle.std.proofs.Common.{◌≡◌, ℕ, Bool, true, false, List, [], ◌∷◌, Option, Some, None, refl, ap, ◌∙◌, subst, cond, arith, ◌<◌}
 use Rattle.std.specs.Prelude.{◌^◌, ◌%◌, not}
 use Rattle.std.proofs.lemmas.Bool.{and_parts, not-true}
+use Rattle.std.proofs.Common.{◌≡◌, ℕ, Bool, true, false, List, [], ◌∷◌, Option, Some, None, refl, ap, ◌∙◌, subst, cond, arith, ◌<◌, ◌+◌}
+use Rattle.std.proofs.lemmas.List.Elements.{All-from_recursion}
 use Rattle.launcher.specs.cap_sets.Sets.{has}
 use Rattle.launcher.specs.linux_numbers.Errnos.{eacces, eperm}
 use Rattle.launcher.specs.call_table.declared.call_names.rule.Argument.TheVariants as argument
@@ -140,6 +141,16 @@ module _ (launch : Launch) (creds : Creds) (table : Table) where
   low : (n : ℕ) → n < 2 ^ 32 → n % 2 ^ 32 ≡ n
   low n h = omega (arith, h)
 
+  wide_low : (n : ℕ) → n < 2 ^ 32 → (2 ^ 32 + n) % 2 ^ 32 ≡ n
+  wide_low n h = omega (arith, h)
+
+  wide_word : (n : ℕ) → n < 2 ^ 32 → AreWords ((2 ^ 32 + n) ∷ 0 ∷ 0 ∷ 0 ∷ 0 ∷ 0 ∷ [])
+  wide_word n h = record {
+    count = refl;
+    each = All-from_recursion (λ arg. arg < 2 ^ 64) ((2 ^ 32 + n) ∷ 0 ∷ 0 ∷ 0 ∷ 0 ∷ 0 ∷ [])
+        (omega (arith, h), (omega arith, (omega arith, (omega arith, (omega arith, (omega arith, tt))))));
+  }
+
   socket_by : {own : Rule} {args : List ℕ} → (nr : CallAt) → IsCallAt nr → rule_there launch nr ≡ Some own → passes_at launch nr args
       → (family : CallLine) → family.number < 2 ^ 32 → choices.Choice (kinds.ForFamily family.number) own args
       → numbered family.number launch.calls.families ≡ Some family → CapAtHand creds family.cap → (p : Operation → Bool)
@@ -150,6 +161,11 @@ module _ (launch : Launch) (creds : Creds) (table : Table) where
       bare_call p nr (rule.Known known.Socket) (family.number ∷ 0 ∷ 0 ∷ 0 ∷ 0 ∷ 0 ∷ []) (d.Socket family.number) (f.Answer 3) n
       (six family.number 0 0 0 small (omega arith) (omega arith) (omega arith)) at t
       (ap (λ w. Some (d.Socket w)) word)
+      (ap (socket_effect false creds) found ∙ cap_lets creds family.cap (f.Answer 3) can) tt such
+  socket_by nr n at t family small (choices.wide_socket _) found can p such through =
+      bare_call p nr (rule.Known known.Socket) ((2 ^ 32 + family.number) ∷ 0 ∷ 0 ∷ 0 ∷ 0 ∷ 0 ∷ []) (d.Socket family.number) (f.Answer 3) n
+      (wide_word family.number small) at t
+      (ap (λ w. Some (d.Socket w)) (wide_low family.number small))
       (ap (socket_effect false creds) found ∙ cap_lets creds family.cap (f.Answer 3) can) tt such
   socket_by nr n at t family small (choices.socketcall _) found can p such through = record {
     operation = d.Socketcall 1 family.number;

@@ -20,6 +20,7 @@ use Rattle.launcher.specs.call_table.declared.listed.CallLine.{CallLine}
 use Rattle.launcher.specs.call_table.Table as calls
 use Rattle.launcher.specs.call_table.Lookups.{numbered}
 use Rattle.launcher.specs.filter_settings.declared.filter_rules.mentions.FamilyList.{FamilyList}
+use Rattle.launcher.specs.filter_settings.declared.filter_rules.personality.Domain.{Domain}
 use Rattle.launcher.specs.filter_settings.declared.filter_rules.names.FilterName.{FilterName}
 use Rattle.launcher.specs.filter_settings.declared.filter_rules.names.FilterName.TheVariants as filter
 use Rattle.launcher.specs.filter_settings.declared.filter_rules.namespace_types.NamespaceTypes.{NamespaceTypes}
@@ -55,9 +56,10 @@ module _ (line : CallLine) (rule : Rule) (is : rule_of line ≡ Some rule) (unlo
       by false e = refl
       by true e = let clash : false ≡ true = sym off ∙ ap is_unlooked (rule_named line rule is name own named e) ∙ unlooked in cc
 
-  family_free : (families : Option FamilyList) (input : CallData) → refuses_family families line.name input ≡ false
+  family_free : (systemd : Option Version) (families : Option FamilyList) (input : CallData)
+      → refuses_family systemd families line.name input ≡ false
   unfolding rule_of known_call
-  family_free families input = rw (no_name (codes "socket") (Known known.Socket) refl refl) refl
+  family_free systemd families input = rw (no_name (codes "socket") (Known known.Socket) refl refl) refl
 
   mapping_free : (input : CallData) → refuses_mapping line.name input ≡ false
   unfolding rule_of known_call
@@ -69,9 +71,9 @@ module _ (line : CallLine) (rule : Rule) (is : rule_of line ≡ Some rule) (unlo
         no_name (codes "shmat") (Known known.Attach) refl refl,
       ) refl
 
-  policy_free : (input : CallData) → refuses_policy line.name input ≡ false
+  policy_free : (systemd : Option Version) (input : CallData) → refuses_policy systemd line.name input ≡ false
   unfolding rule_of known_call
-  policy_free input = rw (no_name (codes "sched_setscheduler") (Known known.Schedule) refl refl) refl
+  policy_free systemd input = rw (no_name (codes "sched_setscheduler") (Known known.Schedule) refl refl) refl
 
   mode_free : (input : CallData) → refuses_mode line.name input ≡ false
   unfolding rule_of known_call
@@ -126,23 +128,25 @@ module _ (line : CallLine) (rule : Rule) (is : rule_of line ≡ Some rule) (unlo
           (no_name (codes "clone") (Known known.Clone) refl refl)
           ∙ ap (λ b. cond (bytes_eq line.name (codes "clone3")) (Errno 38) (unless_refused 1 (b || false))) (namespace_free types input)
 
-  personality_free : (input : CallData) → refuses_personality line.name input ≡ false
+  personality_free : (systemd : Option Version) (domain : Domain) (input : CallData)
+      → refuses_personality systemd domain line.name input ≡ false
   unfolding rule_of known_call
-  personality_free input = rw (no_name (codes "personality") (Known known.Personality) refl refl) refl
+  personality_free systemd domain input = rw (no_name (codes "personality") (Known known.Personality) refl refl) refl
 
   -- what a filter does goes by the name
   named_alike : (own : FilterName) (settings : FilterSettings) (table : calls.Table) (one other : CallData)
       → named_action own settings table line.name one ≡ named_action own settings table line.name other
   named_alike filter.Families settings table one other = ap (λ b. unless_refused 97 b)
-      (family_free settings.families one ∙ sym (family_free settings.families other))
+      (family_free settings.systemd settings.families one ∙ sym (family_free settings.systemd settings.families other))
   named_alike filter.MemoryDenyWriteExecute settings table one other =
       ap (λ b. unless_refused 1 b) (mapping_free one ∙ sym (mapping_free other))
-  named_alike filter.Realtime settings table one other = ap (λ b. unless_refused 1 b) (policy_free one ∙ sym (policy_free other))
+  named_alike filter.Realtime settings table one other = ap (λ b. unless_refused 1 b)
+      (policy_free settings.systemd one ∙ sym (policy_free settings.systemd other))
   named_alike filter.Suid settings table one other = suid_alike settings.systemd one other
   named_alike filter.Namespaces settings table one other = space_alike settings.systemd settings.namespaces one other
   named_alike filter.Tunables settings table one other = refl
   named_alike filter.Personality settings table one other = ap (λ b. unless_refused 1 b)
-      (personality_free one ∙ sym (personality_free other))
+      (personality_free settings.systemd settings.domain one ∙ sym (personality_free settings.systemd settings.domain other))
   named_alike filter.Archs settings table one other = refl
   named_alike filter.Hostname settings table one other = refl
   named_alike filter.Modules settings table one other = refl

@@ -9,8 +9,8 @@ use Rattle.ceilings.specs.kernel_model.declared.kernel_calls.payload.Payload.{Pa
 use Rattle.ceilings.specs.kernel_model.declared.kernel_calls.rule.Rule.{Rule}
 use Rattle.ceilings.specs.kernel_model.declared.kernel_calls.rule.Rule.TheVariants.{Plain}
 use Rattle.ceilings.specs.kernel_laws.declared.question_types.kind.CallKind.{CallKind}
-use Rattle.ceilings.specs.kernel_laws.Kinds.{words, no_words}
-use Rattle.ceilings.specs.kernel_laws.Launched.{Launch, IsLaunched, lets, lets_line}
+use Rattle.ceilings.specs.kernel_laws.Kinds.{no_words}
+use Rattle.ceilings.specs.kernel_laws.Launched.{Launch, IsLaunched, chosen_words, lets, lets_line}
 use Rattle.ceilings.specs.kernel_ways.Ways.{place_of}
 use Rattle.ceilings.proofs.OfKernelWays.Lines.{Line, first_by, line_at}
 use Rattle.open_calls.specs.chosen_calls.First.{names_of, lets_name, line_in, first_line, no_line, line_of, args_of, own_rule, call_by}
@@ -108,13 +108,13 @@ chosen launch l kind e =
     record { line = x.0; is = ap (λ o. unwrap_or o no_line) first.1 ∙ sym x.1 }
 
 module _ {launch : Launch} {kind : CallKind} (c : ChosenLine launch kind) where
-  args_are : args_of kind c.line.line ≡ c.line.args
-  args_are = ap (λ (r : Option Rule). unwrap_or (option_and_then (words kind) r) no_words) c.line.is
+  args_are : args_of launch kind c.line.line ≡ c.line.args
+  args_are = ap (λ (r : Option Rule). unwrap_or (option_and_then (chosen_words launch kind c.line.line.abi c.line.line.number) r) no_words) c.line.is
       ∙ ap (λ (w : Option (List ℕ)). unwrap_or w no_words) c.line.are
 
   -- its call
   pub call_is : (payload : Payload) → call_by launch kind payload ≡ first_by (place_of c.line.line) c.line.args payload
-  call_is payload = ap (λ (line : CallLine). first_by (place_of line) (args_of kind line) payload) c.is
+  call_is payload = ap (λ (line : CallLine). first_by (place_of line) (args_of launch kind line) payload) c.is
       ∙ ap (λ (args : List ℕ). first_by (place_of c.line.line) args payload) args_are
 
   pub place_is : place_of (line_of launch kind) ≡ place_of c.line.line

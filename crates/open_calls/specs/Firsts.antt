@@ -20,11 +20,11 @@ use Rattle.open_calls.specs.declared.ways.GainWay.{GainWay}
 use Rattle.open_calls.specs.declared.gains.Gained.TheVariants.{Unasked, Found}
 
 -- the call of a line, with the words that ask for the kind and with its rule
-abbrev pub first_as : CallKind → CallLine → FirstCall
-first_as kind line = record { abi = line.abi; nr = line.number; args = args_of kind line; rule = own_rule line }
+abbrev pub first_as : Launch → CallKind → CallLine → FirstCall
+first_as launch kind line = record { abi = line.abi; nr = line.number; args = args_of launch kind line; rule = own_rule line }
 
 abbrev pub first_of : Launch → CallKind → FirstCall
-first_of launch kind = first_as kind (line_of launch kind)
+first_of launch kind = first_as launch kind (line_of launch kind)
 
 -- where it is
 abbrev pub place_in : FirstCall → CallAt

@@ -11,7 +11,7 @@ ghost use Rattle.open_calls.specs.Firsts.{call_as, first_of};
 
 use crate::names::names_of;
 use crate::service::Made;
-use ceilings::{CallLine, CallRule, lets_line, passing_line, rule_of, words};
+use ceilings::{CallLine, CallRule, chosen_words, lets_line, passing_line, rule_of};
 use questions::{Call, CallKind, IdList, Payload, Rule, World};
 use std::alloc::Global;
 
@@ -90,10 +90,10 @@ fn own_rule(line: &CallLine) -> Rule
 }
 
 // The words with which the call of a line asks for the kind.
-fn args_of(kind: CallKind, line: &CallLine) -> [u64; 6]
-    ensures { result ≡ args_of kind line.now }
+fn args_of(world: &World<'_>, kind: CallKind, line: &CallLine) -> [u64; 6]
+    ensures { result ≡ args_of (launch_of world.now) kind line.now }
 {
-    let args = rule_of(line).and_then(|rule| words(kind, rule));
+    let args = rule_of(line).and_then(|rule| chosen_words(world, kind, line, rule));
     args.unwrap_or([0; 6])
 }
 
@@ -147,7 +147,7 @@ pub(crate) fn first_call(world: &World<'_>, kind: CallKind) -> FirstCall
     FirstCall {
         abi: line.abi,
         nr: line.number,
-        args: args_of(kind, line),
+        args: args_of(world, kind, line),
         rule: own_rule(line),
     }
 }

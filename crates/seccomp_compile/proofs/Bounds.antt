@@ -49,7 +49,7 @@ adds_length _ _ _ (extended runs after run joined more at d e) =
     let before = ap length more.lowest in
     omega (arith, longer, before, length-append more.others (joined ∷ []), length-append more.others (more.lowest_run ∷ []))
 
-jump_over_one : (ending : Bool) → jumps ending 1 ≡ 0
+pub jump_over_one : (ending : Bool) → jumps ending 1 ≡ 0
 jump_over_one true = refl
 jump_over_one false = refl
 

@@ -7,7 +7,7 @@ use Rattle.std.specs.List.{All, sum_by}
 use Rattle.std.specs.List.Sorted.{IsStrictlyIncreasing}
 use Rattle.std.proofs.lemmas.List.Sums.{sum_by-cons, sum_by-le}
 use Rattle.call_rules.specs.Action.{call_action}
-use Rattle.call_rules.specs.Sizes.{most_insns, HaveFewTests, CanCompile}
+use Rattle.call_rules.specs.Sizes.{wide_len, most_insns, HaveFewTests, CanCompile}
 use Rattle.call_rules.specs.declared.actions.Action.{Action}
 use Rattle.call_rules.specs.declared.rules.Case.{Case}
 use Rattle.call_rules.specs.declared.rules.CallRule.{CallRule}
@@ -18,7 +18,7 @@ use Rattle.seccomp_compile.specs.declared.tree.Comparison.TheVariants.{Equal}
 use Rattle.seccomp_compile.specs.Decisions.{Decision, ends, looks, splits, decide, is_end, LooksInside}
 use Rattle.seccomp_compile.specs.Lengths.{hop, most_of, PathWithin}
 use Rattle.seccomp_compile.specs.Runs.{run_decision, AddsNumber, Closes}
-use Rattle.seccomp_compile.specs.Rules.{Wanted, weight_of, DecidesCall, DecidesNumbers, DecidesRules}
+use Rattle.seccomp_compile.specs.Rules.{Wanted, weight_of, wides_in, DecidesCall, DecidesNumbers, DecidesRules}
 use Rattle.seccomp_compile.specs.ShortCases.{HasShortCases}
 use Rattle.seccomp_compile.proofs.Rising.{Each, each_all, each_before, each_last, each_map, Rises, rises, rises_before, rises_last}
 use Rattle.seccomp_compile.proofs.Rising.{sum_last, find_none, find_here, map_last}
@@ -40,7 +40,8 @@ pub record Numbered (calls : List CallRule) (rest : Action) (left : List CallRul
   pub split : calls ≡ left ++ after
   pub can : Each CanCompileCall left
   pub few : length runs + 2 * length left ≤ 2 * length calls
-  pub total : 9 * total_of runs + 18 * length left + 8 * sum_by weight_of left ≤ 18 * length calls + 8 * sum_by weight_of calls
+  pub total : 9 * total_of runs + 18 * length left + 8 * sum_by weight_of left + 27 * wides_in left
+      ≤ 18 * length calls + 8 * sum_by weight_of calls + 27 * wides_in calls
   pub path : Each (λ run. All HasShortCases calls → IsShort 55 (run_decision run)) runs
   pub inside : Each (λ run. LooksInside (run_decision run)) runs
 
@@ -74,6 +75,7 @@ numbered_more calls rest left others call runs after decision fits is n d added 
     let whole : calls ≡ others ++ call ∷ n.after = n.split ∙ ap (λ left. left ++ n.after) is ∙ append_assoc others (call ∷ []) n.after in
     let fewer = ap length is in
     let weights : sum_by weight_of left ≡ sum_by weight_of others + weight_of call = ap (sum_by weight_of) is ∙ sum_last weight_of others call in
+    let wides : wides_in left ≡ wides_in others + wide_len call.wide = ap wides_in is ∙ sum_last (λ call. wide_len call.wide) others call in
     record {
       covers = covers_more (wanted_of calls rest) rest call.number (map number_of others) runs after decision fits lower
           (subst (λ numbers. Covers (wanted_of calls rest) rest numbers runs) numbers n.covers) added
@@ -84,7 +86,7 @@ numbered_more calls rest left others call runs after decision fits is n d added 
       split = whole;
       can = each_before CanCompileCall others (call ∷ []) (subst (Each CanCompileCall) is n.can);
       few = omega (arith, n.few, fewer, length-append others (call ∷ []), number_length runs after call.number rest decision added);
-      total = omega (arith, n.total, fewer, length-append others (call ∷ []), weights, d.most, number_total runs after call.number rest decision added);
+      total = omega (arith, n.total, fewer, length-append others (call ∷ []), weights, wides, d.most, number_total runs after call.number rest decision added);
       path = number_each (λ decision. All HasShortCases calls → IsShort 55 decision)
           (λ number action decision plain ending h short. short_alone 55 (omega arith) number action decision plain (ending short)
           (h short))
@@ -135,7 +137,7 @@ rules_decided rules numbers decision can n e = record {
   decides = λ input word fits.
       ap (λ decision. decide decision input word) e
       ∙ ap (λ action. cond (input.arch == rules.arch) action rules.other) (n.decides input input.nr (omega arith) fits);
-  most = let same = ap most_of e in omega (arith, same, hop-le (is_end numbers), n.most, weights rules.calls);
+  most = let same = ap most_of e in omega (arith, same, hop-le (is_end numbers), n.most, weights rules.calls, can.wides);
   path = λ short. subst (PathWithin 96) (sym e)
       (84, (82, omega arith, (79, n.path short can.calls, omega arith), omega arith), omega arith);
   inside = subst LooksInside (sym e) (omega arith, omega arith, (tt, (omega arith, omega arith, n.inside)));
@@ -155,4 +157,4 @@ few_tests_in_all (call ∷ calls) few =
 
 -- no program within the condition is too long
 pub most_insns-le : (rules : RuleSet) → CanCompile rules → most_insns rules ≤ 4096
-most_insns-le rules can = omega (arith, can.calls, can.cases, few_tests_in_all rules.calls can.tests)
+most_insns-le rules can = omega (arith, can.calls, can.cases, few_tests_in_all rules.calls can.tests, can.wides)

@@ -23,7 +23,7 @@ use Rattle.seccomp_compile.specs.Decisions.{tested_word}
 use Rattle.seccomp_compile.specs.Lengths.{hop, most_of, PathWithin}
 use Rattle.seccomp_compile.specs.Runs.{run_decision, AddsNumber, Closes}
 use Rattle.seccomp_compile.specs.Rules.{by_tests, cases_onto, first_value, value_in, values_onto, value_wanted, is_value_test}
-use Rattle.seccomp_compile.specs.Rules.{is_value_of_tests, is_value_of, AreValuesOf, DecidesValues, DecidesCall}
+use Rattle.seccomp_compile.specs.Rules.{is_value_of_tests, is_value_of, AreValuesOf, DecidesValues, DecidesCases}
 use Rattle.seccomp_compile.specs.Looks.{mask_of, comparison_of}
 use Rattle.seccomp_compile.specs.ShortCases.{whole, AreWhole}
 use Rattle.seccomp_compile.proofs.OneBit.{and_parts}
@@ -183,11 +183,11 @@ values_whole arg (case ∷ cases) h =
     ∙ values_whole arg cases (λ k d below. h (suc k) d (omega arith))
 
 pub call_in_turn : (call : CallRule) (decision : Decision) → CanCompileCall call → decision ≡ cases_onto call.cases (ends call.rest)
-    → LooksInside decision → ((arg : ℕ) → AreValuesOf arg call.cases → call.cases ≡ []) → DecidesCall call decision
+    → LooksInside decision → ((arg : ℕ) → AreValuesOf arg call.cases → call.cases ≡ []) → DecidesCases call decision
 call_in_turn call decision can e inside none = record {
   decides = λ input word. ap (λ decision. decide decision input word) e ∙ cases_decide input call.cases call.rest can.tests word;
   most = let same = ap most_of e in omega (arith, same, cases_most call.cases call.rest can.tests);
-  path = λ short. subst (PathWithin 55) (sym e) (cases_path call.cases call.rest 55 (elim short [
+  path = λ short. subst (PathWithin 50) (sym e) (cases_path call.cases call.rest 50 (elim short [
     | inl few ↦ omega (arith, few)
     | inr values ↦ let empty = ap (λ cases. length cases) (none values.0 (values_whole values.0 call.cases values.1)) in omega (arith, empty)
   ]));
@@ -325,7 +325,7 @@ hop-le false = omega arith
 
 pub call_by_values : (call : CallRule) (arg : ℕ) (values decision : Decision) → CanCompileCall call → arg ≤ 5 → 0 < length call.cases
     → AreValuesOf arg call.cases → DecidesValues call.cases call.rest values →
-    decision ≡ looks (16 + 8 * arg) (2 ^ 32 - 1) values → DecidesCall call decision
+    decision ≡ looks (16 + 8 * arg) (2 ^ 32 - 1) values → DecidesCases call decision
 call_by_values call arg values decision can le some are v e = record {
   decides = λ input word.
       let looked = slice_index input.args arg % 2 ^ 32 in
@@ -334,6 +334,6 @@ call_by_values call arg values decision can le some are v e = record {
       ∙ v.decides input looked (omega arith) (omega arith)
       ∙ ap (λ found. option_map_or (λ case. case.action) found call.rest) (cases_by_value input arg looked call.cases are refl);
   most = let same = ap most_of e in omega (arith, same, hop-le (is_end values), v.most some, values_count arg call.cases are);
-  path = λ short. subst (PathWithin 55) (sym e) (21, v.path can.cases, omega arith);
+  path = λ short. subst (PathWithin 50) (sym e) (21, v.path can.cases, omega arith);
   inside = subst LooksInside (sym e) (omega arith, omega arith, v.inside);
 }

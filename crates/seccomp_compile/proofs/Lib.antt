@@ -4,6 +4,7 @@ pub mod Places
 pub mod Rising
 pub mod Tiles
 pub mod Bounds
+pub mod Wide
 pub mod Doubles
 pub mod CaseTrees
 pub mod Calls

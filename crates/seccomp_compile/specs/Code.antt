@@ -11,6 +11,10 @@ use Rattle.seccomp_compile.specs.declared.tree.Comparison.TheVariants.{AtLeast, 
 abbrev pub arg_offset : ℕ → ℕ
 arg_offset arg = 16 + 8 * arg
 
+-- and that of its high word
+abbrev pub high_offset : ℕ → ℕ
+high_offset arg = 20 + 8 * arg
+
 -- the mask under which a word is itself
 abbrev pub whole_word : ℕ
 whole_word = 2 ^ 32 - 1

@@ -5,14 +5,15 @@ use Rattle.std.specs.Option.{option_map_or}
 use Rattle.std.specs.List.{All, list_all, list_any}
 use Rattle.call_rules.specs.bpf_code.declared.machine.CallData.{CallData}
 use Rattle.call_rules.specs.Tested.{Tested}
+use Rattle.call_rules.specs.Widened.{Widened}
 use Rattle.call_rules.specs.declared.actions.Action.{Action}
-use Rattle.call_rules.specs.Action.{call_action, case_action}
-use Rattle.call_rules.specs.Sizes.{most_insns}
+use Rattle.call_rules.specs.Action.{first_action, call_action, case_action}
+use Rattle.call_rules.specs.Sizes.{wide_len, most_insns}
 use Rattle.call_rules.specs.declared.rules.Case.{Case}
 use Rattle.call_rules.specs.declared.rules.CallRule.{CallRule}
 use Rattle.call_rules.specs.declared.rules.RuleSet.{RuleSet}
 use Rattle.seccomp_compile.specs.declared.tree.Comparison.TheVariants.{Equal}
-use Rattle.seccomp_compile.specs.Code.{arg_offset, whole_word}
+use Rattle.seccomp_compile.specs.Code.{arg_offset, high_offset, whole_word}
 use Rattle.seccomp_compile.specs.Looks.{mask_of, comparison_of}
 use Rattle.seccomp_compile.specs.Compiled.{longest_path}
 use Rattle.seccomp_compile.specs.ShortCases.{HasShortCases, HaveShortCases}
@@ -48,6 +49,10 @@ by_tests (first ∷ second ∷ tests) action otherwise = both first second actio
 abbrev pub cases_onto : List Case → Decision → Decision
 cases_onto [] otherwise = otherwise
 cases_onto (case ∷ cases) otherwise = by_tests case.tests case.action (cases_onto cases otherwise)
+
+-- the action of a wide argument, which has a high word that is not 0; a narrow one continues
+abbrev pub past_wide : Widened → Decision → Decision
+past_wide wide narrow = looks (high_offset wide.arg) whole_word (splits Equal 0 (ends wide.action) narrow)
 
 -- the value that the first test compares
 abbrev pub first_value : List Tested → ℕ
@@ -97,6 +102,10 @@ first_arg (case ∷ cases) = arg_of_tests case.tests
 abbrev pub weight_of : CallRule → ℕ
 weight_of call = 2 * length call.cases + 4 * sum_by (λ case. length case.tests) call.cases
 
+-- how many of the calls have a rule that looks at the high 32 bits of an argument
+abbrev pub wides_in : List CallRule → ℕ
+wides_in calls = sum_by (λ call. wide_len call.wide) calls
+
 -- a decision of the values of an argument
 pub record DecidesValues (cases : List Case) (rest : Action) (decision : Decision) : Type 0 where
   pub decides : DecidesFrom (λ input word. value_wanted cases rest word) 0 (2 ^ 32) decision
@@ -104,17 +113,24 @@ pub record DecidesValues (cases : List Case) (rest : Action) (decision : Decisio
   pub path : length cases ≤ 128 → PathWithin 21 decision
   pub inside : LooksInside decision
 
--- a decision of a call, whatever word is looked at
+-- a decision of the cases of a call, whatever word is looked at
+pub record DecidesCases (call : CallRule) (decision : Decision) : Type 0 where
+  pub decides : (input : CallData) (word : ℕ) → decide decision input word ≡ first_action input call
+  pub most : 9 * most_of decision ≤ 9 + 8 * weight_of call
+  pub path : HasShortCases call → PathWithin 50 decision
+  pub inside : LooksInside decision
+
+-- a decision of a call
 pub record DecidesCall (call : CallRule) (decision : Decision) : Type 0 where
   pub decides : (input : CallData) (word : ℕ) → decide decision input word ≡ call_action input call
-  pub most : 9 * most_of decision ≤ 9 + 8 * weight_of call
+  pub most : 9 * most_of decision ≤ 9 + 8 * weight_of call + 27 * wide_len call.wide
   pub path : HasShortCases call → PathWithin 55 decision
   pub inside : LooksInside decision
 
 -- a decision of the numbers of calls
 pub record DecidesNumbers (calls : List CallRule) (rest : Action) (decision : Decision) : Type 0 where
   pub decides : DecidesFrom (number_wanted calls rest) 0 (2 ^ 32) decision
-  pub most : most_of decision ≤ 5 * length calls + sum_by weight_of calls + 1
+  pub most : 8 * most_of decision ≤ 8 * (5 * length calls + sum_by weight_of calls + 1) + 27 * wides_in calls
   pub path : All HasShortCases calls → length calls ≤ 512 → PathWithin 79 decision
   pub inside : LooksInside decision
 

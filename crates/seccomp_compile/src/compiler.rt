@@ -16,12 +16,14 @@ use std::collections::VecDeque;
 /// Makes a program that decides every call as the rules do: its answer is the action of the rules, for every number,
 /// architecture, instruction pointer and argument words.
 ///
-/// The program has at most `16 + 5c + 2k + 4t` instructions for c calls, k cases and t tests in all, which is never
-/// more than a program may have. A call takes at most 96 instructions, if each rule has short cases: at most 8, or
-/// each of them one test of one argument with all of its low 32 bits.
+/// The program has at most `16 + 5c + 2k + 4t + 3w` instructions for c calls, k cases and t tests in all, and w calls
+/// that look at the high 32 bits of an argument. That is never more than a program may have. A call takes at most 96
+/// instructions, if each rule has short cases: at most 8, or each of them one test of one argument with all of its low
+/// 32 bits.
 ///
-/// The condition is at most 512 calls, at most 128 cases over all calls together, and at most 2 tests a case, as
-/// `can_compile` tests. The call fails only if memory runs out.
+/// The condition is at most 512 calls, at most 128 cases over all calls together, and at most 2 tests a case. At most
+/// 16 calls may look at the high 32 bits of an argument. `can_compile` tests the condition. The call fails only if
+/// memory runs out.
 pub fn compile(alloc: Global, rules: &RuleSet) -> Result<Program, AllocError>
     requires { CanCompile rules.now }
     ensures decides_every_call { IfOk result (λ program. Decides program rules.now) }

@@ -1,19 +1,19 @@
 //! Makes decision trees of rules.
-ghost use Rattle.std.specs.Prelude.{◌≡◌, map, IfOk};
+ghost use Rattle.std.specs.Prelude.{◌≡◌, ◌≤◌, map, IfOk};
 ghost use Rattle.std.specs.List.{All};
 ghost use Rattle.std.specs.List.Sorted.{IsStrictlyIncreasing};
 ghost use Rattle.call_rules.specs.Sizes.{CanCompile};
 ghost use Rattle.seccomp_compile.specs.Compiled.{CanCompileCall};
 ghost use Rattle.seccomp_compile.specs.Decisions.{decision_of, looks, splits, ends};
 ghost use Rattle.seccomp_compile.specs.Code.{whole_word};
-ghost use Rattle.seccomp_compile.specs.Rules.{DecidesCall, DecidesNumbers, DecidesRules};
+ghost use Rattle.seccomp_compile.specs.Rules.{past_wide, DecidesCases, DecidesCall, DecidesNumbers, DecidesRules};
 
 use crate::cases::cases_tree;
-use crate::offsets::{ARCH_OFFSET, NUMBER_OFFSET, WHOLE_WORD, arg_offset};
+use crate::offsets::{ARCH_OFFSET, NUMBER_OFFSET, WHOLE_WORD, arg_offset, high_offset};
 use crate::runs::{add_number, close};
 use crate::tree::{Comparison, Tree};
 use crate::values::{value_arg, values_tree};
-use call_rules::{Action, CallRule, RuleSet};
+use call_rules::{Action, CallRule, RuleSet, Wide};
 use std::alloc::{AllocError, Global};
 
 // A tree that looks at a whole word of the data.
@@ -27,10 +27,22 @@ fn look_at(alloc: Global, offset: u32, next: Tree) -> Result<Tree, AllocError>
     })
 }
 
+// A tree that ends in this action where the word is not this number.
+fn only_for(alloc: Global, number: u32, other: Action, tree: Tree) -> Result<Tree, AllocError>
+    ensures { IfOk result (λ whole. decision_of whole ≡ splits Comparison.Equal number (ends other) (decision_of tree)) }
+{
+    Ok(Tree::Split {
+        comparison: Comparison::Equal,
+        number,
+        miss: Box::new(alloc, Tree::End(other))?,
+        hit: Box::new(alloc, tree)?,
+    })
+}
+
 // The cases of a call, and its rest.
-fn call_tree(alloc: Global, call: &CallRule) -> Result<Tree, AllocError>
+fn rule_tree(alloc: Global, call: &CallRule) -> Result<Tree, AllocError>
     requires { CanCompileCall call.now }
-    ensures { IfOk result (λ tree. DecidesCall call.now (decision_of tree)) }
+    ensures { IfOk result (λ tree. DecidesCases call.now (decision_of tree)) }
 {
     let cases = call.cases.list();
     match value_arg(cases) {
@@ -39,6 +51,27 @@ fn call_tree(alloc: Global, call: &CallRule) -> Result<Tree, AllocError>
             look_at(alloc, arg_offset(arg), values)
         }
         None => cases_tree(alloc, cases, call.rest),
+    }
+}
+
+// A tree that ends in an action of its own where an argument is wide.
+fn unless_wide(alloc: Global, wide: Wide, narrow: Tree) -> Result<Tree, AllocError>
+    ensures looks { IfOk result (λ tree. decision_of tree ≡ past_wide wide (decision_of narrow)) }
+    ensures there { wide.arg ≤ 5 }
+{
+    let compared = only_for(alloc, 0, wide.action, narrow)?;
+    look_at(alloc, high_offset(wide.arg), compared)
+}
+
+// The rule of a call.
+fn call_tree(alloc: Global, call: &CallRule) -> Result<Tree, AllocError>
+    requires { CanCompileCall call.now }
+    ensures { IfOk result (λ tree. DecidesCall call.now (decision_of tree)) }
+{
+    let narrow = rule_tree(alloc, call)?;
+    match call.wide {
+        Some(wide) => unless_wide(alloc, wide, narrow),
+        None => Ok(narrow),
     }
 }
 
@@ -58,18 +91,6 @@ fn numbers_tree(alloc: Global, calls: &[CallRule], rest: Action) -> Result<Tree,
     close(alloc, runs, rest)
 }
 
-// A tree that ends in this action for every other architecture than this one.
-fn for_arch(alloc: Global, arch: u32, other: Action, tree: Tree) -> Result<Tree, AllocError>
-    ensures { IfOk result (λ whole. decision_of whole ≡ splits Comparison.Equal arch (ends other) (decision_of tree)) }
-{
-    Ok(Tree::Split {
-        comparison: Comparison::Equal,
-        number: arch,
-        miss: Box::new(alloc, Tree::End(other))?,
-        hit: Box::new(alloc, tree)?,
-    })
-}
-
 /// Returns the rules as a tree, which looks at the architecture first and then at the number.
 pub fn rules_tree(alloc: Global, rules: &RuleSet) -> Result<Tree, AllocError>
     requires { CanCompile rules.now }
@@ -77,6 +98,6 @@ pub fn rules_tree(alloc: Global, rules: &RuleSet) -> Result<Tree, AllocError>
 {
     let numbers = numbers_tree(alloc, rules.calls.list(), rules.rest)?;
     let by_number = look_at(alloc, NUMBER_OFFSET, numbers)?;
-    let compared = for_arch(alloc, rules.arch, rules.other, by_number)?;
+    let compared = only_for(alloc, rules.arch, rules.other, by_number)?;
     look_at(alloc, ARCH_OFFSET, compared)
 }

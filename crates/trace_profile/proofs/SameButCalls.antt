@@ -41,7 +41,9 @@ use Rattle.asked_service.specs.filter_settings.declared.filter_rules.settings.Fi
 use Rattle.asked_service.specs.filter_settings.Architectures.{is_read, is_second, unit_refuses_second}
 use Rattle.asked_service.specs.filter_settings.CallLists.{unit_call_list}
 use Rattle.asked_service.specs.filter_settings.ErrorActions.{default_action, error_action_value, unit_error_action}
+use Rattle.asked_service.specs.filter_settings.Domains.{domain_named, unit_domain}
 use Rattle.asked_service.specs.filter_settings.FamilyLists.{family_list, unit_family_list}
+use Rattle.asked_service.specs.filter_settings.declared.filter_rules.personality.Domain.TheVariants.{Linux}
 use Rattle.asked_service.specs.filter_settings.Lines.{in_force}
 use Rattle.asked_service.specs.filter_settings.Namespaces.{namespaces_of, unit_namespaces}
 use Rattle.asked_service.specs.filter_settings.Settings.{settings_of}
@@ -154,7 +156,7 @@ module _ (unit : Resolved) (files : List UnitFile) where
         _ (unit_flag unit (codes "ProtectHostname")) _ (unit_flag unit (codes "ProtectKernelModules")) _
         (unit_flag unit (codes "ProtectKernelLogs")) _ (unit_flag unit (codes "ProtectClock")) _
         (unit_flag unit (codes "PrivateDevices")) _ (unit_refuses_second unit table (codes "SystemCallArchitectures"))
-        _ (unit_flag unit (codes "ProtectKernelTunables"))
+        _ (unit_flag unit (codes "ProtectKernelTunables")) _ (unit_domain unit table (codes "Personality"))
         refl (ap (λ value. value.action) (last error_action_value default_action (codes "SystemCallErrorNumber") refl))
         (families table (codes "RestrictAddressFamilies") refl) (types (codes "RestrictNamespaces") refl)
         refl (flag (codes "MemoryDenyWriteExecute") refl) (flag (codes "RestrictRealtime") refl) (flag (codes "RestrictSUIDSGID") refl)
@@ -162,6 +164,7 @@ module _ (unit : Resolved) (files : List UnitFile) where
         (flag (codes "ProtectHostname") refl) (flag (codes "ProtectKernelModules") refl) (flag (codes "ProtectKernelLogs") refl)
         (flag (codes "ProtectClock") refl) (flag (codes "PrivateDevices") refl)
         (unpermitted table (codes "SystemCallArchitectures") refl) (flag (codes "ProtectKernelTunables") refl)
+        (last (domain_named table) Linux (codes "Personality") refl)
 
     dynamic : is_dynamic longer ≡ is_dynamic unit
     unfolding is_dynamic

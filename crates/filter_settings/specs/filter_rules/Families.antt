@@ -9,7 +9,8 @@ use Rattle.filter_settings.specs.declared.filter_rules.mentions.Mode.TheVariants
 use Rattle.filter_settings.specs.declared.filter_rules.mentions.FamilyMention.{FamilyMention}
 use Rattle.filter_settings.specs.declared.filter_rules.mentions.FamilyList.{FamilyList}
 use Rattle.call_table.specs.Table.{Table}
-use Rattle.filter_settings.specs.filter_rules.Actions.{low}
+use Rattle.dropin_merge.specs.unit_names.declared.version.Version.{Version}
+use Rattle.filter_settings.specs.filter_rules.Actions.{meets}
 use Rattle.filter_settings.specs.filter_rules.Calls.{is_allowing}
 
 -- the last word that names the family
@@ -34,9 +35,9 @@ abbrev pub is_refused_family : FamilyList → ℕ → Bool
 is_refused_family list number = is_refused_by list.mode (is_listed_family list.mentions number)
 
 -- socket(2) with a refused family, which is argument 0
-abbrev pub refuses_family : Option FamilyList → List ℕ → CallData → Bool
-refuses_family families name input = bytes_eq name (codes "socket") && option_map_or
-    (λ list. is_refused_family list (low input 0)) families false
+abbrev pub refuses_family : Option Version → Option FamilyList → List ℕ → CallData → Bool
+refuses_family systemd families name input = bytes_eq name (codes "socket") && option_map_or
+    (λ list. is_refused_by list.mode (meets systemd input 0 (is_listed_family list.mentions))) families false
 
 -- socket(2) may use the family of this number
 abbrev pub permits_family : Option FamilyList → ℕ → Bool

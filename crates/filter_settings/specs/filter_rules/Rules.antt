@@ -30,9 +30,9 @@ use Rattle.filter_settings.specs.filter_rules.Wanted.{wanted_action}
 
 -- what the rules of a filter do to calls of a name, if there is a rule
 abbrev pub choice_of : FilterName → FilterSettings → Table → List ℕ → Option Choice
-choice_of Families settings table name = families_choice table settings.families name
+choice_of Families settings table name = families_choice settings.systemd table settings.families name
 choice_of MemoryDenyWriteExecute settings table name = mapping_choice name
-choice_of Realtime settings table name = realtime_choice name
+choice_of Realtime settings table name = realtime_choice settings.systemd name
 choice_of Suid settings table name = suid_choice_in settings.systemd name
 choice_of Namespaces settings table name = namespaces_choice_in settings.systemd settings.namespaces name
 choice_of Tunables settings table name = blocked_choice table tunables_words name
@@ -41,7 +41,7 @@ choice_of Modules settings table name = blocked_choice table modules_words name
 choice_of Logs settings table name = blocked_choice table logs_words name
 choice_of Clock settings table name = blocked_choice table clock_words name
 choice_of Devices settings table name = blocked_choice table devices_words name
-choice_of Personality settings table name = personality_choice name
+choice_of Personality settings table name = personality_choice settings.systemd settings.domain name
 choice_of Calls settings table name = calls_choice table settings.calls settings.default_action name
 choice_of Archs settings table name = None
 

@@ -15,7 +15,7 @@ abbrev pub mode_test : List ℕ → Option Tested
 mode_test name = option_map (λ at. bits at o_creat) (flags_argument name)
 
 abbrev pub mode_choice : Option Tested → ℕ → Choice
-mode_choice given at = record { given = given; any = bits at set_user_id ∷ bits at set_group_id ∷ []; action = Errno eperm; rest = Allow }
+mode_choice given at = record { wide = None; given = given; any = bits at set_user_id ∷ bits at set_group_id ∷ []; action = Errno eperm; rest = Allow }
 
 abbrev pub suid_choice : List ℕ → Option Choice
 suid_choice name = option_map (mode_choice (mode_test name)) (mode_argument name)

@@ -1,4 +1,4 @@
--- What the settings say of every call: by the filter's name, by the names of the table and by the low 32 bits of the arguments.
+-- What the settings say of every call: by the filter's name, by the names of the table and by the arguments.
 use Rattle.std.specs.Prelude.{ℕ, ◌==◌, ◌&&◌, not, if◌then◌else◌, Bool, List, Option, None, Some, is_some}
 use Rattle.std.specs.Option.{option_map_or}
 use Rattle.std.specs.List.{list_all}
@@ -46,9 +46,9 @@ is_on settings Archs = settings.second_abi_refused
 
 -- the action of a filter on a call of this name
 abbrev pub named_action : FilterName → FilterSettings → Table → List ℕ → CallData → Action
-named_action Families settings table name input = unless_refused eafnosupport (refuses_family settings.families name input)
+named_action Families settings table name input = unless_refused eafnosupport (refuses_family settings.systemd settings.families name input)
 named_action MemoryDenyWriteExecute settings table name input = unless_refused eperm (refuses_mapping name input)
-named_action Realtime settings table name input = unless_refused eperm (refuses_policy name input)
+named_action Realtime settings table name input = unless_refused eperm (refuses_policy settings.systemd name input)
 named_action Suid settings table name input = suid_action settings.systemd name input
 named_action Namespaces settings table name input = namespace_action settings.systemd settings.namespaces name input
 named_action Tunables settings table name input = unless_refused eperm (is_blocked table tunables_words name)
@@ -57,7 +57,8 @@ named_action Modules settings table name input = unless_refused eperm (is_blocke
 named_action Logs settings table name input = unless_refused eperm (is_blocked table logs_words name)
 named_action Clock settings table name input = unless_refused eperm (is_blocked table clock_words name)
 named_action Devices settings table name input = unless_refused eperm (is_blocked table devices_words name)
-named_action Personality settings table name input = unless_refused eperm (refuses_personality name input)
+named_action Personality settings table name input = unless_refused eperm
+    (refuses_personality settings.systemd settings.domain name input)
 named_action Calls settings table name input = call_action table settings.calls settings.default_action name
 named_action Archs settings table name input = KillProcess
 

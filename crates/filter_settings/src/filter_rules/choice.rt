@@ -1,8 +1,9 @@
 //! Says what a filter does to one call: an action if some test holds, and another action for the rest.
 ghost use Rattle.std.specs.Prelude.{◌≡◌, ◌≤◌, None, map, IfOk};
-ghost use Rattle.filter_settings.specs.filter_rules.Choices.{bits, whole, always, refused_where, allowed_where, case_with, rule_with};
+ghost use Rattle.filter_settings.specs.filter_rules.Choices.{bits, whole, always, refused_where, wide_as, by_value, allowed_values, case_with, rule_with};
 
-use call_rules::{Action, CallRule, Case, Cases, Test, Tests};
+use call_rules::{Action, CallRule, Case, Cases, Test, Tests, Wide};
+use dropin_merge::Version;
 use dropin_merge::linux_numbers::errnos::{ENOSYS, EPERM};
 use std::alloc::{AllocError, Global};
 
@@ -15,7 +16,9 @@ pub const NOT_THERE: Action = Action::Errno(ENOSYS as u16);
 /// One action if some test holds, and another for the rest.
 #[derive(Drop)]
 pub struct Choice {
-    /// A test that must hold as well.
+    /// What is done where an argument is wide, whatever the tests say.
+    pub wide: Option<Wide>,
+    /// A test without which none of the others counts.
     pub given: Option<Test>,
     pub any: Tests,
     /// The action if one of them holds.
@@ -44,6 +47,7 @@ pub fn always(alloc: Global, action: Action) -> Choice
     ensures no_tests { result ≡ always action }
 {
     Choice {
+        wide: None,
         given: None,
         any: Tests::new(Vec::new(alloc)),
         action,
@@ -51,37 +55,59 @@ pub fn always(alloc: Global, action: Action) -> Choice
     }
 }
 
-// Returns one action if one of these tests holds, and another for the rest.
-fn choice_where(
-    alloc: Global,
-    tests: &[Test],
-    action: Action,
-    rest: Action,
-) -> Result<Choice, AllocError>
-    ensures { IfOk result (λ choice. choice ≡ record { given = None; any = tests.now; action = action; rest = rest }) }
+/// Not permitted where one of these tests holds.
+pub fn refused_where(alloc: Global, tests: &[Test]) -> Result<Choice, AllocError>
+    ensures refused { IfOk result (λ choice. choice ≡ refused_where tests.now) }
 {
     let mut any = Vec::new(alloc);
     any.extend_from_slice(tests)?;
     Ok(Choice {
+        wide: None,
         given: None,
         any: Tests::new(any),
-        action,
-        rest,
+        action: NOT_PERMITTED,
+        rest: Action::Allow,
     })
 }
 
-/// Refuses the call with EPERM if one of these tests holds.
-pub fn refused_where(alloc: Global, tests: &[Test]) -> Result<Choice, AllocError>
-    ensures refused { IfOk result (λ choice. choice ≡ refused_where tests.now) }
+// Returns what is done where the argument is wide, with a version of systemd.
+fn wide_as(systemd: Option<Version>, arg: u8, action: Action) -> Option<Wide>
+    requires { arg ≤ 5 }
+    ensures { result ≡ wide_as systemd arg action }
 {
-    choice_where(alloc, tests, NOT_PERMITTED, Action::Allow)
+    match systemd {
+        None => None,
+        Some(_) => Some(Wide::new(arg, action)),
+    }
 }
 
-/// Refuses the call with EPERM unless one of these tests holds.
-pub fn allowed_where(alloc: Global, tests: &[Test]) -> Result<Choice, AllocError>
-    ensures allowed { IfOk result (λ choice. choice ≡ allowed_where tests.now) }
+/// An action where the argument, which counts from 0, is one of the values that are tested for, and another for the
+/// rest. With a version of systemd all 64 bits count.
+pub fn by_value(
+    systemd: Option<Version>,
+    arg: u8,
+    any: Tests,
+    action: Action,
+    rest: Action,
+) -> Choice
+    requires { arg ≤ 5 }
+    ensures chooses { result ≡ by_value systemd arg any action rest }
 {
-    choice_where(alloc, tests, Action::Allow, NOT_PERMITTED)
+    Choice {
+        wide: wide_as(systemd, arg, rest),
+        given: None,
+        any,
+        action,
+        rest,
+    }
+}
+
+/// Permitted only where the argument is one of the values that are tested for.
+pub fn allowed_values(systemd: Option<Version>, arg: u8, tests: Tests) -> Choice
+    requires { arg ≤ 5 }
+    ensures allowed { result ≡ allowed_values systemd arg tests }
+{
+    by_value(systemd, arg, tests, Action::Allow, NOT_PERMITTED)
 }
 
 fn case_with(
@@ -119,6 +145,7 @@ pub fn rule_with(alloc: Global, number: u32, choice: &Choice) -> Result<CallRule
 {
     Ok(CallRule {
         number,
+        wide: choice.wide,
         cases: cases_of(alloc, choice)?,
         rest: choice.rest,
     })

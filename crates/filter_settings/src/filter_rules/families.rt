@@ -5,10 +5,11 @@ ghost use Rattle.std.specs.Option.{option_copied};
 ghost use Rattle.filter_settings.specs.filter_rules.Families.{last_family, is_listed_family, is_refused_by, permits_family, denies_no_family};
 ghost use Rattle.filter_settings.specs.filter_rules.FamiliesChoice.{family_tests, family_choice, socket_choice, families_choice};
 
-use crate::filter_rules::choice::{Choice, whole};
+use crate::filter_rules::choice::{Choice, by_value, whole};
 use crate::filter_rules::mentions::{FamilyList, FamilyMention, Mode};
 use call_rules::{Action, Tests};
 use call_table::{CallLine, CallTable};
+use dropin_merge::Version;
 use dropin_merge::linux_numbers::errnos::EAFNOSUPPORT;
 use std::alloc::{AllocError, Global};
 
@@ -84,39 +85,39 @@ fn family_tests(
     Ok(Tests::new(tests))
 }
 
-fn choice_by(mode: Mode, any: Tests) -> Choice
-    ensures { result ≡ family_choice mode any }
+fn choice_by(systemd: Option<Version>, mode: Mode, any: Tests) -> Choice
+    ensures { result ≡ family_choice systemd mode any }
 {
-    let (action, rest) = match mode {
-        Mode::Allow => (Action::Allow, FAMILY_NOT_SUPPORTED),
-        Mode::Deny => (FAMILY_NOT_SUPPORTED, Action::Allow),
-    };
-    Choice {
-        given: None,
-        any,
-        action,
-        rest,
+    match mode {
+        Mode::Allow => by_value(systemd, 0, any, Action::Allow, FAMILY_NOT_SUPPORTED),
+        Mode::Deny => by_value(systemd, 0, any, FAMILY_NOT_SUPPORTED, Action::Allow),
     }
 }
 
-fn socket_choice(alloc: Global, table: &CallTable, list: &FamilyList) -> Result<Choice, AllocError>
-    ensures { IfOk result (λ choice. choice ≡ socket_choice table.now list.now) }
+fn socket_choice(
+    alloc: Global,
+    systemd: Option<Version>,
+    table: &CallTable,
+    list: &FamilyList,
+) -> Result<Choice, AllocError>
+    ensures { IfOk result (λ choice. choice ≡ socket_choice systemd table.now list.now) }
 {
     let tests = family_tests(alloc, list.mentions.list(), table.families())?;
-    Ok(choice_by(list.mode, tests))
+    Ok(choice_by(systemd, list.mode, tests))
 }
 
 /// Returns what the rules do to calls of this name if it is `socket`: a test for each family of the table on the list.
 pub fn families_choice(
     alloc: Global,
+    systemd: Option<Version>,
     table: &CallTable,
     families: &Option<FamilyList>,
     name: &str,
 ) -> Result<Option<Choice>, AllocError>
-    ensures by_the_families { IfOk result (λ choice. choice ≡ families_choice table.now families.now name.now) }
+    ensures by_the_families { IfOk result (λ choice. choice ≡ families_choice systemd table.now families.now name.now) }
 {
     match families {
-        Some(list) if name == "socket" => Ok(Some(socket_choice(alloc, table, list)?)),
+        Some(list) if name == "socket" => Ok(Some(socket_choice(alloc, systemd, table, list)?)),
         _ => Ok(None),
     }
 }

@@ -37,9 +37,11 @@ fn choice_of(
     ensures { IfOk result (λ choice. choice ≡ choice_of filter settings.now table.now name.now) }
 {
     match filter {
-        FilterName::Families => families_choice(alloc, table, &settings.families, name),
+        FilterName::Families => {
+            families_choice(alloc, settings.systemd, table, &settings.families, name)
+        }
         FilterName::MemoryDenyWriteExecute => mapping_choice(alloc, name),
-        FilterName::Realtime => realtime_choice(alloc, name),
+        FilterName::Realtime => realtime_choice(alloc, settings.systemd, name),
         FilterName::Suid => suid_choice(alloc, settings.systemd, name),
         FilterName::Namespaces => {
             namespaces_choice(alloc, settings.systemd, settings.namespaces, name)
@@ -55,7 +57,9 @@ fn choice_of(
         FilterName::Logs => Ok(blocked_choice(alloc, table, &["syslog"], name)),
         FilterName::Clock => Ok(blocked_choice(alloc, table, &["@clock"], name)),
         FilterName::Devices => Ok(blocked_choice(alloc, table, &["@raw-io"], name)),
-        FilterName::Personality => personality_choice(alloc, name),
+        FilterName::Personality => {
+            personality_choice(alloc, settings.systemd, settings.domain, name)
+        }
         FilterName::Calls => Ok(calls_choice(
             alloc,
             table,

@@ -4,6 +4,7 @@ ghost use Rattle.filter_settings.specs.filter_rules.Memory.{marks_memory};
 
 use crate::filter_rules::mentions::{CallList, FamilyList};
 use crate::filter_rules::namespace_types::NamespaceTypes;
+use crate::filter_rules::personality::Domain;
 use call_rules::Action;
 use dropin_merge::Version;
 
@@ -33,6 +34,8 @@ pub struct FilterSettings {
     pub systemd: Option<Version>,
     /// ProtectKernelTunables=. Only a version of systemd has a filter for it.
     pub protect_kernel_tunables: bool,
+    /// Personality=: the domain that LockPersonality= lets be set with a version of systemd.
+    pub domain: Domain,
 }
 
 /// Returns whether MemoryDenyWriteExecute= is a mark of the process, and no filter. systemd 257 sets it with PR_SET_MDWE of prctl(2).

@@ -10,8 +10,8 @@ use Rattle.ceilings.specs.kernel_model.declared.kernel_calls.payload.Payload.{Pa
 use Rattle.ceilings.specs.kernel_model.declared.kernel_calls.rule.Rule.{Rule}
 use Rattle.ceilings.specs.kernel_model.declared.kernel_calls.rule.Rule.TheVariants.{Plain}
 use Rattle.ceilings.specs.kernel_model.kernel_calls.Rules.{rule_of}
-use Rattle.ceilings.specs.kernel_laws.Kinds.{words, no_words}
-use Rattle.ceilings.specs.kernel_laws.Launched.{Launch, lets_line}
+use Rattle.ceilings.specs.kernel_laws.Kinds.{no_words}
+use Rattle.ceilings.specs.kernel_laws.Launched.{Launch, chosen_words, lets_line}
 use Rattle.ceilings.specs.kernel_laws.declared.question_types.kind.CallKind.{CallKind}
 use Rattle.ceilings.specs.kernel_laws.declared.question_types.kind.CallKind.TheVariants.{ForPath, PlainCall, ForFamily, ForNamespace}
 use Rattle.ceilings.specs.kernel_laws.declared.question_types.kind.CallKind.TheVariants.{MapsWx, ProtectsX, AttachesX, AttachesReadOnlyX, SchedulesRealtime}
@@ -68,13 +68,13 @@ unfoldable pub line_of : Launch → CallKind → CallLine
 line_of launch kind = unwrap_or (first_line launch kind) no_line
 
 -- the words with which the call of a line asks for the kind
-abbrev pub args_of : CallKind → CallLine → List ℕ
-args_of kind line = unwrap_or (option_and_then (words kind) (rule_of line)) no_words
+abbrev pub args_of : Launch → CallKind → CallLine → List ℕ
+args_of launch kind line = unwrap_or (option_and_then (chosen_words launch kind line.abi line.number) (rule_of line)) no_words
 
 -- the rule of its call
 abbrev pub own_rule : CallLine → Rule
 own_rule line = unwrap_or (rule_of line) (Plain None)
 
--- the first call of a kind, by process 1, with the words that ask for it first
+-- the first call of a kind, by process 1, with the words that ask for it
 abbrev pub call_by : Launch → CallKind → Payload → Call
-call_by launch kind payload = record { pid = 1; abi = (line_of launch kind).abi; nr = (line_of launch kind).number; args = args_of kind (line_of launch kind); payload = payload }
+call_by launch kind payload = record { pid = 1; abi = (line_of launch kind).abi; nr = (line_of launch kind).number; args = args_of launch kind (line_of launch kind); payload = payload }

@@ -15,7 +15,7 @@ returns-clause-means c =
     (c.in_ok-noted_in-3.ensures.as_said ∙ c.in_ok-list_of_key.ensures.means)
     (c.in_ok-noted_in-4.ensures.as_said ∙ c.in_ok-list_of_key-2.ensures.means)
     (c.in_ok-noted_in-5.ensures.as_said ∙ c.in_ok-second_refused_by_key.ensures.means)
-    c.in_ok-flag_of_key.ensures.last_value_decides
+    c.in_ok-flag_of_key.ensures.last_value_decides c.in_ok-domain_of_key.ensures.last_value_decides
 
 pub returns-clause-noted : goal.returns-clause-noted
 unfolding unit_call_list_notes unit_family_list_notes list_notes filter_notes
