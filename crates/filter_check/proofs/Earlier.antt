@@ -1,4 +1,4 @@
--- An end that stands for another one has a difference that is not after that of the other.
+-- The end that represents another one has a difference that is not after the other end's.
 use Rattle.std.proofs.Common.{◌≡◌, ◌≢◌, ℕ, suc, ◌+◌, ◌*◌, ◌/◌, ◌%◌, ◌^◌, ◌<◌, ◌≤◌, Bool, true, false, cond, List, [], ◌∷◌, length, get_or}
 use Rattle.std.proofs.Common.{inl, inr, refl, sym, ap, ◌∙◌, subst, arith}
 use Rattle.std.specs.List.{AllZip}
@@ -15,7 +15,7 @@ use Rattle.filter_check.specs.filter_paths.Regions.{IsWithin, sets_of}
 use Rattle.filter_check.specs.declared.filter_paths.region.Region.{Region}
 use Rattle.filter_check.specs.declared.filter_paths.states.End.{End}
 use Rattle.filter_check.specs.Order.{IsNotAfter}
-use Rattle.filter_check.specs.Standing.{MarksLoads, HaveSameSets, StandsFor}
+use Rattle.filter_check.specs.Representing.{MarksLoads, HaveSameSets, Represents}
 use Rattle.filter_check.proofs.Words.{word_fits, sixteen}
 use Rattle.filter_check.proofs.Lists.{zip_from_places, zip_at, zip_lengths, by_sixteen}
 use Rattle.filter_check.proofs.Sorting.{le_step}
@@ -183,15 +183,15 @@ lesser_words mark (x ∷ xs) (y ∷ ys) (f ∷ fs) (g ∷ gs) h n =
     lesser_step mark x y f g xs ys fs gs h
     (lesser_words (λ k. mark (suc k)) xs ys fs gs (rest_lesser mark x y f g xs ys fs gs h)) n (mark 0) refl
 
--- what two ends have where the first one stands for the other
-pub record MayStand (marks : List Bool) (one other : End) (least last : CallData) : Type 0 where
+-- two ends of which the first one represents the other
+pub record MayRepresent (marks : List Bool) (one other : End) (least last : CallData) : Type 0 where
   pub answer : one.answer ≡ other.answer
   pub least_is : IsLeastIn one.region least
   pub last_is : IsLeastIn other.region last
   pub order : IsNotAfter (words_of least) (words_of last)
   pub same : HaveSameSets marks one.region other.region
 
-earlier_words : (marks : List Bool) (one other : End) (least last input : CallData) → MayStand marks one other least last
+earlier_words : (marks : List Bool) (one other : End) (least last input : CallData) → MayRepresent marks one other least last
     → IsCallData input → IsWithin other.region input → IsNotAfter (words_of (mixed marks input least)) (words_of input)
 earlier_words marks one other least last input may fits within =
     let first_fits = may.least_is.fits in
@@ -221,9 +221,9 @@ alike : (code : List Insn) (marks : List Bool) (input least : CallData) → IsPr
 alike code marks input least program loads fits least_fits at insn found load =
     sym (picked_is marks input least fits least_fits (insn.k / 4) (load_fits code at insn program found load) true (loads at insn found load))
 
-pub stands : (code : List Insn) (marks : List Bool) (one other : End) (least last : CallData) → MayStand marks one other least last
-    → IsProgram code → AreOfForm code → MarksLoads code marks → StandsFor code one other
-stands code marks one other least last may program form loads input ours d =
+pub represents_it : (code : List Insn) (marks : List Bool) (one other : End) (least last : CallData) → MayRepresent marks one other least last
+    → IsProgram code → AreOfForm code → MarksLoads code marks → Represents code one other
+represents_it code marks one other least last may program form loads input ours d =
     let first_fits = may.least_is.fits in (
       mixed marks input least,
       record {

@@ -15,33 +15,33 @@ use Rattle.filter_check.specs.declared.filter_paths.states.State.{State}
 use Rattle.filter_check.specs.declared.filter_paths.states.End.{End}
 use Rattle.filter_check.specs.declared.differences.Difference.{Difference}
 use Rattle.filter_check.specs.Differing.{DiffersFrom, IsDifference, IsNoLater, IsLeastFrom, IsLesser}
-use Rattle.filter_check.specs.Standing.{MarksLoads, StandsFor, IsStoodFor, LeavesOut}
+use Rattle.filter_check.specs.Representing.{MarksLoads, Represents, IsRepresented, LeavesOut}
 use Rattle.filter_check.proofs.Least.{any_behind, any_first, any_split, least_more, IsStartOf}
 use Rattle.filter_check.proofs.Passing.{no_later_from}
 
 same_end : (one other : End) → Some one ≡ Some other → one ≡ other
 same_end one other e = cc
 
--- an end that stands for another one is chosen for itself, so it is not marked
+-- an end that represents another one is chosen for itself, so it is not marked
 pub leaves_out : (code : List Insn) (loaded : List Bool) (ends : List End) (chosen : List ℕ) (marks : List Bool) → IsProgram code
     → AreOfForm code → MarksLoads code loaded
-    → ((at : ℕ) → at < length ends → get_or marks at false ≡ true → IsStoodFor loaded ends chosen at) → LeavesOut code ends marks
+    → ((at : ℕ) → at < length ends → get_or marks at false ≡ true → IsRepresented loaded ends chosen at) → LeavesOut code ends marks
 leaves_out code loaded ends chosen marks program form loads each at end found e =
-    let stood = each at (slice_get_within ends at end found) e in
+    let represented = each at (slice_get_within ends at end found) e in
     let by = get_or chosen at 0 in (
       by,
-      stood.one,
-      stood.one_is,
-      not_marked stood (get_or marks by false) refl,
-      subst (StandsFor code stood.one) (same_end stood.other end (sym stood.other_is ∙ found)) (stood.stands code program form loads),
+      represented.one,
+      represented.one_is,
+      not_marked represented (get_or marks by false) refl,
+      subst (Represents code represented.one) (same_end represented.other end (sym represented.other_is ∙ found)) (represented.represents code program form loads),
     )
   where
-    not_marked : (stood : IsStoodFor loaded ends chosen at) (t : Bool) → get_or marks (get_or chosen at 0) false ≡ t
+    not_marked : (represented : IsRepresented loaded ends chosen at) (t : Bool) → get_or marks (get_or chosen at 0) false ≡ t
         → get_or marks (get_or chosen at 0) false ≡ false
-    not_marked stood true m =
-        let own = each (get_or chosen at 0) (slice_get_within ends (get_or chosen at 0) stood.one stood.one_is) m in
-        absurd (own.another stood.itself)
-    not_marked stood false m = m
+    not_marked represented true m =
+        let own = each (get_or chosen at 0) (slice_get_within ends (get_or chosen at 0) represented.one represented.one_is) m in
+        absurd (own.another represented.itself)
+    not_marked represented false m = m
 
 -- the ends that are not marked
 abbrev pub kept : List Bool → List End → List End
@@ -104,9 +104,9 @@ no_later_of_kept marks ends code found leaves least input theirs ours h =
           differ = h.differ;
         }
     by at end there within same true e =
-        let stands = leaves at end there e in
-        let one = stands.1 in
-        let before = stands.4 input ours record {
+        let represents = leaves at end there e in
+        let one = represents.1 in
+        let before = represents.4 input ours record {
           fits = h.fits;
           within = within;
           answers = h.answers;
@@ -115,7 +115,7 @@ no_later_of_kept marks ends code found leaves least input theirs ours h =
         no_later_from found before.0 input before.2
         (least.no_later before.0 one.answer ours record {
           fits = before.1.fits;
-          of_end = any_kept (λ end. IsWithin end.region before.0 × (end.answer ≡ one.answer)) marks ends stands.0 one stands.2 stands.3
+          of_end = any_kept (λ end. IsWithin end.region before.0 × (end.answer ≡ one.answer)) marks ends represents.0 one represents.2 represents.3
               (before.1.within, refl);
           answers = before.1.answers;
           differ = before.1.differ;

@@ -9,16 +9,16 @@
 #![tactic(auto)]
 
 mod checking;
-mod choosing;
 mod differences;
 pub mod filter_lines;
 pub mod filter_paths;
+mod groups;
 mod laws;
 mod leaving;
 mod loads;
 mod order;
 mod outcome;
-mod standing;
+mod representing;
 mod walking;
 pub mod word_sets;
 

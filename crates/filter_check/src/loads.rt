@@ -1,6 +1,6 @@
 //! The words of the data that a program loads.
 ghost use Rattle.seccomp_compile.specs.bpf_code.Reading.{IsProgram};
-ghost use Rattle.filter_check.specs.Standing.{MarksLoads};
+ghost use Rattle.filter_check.specs.Representing.{MarksLoads};
 
 use seccomp_compile::{Insn, LD_W_ABS};
 

@@ -2,8 +2,8 @@
 //!
 //! The walk through our program starts with the data of an end of theirs, and follows only what some of these data take. It
 //! also skips all data after a difference that is found. A word for which a comparison holds is mostly the greater one, so
-//! the data for which it does not hold are walked first, and the ends are taken from the last to the first. An end for which
-//! another one stands is left out.
+//! the data for which it does not hold are walked first, and the ends are taken from the last to the first. An end that
+//! another end represents is left out.
 ghost use Rattle.std.specs.Prelude.{◌<◌, length, IfOk};
 ghost use Rattle.seccomp_compile.specs.bpf_code.Reading.{IsProgram};
 ghost use Rattle.seccomp_compile.specs.Form.{AreOfForm};

@@ -47,8 +47,8 @@ impl WordSet {
         })
     }
 
-    /// Returns whether both sets are given by the same conditions in the same order.
-    pub fn is_given_like(&self, other: &WordSet) -> bool
+    /// Returns whether both sets have the same conditions in the same order.
+    pub fn has_same_conditions(&self, other: &WordSet) -> bool
         ensures same { OnTrue result (self.now.conditions.items ≡ other.now.conditions.items) }
     {
         self.conditions.as_slice() == other.conditions.as_slice()

@@ -9,15 +9,15 @@ returns c =
     let by = get_or c.args.chosen.now c.args.at 0 in
     let less : by < length ends = omega (arith, c.if-by-ends.false) in
     record {
-      stood_for = on_true c.stands_for.result _ _
-          (λ stands. record {
+      represented = on_true c.represents.result _ _
+          (λ represents. record {
             one = c.index-ends-by.result;
             other = c.index-ends-at.result;
             other_is = slice_get-get_or ends c.args.at c.index-ends-at.result c.requires.place ∙ ap Some (sym c.index-ends-at.is);
             one_is = slice_get-get_or ends by c.index-ends-by.result less ∙ ap Some (sym c.index-ends-by.is);
             another = c.if-by-at.false;
             itself = c.if-chosen-by.false;
-            stands = stands;
+            represents = represents;
           })
-          c.stands_for.ensures.stands;
+          c.represents.ensures.for_such_programs;
     }

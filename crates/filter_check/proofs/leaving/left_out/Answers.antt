@@ -1,6 +1,6 @@
 use Rattle.std.proofs.Common.{◌+◌, [], ◌∷◌, length, length-append, ap, ◌∙◌, subst, arith}
 use Rattle.std.specs.Bool.{OnTrue}
-use Rattle.filter_check.specs.Standing.{IsStoodFor}
+use Rattle.filter_check.specs.Representing.{IsRepresented}
 use Rattle.filter_check.proofs.Kept.{leaves_out, marks_more}
 use Rattle.filter_check.proofs.leaving.left_out.Goals as goal
 
@@ -14,9 +14,9 @@ loop-at-preserved c =
     let l = length-append old (mark ∷ []) in
     record {
       count = ap length c.in_ok-push.ensures.items ∙ l ∙ ap (λ n. n + 1) c.loop-at.invariant.count;
-      each = marks_more (IsStoodFor loaded ends chosen) old c.push.new.self.items mark c.loop-at.at c.loop-at.invariant.count
+      each = marks_more (IsRepresented loaded ends chosen) old c.push.new.self.items mark c.loop-at.at c.loop-at.invariant.count
           c.in_ok-push.ensures.items
-          (subst (λ items. OnTrue mark (IsStoodFor loaded ends items c.loop-at.at)) c.as_slice.ensures.value c.is_left_out.ensures.stood_for)
+          (subst (λ items. OnTrue mark (IsRepresented loaded ends items c.loop-at.at)) c.as_slice.ensures.value c.is_left_out.ensures.represented)
           c.loop-at.invariant.each;
     }
 

@@ -1,4 +1,4 @@
--- Ends that stand for other ends in a comparison with a program.
+-- Ends that represent other ends in a comparison with a program.
 use Rattle.std.specs.Prelude.{◌≡◌, ◌≢◌, ◌+◌, ◌/◌, ◌<◌, ℕ, Bool, true, false, List, [], get_or, slice_get, Some}
 use Rattle.seccomp_compile.specs.bpf_code.declared.machine.Insn.{Insn}
 use Rattle.seccomp_compile.specs.bpf_code.declared.machine.CallData.{CallData}
@@ -29,21 +29,21 @@ pub record DiffersAtEnd (code : List Insn) (end : End) (input : CallData) (ours 
   pub differ : end.answer ≢ ours
 
 -- for each difference at data of the other end there is one at data of this end, which are not after those
-abbrev pub StandsFor : List Insn → End → End → Type 0
-StandsFor code one other = (input : CallData) (ours : ℕ) → DiffersAtEnd code other input ours
+abbrev pub Represents : List Insn → End → End → Type 0
+Represents code one other = (input : CallData) (ours : ℕ) → DiffersAtEnd code other input ours
     → (before : CallData) × DiffersAtEnd code one before ours × IsNotAfter (words_of before) (words_of input)
 
--- the end that is chosen for the one at this place is another one, is chosen for itself, and stands for that one
-pub record IsStoodFor (marks : List Bool) (ends : List End) (chosen : List ℕ) (at : ℕ) : Type 0 where
+-- the end that was chosen for the end at this place is another end, was chosen for itself, and represents the end at this place
+pub record IsRepresented (marks : List Bool) (ends : List End) (chosen : List ℕ) (at : ℕ) : Type 0 where
   pub one : End
   pub other : End
   pub other_is : slice_get ends at ≡ Some other
   pub one_is : slice_get ends (get_or chosen at 0) ≡ Some one
   pub another : get_or chosen at 0 ≢ at
   pub itself : get_or chosen (get_or chosen at 0) 0 ≡ get_or chosen at 0
-  pub stands : (code : List Insn) → IsProgram code → AreOfForm code → MarksLoads code marks → StandsFor code one other
+  pub represents : (code : List Insn) → IsProgram code → AreOfForm code → MarksLoads code marks → Represents code one other
 
--- for each end that is marked another one stands that is not
+-- each marked end is represented by an end that is not marked
 abbrev pub LeavesOut : List Insn → List End → List Bool → Type 0
 LeavesOut code ends marks = (at : ℕ) (end : End) → slice_get ends at ≡ Some end → get_or marks at false ≡ true
-    → (by : ℕ) × (one : End) × (slice_get ends by ≡ Some one) × (get_or marks by false ≡ false) × StandsFor code one end
+    → (by : ℕ) × (one : End) × (slice_get ends by ≡ Some one) × (get_or marks by false ≡ false) × Represents code one end

@@ -4,7 +4,7 @@ use Rattle.std.proofs.lemmas.Bool.{OnTrue_from}
 use Rattle.std.proofs.lemmas.Slice.Eq.{slice_eq-Decides}
 use Rattle.filter_check.specs.declared.word_sets.condition.Condition.{Condition}
 use Rattle.filter_check.specs.contracts.word_sets.condition.ConditionPartialEq.TheImpl as conditions
-use Rattle.filter_check.proofs.word_sets.set.WordSet.is_given_like.Goals as goal
+use Rattle.filter_check.proofs.word_sets.set.WordSet.has_same_conditions.Goals as goal
 
 decides : (a b : Condition) → Decides (conditions.eq-value.it a b) (a ≡ b)
 decides a b = search rules

@@ -1,7 +1,7 @@
-//! Chooses for each end the one that may stand for it.
+//! Groups ends by their answers and conditions.
 //!
-//! It is the end with the least data, of those with the same hash of answer and conditions. Nothing depends on the choice but
-//! how long a comparison takes.
+//! The end with the least data may represent its group. Groups are found by hashes. A wrong guess costs time, but the result
+//! is the same, because each representative is tested before an end is left out.
 ghost use Rattle.std.specs.Prelude.{◌≡◌, length, IfOk};
 
 use crate::filter_paths::End;
@@ -32,7 +32,7 @@ fn hashes_of(alloc: Global, ends: &[End], loaded: &[bool; 16]) -> Result<Vec<u64
     Ok(hashes)
 }
 
-// Returns whether the end at the one place has lesser data than that at the other.
+// Returns whether the end at one place has lesser data than the end at the other place.
 fn is_less(ends: &[End], one: usize, other: usize) -> bool {
     if one >= ends.len() || other >= ends.len() {
         return false;
@@ -40,7 +40,7 @@ fn is_less(ends: &[End], one: usize, other: usize) -> bool {
     comes_before(&ends[one].least, &ends[other].least)
 }
 
-// Finds the place of the least end of each hash.
+// Finds, for each hash, the place of the end with the least data.
 fn least_places(
     alloc: Global,
     ends: &[End],
@@ -56,8 +56,8 @@ fn least_places(
     Ok(places)
 }
 
-/// Chooses a place for each end.
-pub fn choose_ends(
+/// Finds for each end the place of the end that may represent it.
+pub fn find_representatives(
     alloc: Global,
     ends: &[End],
     loaded: &[bool; 16],
@@ -66,7 +66,7 @@ pub fn choose_ends(
 {
     let hashes = hashes_of(alloc, ends, loaded)?;
     let places = least_places(alloc, ends, hashes.as_slice())?;
-    let mut chosen = Vec::with_capacity(alloc, ends.len())?;
+    let mut chosen = Vec::new(alloc);
     for hash in &hashes {
         chosen.push(places.get(hash).copied().unwrap_or(0))?;
     }
