@@ -1,9 +1,8 @@
--- The least difference, one end at a time.
-use Rattle.std.proofs.Common.{◌≡◌, ℕ, zero, suc, ◌<◌, ◌≤◌, List, [], ◌∷◌, drop, length, get_or, Some, None, ◌⊎◌, inl}
+-- The least of differences, one end at a time.
+use Rattle.std.proofs.Common.{◌≡◌, ℕ, zero, suc, List, ◌∷◌, Some, None, ◌⊎◌, inl}
 use Rattle.std.proofs.Common.{inr, refl, sym, ap, ◌∙◌, subst, arith}
 use Rattle.std.specs.Prelude.{Option, Any, IfSome, bit_and, slice_index}
 use Rattle.std.specs.Int.Bits.{and_zero_r}
-use Rattle.std.proofs.Math.Seq.{drop-cons}
 use Rattle.seccomp_compile.specs.bpf_code.declared.machine.Insn.{Insn}
 use Rattle.seccomp_compile.specs.bpf_code.declared.machine.CallData.{CallData}
 use Rattle.seccomp_compile.specs.bpf_code.Effects.{words_of}
@@ -57,14 +56,14 @@ pub lesser_old : (end : End) (theirs : ℕ) (old : Difference) → IsNotAfter (w
     → IsLesserAt end theirs (Some old) (Some old)
 lesser_old end theirs old behind = record { comes_of = inl refl; kept = not_after_self (words_of old.at); no_later = λ other. behind }
 
--- one more end before others
-any_behind : {X : Type 0} (P : X → Type 0) (x : X) (xs : List X) → Any P xs → Any P (x ∷ xs)
+-- one end in front of others
+pub any_behind : {X : Type 0} (P : X → Type 0) (x : X) (xs : List X) → Any P xs → Any P (x ∷ xs)
 any_behind P x xs a = (suc a.0, a.1, omega (arith, a.2), a.3, a.4)
 
-any_first : {X : Type 0} (P : X → Type 0) (x : X) (xs : List X) → P x → Any P (x ∷ xs)
+pub any_first : {X : Type 0} (P : X → Type 0) (x : X) (xs : List X) → P x → Any P (x ∷ xs)
 any_first P x xs h = (0, x, omega arith, refl, h)
 
-any_split : {X : Type 0} (P : X → Type 0) (x : X) (xs : List X) → Any P (x ∷ xs) → P x ⊎ Any P xs
+pub any_split : {X : Type 0} (P : X → Type 0) (x : X) (xs : List X) → Any P (x ∷ xs) → P x ⊎ Any P xs
 any_split P x xs (zero, d, lt, e, h) = inl (subst P (sym e) h)
 any_split P x xs (suc k, d, lt, e, h) = inr (k, d, omega (arith, lt), e, h)
 
@@ -117,29 +116,9 @@ no_later_more ends end code state old new least at lesser input theirs ours h =
     by e (inr reaches) =
         absurd (h.differ (sym e ∙ one_answer code input end.answer ours (answers_from code state input end.answer at.start reaches) h.answers))
 
-least_more : (ends : List End) (end : End) (code : List Insn) (state : State) (old new : Option Difference) → IsLeastFrom ends code old
+pub least_more : (ends : List End) (end : End) (code : List Insn) (state : State) (old new : Option Difference) → IsLeastFrom ends code old
     → IsStartOf state end → IsLesser code state end.answer old new → IsLeastFrom (end ∷ ends) code new
 least_more ends end code state old new least at lesser = record {
   is_one = is_difference ends end code state old new least.is_one at lesser.comes_of;
   no_later = no_later_more ends end code state old new least at lesser;
 }
-
--- the ends from a place on, and the one before them
-pub least_next : (ends : List End) (i : ℕ) (end : End) (code : List Insn) (state : State) (old new : Option Difference) → i < length ends
-    → get_or ends i end ≡ end → IsLeastFrom (drop (suc i) ends) code old → IsStartOf state end
-    → IsLesser code state end.answer old new → IsLeastFrom (drop i ends) code new
-least_next ends i end code state old new lt is least at lesser =
-    subst (λ some. IsLeastFrom some code new) (sym (drop-cons ends i end lt ∙ ap (λ x. x ∷ drop (suc i) ends) is))
-    (least_more (drop (suc i) ends) end code state old new least at lesser)
-
-pub least_none : (ends : List End) (i : ℕ) (code : List Insn) → length ends ≤ i → IsLeastFrom (drop i ends) code None
-least_none ends i code le = subst (λ some. IsLeastFrom some code None) (sym (none_left ends i le)) record {
-  is_one = tt;
-  no_later = λ input theirs ours h. absurd (omega (arith, h.of_end.2));
-}
-  where
-    none_left : (ends : List End) (i : ℕ) → length ends ≤ i → drop i ends ≡ []
-    none_left [] zero le = refl
-    none_left [] (suc i) le = refl
-    none_left (end ∷ ends) zero le = absurd (omega (arith, le))
-    none_left (end ∷ ends) (suc i) le = none_left ends i (omega (arith, le))

@@ -14,6 +14,9 @@ pub mod Words
 pub mod Steps
 pub mod OnePath
 pub mod Told
+pub mod Alike
+pub mod Earlier
+pub mod Kept
 pub mod Lined
 pub mod Read
 pub use Rattle.seccomp_compile.proofs.OfBpfCode as OfBpfCode

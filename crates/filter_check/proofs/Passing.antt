@@ -24,7 +24,7 @@ pub lesser_passed : (code : List Insn) (state : State) (theirs : ℕ) (old : Opt
 lesser_passed code state theirs old passed =
     record { comes_of = inl refl; kept = no_later_self old; no_later = λ input comes. inl (passed input comes.0 comes.1) }
 
-no_later_from : (found : Option Difference) (least input : CallData) → IsNotAfter (words_of least) (words_of input)
+pub no_later_from : (found : Option Difference) (least input : CallData) → IsNotAfter (words_of least) (words_of input)
     → IsNoLater found least → IsNoLater found input
 no_later_from None least input below far = absurd far
 no_later_from (Some one) least input below far = not_after_then (words_of one.at) (words_of least) (words_of input) far below
@@ -132,3 +132,8 @@ lesser_two code state first second theirs old mid new on other_on either one oth
 pub on_not : (test : Bool) (P Q : Type 0) → (P → Q) → OnFalse test P → OnTrue (not test) Q
 on_not true P Q f h = tt
 on_not false P Q f h = f h
+
+-- what is so where a test holds
+pub on_true : (test : Bool) (P Q : Type 0) → (P → Q) → OnTrue test P → OnTrue test Q
+on_true true P Q f h = f h
+on_true false P Q f h = tt

@@ -1,7 +1,7 @@
--- The order of words: the first word that differs decides.
-use Rattle.std.proofs.Common.{◌≡◌, ℕ, ◌<◌, ◌≤◌, Bool, true, false, cond, List, [], ◌∷◌, length, ◌⊎◌, inl, inr, refl, sym, ap, ◌∙◌, subst}
-use Rattle.std.proofs.Common.{arith, suc}
-use Rattle.std.specs.Prelude.{◌==◌, nat_lt}
+-- The order of words, of which the first that differs decides.
+use Rattle.std.proofs.Common.{◌≡◌, ℕ, ◌<◌, ◌≤◌, Bool, true, false, cond, List, [], ◌∷◌, ◌⊎◌, inl, inr, refl, sym, ap, ◌∙◌, subst}
+use Rattle.std.proofs.Common.{arith}
+use Rattle.std.specs.Prelude.{◌==◌}
 use Rattle.std.specs.List.{AllZip}
 use Rattle.std.specs.Cmp.Lexicographic.{slice_cmp}
 use Rattle.std.specs.Ordering.{nat_cmp, ordering_then, is_lt}
@@ -26,7 +26,7 @@ not_after_then (x ∷ xs) [] zs g h = absurd g
 not_after_then (x ∷ xs) (y ∷ ys) [] g h = absurd h
 not_after_then (x ∷ xs) (y ∷ ys) (z ∷ zs) g h = step x y z xs ys zs (not_after_then xs ys zs) g h
 
-le_step : (x y : ℕ) (xs ys : List ℕ) → x ≤ y → IsNotAfter xs ys → IsNotAfter (x ∷ xs) (y ∷ ys)
+pub le_step : (x y : ℕ) (xs ys : List ℕ) → x ≤ y → IsNotAfter xs ys → IsNotAfter (x ∷ xs) (y ∷ ys)
 le_step x y xs ys le more = elim (cases_lt x y) [
   | inl lt ↦ inl lt
   | inr ge ↦ inr (omega (arith, le, ge), more)

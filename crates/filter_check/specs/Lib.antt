@@ -1,5 +1,6 @@
 pub mod Order
 pub mod Differing
+pub mod Representing
 pub mod Finding
 pub mod word_sets
 pub mod filter_paths

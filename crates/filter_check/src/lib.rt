@@ -12,9 +12,13 @@ mod checking;
 mod differences;
 pub mod filter_lines;
 pub mod filter_paths;
+mod groups;
 mod laws;
+mod leaving;
+mod loads;
 mod order;
 mod outcome;
+mod representing;
 mod walking;
 pub mod word_sets;
 

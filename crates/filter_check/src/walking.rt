@@ -1,8 +1,9 @@
 //! Finds the least difference of two programs.
 //!
-//! The walk through our program starts with the data of an end of theirs, and follows only paths that some of these data
-//! take. It also skips all data after a difference that it has found. If a comparison holds for a word, this word is
-//! mostly the greater one. So the walk tries the data for which it does not hold first, and the ends from last to first.
+//! The walk through our program starts with the data of an end of theirs, and follows only what some of these data take. It
+//! also skips all data after a difference that is found. A word for which a comparison holds is mostly the greater one, so
+//! the data for which it does not hold are walked first, and the ends are taken from the last to the first. An end that
+//! another end represents is left out.
 ghost use Rattle.std.specs.Prelude.{◌<◌, length, IfOk};
 ghost use Rattle.seccomp_compile.specs.bpf_code.Reading.{IsProgram};
 ghost use Rattle.seccomp_compile.specs.Form.{AreOfForm};
@@ -10,6 +11,7 @@ ghost use Rattle.filter_check.specs.Differing.{IsLeastFrom, IsLesser};
 
 use crate::differences::{Difference, is_passed, lesser};
 use crate::filter_paths::{End, Next, State, next, start};
+use crate::leaving::left_out;
 use seccomp_compile::Insn;
 use std::alloc::{AllocError, Global};
 
@@ -50,10 +52,14 @@ pub fn least_difference(
     requires form { AreOfForm ours.now }
     ensures least { IfOk result (IsLeastFrom ends.now ours.now) }
 {
+    let marks = left_out(alloc, ends, ours)?;
     let mut least = None;
     let mut at = ends.len();
     while at > 0 {
         at -= 1;
+        if marks[at] {
+            continue;
+        }
         let end = &ends[at];
         let own = start(end.region.copy(alloc)?);
         least = least_at(alloc, ours, own, end.answer, least)?;

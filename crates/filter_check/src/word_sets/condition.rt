@@ -3,7 +3,7 @@ ghost use Rattle.std.specs.Prelude.{◌≡◌, ◌<◌, ℕ, not, ◌^◌};
 ghost use Rattle.filter_check.specs.word_sets.Conditions.{meets, wants};
 
 /// The orders of a masked word and a number that meet a condition.
-#[derive(Clone, Copy)]
+#[derive(Clone, Copy, PartialEq, Eq, Hash)]
 pub struct Orders {
     pub below: bool,
     pub equal: bool,
@@ -11,7 +11,7 @@ pub struct Orders {
 }
 
 /// A condition on a word: the order of the masked word and the number is one of these.
-#[derive(Clone, Copy)]
+#[derive(Clone, Copy, PartialEq, Eq, Hash)]
 pub struct Condition {
     pub mask: u32,
     pub number: u32,

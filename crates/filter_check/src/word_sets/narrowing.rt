@@ -1,5 +1,6 @@
 //! Narrows a set to the words that meet one condition more.
 ghost use Rattle.std.specs.Prelude.{◌≡◌, ◌<◌, ◌≤◌, ◌^◌, ◌++◌, ◌∷◌, [], ℕ, ◌&&◌, Option, Some, None, true, false, IfOk};
+ghost use Rattle.std.specs.Bool.{OnTrue};
 ghost use Rattle.filter_check.specs.word_sets.Conditions.{meets, meets_all};
 ghost use Rattle.filter_check.specs.word_sets.Words.{is_in_some, IsLeastWord};
 
@@ -44,6 +45,13 @@ impl WordSet {
             conditions,
             least: self.least,
         })
+    }
+
+    /// Returns whether both sets have the same conditions in the same order.
+    pub fn has_same_conditions(&self, other: &WordSet) -> bool
+        ensures same { OnTrue result (self.now.conditions.items ≡ other.now.conditions.items) }
+    {
+        self.conditions.as_slice() == other.conditions.as_slice()
     }
 }
 
