@@ -1,9 +1,8 @@
 -- A world of the kernel: processes that share mount tables.
-use Rattle.std.specs.Prelude.{ℕ, ◌+◌, ◌-◌, ◌==◌, not, Bool, true, false, List, [], ◌∷◌, ◌++◌, slice_get, slice_set, Option, Some, None}
+use Rattle.std.specs.Prelude.{ℕ, ◌+◌, ◌-◌, ◌==◌, not, Bool, true, false, List, [], ◌∷◌, ◌++◌, slice_get, slice_set, Option, Some, None, is_some}
 use Rattle.std.specs.Prelude.{if◌then◌else◌}
 use Rattle.call_table.specs.Table as calls
 use Rattle.site_table.specs.Table.{Site, row_at}
-use Rattle.unit_names.specs.Versions.{is_257}
 use Rattle.kern_creds.specs.Start as creds
 use Rattle.kern_creds.specs.Enter.{entered}
 use Rattle.kern_mounts.specs.Copying.{copied}
@@ -63,9 +62,9 @@ with_table world namespace table = record world { tables = put_number world.tabl
 abbrev pub ended : Process → Process
 ended process = record process { alive = false }
 
--- the kernel beside systemd 257 has PR_SET_MDWE and PR_GET_MDWE, prctl(2)
+-- the kernel of a site with a systemd has PR_SET_MDWE and PR_GET_MDWE, prctl(2)
 abbrev pub has_mdwe : Site → Bool
-has_mdwe site = is_257 site.systemd
+has_mdwe site = is_some site.systemd
 
 -- the tables of the host, as a rule sees them
 abbrev pub host_of : World → Host

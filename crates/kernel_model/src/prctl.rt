@@ -11,7 +11,6 @@ use crate::told::Told;
 use kern_creds::Creds;
 use kern_mounts::linux_numbers::capabilities::CAP_LAST_CAP;
 use kern_mounts::linux_numbers::errnos::{EINVAL, EPERM};
-use site_table::Version;
 
 // The options.
 const PR_SET_KEEPCAPS: u32 = 8;
@@ -126,7 +125,7 @@ impl<'a> Told<'a> {
     fn has_mdwe(&self) -> bool
         ensures { result ≡ has_mdwe self.now.site.now }
     {
-        matches!(self.site.systemd(), Some(Version::V257))
+        self.site.systemd().is_some()
     }
 
     /// prctl(2), with the option and its four arguments. Returns EINVAL for an unknown option.
