@@ -151,23 +151,23 @@ module _ (launch : Launch) (creds : Creds) (table : Table) where
         (omega (arith, h), (omega arith, (omega arith, (omega arith, (omega arith, (omega arith, tt))))));
   }
 
-  socket_by : {own : Rule} {args : List ℕ} → (nr : CallAt) → IsCallAt nr → rule_there launch nr ≡ Some own → passes_at launch nr args
-      → (family : CallLine) → family.number < 2 ^ 32 → choices.Choice (kinds.ForFamily family.number) own args
+  socket_by : (family : CallLine) → family.number < 2 ^ 32 → {own : Rule} {args : List ℕ} → (nr : CallAt) → IsCallAt nr
+      → rule_there launch nr ≡ Some own → passes_at launch nr args → choices.Choice (kinds.ForFamily family.number) own args
       → numbered family.number launch.calls.families ≡ Some family → CapAtHand creds family.cap → (p : Operation → Bool)
       → p (d.Socket family.number) ≡ true → p (d.Socketcall 1 family.number) ≡ true
       → Performed launch creds table p (first_by nr args (family_payload own family.number))
-  socket_by nr n at t family small (choices.socket _) found can p such through =
+  socket_by family small nr n at t (choices.socket _) found can p such through =
       let word : family.number % 2 ^ 32 ≡ family.number = low family.number small in
       bare_call p nr (rule.Known known.Socket) (family.number ∷ 0 ∷ 0 ∷ 0 ∷ 0 ∷ 0 ∷ []) (d.Socket family.number) (f.Answer 3) n
       (six family.number 0 0 0 small (omega arith) (omega arith) (omega arith)) at t
       (ap (λ w. Some (d.Socket w)) word)
       (ap (socket_effect false creds) found ∙ cap_lets creds family.cap (f.Answer 3) can) tt such
-  socket_by nr n at t family small (choices.wide_socket _) found can p such through =
+  socket_by family small nr n at t (choices.wide_socket _) found can p such through =
       bare_call p nr (rule.Known known.Socket) ((2 ^ 32 + family.number) ∷ 0 ∷ 0 ∷ 0 ∷ 0 ∷ 0 ∷ []) (d.Socket family.number) (f.Answer 3) n
       (wide_word family.number small) at t
       (ap (λ w. Some (d.Socket w)) (wide_low family.number small))
       (ap (socket_effect false creds) found ∙ cap_lets creds family.cap (f.Answer 3) can) tt such
-  socket_by nr n at t family small (choices.socketcall _) found can p such through = record {
+  socket_by family small nr n at t (choices.socketcall _) found can p such through = record {
     operation = d.Socketcall 1 family.number;
     effect = f.Answer 3;
     makes =
@@ -182,7 +182,7 @@ module _ (launch : Launch) (creds : Creds) (table : Table) where
       → numbered family.number launch.calls.families ≡ Some family → CapAtHand creds family.cap → (p : Operation → Bool)
       → p (d.Socket family.number) ≡ true → p (d.Socketcall 1 family.number) ≡ true
       → Performed launch creds table p (first_by (place_of line.line) line.args (family_payload line.own family.number))
-  socket family small line found can p such through = socket_by (place_of line.line) line.number line.at line.through family small
+  socket family small line found can p such through = socket_by family small (place_of line.line) line.number line.at line.through
       (choice_of line) found can p such through
 
   -- a namespace of its own
