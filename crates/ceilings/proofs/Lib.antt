@@ -9,6 +9,7 @@ pub mod Leading
 pub mod Naming
 pub mod Ruling
 pub mod Chosen
+pub mod InTurn
 pub mod OfKernelWays
 pub use Rattle.kernel_ways.proofs.OfAbsPath as OfAbsPath
 pub use Rattle.kernel_ways.proofs.OfBpfCode as OfBpfCode

@@ -32,13 +32,21 @@ fn rules_of(alloc: Global, lines: &[CallLine]) -> Result<Vec<Option<Rule>>, Allo
     Ok(list)
 }
 
+// Returns whether the filters let the call of this line through, which has this rule.
+fn lets_ruled(world: &World<'_>, kind: CallKind, line: &CallLine, rule: Option<Rule>) -> bool
+    requires { rule ≡ rule_of line.now }
+    ensures { result ≡ lets_line (launch_of world.now) kind line.now }
+{
+    lets_rule(world, kind, line, rule)
+}
+
 // Returns whether the filters let the call of one of these lines through, which have these rules.
 fn lets_some(world: &World<'_>, kind: CallKind, lines: &[CallLine], rules: &[Option<Rule>]) -> bool
     requires { rules.now ≡ map rule_of lines.now }
     ensures { result ≡ list_any (lets_line (launch_of world.now) kind) lines.now }
 {
     for (at, line) in lines.iter().enumerate() {
-        if lets_rule(world, kind, line, rules[at]) {
+        if lets_ruled(world, kind, line, rules[at]) {
             return true;
         }
     }
