@@ -93,8 +93,10 @@ fn own_rule(line: &CallLine) -> Rule
 fn args_of(world: &World<'_>, kind: CallKind, line: &CallLine) -> [u64; 6]
     ensures { result ≡ args_of (launch_of world.now) kind line.now }
 {
-    let args = rule_of(line).and_then(|rule| chosen_words(world, kind, line, rule));
-    args.unwrap_or([0; 6])
+    match rule_of(line) {
+        Some(rule) => chosen_words(world, kind, line, rule).unwrap_or([0; 6]),
+        None => [0; 6],
+    }
 }
 
 /// The call of a line, by process 1.

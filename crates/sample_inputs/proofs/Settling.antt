@@ -39,6 +39,7 @@ use Rattle.launcher.specs.filter_settings.declared.filter_rules.settings.FilterS
 use Rattle.launcher.specs.filter_settings.declared.filter_rules.installed.Filter.{Filter}
 use Rattle.launcher.specs.filter_settings.Architectures.{unit_refuses_second}
 use Rattle.launcher.specs.filter_settings.CallLists.{unit_call_list}
+use Rattle.launcher.specs.filter_settings.declared.filter_rules.personality.Domain.TheVariants.{Linux}
 use Rattle.launcher.specs.filter_settings.FamilyLists.{unit_family_list}
 use Rattle.launcher.specs.filter_settings.Namespaces.{unit_namespaces}
 use Rattle.launcher.specs.mount_settings.Implied.{implied}
@@ -69,7 +70,7 @@ any_namespace = record { cgroup = true; ipc = true; net = true; mnt = true; pid 
 
 -- no filter is asked for
 abbrev bare_but : Bool → FilterSettings
-bare_but refused = made false false false false false false false false false KillProcess any_namespace None None refused None false
+bare_but refused = made false false false false false false false false false KillProcess any_namespace None None refused None false Linux
 
 abbrev bare : FilterSettings
 bare = bare_but false

@@ -1,6 +1,6 @@
 -- The settings of a sample (systemd.exec(5)): a user of its own, all capabilities in the bounding set and none ambient, no filter, and
 -- the mentions of its unit.
-use Rattle.std.specs.Prelude.{◌≡◌, ℕ, ◌%◌, ◌==◌, [], None}
+use Rattle.std.specs.Prelude.{◌≡◌, ℕ, ◌%◌, ◌==◌, false, [], None}
 use Rattle.launcher.specs.call_table.Table.{Table}
 use Rattle.launcher.specs.cap_sets.Sets.{all, none}
 use Rattle.launcher.specs.dropin_merge.declared.resolved.Resolved.{Resolved}
