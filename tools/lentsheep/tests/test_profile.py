@@ -186,7 +186,8 @@ WITNESSES = [
     ("A suffix in", BOTH, "SystemCallFilter=read ptrace:EPERM\n", "denied call ptrace"),
     ("A list of SystemCallFilter=", (252,), "SystemCallFilter=~ptrace\nSystemCallFilter=ptrace\n", "launched uid 33 gid 33 nnp no"),
     ("ProtectKernelTunables= and `_sysctl`", BOTH, "ProtectKernelTunables=yes\n", "denied call _sysctl"),
-    ("families-deny-bits", BOTH, "RestrictAddressFamilies=~AF_PACKET\n", "open socket AF_PACKET"),
+    # such a socket asks for CAP_NET_RAW
+    ("families-deny-bits", BOTH, "User=root\nRestrictAddressFamilies=~AF_PACKET\n", "open socket AF_PACKET"),
     ("families-allow-bits", BOTH, "RestrictAddressFamilies=AF_UNIX\n", "1 socket 4294967297 1 -> errno 97", "1 socket 4294967297 1\n"),
     ("personality-question", BOTH, "LockPersonality=yes\n", "1 personality 4294967295 -> errno 1", "1 personality 4294967295\n"),
     ("clone3", BOTH, "RestrictNamespaces=yes\n", "1 clone 128 -> errno 1", "1 clone 128\n"),
