@@ -7,6 +7,12 @@ pub mod LaunchedWhole
 pub mod Started
 pub mod Given
 pub mod OneLaunch
+pub mod Answered
+pub mod AnswerCounts
+pub mod Named
+pub mod Lent
+pub mod Found
+pub mod Changed
 pub mod OfJudge
 pub mod OfPlanCommand
 pub mod OfReportText

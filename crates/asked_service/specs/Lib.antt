@@ -4,6 +4,15 @@ pub mod unit_launch
 pub mod launched_units
 pub mod started_units
 pub mod OneLaunch
+pub mod Answers
+pub mod AnswerLines
+pub mod Folders
+pub mod ByRule
+pub mod Asking
+pub mod Lent
+pub mod verdict_changes
+pub mod Scripts
+pub mod open_calls
 pub mod judge
 pub mod plan_command
 pub mod report_text

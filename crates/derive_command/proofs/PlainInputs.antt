@@ -2,22 +2,22 @@
 use Rattle.std.proofs.Common.{◌≡◌, ℕ, ◌≤◌, Bool, true, false, cond, Option, Some, None, Result, Ok, Err, List, length, refl, ap, ◌∙◌, subst}
 use Rattle.std.specs.Prelude.{nat_le}
 use Rattle.std.proofs.lemmas.Bool.{leb-true}
-use Rattle.replay_command.specs.host_io.Files.{Files, bytes_at}
-use Rattle.replay_command.specs.call_table.Reading.{table_of}
-use Rattle.replay_command.specs.call_table.Table.{Table}
-use Rattle.replay_command.specs.call_table.declared.causes.CallsError.{CallsError}
-use Rattle.replay_command.specs.unit_inputs.command_answers.ReadFiles.{Content, Holds, IsMissing, IsTooLarge, content_of, content_at}
-use Rattle.replay_command.specs.unit_inputs.command_answers.ReadFiles.{table_path}
-use Rattle.replay_command.specs.unit_inputs.command_answers.CommandErrors.{and_then, or_line}
-use Rattle.trace_profile.specs.dropin_merge.declared.resolved.Resolved.{Resolved}
-use Rattle.replay_command.specs.site_table.Table.{Site}
-use Rattle.trace_profile.specs.PlainNames.{HasPlainNames}
-use Rattle.replay_command.specs.unit_inputs.CallsRefusals.{calls_in, calls_line, calls_said}
-use Rattle.replay_command.specs.unit_inputs.FileRefusals.{bytes_held}
-use Rattle.replay_command.specs.unit_inputs.Inputs.{Inputs, all_three, inputs_of}
-use Rattle.replay_command.specs.unit_inputs.SiteRefusals.{site_in}
-use Rattle.replay_command.specs.unit_inputs.UnitRefusals.{unit_in}
-use Rattle.trace_profile.proofs.PlainTables.{table_is_plain}
+use Rattle.asked_service.specs.host_io.Files.{Files, bytes_at}
+use Rattle.asked_service.specs.call_table.Reading.{table_of}
+use Rattle.asked_service.specs.call_table.Table.{Table}
+use Rattle.asked_service.specs.call_table.declared.causes.CallsError.{CallsError}
+use Rattle.asked_service.specs.unit_inputs.command_answers.ReadFiles.{Content, Holds, IsMissing, IsTooLarge, content_of, content_at}
+use Rattle.asked_service.specs.unit_inputs.command_answers.ReadFiles.{table_path}
+use Rattle.asked_service.specs.unit_inputs.command_answers.CommandErrors.{and_then, or_line}
+use Rattle.asked_service.specs.dropin_merge.declared.resolved.Resolved.{Resolved}
+use Rattle.asked_service.specs.site_table.Table.{Site}
+use Rattle.derive_command.specs.trace_profile.PlainNames.{HasPlainNames}
+use Rattle.asked_service.specs.unit_inputs.CallsRefusals.{calls_in, calls_line, calls_said}
+use Rattle.asked_service.specs.unit_inputs.FileRefusals.{bytes_held}
+use Rattle.asked_service.specs.unit_inputs.Inputs.{Inputs, all_three, inputs_of}
+use Rattle.asked_service.specs.unit_inputs.SiteRefusals.{site_in}
+use Rattle.asked_service.specs.unit_inputs.UnitRefusals.{unit_in}
+use Rattle.derive_command.proofs.PlainTables.{table_is_plain}
 
 -- a table of bytes that are few
 plain_held : (content : Content) (table : Table) → ((bytes : List ℕ) → content ≡ Holds bytes → length bytes ≤ 1048576)

@@ -1,48 +1,48 @@
 -- What is ready, and the line of a refusal, are what the definitions admit.
 use Rattle.std.proofs.Common.{◌≡◌, ◌∙◌, ℕ, Option, Some, None, List, ◌∷◌, Result, Ok, Err, refl, sym, ap, subst, inl, inr}
 use Rattle.std.specs.Prelude.{◌⊎◌, IfSome, IsTrue, option_map}
-use Rattle.replay_command.specs.host_io.Files.{Files}
-use Rattle.replay_command.specs.call_table.Table.{Table}
-use Rattle.replay_command.specs.kernel_model.declared.kernel_calls.call.Call.{Call}
-use Rattle.replay_command.specs.unit_inputs.command_answers.ExitStatuses.{is_answer}
-use Rattle.replay_command.specs.unit_inputs.command_answers.Laws.{AcceptsFiles, GoTogether, IsAdmitted, laws_over}
-use Rattle.replay_command.specs.unit_inputs.command_answers.CommandErrors.{IsAnswer, Prepares, first_refusal}
-use Rattle.replay_command.specs.unit_inputs.declared.command_answers.exit_status.ExitStatus.{ExitStatus}
-use Rattle.replay_command.specs.unit_inputs.declared.command_answers.exit_status.ExitStatus.TheVariants.{Done, LaunchRefused}
-use Rattle.replay_command.specs.unit_inputs.declared.command_answers.error.CommandError.{CommandError}
-use Rattle.replay_command.specs.unit_inputs.declared.command_answers.error.CommandError.TheVariants as stop
-use Rattle.replay_command.proofs.OfUnitInputs.FileCommands.{go_together, ready_is_admitted, stop_is_admitted}
-use Rattle.replay_command.proofs.OfUnitInputs.Refusing.{stops_as}
-use Rattle.replay_command.specs.exec_settings.Mounts.{unit_mentions}
-use Rattle.replay_command.specs.exec_settings.Refusals.{refusal_of}
-use Rattle.replay_command.specs.exec_settings.declared.errors.SettingsError.{SettingsError}
-use Rattle.replay_command.specs.asked_service.launched_units.Launching.{FitsMentions, IsRefusedUnit, RefusesPath}
-use Rattle.replay_command.specs.mount_plan.Answers.{Plans}
-use Rattle.replay_command.specs.mount_plan.Host.{host_of}
-use Rattle.replay_command.specs.kern_mounts.declared.step.MountStep.{MountStep}
-use Rattle.replay_command.specs.mount_plan.declared.error.PlanError.{PlanError}
-use Rattle.replay_command.specs.plan_command.Refusals.{error_line}
-use Rattle.replay_command.specs.Scripts.{script_in}
-use Rattle.replay_command.specs.asked_service.started_units.Starting.{start_refusals}
-use Rattle.replay_command.proofs.OfAskedService.Started as started
-use Rattle.trace_profile.specs.Derived.{IsDerived, IsOnlyOne}
-use Rattle.trace_profile.specs.PlainNames.{HasPlainNames}
-use Rattle.trace_profile.specs.Extended.{drop_in_text, open_unit}
-use Rattle.trace_profile.specs.Scripts.{first_seccomp}
-use Rattle.replay_command.specs.unit_inputs.Inputs.{Inputs, input_refusals, inputs_of, inputs_view}
-use Rattle.replay_command.specs.unit_inputs.declared.inputs.UnitInputs.{UnitInputs}
-use Rattle.replay_command.specs.asked_service.unit_launch.Refusals.{refusal_line}
-use Rattle.replay_command.specs.asked_service.declared.unit_launch.refusal.LaunchRefusal.{LaunchRefusal}
-use Rattle.replay_command.specs.unit_inputs.SettingsRefusals.{settings_line}
-use Rattle.replay_command.specs.unit_inputs.Settled.{refusals_by}
-use Rattle.replay_command.proofs.OfUnitInputs.Steps as steps
-use Rattle.replay_command.proofs.OfUnitInputs.Steps.{AreRead, refusals_with}
-use Rattle.replay_command.specs.unit_inputs.command_answers.ReadyTexts.{status_of, text_of}
+use Rattle.asked_service.specs.host_io.Files.{Files}
+use Rattle.asked_service.specs.call_table.Table.{Table}
+use Rattle.asked_service.specs.kernel_model.declared.kernel_calls.call.Call.{Call}
+use Rattle.asked_service.specs.unit_inputs.command_answers.ExitStatuses.{is_answer}
+use Rattle.asked_service.specs.unit_inputs.command_answers.Laws.{AcceptsFiles, GoTogether, IsAdmitted, laws_over}
+use Rattle.asked_service.specs.unit_inputs.command_answers.CommandErrors.{IsAnswer, Prepares, first_refusal}
+use Rattle.asked_service.specs.unit_inputs.declared.command_answers.exit_status.ExitStatus.{ExitStatus}
+use Rattle.asked_service.specs.unit_inputs.declared.command_answers.exit_status.ExitStatus.TheVariants.{Done, LaunchRefused}
+use Rattle.asked_service.specs.unit_inputs.declared.command_answers.error.CommandError.{CommandError}
+use Rattle.asked_service.specs.unit_inputs.declared.command_answers.error.CommandError.TheVariants as stop
+use Rattle.asked_service.proofs.OfUnitInputs.FileCommands.{go_together, ready_is_admitted, stop_is_admitted}
+use Rattle.asked_service.proofs.OfUnitInputs.Refusing.{stops_as}
+use Rattle.asked_service.specs.exec_settings.Mounts.{unit_mentions}
+use Rattle.asked_service.specs.exec_settings.Refusals.{refusal_of}
+use Rattle.asked_service.specs.exec_settings.declared.errors.SettingsError.{SettingsError}
+use Rattle.asked_service.specs.launched_units.Launching.{FitsMentions, IsRefusedUnit, RefusesPath}
+use Rattle.asked_service.specs.mount_plan.Answers.{Plans}
+use Rattle.asked_service.specs.mount_plan.Host.{host_of}
+use Rattle.asked_service.specs.kern_mounts.declared.step.MountStep.{MountStep}
+use Rattle.asked_service.specs.mount_plan.declared.error.PlanError.{PlanError}
+use Rattle.asked_service.specs.plan_command.Refusals.{error_line}
+use Rattle.asked_service.specs.Scripts.{script_in}
+use Rattle.asked_service.specs.started_units.Starting.{start_refusals}
+use Rattle.asked_service.proofs.Started as started
+use Rattle.derive_command.specs.trace_profile.Derived.{IsDerived, IsOnlyOne}
+use Rattle.derive_command.specs.trace_profile.PlainNames.{HasPlainNames}
+use Rattle.derive_command.specs.trace_profile.Extended.{drop_in_text, open_unit}
+use Rattle.derive_command.specs.trace_profile.Scripts.{first_seccomp}
+use Rattle.asked_service.specs.unit_inputs.Inputs.{Inputs, input_refusals, inputs_of, inputs_view}
+use Rattle.asked_service.specs.unit_inputs.declared.inputs.UnitInputs.{UnitInputs}
+use Rattle.asked_service.specs.unit_launch.Refusals.{refusal_line}
+use Rattle.asked_service.specs.declared.unit_launch.refusal.LaunchRefusal.{LaunchRefusal}
+use Rattle.asked_service.specs.unit_inputs.SettingsRefusals.{settings_line}
+use Rattle.asked_service.specs.unit_inputs.Settled.{refusals_by}
+use Rattle.asked_service.proofs.OfUnitInputs.Steps as steps
+use Rattle.asked_service.proofs.OfUnitInputs.Steps.{AreRead, refusals_with}
+use Rattle.asked_service.specs.unit_inputs.command_answers.ReadyTexts.{status_of, text_of}
 use Rattle.derive_command.specs.Prints.{PrintsAnswer, PrintsDerived, derived, refused, derive_laws}
 use Rattle.derive_command.specs.Refusals.{derive_refusals, opened, refusals_behind, refusals_behind_script, refusals_by_script}
 use Rattle.derive_command.specs.Refusals.{seccomp_line}
 use Rattle.derive_command.specs.Telling.{AnswersCalls, allowed, not_launched}
-use Rattle.replay_command.specs.unit_inputs.declared.command_answers.ready_text.ReadyText.{ReadyText}
+use Rattle.asked_service.specs.unit_inputs.declared.command_answers.ready_text.ReadyText.{ReadyText}
 use Rattle.derive_command.proofs.PlainInputs.{inputs_are_plain}
 
 -- ---- behind the script

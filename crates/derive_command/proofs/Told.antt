@@ -1,25 +1,25 @@
 -- What is told, and what that answers.
 use Rattle.std.proofs.Common.{◌≡◌, ◌∙◌, ℕ, List, Some, Result, Ok, Err, sym, ap}
 use Rattle.std.specs.Prelude.{IsErrOf}
-use Rattle.replay_command.specs.call_table.Table.{Table}
-use Rattle.trace_profile.specs.dropin_merge.declared.resolved.Resolved.{Resolved}
-use Rattle.replay_command.specs.kernel_model.declared.kernel_calls.call.Call.{Call}
-use Rattle.replay_command.specs.unit_inputs.command_answers.CommandErrors.{Prepares, first_refusal}
-use Rattle.replay_command.specs.unit_inputs.declared.command_answers.exit_status.ExitStatus.{ExitStatus}
-use Rattle.replay_command.specs.unit_inputs.declared.command_answers.exit_status.ExitStatus.TheVariants.{Done, LaunchRefused}
-use Rattle.replay_command.specs.unit_inputs.declared.command_answers.error.CommandError.{CommandError}
-use Rattle.replay_command.specs.unit_inputs.declared.command_answers.error.CommandError.TheVariants as stop
-use Rattle.replay_command.specs.site_table.Table.{Site}
-use Rattle.trace_profile.specs.Derived.{Derives}
-use Rattle.trace_profile.specs.Extended.{drop_in_text}
-use Rattle.trace_profile.specs.declared.derived.DeriveError.{DeriveError}
-use Rattle.trace_profile.specs.declared.derived.DeriveError.TheVariants.{Seccomp, Settings, Plan, Launch, Memory}
-use Rattle.trace_profile.specs.declared.derived.Derived.{Derived}
-use Rattle.replay_command.specs.asked_service.started_units.Starting.{given}
-use Rattle.replay_command.specs.unit_inputs.command_answers.ReadyTexts.{status_of, text_of}
+use Rattle.asked_service.specs.call_table.Table.{Table}
+use Rattle.asked_service.specs.dropin_merge.declared.resolved.Resolved.{Resolved}
+use Rattle.asked_service.specs.kernel_model.declared.kernel_calls.call.Call.{Call}
+use Rattle.asked_service.specs.unit_inputs.command_answers.CommandErrors.{Prepares, first_refusal}
+use Rattle.asked_service.specs.unit_inputs.declared.command_answers.exit_status.ExitStatus.{ExitStatus}
+use Rattle.asked_service.specs.unit_inputs.declared.command_answers.exit_status.ExitStatus.TheVariants.{Done, LaunchRefused}
+use Rattle.asked_service.specs.unit_inputs.declared.command_answers.error.CommandError.{CommandError}
+use Rattle.asked_service.specs.unit_inputs.declared.command_answers.error.CommandError.TheVariants as stop
+use Rattle.asked_service.specs.site_table.Table.{Site}
+use Rattle.derive_command.specs.trace_profile.Derived.{Derives}
+use Rattle.derive_command.specs.trace_profile.Extended.{drop_in_text}
+use Rattle.derive_command.specs.declared.trace_profile.derived.DeriveError.{DeriveError}
+use Rattle.derive_command.specs.declared.trace_profile.derived.DeriveError.TheVariants.{Seccomp, Settings, Plan, Launch, Memory}
+use Rattle.derive_command.specs.declared.trace_profile.derived.Derived.{Derived}
+use Rattle.asked_service.specs.started_units.Starting.{given}
+use Rattle.asked_service.specs.unit_inputs.command_answers.ReadyTexts.{status_of, text_of}
 use Rattle.derive_command.specs.Refusals.{refusals_behind_script}
 use Rattle.derive_command.specs.Telling.{AnswersCalls, IsOutOfMemory, IsReady, StopsWith, Tells}
-use Rattle.replay_command.specs.unit_inputs.declared.command_answers.ready_text.ReadyText.{ReadyText}
+use Rattle.asked_service.specs.unit_inputs.declared.command_answers.ready_text.ReadyText.{ReadyText}
 use Rattle.derive_command.proofs.Prepared.{answers_derived, answers_refused, at_paths, at_seccomp, at_settings}
 
 -- nothing was read

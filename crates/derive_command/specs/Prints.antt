@@ -1,18 +1,18 @@
 -- What `derive` prints, by the files.
 use Rattle.std.specs.Prelude.{◌≡◌, ◌⊎◌, ℕ, IsSome, List, Some, Ok}
-use Rattle.replay_command.specs.host_io.Files.{Files}
-use Rattle.replay_command.specs.kernel_model.declared.kernel_calls.call.Call.{Call}
-use Rattle.replay_command.specs.unit_inputs.command_answers.Laws.{FileLaws}
-use Rattle.replay_command.specs.unit_inputs.declared.command_answers.exit_status.ExitStatus.{ExitStatus}
-use Rattle.replay_command.specs.unit_inputs.declared.command_answers.exit_status.ExitStatus.TheVariants.{Done, LaunchRefused}
-use Rattle.replay_command.specs.asked_service.launched_units.Launching.{IsRefusedUnit}
-use Rattle.replay_command.specs.Scripts.{script_in}
-use Rattle.trace_profile.specs.Derived.{IsDerived, IsOnlyOne}
-use Rattle.trace_profile.specs.Extended.{drop_in_text, open_unit}
-use Rattle.replay_command.specs.unit_inputs.Inputs.{Inputs, inputs_of}
-use Rattle.replay_command.specs.asked_service.unit_launch.Refusals.{refusal_line}
-use Rattle.replay_command.specs.asked_service.declared.unit_launch.refusal.LaunchRefusal.{LaunchRefusal}
-use Rattle.replay_command.specs.unit_names.Cutting.{name_of}
+use Rattle.asked_service.specs.host_io.Files.{Files}
+use Rattle.asked_service.specs.kernel_model.declared.kernel_calls.call.Call.{Call}
+use Rattle.asked_service.specs.unit_inputs.command_answers.Laws.{FileLaws}
+use Rattle.asked_service.specs.unit_inputs.declared.command_answers.exit_status.ExitStatus.{ExitStatus}
+use Rattle.asked_service.specs.unit_inputs.declared.command_answers.exit_status.ExitStatus.TheVariants.{Done, LaunchRefused}
+use Rattle.asked_service.specs.launched_units.Launching.{IsRefusedUnit}
+use Rattle.asked_service.specs.Scripts.{script_in}
+use Rattle.derive_command.specs.trace_profile.Derived.{IsDerived, IsOnlyOne}
+use Rattle.derive_command.specs.trace_profile.Extended.{drop_in_text, open_unit}
+use Rattle.asked_service.specs.unit_inputs.Inputs.{Inputs, inputs_of}
+use Rattle.asked_service.specs.unit_launch.Refusals.{refusal_line}
+use Rattle.asked_service.specs.declared.unit_launch.refusal.LaunchRefusal.{LaunchRefusal}
+use Rattle.asked_service.specs.unit_names.Cutting.{name_of}
 use Rattle.derive_command.specs.Refusals.{derive_refusals}
 
 -- the drop-in that allows the least list, which is the only one; or the line of the launch that is refused though every call is allowed

@@ -1,15 +1,15 @@
 -- What `derive` refuses, in the order of refusals.
 use Rattle.std.specs.Prelude.{ℕ, List, [], ◌∷◌, ◌++◌, codes, Option, Some, Result, Ok, Err, option_map}
 use Rattle.std.specs.Fmt.{decimal}
-use Rattle.replay_command.specs.host_io.Files.{Files}
-use Rattle.replay_command.specs.kernel_model.declared.kernel_calls.call.Call.{Call}
-use Rattle.replay_command.specs.unit_inputs.command_answers.Refusals.{refused_line}
-use Rattle.replay_command.specs.Scripts.{script_in}
-use Rattle.replay_command.specs.asked_service.started_units.Starting.{start_refusals}
-use Rattle.trace_profile.specs.Extended.{open_unit}
-use Rattle.trace_profile.specs.Scripts.{first_seccomp}
-use Rattle.replay_command.specs.unit_inputs.Inputs.{Inputs, input_refusals, inputs_of}
-use Rattle.replay_command.specs.unit_inputs.Settled.{refusals_by}
+use Rattle.asked_service.specs.host_io.Files.{Files}
+use Rattle.asked_service.specs.kernel_model.declared.kernel_calls.call.Call.{Call}
+use Rattle.asked_service.specs.unit_inputs.command_answers.Refusals.{refused_line}
+use Rattle.asked_service.specs.Scripts.{script_in}
+use Rattle.asked_service.specs.started_units.Starting.{start_refusals}
+use Rattle.derive_command.specs.trace_profile.Extended.{open_unit}
+use Rattle.derive_command.specs.trace_profile.Scripts.{first_seccomp}
+use Rattle.asked_service.specs.unit_inputs.Inputs.{Inputs, input_refusals, inputs_of}
+use Rattle.asked_service.specs.unit_inputs.Settled.{refusals_by}
 
 -- the first call, from 1, that asks to push a program, seccomp(2)
 abbrev pub seccomp_cause : ℕ → List ℕ

@@ -1,23 +1,23 @@
 -- The text for a derived list, or for the reason why no list exists. If memory runs out, there is no text.
 use Rattle.std.specs.Prelude.{◌≡◌, ℕ, List, Result, Ok, Err}
-use Rattle.replay_command.specs.kernel_model.declared.kernel_calls.call.Call.{Call}
-use Rattle.replay_command.specs.unit_inputs.declared.command_answers.exit_status.ExitStatus.{ExitStatus}
-use Rattle.replay_command.specs.unit_inputs.declared.command_answers.exit_status.ExitStatus.TheVariants.{Done, LaunchRefused}
-use Rattle.replay_command.specs.unit_inputs.declared.command_answers.error.CommandError.{CommandError}
-use Rattle.replay_command.specs.unit_inputs.declared.command_answers.error.CommandError.TheVariants as stop
-use Rattle.replay_command.specs.asked_service.launched_units.Launching.{IsRefusedUnit}
-use Rattle.replay_command.specs.plan_command.Refusals.{error_line}
-use Rattle.trace_profile.specs.Derived.{IsDerived, IsOnlyOne}
-use Rattle.trace_profile.specs.Extended.{drop_in_text, open_unit}
-use Rattle.trace_profile.specs.PlainNames.{HasPlainNames}
-use Rattle.trace_profile.specs.declared.derived.DeriveError.{DeriveError}
-use Rattle.trace_profile.specs.declared.derived.DeriveError.TheVariants.{Seccomp, Settings, Plan, Launch, Memory}
-use Rattle.replay_command.specs.unit_inputs.Inputs.{Inputs}
-use Rattle.replay_command.specs.asked_service.unit_launch.Refusals.{refusal_line}
-use Rattle.replay_command.specs.asked_service.declared.unit_launch.refusal.LaunchRefusal.{LaunchRefusal}
-use Rattle.replay_command.specs.unit_inputs.SettingsRefusals.{settings_line}
+use Rattle.asked_service.specs.kernel_model.declared.kernel_calls.call.Call.{Call}
+use Rattle.asked_service.specs.unit_inputs.declared.command_answers.exit_status.ExitStatus.{ExitStatus}
+use Rattle.asked_service.specs.unit_inputs.declared.command_answers.exit_status.ExitStatus.TheVariants.{Done, LaunchRefused}
+use Rattle.asked_service.specs.unit_inputs.declared.command_answers.error.CommandError.{CommandError}
+use Rattle.asked_service.specs.unit_inputs.declared.command_answers.error.CommandError.TheVariants as stop
+use Rattle.asked_service.specs.launched_units.Launching.{IsRefusedUnit}
+use Rattle.asked_service.specs.plan_command.Refusals.{error_line}
+use Rattle.derive_command.specs.trace_profile.Derived.{IsDerived, IsOnlyOne}
+use Rattle.derive_command.specs.trace_profile.Extended.{drop_in_text, open_unit}
+use Rattle.derive_command.specs.trace_profile.PlainNames.{HasPlainNames}
+use Rattle.derive_command.specs.declared.trace_profile.derived.DeriveError.{DeriveError}
+use Rattle.derive_command.specs.declared.trace_profile.derived.DeriveError.TheVariants.{Seccomp, Settings, Plan, Launch, Memory}
+use Rattle.asked_service.specs.unit_inputs.Inputs.{Inputs}
+use Rattle.asked_service.specs.unit_launch.Refusals.{refusal_line}
+use Rattle.asked_service.specs.declared.unit_launch.refusal.LaunchRefusal.{LaunchRefusal}
+use Rattle.asked_service.specs.unit_inputs.SettingsRefusals.{settings_line}
 use Rattle.derive_command.specs.Refusals.{seccomp_line}
-use Rattle.replay_command.specs.unit_inputs.declared.command_answers.ready_text.ReadyText.{ReadyText}
+use Rattle.asked_service.specs.unit_inputs.declared.command_answers.ready_text.ReadyText.{ReadyText}
 
 -- a refusal with this line
 abbrev pub StopsWith : List ℕ → Result ReadyText CommandError → Type 0

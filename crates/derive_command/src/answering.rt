@@ -1,22 +1,22 @@
 //! What `derive` prints.
 
 ghost use Rattle.std.specs.Prelude.{IsErrOf};
-ghost use Rattle.replay_command.specs.unit_inputs.command_answers.CommandErrors.{Prepares};
-ghost use Rattle.replay_command.specs.asked_service.unit_launch.Refusals.{refusal_line};
-ghost use Rattle.trace_profile.specs.Extended.{drop_in_text};
-ghost use Rattle.replay_command.specs.unit_inputs.declared.command_answers.exit_status.ExitStatus.TheVariants.{Done, LaunchRefused};
-ghost use Rattle.replay_command.specs.asked_service.started_units.Starting.{given};
+ghost use Rattle.asked_service.specs.unit_inputs.command_answers.CommandErrors.{Prepares};
+ghost use Rattle.asked_service.specs.unit_launch.Refusals.{refusal_line};
+ghost use Rattle.derive_command.specs.trace_profile.Extended.{drop_in_text};
+ghost use Rattle.asked_service.specs.unit_inputs.declared.command_answers.exit_status.ExitStatus.TheVariants.{Done, LaunchRefused};
+ghost use Rattle.asked_service.specs.started_units.Starting.{given};
 ghost use Rattle.derive_command.specs.Telling.{AnswersCalls, IsReady, Tells};
-ghost use Rattle.replay_command.specs.unit_inputs.command_answers.ReadyTexts.{status_of, text_of};
+ghost use Rattle.asked_service.specs.unit_inputs.command_answers.ReadyTexts.{status_of, text_of};
 ghost use Rattle.derive_command.specs.Refusals.{refusals_behind_script};
 
 use crate::refusals::seccomp_line;
-use replay_command::{
-    CallTable, CommandError, ExitStatus, LaunchRefusal, ReadyText, ScriptTextScript as Script,
-    SiteTable, plan_line, refusal_line, refuse, settings_line,
+use crate::trace_profile::{DeriveError, Resolved, derive, drop_in};
+use asked_service::{
+    CallTable, CommandError, ExitStatus, LaunchRefusal, ReadyText, Script, SiteTable, plan_line,
+    refusal_line, refuse, settings_line,
 };
 use std::alloc::Global;
-use trace_profile::{DeriveError, Resolved, derive, drop_in};
 
 // The drop-in that allows these names.
 fn allow_names(alloc: Global, calls: &CallTable, names: &[u32]) -> Result<ReadyText, CommandError>

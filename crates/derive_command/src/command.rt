@@ -1,15 +1,15 @@
 //! The command `derive`, the name of a unit and the path of a script.
 
-ghost use Rattle.replay_command.specs.unit_inputs.command_answers.Asking.{course};
-ghost use Rattle.replay_command.specs.unit_inputs.command_answers.Laws.{IsAdmitted, laws_over};
-ghost use Rattle.replay_command.specs.unit_inputs.Asking.{AsksInOrder, asks_with_file};
-ghost use Rattle.replay_command.specs.unit_inputs.ReadsFor.{ReadsFor};
-ghost use Rattle.replay_command.specs.unit_inputs.command_answers.ReadyTexts.{status_of, text_of};
+ghost use Rattle.asked_service.specs.unit_inputs.command_answers.Asking.{course};
+ghost use Rattle.asked_service.specs.unit_inputs.command_answers.Laws.{IsAdmitted, laws_over};
+ghost use Rattle.asked_service.specs.unit_inputs.Asking.{AsksInOrder, asks_with_file};
+ghost use Rattle.asked_service.specs.unit_inputs.ReadsFor.{ReadsFor};
+ghost use Rattle.asked_service.specs.unit_inputs.command_answers.ReadyTexts.{status_of, text_of};
 ghost use Rattle.derive_command.specs.Prints.{derive_laws};
 
 use crate::answering::answer;
+use asked_service::{CommandError, ReadyText, read_inputs, read_script};
 use host_io::Shelf;
-use replay_command::{CommandError, ReadyText, read_inputs, read_script};
 use std::alloc::Global;
 
 /// Prepares `derive`, the name of a unit and the path of a script.

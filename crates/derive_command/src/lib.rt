@@ -10,5 +10,6 @@
 mod answering;
 mod command;
 mod refusals;
+pub mod trace_profile;
 
 pub use command::prepare;

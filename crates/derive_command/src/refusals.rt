@@ -3,7 +3,7 @@
 ghost use Rattle.std.specs.Prelude.{◌≡◌, IfOk};
 ghost use Rattle.derive_command.specs.Refusals.{seccomp_cause, seccomp_line};
 
-use replay_command::refused_line;
+use asked_service::refused_line;
 use std::alloc::{AllocError, Global};
 
 fn seccomp_cause(alloc: Global, number: u64) -> Result<Vec<u8>, AllocError>

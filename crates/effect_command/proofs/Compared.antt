@@ -1,19 +1,19 @@
 -- What two services are compared by is what changes.
 use Rattle.std.proofs.Common.{◌≡◌, ◌∙◌, ℕ, List, ap, ap₂, refl, sym, subst}
 use Rattle.std.specs.Prelude.{map}
-use Rattle.judge_command.specs.Asked.{IsAsked, launch_in, world_in}
-use Rattle.judge_command.specs.declared.asking.Asked.{Asked}
-use Rattle.judge_command.specs.call_table.Table as calls
-use Rattle.judge_command.specs.unit_inputs.declared.command_answers.exit_status.ExitStatus.{ExitStatus}
-use Rattle.judge_command.specs.unit_inputs.declared.command_answers.exit_status.ExitStatus.TheVariants.{Done}
-use Rattle.judge_command.specs.kernel_laws.Launched.{launch_of}
-use Rattle.judge_command.specs.kernel_laws.Questions.{questions}
-use Rattle.judge_command.specs.launcher.declared.launched.Launched.{Launched as Service}
-use Rattle.judge_command.specs.kernel_laws.declared.question_types.question.Question.{Question}
-use Rattle.judge_command.specs.site_table.Table.{Site}
-use Rattle.judge_command.specs.asked_service.declared.unit_launch.launching.UnitLaunch.TheVariants.{Launched}
-use Rattle.judge_command.specs.verdict_changes.ByRule.{ChangesAreTrue, changes_by}
-use Rattle.judge_command.specs.verdict_changes.Changes.{Change}
+use Rattle.asked_service.specs.Asking.{IsAsked, launch_in, world_in}
+use Rattle.asked_service.specs.declared.asking.Asked.{Asked}
+use Rattle.asked_service.specs.call_table.Table as calls
+use Rattle.asked_service.specs.unit_inputs.declared.command_answers.exit_status.ExitStatus.{ExitStatus}
+use Rattle.asked_service.specs.unit_inputs.declared.command_answers.exit_status.ExitStatus.TheVariants.{Done}
+use Rattle.asked_service.specs.kernel_laws.Launched.{launch_of}
+use Rattle.asked_service.specs.kernel_laws.Questions.{questions}
+use Rattle.asked_service.specs.launcher.declared.launched.Launched.{Launched as Service}
+use Rattle.asked_service.specs.kernel_laws.declared.question_types.question.Question.{Question}
+use Rattle.asked_service.specs.site_table.Table.{Site}
+use Rattle.asked_service.specs.declared.unit_launch.launching.UnitLaunch.TheVariants.{Launched}
+use Rattle.asked_service.specs.verdict_changes.ByRule.{ChangesAreTrue, changes_by}
+use Rattle.asked_service.specs.verdict_changes.Changes.{Change}
 use Rattle.effect_command.specs.Lines.{effect_text}
 use Rattle.effect_command.specs.Prints.{TellsBoth}
 use Rattle.effect_command.specs.Stopping.{IsOver}

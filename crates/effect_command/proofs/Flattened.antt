@@ -3,20 +3,20 @@ use Rattle.std.proofs.Common.{◌≡◌, ◌∙◌, ℕ, List, [], ◌∷◌, �
 use Rattle.std.specs.Prelude.{flat_map, map}
 use Rattle.std.proofs.lemmas.List.Concat.{flat_map-append}
 use Rattle.std.proofs.lemmas.List.{map-append}
-use Rattle.judge_command.specs.Asked.{launch_in, world_in}
-use Rattle.judge_command.specs.declared.asking.Asked.{Asked}
-use Rattle.judge_command.specs.kernel_laws.declared.question_types.question.Question.{Question}
-use Rattle.judge_command.specs.site_table.declared.row.Row.{Row}
-use Rattle.judge_command.specs.abs_path.Paths.{Path}
-use Rattle.judge_command.specs.call_table.Table.{Table}
-use Rattle.judge_command.specs.site_table.Table.{Site}
-use Rattle.judge_command.specs.verdict_changes.Found.{change_of, turn_of}
-use Rattle.judge_command.specs.declared.verdict_changes.asking.VerdictChange.{VerdictChange}
-use Rattle.judge_command.specs.declared.verdict_changes.asking.VerdictChange.TheVariants as verdict
-use Rattle.judge_command.specs.declared.verdict_changes.looking.FolderChange.{FolderChange}
-use Rattle.judge_command.specs.declared.verdict_changes.looking.FolderChange.TheVariants as folder
-use Rattle.judge_command.specs.verdict_changes.ByRule.{changes_by, question_change, row_change}
-use Rattle.judge_command.specs.verdict_changes.Changes.{Change}
+use Rattle.asked_service.specs.Asking.{launch_in, world_in}
+use Rattle.asked_service.specs.declared.asking.Asked.{Asked}
+use Rattle.asked_service.specs.kernel_laws.declared.question_types.question.Question.{Question}
+use Rattle.asked_service.specs.site_table.declared.row.Row.{Row}
+use Rattle.asked_service.specs.abs_path.Paths.{Path}
+use Rattle.asked_service.specs.call_table.Table.{Table}
+use Rattle.asked_service.specs.site_table.Table.{Site}
+use Rattle.asked_service.specs.verdict_changes.Found.{change_of, turn_of}
+use Rattle.asked_service.specs.declared.verdict_changes.asking.VerdictChange.{VerdictChange}
+use Rattle.asked_service.specs.declared.verdict_changes.asking.VerdictChange.TheVariants as verdict
+use Rattle.asked_service.specs.declared.verdict_changes.looking.FolderChange.{FolderChange}
+use Rattle.asked_service.specs.declared.verdict_changes.looking.FolderChange.TheVariants as folder
+use Rattle.asked_service.specs.verdict_changes.ByRule.{changes_by, question_change, row_change}
+use Rattle.asked_service.specs.verdict_changes.Changes.{Change}
 use Rattle.effect_command.specs.Lines.{change_lines, counts_line, effect_text, kind_of}
 use Rattle.effect_command.specs.Told.{changes_at, folder_kinds, folder_lines, lines_in, told_text, turns_at, verdict_kinds, verdict_lines}
 

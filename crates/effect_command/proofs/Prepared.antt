@@ -1,38 +1,38 @@
 -- What is ready, and the line of a refusal, are what the definitions admit.
 use Rattle.std.proofs.Common.{◌≡◌, ◌∙◌, ℕ, Option, Some, None, List, [], ◌∷◌, ◌++◌, Result, Ok, Err, refl, sym, ap, subst, inl, inr}
 use Rattle.std.specs.Prelude.{◌⊎◌, IfOk, IfSome, IsErrOf, IsTrue, option_map}
-use Rattle.judge_command.specs.host_io.Files.{Files}
-use Rattle.judge_command.specs.call_table.Table.{Table}
-use Rattle.judge_command.specs.site_table.Table.{Site}
-use Rattle.judge_command.specs.unit_inputs.command_answers.ExitStatuses.{is_answer}
-use Rattle.judge_command.specs.unit_inputs.command_answers.Laws.{AcceptsFiles, GoTogether, IsAdmitted, laws_over}
-use Rattle.judge_command.specs.unit_inputs.command_answers.CommandErrors.{IsAnswer, Prepares, first_refusal}
-use Rattle.judge_command.specs.unit_inputs.declared.command_answers.exit_status.ExitStatus.{ExitStatus}
-use Rattle.judge_command.specs.unit_inputs.declared.command_answers.exit_status.ExitStatus.TheVariants.{Done, LaunchRefused}
-use Rattle.judge_command.specs.unit_inputs.declared.command_answers.error.CommandError.{CommandError}
-use Rattle.judge_command.specs.unit_inputs.declared.command_answers.error.CommandError.TheVariants as stop
-use Rattle.judge_command.proofs.OfUnitInputs.FileCommands.{go_together, ready_is_admitted, stop_is_admitted}
-use Rattle.judge_command.proofs.OfUnitInputs.Refusing.{stops_as}
-use Rattle.judge_command.specs.dropin_merge.declared.resolved.Resolved.{Resolved}
-use Rattle.judge_command.specs.dropin_merge.declared.resolved.UnitFile.{UnitFile}
+use Rattle.asked_service.specs.host_io.Files.{Files}
+use Rattle.asked_service.specs.call_table.Table.{Table}
+use Rattle.asked_service.specs.site_table.Table.{Site}
+use Rattle.asked_service.specs.unit_inputs.command_answers.ExitStatuses.{is_answer}
+use Rattle.asked_service.specs.unit_inputs.command_answers.Laws.{AcceptsFiles, GoTogether, IsAdmitted, laws_over}
+use Rattle.asked_service.specs.unit_inputs.command_answers.CommandErrors.{IsAnswer, Prepares, first_refusal}
+use Rattle.asked_service.specs.unit_inputs.declared.command_answers.exit_status.ExitStatus.{ExitStatus}
+use Rattle.asked_service.specs.unit_inputs.declared.command_answers.exit_status.ExitStatus.TheVariants.{Done, LaunchRefused}
+use Rattle.asked_service.specs.unit_inputs.declared.command_answers.error.CommandError.{CommandError}
+use Rattle.asked_service.specs.unit_inputs.declared.command_answers.error.CommandError.TheVariants as stop
+use Rattle.asked_service.proofs.OfUnitInputs.FileCommands.{go_together, ready_is_admitted, stop_is_admitted}
+use Rattle.asked_service.proofs.OfUnitInputs.Refusing.{stops_as}
+use Rattle.asked_service.specs.dropin_merge.declared.resolved.Resolved.{Resolved}
+use Rattle.asked_service.specs.dropin_merge.declared.resolved.UnitFile.{UnitFile}
 use Rattle.std.specs.declared.alloc.AllocError.{AllocError}
-use Rattle.judge_command.specs.unit_names.Names.{Name}
-use Rattle.judge_command.specs.unit_grammar.declared.unit.UnitText.{UnitText}
-use Rattle.judge_command.specs.unit_inputs.Inputs.{Inputs, input_refusals, inputs_of, inputs_view}
-use Rattle.judge_command.specs.unit_inputs.declared.inputs.UnitInputs.{UnitInputs}
-use Rattle.judge_command.specs.asked_service.declared.unit_launch.launching.UnitLaunch.{UnitLaunch}
-use Rattle.judge_command.specs.asked_service.declared.unit_launch.launching.UnitLaunch.TheVariants.{Launched, Refused}
-use Rattle.judge_command.specs.unit_inputs.Settled.{refusals_by}
-use Rattle.judge_command.proofs.OfUnitInputs.Steps as steps
-use Rattle.judge_command.proofs.OfUnitInputs.Steps.{AreRead, refusals_with}
+use Rattle.asked_service.specs.unit_names.Names.{Name}
+use Rattle.asked_service.specs.unit_grammar.declared.unit.UnitText.{UnitText}
+use Rattle.asked_service.specs.unit_inputs.Inputs.{Inputs, input_refusals, inputs_of, inputs_view}
+use Rattle.asked_service.specs.unit_inputs.declared.inputs.UnitInputs.{UnitInputs}
+use Rattle.asked_service.specs.declared.unit_launch.launching.UnitLaunch.{UnitLaunch}
+use Rattle.asked_service.specs.declared.unit_launch.launching.UnitLaunch.TheVariants.{Launched, Refused}
+use Rattle.asked_service.specs.unit_inputs.Settled.{refusals_by}
+use Rattle.asked_service.proofs.OfUnitInputs.Steps as steps
+use Rattle.asked_service.proofs.OfUnitInputs.Steps.{AreRead, refusals_with}
 use Rattle.effect_command.specs.Lines.{with_line}
-use Rattle.judge_command.specs.asked_service.started_units.Starting.{StartsAs, first_start, given, start_refusals}
+use Rattle.asked_service.specs.started_units.Starting.{StartsAs, first_start, given, start_refusals}
 use Rattle.effect_command.specs.Longer.{dropin_in, longer_unit, with_dropin}
-use Rattle.judge_command.specs.unit_inputs.command_answers.ReadyTexts.{IsReadyWith, status_of, text_of}
+use Rattle.asked_service.specs.unit_inputs.command_answers.ReadyTexts.{IsReadyWith, status_of, text_of}
 use Rattle.effect_command.specs.Prints.{PrintsEffect, TellsBoth, TellsWith, effect_laws}
 use Rattle.effect_command.specs.Refusals.{effect_refusals, refusals_behind, refusals_behind_dropin, refusals_by_dropin}
 use Rattle.effect_command.specs.Stopping.{StartsOver}
-use Rattle.judge_command.specs.unit_inputs.declared.command_answers.ready_text.ReadyText.{ReadyText}
+use Rattle.asked_service.specs.unit_inputs.declared.command_answers.ready_text.ReadyText.{ReadyText}
 
 -- ---- behind the drop-in
 module _ (unit : List ℕ) (inputs : Inputs) (more : UnitText) where

@@ -2,12 +2,12 @@
 use Rattle.std.proofs.Common.{◌≡◌, ◌∙◌, ℕ, List, [], ◌∷◌, Some, Result, Ok, Err, Vec, Global, refl, sym, ap, subst}
 use Rattle.std.specs.Prelude.{IfOk, IsErrOf, option_map}
 use Rattle.std.specs.declared.alloc.AllocError.{AllocError}
-use Rattle.judge_command.specs.unit_inputs.command_answers.CommandErrors.{Prepares, first_refusal, error_of_line}
-use Rattle.judge_command.specs.unit_inputs.declared.command_answers.error.CommandError.{CommandError}
-use Rattle.judge_command.specs.unit_inputs.declared.command_answers.error.CommandError.TheVariants as stop
-use Rattle.judge_command.specs.unit_inputs.Inputs.{Inputs}
-use Rattle.judge_command.specs.asked_service.declared.unit_launch.launching.UnitLaunch.{UnitLaunch}
-use Rattle.judge_command.specs.asked_service.started_units.Starting.{StartsAs, first_start, start_refusals}
+use Rattle.asked_service.specs.unit_inputs.command_answers.CommandErrors.{Prepares, first_refusal, error_of_line}
+use Rattle.asked_service.specs.unit_inputs.declared.command_answers.error.CommandError.{CommandError}
+use Rattle.asked_service.specs.unit_inputs.declared.command_answers.error.CommandError.TheVariants as stop
+use Rattle.asked_service.specs.unit_inputs.Inputs.{Inputs}
+use Rattle.asked_service.specs.declared.unit_launch.launching.UnitLaunch.{UnitLaunch}
+use Rattle.asked_service.specs.started_units.Starting.{StartsAs, first_start, start_refusals}
 use Rattle.effect_command.specs.Lines.{with_line}
 use Rattle.effect_command.specs.Stopping.{IsBehindWith}
 

@@ -1,14 +1,14 @@
 -- The lines of `effect`.
 use Rattle.std.specs.Prelude.{ℕ, Bool, true, false, List, [], ◌∷◌, ◌++◌, codes, count_by, flat_map, map}
 use Rattle.std.specs.Fmt.{decimal}
-use Rattle.judge_command.specs.abs_path.Paths.{Path, text_of}
-use Rattle.judge_command.specs.call_table.Table as calls
-use Rattle.judge_command.specs.site_table.Table.{Site}
-use Rattle.judge_command.specs.text_forms.Escaped.{escaped_word}
-use Rattle.judge_command.specs.kernel_model.declared.kernel_calls.call.Call.{Call}
-use Rattle.judge_command.specs.kernel_laws.declared.question_types.question.Question.{Question}
-use Rattle.judge_command.specs.report_text.Answers.{call_line, question_line}
-use Rattle.judge_command.specs.verdict_changes.Changes.{Change, Closed, Hidden, Opened, Shown}
+use Rattle.asked_service.specs.abs_path.Paths.{Path, text_of}
+use Rattle.asked_service.specs.call_table.Table as calls
+use Rattle.asked_service.specs.site_table.Table.{Site}
+use Rattle.asked_service.specs.text_forms.Escaped.{escaped_word}
+use Rattle.asked_service.specs.kernel_model.declared.kernel_calls.call.Call.{Call}
+use Rattle.asked_service.specs.kernel_laws.declared.question_types.question.Question.{Question}
+use Rattle.asked_service.specs.report_text.Answers.{call_line, question_line}
+use Rattle.asked_service.specs.verdict_changes.Changes.{Change, Closed, Hidden, Opened, Shown}
 use Rattle.effect_command.specs.declared.kinds.Kind.{Kind}
 use Rattle.effect_command.specs.declared.kinds.Kind.TheVariants as kind
 

@@ -1,15 +1,15 @@
 -- The unit with a drop-in after its files. The drop-in is read from a file of its own.
 use Rattle.std.specs.Prelude.{ℕ, List, Result, Ok, Err}
-use Rattle.judge_command.specs.unit_inputs.command_answers.Refusals.{refused_line}
-use Rattle.judge_command.specs.unit_inputs.command_answers.CommandErrors.{and_then, or_line}
-use Rattle.judge_command.specs.dropin_merge.Changed.{extended}
-use Rattle.judge_command.specs.dropin_merge.declared.resolved.Resolved.{Resolved}
-use Rattle.judge_command.specs.host_io.Files.{Files}
-use Rattle.judge_command.specs.unit_grammar.Reading.{unit_of}
-use Rattle.judge_command.specs.unit_grammar.declared.unit.UnitText.{UnitText}
-use Rattle.judge_command.specs.unit_inputs.FileRefusals.{bytes_in}
-use Rattle.judge_command.specs.unit_inputs.Inputs.{Inputs}
-use Rattle.judge_command.specs.unit_inputs.UnitRefusals.{text_cause}
+use Rattle.asked_service.specs.unit_inputs.command_answers.Refusals.{refused_line}
+use Rattle.asked_service.specs.unit_inputs.command_answers.CommandErrors.{and_then, or_line}
+use Rattle.asked_service.specs.dropin_merge.Changed.{extended}
+use Rattle.asked_service.specs.dropin_merge.declared.resolved.Resolved.{Resolved}
+use Rattle.asked_service.specs.host_io.Files.{Files}
+use Rattle.asked_service.specs.unit_grammar.Reading.{unit_of}
+use Rattle.asked_service.specs.unit_grammar.declared.unit.UnitText.{UnitText}
+use Rattle.asked_service.specs.unit_inputs.FileRefusals.{bytes_in}
+use Rattle.asked_service.specs.unit_inputs.Inputs.{Inputs}
+use Rattle.asked_service.specs.unit_inputs.UnitRefusals.{text_cause}
 
 -- what the bytes of a drop-in say, or the line of why they are refused, as a file of a unit is (systemd.syntax(7))
 abbrev pub dropin_said : List ℕ → List ℕ → Result UnitText (List ℕ)

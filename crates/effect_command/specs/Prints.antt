@@ -1,19 +1,19 @@
 -- What `effect` prints, by the files.
 use Rattle.std.specs.Prelude.{◌≡◌, ◌⊎◌, ℕ, IsSome, List, Some, Ok}
-use Rattle.judge_command.specs.host_io.Files.{Files}
-use Rattle.judge_command.specs.call_table.Table as calls
-use Rattle.judge_command.specs.site_table.Table.{Site}
-use Rattle.judge_command.specs.unit_inputs.command_answers.Laws.{FileLaws}
-use Rattle.judge_command.specs.unit_inputs.declared.command_answers.exit_status.ExitStatus.{ExitStatus}
-use Rattle.judge_command.specs.unit_inputs.declared.command_answers.exit_status.ExitStatus.TheVariants.{Done, LaunchRefused}
-use Rattle.judge_command.specs.asked_service.started_units.Starting.{StartsAs}
-use Rattle.judge_command.specs.unit_grammar.declared.unit.UnitText.{UnitText}
-use Rattle.judge_command.specs.unit_inputs.Inputs.{Inputs, inputs_of}
-use Rattle.judge_command.specs.asked_service.unit_launch.Refusals.{refusal_line}
-use Rattle.judge_command.specs.asked_service.declared.unit_launch.launching.UnitLaunch.{UnitLaunch}
-use Rattle.judge_command.specs.asked_service.declared.unit_launch.launching.UnitLaunch.TheVariants.{Launched, Refused}
-use Rattle.judge_command.specs.unit_names.Cutting.{name_of}
-use Rattle.judge_command.specs.verdict_changes.Changes.{AreChanges, Change}
+use Rattle.asked_service.specs.host_io.Files.{Files}
+use Rattle.asked_service.specs.call_table.Table as calls
+use Rattle.asked_service.specs.site_table.Table.{Site}
+use Rattle.asked_service.specs.unit_inputs.command_answers.Laws.{FileLaws}
+use Rattle.asked_service.specs.unit_inputs.declared.command_answers.exit_status.ExitStatus.{ExitStatus}
+use Rattle.asked_service.specs.unit_inputs.declared.command_answers.exit_status.ExitStatus.TheVariants.{Done, LaunchRefused}
+use Rattle.asked_service.specs.started_units.Starting.{StartsAs}
+use Rattle.asked_service.specs.unit_grammar.declared.unit.UnitText.{UnitText}
+use Rattle.asked_service.specs.unit_inputs.Inputs.{Inputs, inputs_of}
+use Rattle.asked_service.specs.unit_launch.Refusals.{refusal_line}
+use Rattle.asked_service.specs.declared.unit_launch.launching.UnitLaunch.{UnitLaunch}
+use Rattle.asked_service.specs.declared.unit_launch.launching.UnitLaunch.TheVariants.{Launched, Refused}
+use Rattle.asked_service.specs.unit_names.Cutting.{name_of}
+use Rattle.asked_service.specs.verdict_changes.Changes.{AreChanges, Change}
 use Rattle.effect_command.specs.Lines.{effect_text, with_line}
 use Rattle.effect_command.specs.Longer.{dropin_in, with_dropin}
 use Rattle.effect_command.specs.Refusals.{effect_refusals}

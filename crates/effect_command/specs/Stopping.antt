@@ -1,15 +1,15 @@
 -- What the steps of an answer ask of each other.
 use Rattle.std.specs.Prelude.{◌≡◌, List}
-use Rattle.judge_command.specs.call_table.Table as calls
-use Rattle.judge_command.specs.unit_inputs.declared.command_answers.error.CommandError.{CommandError}
-use Rattle.judge_command.specs.unit_inputs.declared.command_answers.error.CommandError.TheVariants as stop
-use Rattle.judge_command.specs.exec_settings.declared.service.Settings.{Settings}
-use Rattle.judge_command.specs.kern_mounts.declared.step.MountStep.{MountStep}
-use Rattle.judge_command.specs.launcher.declared.launched.Launched.{Launched as Service}
-use Rattle.judge_command.specs.site_table.Table.{Site}
-use Rattle.judge_command.specs.asked_service.unit_launch.Launching.{IsLaunched}
-use Rattle.judge_command.specs.asked_service.declared.unit_launch.launching.UnitLaunch.{UnitLaunch}
-use Rattle.judge_command.specs.asked_service.declared.unit_launch.launching.UnitLaunch.TheVariants.{Launched, Refused}
+use Rattle.asked_service.specs.call_table.Table as calls
+use Rattle.asked_service.specs.unit_inputs.declared.command_answers.error.CommandError.{CommandError}
+use Rattle.asked_service.specs.unit_inputs.declared.command_answers.error.CommandError.TheVariants as stop
+use Rattle.asked_service.specs.exec_settings.declared.service.Settings.{Settings}
+use Rattle.asked_service.specs.kern_mounts.declared.step.MountStep.{MountStep}
+use Rattle.asked_service.specs.launcher.declared.launched.Launched.{Launched as Service}
+use Rattle.asked_service.specs.site_table.Table.{Site}
+use Rattle.asked_service.specs.unit_launch.Launching.{IsLaunched}
+use Rattle.asked_service.specs.declared.unit_launch.launching.UnitLaunch.{UnitLaunch}
+use Rattle.asked_service.specs.declared.unit_launch.launching.UnitLaunch.TheVariants.{Launched, Refused}
 use Rattle.effect_command.specs.Lines.{with_line}
 
 -- the same refusal, of the unit with the drop-in, unless memory ran out

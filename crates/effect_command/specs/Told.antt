@@ -1,19 +1,19 @@
 -- The text for one question and for one row, piece by piece, given the changes found.
 use Rattle.std.specs.Prelude.{ℕ, List, [], ◌∷◌, ◌++◌, codes, flat_map, map}
-use Rattle.judge_command.specs.abs_path.Paths.{Path}
-use Rattle.judge_command.specs.call_table.Table as calls
-use Rattle.judge_command.specs.report_text.Answers.{call_line, question_line}
-use Rattle.judge_command.specs.site_table.Table.{Site}
-use Rattle.judge_command.specs.declared.verdict_changes.asking.VerdictChange.{VerdictChange}
-use Rattle.judge_command.specs.declared.verdict_changes.asking.VerdictChange.TheVariants as verdict
-use Rattle.judge_command.specs.declared.verdict_changes.looking.FolderChange.{FolderChange}
-use Rattle.judge_command.specs.declared.verdict_changes.looking.FolderChange.TheVariants as folder
-use Rattle.judge_command.specs.Asked.{launch_in, world_in}
-use Rattle.judge_command.specs.declared.asking.Asked.{Asked}
-use Rattle.judge_command.specs.kernel_laws.declared.question_types.question.Question.{Question}
-use Rattle.judge_command.specs.site_table.declared.row.Row.{Row}
-use Rattle.judge_command.specs.verdict_changes.ByRule.{question_change, row_change, changes_by}
-use Rattle.judge_command.specs.verdict_changes.Changes.{Change}
+use Rattle.asked_service.specs.abs_path.Paths.{Path}
+use Rattle.asked_service.specs.call_table.Table as calls
+use Rattle.asked_service.specs.report_text.Answers.{call_line, question_line}
+use Rattle.asked_service.specs.site_table.Table.{Site}
+use Rattle.asked_service.specs.declared.verdict_changes.asking.VerdictChange.{VerdictChange}
+use Rattle.asked_service.specs.declared.verdict_changes.asking.VerdictChange.TheVariants as verdict
+use Rattle.asked_service.specs.declared.verdict_changes.looking.FolderChange.{FolderChange}
+use Rattle.asked_service.specs.declared.verdict_changes.looking.FolderChange.TheVariants as folder
+use Rattle.asked_service.specs.Asking.{launch_in, world_in}
+use Rattle.asked_service.specs.declared.asking.Asked.{Asked}
+use Rattle.asked_service.specs.kernel_laws.declared.question_types.question.Question.{Question}
+use Rattle.asked_service.specs.site_table.declared.row.Row.{Row}
+use Rattle.asked_service.specs.verdict_changes.ByRule.{question_change, row_change, changes_by}
+use Rattle.asked_service.specs.verdict_changes.Changes.{Change}
 use Rattle.effect_command.specs.Lines.{change_lines, effect_text, folder_line, kind_of}
 use Rattle.effect_command.specs.declared.kinds.Kind.{Kind}
 use Rattle.effect_command.specs.declared.kinds.Kind.TheVariants as kind

@@ -1,16 +1,16 @@
 //! The command `effect`, the name of a unit and the path of a drop-in.
 
-ghost use Rattle.judge_command.specs.unit_inputs.command_answers.Asking.{course};
-ghost use Rattle.judge_command.specs.unit_inputs.command_answers.Laws.{IsAdmitted, laws_over};
-ghost use Rattle.judge_command.specs.unit_inputs.Asking.{AsksInOrder, asks_with_file};
-ghost use Rattle.judge_command.specs.unit_inputs.ReadsFor.{ReadsFor};
-ghost use Rattle.judge_command.specs.unit_inputs.command_answers.ReadyTexts.{status_of, text_of};
+ghost use Rattle.asked_service.specs.unit_inputs.command_answers.Asking.{course};
+ghost use Rattle.asked_service.specs.unit_inputs.command_answers.Laws.{IsAdmitted, laws_over};
+ghost use Rattle.asked_service.specs.unit_inputs.Asking.{AsksInOrder, asks_with_file};
+ghost use Rattle.asked_service.specs.unit_inputs.ReadsFor.{ReadsFor};
+ghost use Rattle.asked_service.specs.unit_inputs.command_answers.ReadyTexts.{status_of, text_of};
 ghost use Rattle.effect_command.specs.Prints.{effect_laws};
 
 use crate::answering::answer;
 use crate::dropin::read_dropin;
+use asked_service::{CommandError, ReadyText, read_inputs};
 use host_io::Shelf;
-use judge_command::{CommandError, ReadyText, read_inputs};
 use std::alloc::Global;
 
 /// Prepares `effect`, the name of a unit and the path of a drop-in. It reads the unit, calls.txt, site.toml and the

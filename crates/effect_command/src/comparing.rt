@@ -1,19 +1,19 @@
 //! The text for two launches.
 ghost use Rattle.std.specs.Prelude.{◌≡◌, IfOk};
-ghost use Rattle.judge_command.specs.call_table.Table.{Table};
-ghost use Rattle.judge_command.specs.unit_inputs.declared.command_answers.exit_status.ExitStatus.TheVariants.{LaunchRefused};
-ghost use Rattle.judge_command.specs.site_table.Table.{Site};
-ghost use Rattle.judge_command.specs.asked_service.unit_launch.Refusals.{refusal_line};
+ghost use Rattle.asked_service.specs.call_table.Table.{Table};
+ghost use Rattle.asked_service.specs.unit_inputs.declared.command_answers.exit_status.ExitStatus.TheVariants.{LaunchRefused};
+ghost use Rattle.asked_service.specs.site_table.Table.{Site};
+ghost use Rattle.asked_service.specs.unit_launch.Refusals.{refusal_line};
 ghost use Rattle.effect_command.specs.Lines.{with_line};
 ghost use Rattle.effect_command.specs.Prints.{TellsBoth};
-ghost use Rattle.judge_command.specs.unit_inputs.command_answers.ReadyTexts.{IsReadyWith};
+ghost use Rattle.asked_service.specs.unit_inputs.command_answers.ReadyTexts.{IsReadyWith};
 ghost use Rattle.effect_command.specs.Stopping.{AreTogether, IsOver, StartTogether, StartsOver};
-ghost use Rattle.judge_command.specs.asked_service.declared.unit_launch.launching.UnitLaunch.TheVariants.{Launched as Done};
+ghost use Rattle.asked_service.specs.declared.unit_launch.launching.UnitLaunch.TheVariants.{Launched as Done};
 
 use crate::lines::with_line;
 use crate::telling::effect_text;
-use judge_command::verdict_changes::changes_are_true;
-use judge_command::{
+use asked_service::verdict_changes::changes_are_true;
+use asked_service::{
     CommandError, ExitStatus, LaunchRefusal, Launched, ReadyText, UnitLaunch, ask, refusal_line,
 };
 use std::alloc::Global;

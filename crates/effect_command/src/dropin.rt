@@ -1,16 +1,17 @@
 //! The drop-in, with the lines of its refusals.
 ghost use Rattle.std.specs.Prelude.{◌≡◌, ◌∷◌, [], IfOk, IfSome, IsErrOf};
-ghost use Rattle.judge_command.specs.host_io.Calls.{AsksExactly};
-ghost use Rattle.judge_command.specs.unit_inputs.command_answers.Asking.{course, input_file};
-ghost use Rattle.judge_command.specs.unit_inputs.command_answers.Refusals.{refused_line};
-ghost use Rattle.judge_command.specs.unit_inputs.command_answers.CommandErrors.{HasReadCause, IsAnswer};
-ghost use Rattle.judge_command.specs.unit_inputs.UnitRefusals.{text_cause};
+ghost use Rattle.asked_service.specs.host_io.Calls.{AsksExactly};
+ghost use Rattle.asked_service.specs.unit_inputs.command_answers.Asking.{course, input_file};
+ghost use Rattle.asked_service.specs.unit_inputs.command_answers.Refusals.{refused_line};
+ghost use Rattle.asked_service.specs.unit_inputs.command_answers.CommandErrors.{HasReadCause, IsAnswer};
+ghost use Rattle.asked_service.specs.unit_inputs.UnitRefusals.{text_cause};
 ghost use Rattle.effect_command.specs.Longer.{dropin_in, dropin_said};
 
-use host_io::Shelf;
-use judge_command::{
-    CommandError, ResolveError, Text, UnitError, UnitText, read_input, read_unit, refuse, unit_line,
+use asked_service::{
+    CommandError, ResolveError, Text, UnitError, UnitText, read_input, read_unit, refuse,
+    unit_inputs_unit_line as unit_line,
 };
+use host_io::Shelf;
 use std::alloc::{AllocError, Global};
 
 // The line of a drop-in that is refused for its text.

@@ -4,7 +4,7 @@ ghost use Rattle.effect_command.specs.Lines.{counts_line, folder_line, with_line
 
 use crate::kinds::{Kind, count_of};
 use abs_path::AbsPath;
-use judge_command::push_word;
+use asked_service::push_word;
 use std::alloc::{AllocError, Global};
 
 /// The line of a refusal of the unit with the drop-in.

@@ -1,12 +1,12 @@
 //! The launch of the unit with the drop-in. The line of a refusal follows the word `with`.
 ghost use Rattle.std.specs.Prelude.{◌∷◌, [], IsErrOf, option_map};
-ghost use Rattle.judge_command.specs.unit_inputs.command_answers.CommandErrors.{Prepares};
-ghost use Rattle.judge_command.specs.asked_service.started_units.Starting.{StartsAs, first_start, given};
+ghost use Rattle.asked_service.specs.unit_inputs.command_answers.CommandErrors.{Prepares};
+ghost use Rattle.asked_service.specs.started_units.Starting.{StartsAs, first_start, given};
 ghost use Rattle.effect_command.specs.Lines.{with_line};
 ghost use Rattle.effect_command.specs.Stopping.{IsBehindWith};
 
 use crate::lines::with_line;
-use judge_command::{CallTable, CommandError, Resolved, SiteTable, UnitLaunch, refuse, start};
+use asked_service::{CallTable, CommandError, Resolved, SiteTable, UnitLaunch, refuse, start};
 use std::alloc::Global;
 
 // The same refusal, of the unit with the drop-in.

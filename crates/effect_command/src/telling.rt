@@ -1,18 +1,18 @@
 //! The text of what changes from one launched service to another.
 ghost use Rattle.std.specs.Prelude.{◌≡◌, ◌++◌, ◌∷◌, [], ℕ, List, Contains, IfOk, OnOk, codes, flat_map, map};
-ghost use Rattle.judge_command.specs.Asked.{IsAsked, world_in};
-ghost use Rattle.judge_command.specs.Asked.{IsRowIn};
-ghost use Rattle.judge_command.specs.Lent.{IsServiceOf};
-ghost use Rattle.judge_command.specs.kernel_laws.Questions.{questions};
-ghost use Rattle.judge_command.specs.report_text.Answers.{call_line, question_line};
+ghost use Rattle.asked_service.specs.Asking.{IsAsked, world_in};
+ghost use Rattle.asked_service.specs.Asking.{IsRowIn};
+ghost use Rattle.asked_service.specs.Lent.{IsServiceOf};
+ghost use Rattle.asked_service.specs.kernel_laws.Questions.{questions};
+ghost use Rattle.asked_service.specs.report_text.Answers.{call_line, question_line};
 ghost use Rattle.effect_command.specs.Lines.{kind_of};
 ghost use Rattle.effect_command.specs.Told.{changes_at, folder_kinds, folder_lines, lines_in, told_text, turns_at, verdict_kinds, verdict_lines};
 
 use crate::kinds::Kind;
 use crate::lines::{counts_line, folder_line};
 use abs_path::AbsPath;
-use judge_command::verdict_changes::{FolderChange, VerdictChange, folder_change, verdict_change};
-use judge_command::{
+use asked_service::verdict_changes::{FolderChange, VerdictChange, folder_change, verdict_change};
+use asked_service::{
     Asked, Call, CallTable, Question, Row, Service, SiteTable, push_call_lines, question_line,
 };
 use std::alloc::{AllocError, Global};

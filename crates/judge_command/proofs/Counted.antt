@@ -5,36 +5,21 @@ use Rattle.std.specs.Prelude.{cond, filter, map, not, ◌↔◌, if◌then◌els
 use Rattle.std.proofs.lemmas.List.{length-map, take_more}
 use Rattle.std.proofs.lemmas.List.Elements.{filter-append}
 use Rattle.asked_service.specs.abs_path.Paths.{Path}
-use Rattle.open_calls.specs.chosen_calls.Chosen.{calls_for}
+use Rattle.asked_service.specs.open_calls.chosen_calls.Chosen.{calls_for}
 use Rattle.asked_service.specs.kernel_laws.Bound.{is_open}
 use Rattle.asked_service.specs.kernel_laws.Launched.{Launch}
 use Rattle.asked_service.specs.kernel_laws.Questions.{questions}
 use Rattle.asked_service.specs.kernel_laws.declared.question_types.verdict.Verdict.{Verdict}
 use Rattle.asked_service.specs.kernel_laws.declared.question_types.verdict.Verdict.TheVariants as verdict
 use Rattle.asked_service.specs.kernel_laws.declared.question_types.question.Question.{Question}
-use Rattle.judge_command.specs.Answers.{Denied, Open, is_denied}
+use Rattle.asked_service.specs.Answers.{Denied, Open, is_denied}
+use Rattle.asked_service.proofs.AnswerCounts.{all_are, both, few}
 use Rattle.judge_command.specs.Report.{count_line}
 use Rattle.asked_service.specs.report_text.Answers.{summary_line}
-use Rattle.judge_command.specs.Asked.{IsAsked, IsVerdict, denied_among, denied_once, launch_in, world_in}
-use Rattle.judge_command.specs.ByRule.{answer_of, answers_of}
-use Rattle.judge_command.specs.declared.asking.Asked.{Asked}
-
--- of each answer that is denied or open
-pub few : {X : Type 0} (test : X → Bool) (xs : List X) → length (filter test xs) ≤ length xs
-few test [] = omega arith
-few test (x ∷ xs) = by (test x) (few test xs) where
-  by : (b : Bool) → length (filter test xs) ≤ length xs → length (cond b (x ∷ filter test xs) (filter test xs)) ≤ suc (length xs)
-  by true h = omega (arith, h)
-  by false h = omega (arith, h)
-
-pub both : {X : Type 0} (test : X → Bool) (xs : List X) → length (filter test xs) + length (filter (λ x. not (test x)) xs) ≡ length xs
-both test [] = refl
-both test (x ∷ xs) = by (test x) (both test xs) where
-  by : (b : Bool) → length (filter test xs) + length (filter (λ x. not (test x)) xs) ≡ length xs
-      → length (cond b (x ∷ filter test xs) (filter test xs)) + length
-      (cond (not b) (x ∷ filter (λ x. not (test x)) xs) (filter (λ x. not (test x)) xs)) ≡ suc (length xs)
-  by true h = omega (arith, h)
-  by false h = omega (arith, h)
+use Rattle.asked_service.specs.Asking.{IsAsked, launch_in, world_in}
+use Rattle.judge_command.specs.Asked.{IsVerdict, denied_among, denied_once}
+use Rattle.asked_service.specs.ByRule.{answer_of, answers_of}
+use Rattle.asked_service.specs.declared.asking.Asked.{Asked}
 
 module _ (launch : Launch) (program : Path) where
   -- those that are denied are those whose questions are not open
@@ -78,11 +63,6 @@ one_more asked list i d question found lt is verdict' =
 
 -- of all that is asked
 module _ (asked : Asked) (is : IsAsked asked) where
-  pub all_are : length (answers_of (world_in asked) asked.bounded.service.program) ≡ length asked.questions.items
-  all_are =
-      length-map (questions (world_in asked).calls (world_in asked).site) (answer_of (launch_in asked) asked.bounded.service.program)
-      ∙ ap length (sym is.questions)
-
   pub those_denied : denied_among asked asked.questions.items
       ≡ length (filter is_denied (answers_of (world_in asked) asked.bounded.service.program))
   those_denied =
@@ -96,7 +76,7 @@ module _ (asked : Asked) (is : IsAsked asked) where
       let answers = answers_of (world_in asked) asked.bounded.service.program in
       let closed : denied ≡ length (filter is_denied answers) = told ∙ those_denied in
       let whole : length (filter is_denied answers) + length (filter (λ answer. not (is_denied answer)) answers) ≡ length answers = both is_denied answers in
-      let rest : count - denied ≡ length (filter (λ answer. not (is_denied answer)) answers) = omega (arith, closed, whole, all, all_are) in
+      let rest : count - denied ≡ length (filter (λ answer. not (is_denied answer)) answers) = omega (arith, closed, whole, all, all_are asked is) in
       ap₂ summary_line closed rest
 
   pub few_are : (denied count : ℕ) → denied ≡ denied_among asked asked.questions.items → count ≡ length asked.questions.items

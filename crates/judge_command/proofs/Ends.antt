@@ -24,8 +24,9 @@ use Rattle.asked_service.specs.report_text.Answers.{blind_line, call_line, summa
 use Rattle.asked_service.specs.report_text.Notes.{note_line, path_at, unit_line}
 use Rattle.asked_service.specs.report_text.Wording.{question_words}
 use Rattle.asked_service.proofs.OfUnitInputs.Lines.{ends_behind, ends_feed, of_lines_all, of_lines_then}
-use Rattle.judge_command.specs.Answers.{Answer, Denied, Open, is_denied}
-use Rattle.judge_command.specs.Report.{answer_lines, count_line}
+use Rattle.asked_service.specs.Answers.{Answer, Denied, Open, is_denied}
+use Rattle.asked_service.specs.AnswerLines.{answer_lines}
+use Rattle.judge_command.specs.Report.{count_line}
 
 pub launched_ends : (launched : Line) → IsOfLines (launched_line launched)
 launched_ends launched =

@@ -18,12 +18,13 @@ use Rattle.asked_service.specs.unit_launch.Launching.{ComesTo}
 use Rattle.asked_service.specs.declared.unit_launch.launching.UnitLaunch.{UnitLaunch}
 use Rattle.asked_service.specs.declared.unit_launch.launching.UnitLaunch.TheVariants as launch
 use Rattle.asked_service.specs.plan_command.Prints.{plan_refusals}
-use Rattle.judge_command.specs.Asked.{IsAsked, asked_text, launch_in, world_in}
-use Rattle.judge_command.specs.ByRule.{AnswersAreTrue, BlindFoldersAreNamed, answers_of, folders_of}
+use Rattle.asked_service.specs.Asking.{IsAsked, launch_in, world_in}
+use Rattle.judge_command.specs.Asked.{asked_text}
+use Rattle.asked_service.specs.ByRule.{AnswersAreTrue, BlindFoldersAreNamed, answers_of, folders_of}
 use Rattle.judge_command.specs.Prepared.{IsPrepared, inputs_in}
 use Rattle.judge_command.specs.Prints.{PrintsReport, TellsLaunch, TellsService, judge_laws}
 use Rattle.judge_command.specs.Started.{FinishesStarted, IsStarted, status_of, text_of, told_text}
-use Rattle.judge_command.specs.declared.asking.Asked.{Asked}
+use Rattle.asked_service.specs.declared.asking.Asked.{Asked}
 use Rattle.judge_command.specs.declared.launching.Outcome.{Outcome}
 use Rattle.judge_command.specs.declared.launching.Outcome.TheVariants as outcome
 use Rattle.judge_command.specs.declared.preparing.Prepared.{Prepared}

@@ -10,7 +10,7 @@ use Rattle.std.specs.declared.alloc.AllocError.{AllocError}
 use Rattle.std.specs.declared.alloc.Global.{Global}
 use Rattle.asked_service.specs.call_table.Table.{Table}
 use Rattle.asked_service.specs.site_table.Table.{Site}
-use Rattle.open_calls.specs.chosen_calls.Chosen.{calls_for}
+use Rattle.asked_service.specs.open_calls.chosen_calls.Chosen.{calls_for}
 use Rattle.asked_service.specs.kernel_laws.declared.question_types.verdict.Verdict.{Verdict}
 use Rattle.asked_service.specs.kernel_laws.Bound.{is_open}
 use Rattle.asked_service.specs.kernel_laws.declared.question_types.verdict.Verdict.TheVariants as verdict
@@ -23,11 +23,13 @@ use Rattle.asked_service.specs.host_io.Puts.{Put}
 use Rattle.asked_service.specs.host_io.declared.writing.SinkError.{SinkError}
 use Rattle.asked_service.specs.unit_inputs.command_answers.Printing.{PrintsAll, PrintsLines}
 use Rattle.asked_service.proofs.OfUnitInputs.Texts.{text_as, text_then}
-use Rattle.judge_command.specs.Answers.{Denied, Open}
-use Rattle.judge_command.specs.Asked.{IsAsked, answer_text, asked_text, folder_text, is_named, launch_in, world_in}
-use Rattle.judge_command.specs.ByRule.{answer_of, answers_of, folders_of}
-use Rattle.judge_command.specs.Report.{answer_lines, count_line}
-use Rattle.judge_command.specs.declared.asking.Asked.{Asked}
+use Rattle.asked_service.specs.Answers.{Denied, Open}
+use Rattle.asked_service.specs.Asking.{IsAsked, is_named, launch_in, world_in}
+use Rattle.judge_command.specs.Asked.{answer_text, asked_text, folder_text}
+use Rattle.asked_service.specs.ByRule.{answer_of, answers_of, folders_of}
+use Rattle.asked_service.specs.AnswerLines.{answer_lines}
+use Rattle.judge_command.specs.Report.{count_line}
+use Rattle.asked_service.specs.declared.asking.Asked.{Asked}
 
 -- the parts of what is printed of a launched service: its launch, the answers, the folders that are blind, and the count
 abbrev pub launch_part : Asked → List ℕ

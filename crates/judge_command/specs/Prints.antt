@@ -22,8 +22,8 @@ use Rattle.asked_service.specs.declared.unit_launch.launching.UnitLaunch.{UnitLa
 use Rattle.asked_service.specs.declared.unit_launch.launching.UnitLaunch.TheVariants.{Launched, Refused}
 use Rattle.asked_service.specs.plan_command.Planned.{IsPlan}
 use Rattle.asked_service.specs.plan_command.Prints.{plan_refusals}
-use Rattle.judge_command.specs.Answers.{Answer, AreAnswers}
-use Rattle.judge_command.specs.Folders.{AreBlind}
+use Rattle.asked_service.specs.Answers.{Answer, AreAnswers}
+use Rattle.asked_service.specs.Folders.{AreBlind}
 use Rattle.judge_command.specs.Report.{report_text, service_text}
 
 -- the text for a launched service. It has one correct answer per question, in order, and exactly the blind folders of the site,

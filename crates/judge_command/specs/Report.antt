@@ -5,17 +5,12 @@ use Rattle.asked_service.specs.call_table.Table as calls
 use Rattle.asked_service.specs.site_table.Table.{Site}
 use Rattle.asked_service.specs.dropin_merge.declared.resolved.UnitFile.{UnitFile}
 use Rattle.asked_service.specs.dropin_merge.declared.unit_values.value.FileNote.{FileNote}
-use Rattle.asked_service.specs.kernel_laws.declared.question_types.verdict.Verdict.TheVariants as verdict
-use Rattle.asked_service.specs.report_text.Answers.{blind_line, call_line, summary_line, verdict_line}
+use Rattle.asked_service.specs.report_text.Answers.{blind_line, summary_line}
 use Rattle.asked_service.specs.report_text.Launches.{launched_line}
 use Rattle.asked_service.specs.report_text.Notes.{note_line, unit_line}
 use Rattle.asked_service.specs.report_text.declared.launches.Launched.{Launched as Line}
-use Rattle.judge_command.specs.Answers.{Answer, Denied, Open, is_denied}
-
--- a question that is denied, or one that is open with the calls of its list below it
-abbrev pub answer_lines : calls.Table → Site → Answer → List ℕ
-answer_lines table site (Denied question) = verdict_line table site question verdict.Denied
-answer_lines table site (Open question list) = verdict_line table site question verdict.Open ++ flat_map (call_line table) list
+use Rattle.asked_service.specs.AnswerLines.{answer_lines}
+use Rattle.asked_service.specs.Answers.{Answer, is_denied}
 
 -- how many answers are of each kind
 abbrev pub count_line : List Answer → List ℕ

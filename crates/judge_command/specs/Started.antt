@@ -5,7 +5,8 @@ use Rattle.asked_service.specs.unit_inputs.declared.command_answers.exit_status.
 use Rattle.asked_service.specs.unit_inputs.declared.command_answers.exit_status.ExitStatus.TheVariants.{Done, LaunchRefused, OutOfMemory}
 use Rattle.asked_service.specs.unit_launch.Launching.{IsLaunched, IsRefused}
 use Rattle.asked_service.specs.unit_launch.Refusals.{refusal_line}
-use Rattle.judge_command.specs.Asked.{IsAsked, asked_text}
+use Rattle.asked_service.specs.Asking.{IsAsked}
+use Rattle.judge_command.specs.Asked.{asked_text}
 use Rattle.judge_command.specs.Prepared.{inputs_in, settings_in, unit_in}
 use Rattle.judge_command.specs.Report.{report_text}
 use Rattle.judge_command.specs.declared.launching.Outcome.{Outcome}

@@ -2,14 +2,13 @@
 ghost use Rattle.std.specs.Prelude.{◌≡◌, Contains, IfOk, OnOk, flat_map};
 ghost use Rattle.asked_service.specs.unit_inputs.command_answers.Printing.{HasWriteCause, PrintsLines};
 ghost use Rattle.asked_service.specs.kernel_laws.Questions.{questions};
-ghost use Rattle.judge_command.specs.Asked.{IsAsked, IsVerdict, answer_text, denied_among};
-ghost use Rattle.judge_command.specs.Lent.{IsServiceOf};
+ghost use Rattle.asked_service.specs.Asking.{IsAsked};
+ghost use Rattle.judge_command.specs.Asked.{IsVerdict, answer_text, denied_among};
+ghost use Rattle.asked_service.specs.Lent.{IsServiceOf};
 
-use crate::asking::Asked;
 use crate::counting::denied_once;
-use asked_service::{open_lines, put_line, verdict, verdict_line};
+use asked_service::{Asked, Service, calls, open_lines, put_line, verdict, verdict_line};
 use host_io::{Sink, SinkError};
-use open_calls::{Service, calls};
 use questions::{Question, Verdict};
 use std::alloc::{AllocError, Global};
 

@@ -13,8 +13,7 @@ ghost use Rattle.judge_command.specs.Started.{FinishesStarted};
 use crate::launching::{start, status_behind};
 use crate::preparing::{Prepared, prepare};
 use crate::printing::print_report;
-use crate::reasons::truths;
-use asked_service::{ExitStatus, finish_error, status_after};
+use asked_service::{ExitStatus, finish_error, status_after, truths};
 use host_io::{Shelf, Sink};
 use std::alloc::Global;
 

@@ -1,26 +1,14 @@
-//! Finds the blind folders, and prints the line of each as it is found.
+//! Prints the line of each blind folder as it is found.
 ghost use Rattle.std.specs.Prelude.{◌≡◌, IfOk, flat_map};
 ghost use Rattle.asked_service.specs.unit_inputs.command_answers.Printing.{HasWriteCause, PrintsLines};
 ghost use Rattle.asked_service.specs.report_text.Answers.{blind_line};
-ghost use Rattle.judge_command.specs.Asked.{IsAsked, IsRowIn, folder_text, is_named};
+ghost use Rattle.asked_service.specs.Asking.{IsAsked, IsRowIn};
+ghost use Rattle.judge_command.specs.Asked.{folder_text};
 
-use crate::asking::Asked;
 use abs_path::AbsPath;
-use asked_service::{Row, RowKind, blind, push_blind_line, put_line};
+use asked_service::{Asked, Row, is_named, push_blind_line, put_line};
 use host_io::{Sink, SinkError};
 use std::alloc::{AllocError, Global};
-
-/// Whether a row is a folder that is blind. It takes no memory.
-pub fn is_named(asked: &Asked<'_>, row: &Row) -> bool
-    requires asked { IsAsked asked.now }
-    requires row { IsRowIn asked.now row.now }
-    ensures by_the_rule { result ≡ is_named asked.now row.now }
-{
-    match row.kind {
-        RowKind::Dir => blind(&asked.bounded.service, &asked.bounded.ceiling, &row.path),
-        RowKind::File | RowKind::Exe => false,
-    }
-}
 
 // The line of a folder that is blind.
 fn blind_line(alloc: Global, folder: &AbsPath) -> Result<Vec<u8>, AllocError>

@@ -3,10 +3,9 @@ ghost use Rattle.std.specs.Prelude.{◌≡◌, IfOk};
 ghost use Rattle.judge_command.specs.Prepared.{CanBeStarted};
 ghost use Rattle.judge_command.specs.Started.{IsStarted, status_of};
 
-use crate::asking::{Asked, ask};
 use crate::preparing::Prepared;
-use asked_service::ExitStatus;
 use asked_service::unit_launch::{LaunchRefusal, UnitLaunch, launch_unit};
+use asked_service::{Asked, ExitStatus, ask};
 use std::alloc::{AllocError, Global};
 
 /// What the launch of a unit came to.

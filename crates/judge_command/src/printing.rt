@@ -2,18 +2,18 @@
 ghost use Rattle.std.specs.Prelude.{flat_map};
 ghost use Rattle.asked_service.specs.unit_inputs.command_answers.Printing.{HasWriteCause, PrintsLines};
 ghost use Rattle.asked_service.specs.report_text.Notes.{note_line};
-ghost use Rattle.judge_command.specs.Asked.{IsAsked, asked_text};
+ghost use Rattle.asked_service.specs.Asking.{IsAsked};
+ghost use Rattle.judge_command.specs.Asked.{asked_text};
 ghost use Rattle.judge_command.specs.Prepared.{settings_in, unit_in};
 ghost use Rattle.judge_command.specs.Report.{report_text};
 ghost use Rattle.judge_command.specs.Started.{CanBeTold, told_text};
 
 use crate::answers::print_answers;
-use crate::asking::Asked;
 use crate::folders::print_folders;
 use crate::launching::Outcome;
 use asked_service::unit_launch::{refusal_line, told};
 use asked_service::{
-    FileNote, Resolved, SettledUnit, launched_line, note_line, put_line,
+    Asked, FileNote, Resolved, SettledUnit, launched_line, note_line, put_line,
     report_text_unit_line as unit_line, summary_line,
 };
 use host_io::{Sink, SinkError};

@@ -24,7 +24,7 @@ use Rattle.asked_service.proofs.OfUnitInputs.Steps.{AreRead, refusals_with}
 use Rattle.asked_service.specs.plan_command.Planned.{IsPlan, path_refusals}
 use Rattle.asked_service.specs.plan_command.Prints.{refused_paths}
 use Rattle.replay_command.specs.Prepared.{CanBeStarted, IsPrepared, refusals_behind, replay_refusals}
-use Rattle.replay_command.specs.Scripts.{script_in}
+use Rattle.asked_service.specs.Scripts.{script_in}
 
 -- an input is refused
 pub stops_at_inputs : (P : UnitInputs → Type 0) (told : Option Files) (unit path : List ℕ) (stop : CommandError)

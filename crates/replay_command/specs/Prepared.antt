@@ -10,7 +10,7 @@ use Rattle.asked_service.specs.unit_inputs.Inputs.{Inputs, input_refusals, input
 use Rattle.asked_service.specs.unit_inputs.Settled.{AreSettled, refusals_by, refusals_of}
 use Rattle.asked_service.specs.plan_command.Planned.{IsPlan}
 use Rattle.asked_service.specs.plan_command.Prints.{refused_paths}
-use Rattle.replay_command.specs.Scripts.{script_in}
+use Rattle.asked_service.specs.Scripts.{script_in}
 use Rattle.replay_command.specs.declared.preparing.Prepared.{Prepared}
 
 -- the refusals after the inputs: the script, then the settings, and then the paths

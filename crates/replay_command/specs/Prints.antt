@@ -25,7 +25,7 @@ use Rattle.asked_service.specs.declared.unit_launch.launching.UnitLaunch.{UnitLa
 use Rattle.asked_service.specs.declared.unit_launch.launching.UnitLaunch.TheVariants.{Launched, Refused}
 use Rattle.asked_service.specs.plan_command.Planned.{IsPlan}
 use Rattle.replay_command.specs.Prepared.{replay_refusals}
-use Rattle.replay_command.specs.Scripts.{script_in}
+use Rattle.asked_service.specs.Scripts.{script_in}
 use Rattle.replay_command.specs.Texts.{status_behind, replay_text}
 
 -- With any programs that match the filters, including the launch's own, the launch takes the same number of steps. The replies

@@ -17,12 +17,6 @@ mod preparing;
 mod printing;
 mod ready;
 mod replaying;
-mod script;
 
-pub use asked_service::unit_launch::{LaunchRefusal, refusal_line};
-pub use asked_service::{
-    CallTable, CommandError, ExitStatus, ReadyText, Script as ScriptTextScript, SiteTable,
-    VerdictRow, plan_line, read_inputs, refuse, refused_line, settings_line,
-};
+pub use asked_service::VerdictRow;
 pub use command::answer;
-pub use script::read_script;

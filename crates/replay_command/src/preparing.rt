@@ -7,9 +7,9 @@ ghost use Rattle.asked_service.specs.unit_inputs.Asking.{AsksInOrder, asks_with_
 ghost use Rattle.asked_service.specs.unit_inputs.ReadsFor.{ReadsFor};
 ghost use Rattle.replay_command.specs.Prepared.{CanBeStarted, IsPrepared, replay_refusals};
 
-use crate::script::read_script;
 use asked_service::{
-    Call, CommandError, MountSteps, Script, SettledUnit, fits, plan_mounts, read_inputs, settle,
+    Call, CommandError, MountSteps, Script, SettledUnit, fits, plan_mounts, read_inputs,
+    read_script, settle,
 };
 use host_io::Shelf;
 use std::alloc::Global;

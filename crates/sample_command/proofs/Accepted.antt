@@ -1,29 +1,29 @@
 -- Nothing of a made unit is refused: no setting, no path and no step of its launch.
 use Rattle.std.proofs.Common.{◌≡◌, ◌≢◌, ◌∙◌, ℕ, List, [], Some, None, Result, Ok, Err, ap, refl, sym, subst, length, arith}
-use Rattle.judge_command.specs.call_table.Facts.{IsWhole}
-use Rattle.judge_command.specs.call_table.Table as calls
+use Rattle.asked_service.specs.call_table.Facts.{IsWhole}
+use Rattle.asked_service.specs.call_table.Table as calls
 use Rattle.sample_inputs.specs.cap_sets.Sets.{all, none, IsWithin}
 use Rattle.sample_inputs.proofs.OfCapSets.Members.{none_within, within_self}
-use Rattle.judge_command.specs.dropin_merge.declared.resolved.Resolved.{Resolved}
-use Rattle.judge_command.specs.exec_settings.Mounts.{unit_mentions}
-use Rattle.judge_command.specs.exec_settings.declared.service.Settings.{Settings}
-use Rattle.judge_command.specs.kernel_model.kern_files.Looking.{flags_by}
-use Rattle.judge_command.specs.kern_mounts.declared.step.MountStep.{MountStep}
-use Rattle.judge_command.specs.asked_service.launched_units.Launching.{IsNotLaunched, IsRefusedUnit, RefusesPath}
-use Rattle.judge_command.specs.asked_service.declared.launched_units.refusal.UnitRefusal.{UnitRefusal}
-use Rattle.judge_command.specs.asked_service.declared.launched_units.refusal.UnitRefusal.TheVariants.{Settings as InSettings, Plan, Launch}
-use Rattle.judge_command.specs.asked_service.declared.launched_units.refusal.UnitRefusal.TheVariants.{Memory}
-use Rattle.judge_command.specs.mount_plan.Host.{host_of}
-use Rattle.judge_command.specs.mount_plan.declared.error.PlanError.{PlanError}
-use Rattle.judge_command.specs.mount_plan.declared.error.PlanError.TheVariants as plan
+use Rattle.asked_service.specs.dropin_merge.declared.resolved.Resolved.{Resolved}
+use Rattle.asked_service.specs.exec_settings.Mounts.{unit_mentions}
+use Rattle.asked_service.specs.exec_settings.declared.service.Settings.{Settings}
+use Rattle.asked_service.specs.kernel_model.kern_files.Looking.{flags_by}
+use Rattle.asked_service.specs.kern_mounts.declared.step.MountStep.{MountStep}
+use Rattle.asked_service.specs.launched_units.Launching.{IsNotLaunched, IsRefusedUnit, RefusesPath}
+use Rattle.asked_service.specs.declared.launched_units.refusal.UnitRefusal.{UnitRefusal}
+use Rattle.asked_service.specs.declared.launched_units.refusal.UnitRefusal.TheVariants.{Settings as InSettings, Plan, Launch}
+use Rattle.asked_service.specs.declared.launched_units.refusal.UnitRefusal.TheVariants.{Memory}
+use Rattle.asked_service.specs.mount_plan.Host.{host_of}
+use Rattle.asked_service.specs.mount_plan.declared.error.PlanError.{PlanError}
+use Rattle.asked_service.specs.mount_plan.declared.error.PlanError.TheVariants as plan
 use Rattle.sample_inputs.specs.sample_launch.EndsWell.{ArePlain, IsNeverRefused, PlainSettingsAreLaunched, ShowsProgram}
 use Rattle.sample_inputs.specs.Facts.{HasSampleRows, SaysSample, plain_exe, program}
 use Rattle.sample_inputs.specs.sample_launch.Planned.{FindsItsProgram, PathsAreNotRefused, ProgramsAreFound}
 use Rattle.sample_inputs.specs.sample_launch.Settled.{AreSampleSettings, SettingsAreNotRefused, SettingsAreTheSamples}
-use Rattle.judge_command.specs.site_table.Table.{Site}
-use Rattle.judge_command.specs.asked_service.unit_launch.Launching.{IsRefused}
-use Rattle.judge_command.specs.asked_service.declared.unit_launch.refusal.LaunchRefusal.{LaunchRefusal}
-use Rattle.judge_command.specs.asked_service.declared.unit_launch.refusal.LaunchRefusal.TheVariants as refusal
+use Rattle.asked_service.specs.site_table.Table.{Site}
+use Rattle.asked_service.specs.unit_launch.Launching.{IsRefused}
+use Rattle.asked_service.specs.declared.unit_launch.refusal.LaunchRefusal.{LaunchRefusal}
+use Rattle.asked_service.specs.declared.unit_launch.refusal.LaunchRefusal.TheVariants as refusal
 use Rattle.sample_command.specs.Accepted as sample
 
 are_plain : (n : ℕ) (settings : Settings) → AreSampleSettings n settings → ArePlain settings

@@ -1,18 +1,18 @@
 -- The counts of all that is asked.
 use Rattle.std.proofs.Common.{◌≡◌, ◌∙◌, ℕ, suc, ◌-◌, Bool, true, false, List, [], ◌∷◌, ap, refl, sym, arith, cond, length, map}
 use Rattle.std.specs.Prelude.{filter, not, if◌then◌else◌}
-use Rattle.judge_command.specs.abs_path.Paths.{Path}
-use Rattle.judge_command.specs.asked_service.Rows.{count_open, rows_of}
-use Rattle.judge_command.specs.open_calls.chosen_calls.Chosen.{calls_for}
-use Rattle.judge_command.specs.Answers.{Denied, Open, is_denied}
-use Rattle.judge_command.specs.Asked.{IsAsked, launch_in, world_in}
-use Rattle.judge_command.specs.ByRule.{answer_of, answers_of}
-use Rattle.judge_command.specs.declared.asking.Asked.{Asked}
-use Rattle.judge_command.proofs.Counted.{all_are, both}
-use Rattle.judge_command.specs.kernel_laws.Bound.{is_open}
-use Rattle.judge_command.specs.kernel_laws.Launched.{launch_of}
-use Rattle.judge_command.specs.kernel_model.World.{World}
-use Rattle.judge_command.specs.kernel_laws.declared.question_types.question.Question.{Question}
+use Rattle.asked_service.specs.abs_path.Paths.{Path}
+use Rattle.asked_service.specs.Rows.{count_open, rows_of}
+use Rattle.asked_service.specs.open_calls.chosen_calls.Chosen.{calls_for}
+use Rattle.asked_service.specs.Answers.{Denied, Open, is_denied}
+use Rattle.asked_service.specs.Asking.{IsAsked, launch_in, world_in}
+use Rattle.asked_service.specs.ByRule.{answer_of, answers_of}
+use Rattle.asked_service.specs.declared.asking.Asked.{Asked}
+use Rattle.asked_service.proofs.AnswerCounts.{all_are, both}
+use Rattle.asked_service.specs.kernel_laws.Bound.{is_open}
+use Rattle.asked_service.specs.kernel_laws.Launched.{launch_of}
+use Rattle.asked_service.specs.kernel_model.World.{World}
+use Rattle.asked_service.specs.kernel_laws.declared.question_types.question.Question.{Question}
 
 -- those that are open by the rule are those whose answers are not denied
 open_are : (world : World) (program : Path) (list : List Question)

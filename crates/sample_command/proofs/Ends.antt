@@ -1,8 +1,8 @@
 -- Each line ends in a line feed.
 use Rattle.std.proofs.Common.{List, ℕ, codes, inr}
 use Rattle.std.specs.Fmt.{decimal}
-use Rattle.judge_command.specs.unit_inputs.command_answers.Lines.{IsOfLines}
-use Rattle.judge_command.proofs.OfUnitInputs.Lines.{ends_behind, ends_feed}
+use Rattle.asked_service.specs.unit_inputs.command_answers.Lines.{IsOfLines}
+use Rattle.asked_service.proofs.OfUnitInputs.Lines.{ends_behind, ends_feed}
 use Rattle.sample_command.specs.Prints.{count_line}
 
 pub count_ends : (word : List ℕ) (number : ℕ) → IsOfLines (count_line word number)

@@ -1,15 +1,15 @@
 -- The laws of `sample` go together, and what is judged is printed by them.
 use Rattle.std.proofs.Common.{◌≡◌, ℕ, List, ap, refl, sym, subst}
 use Rattle.std.specs.Prelude.{IsTrue}
-use Rattle.judge_command.specs.call_table.Table as calls
-use Rattle.judge_command.specs.unit_inputs.command_answers.ExitStatuses.{is_answer, is_whole}
-use Rattle.judge_command.specs.unit_inputs.command_answers.Laws.{GoTogether}
-use Rattle.judge_command.specs.dropin_merge.declared.resolved.Resolved.{Resolved}
-use Rattle.judge_command.specs.Answers.{AreAnswers}
-use Rattle.judge_command.specs.ByRule.{AnswersAreTrue, answers_of}
-use Rattle.judge_command.specs.asked_service.launched_units.Launching.{IsLaunchedUnit}
-use Rattle.judge_command.specs.launcher.declared.launched.Launched.{Launched as Service}
-use Rattle.judge_command.specs.site_table.Table.{Site}
+use Rattle.asked_service.specs.call_table.Table as calls
+use Rattle.asked_service.specs.unit_inputs.command_answers.ExitStatuses.{is_answer, is_whole}
+use Rattle.asked_service.specs.unit_inputs.command_answers.Laws.{GoTogether}
+use Rattle.asked_service.specs.dropin_merge.declared.resolved.Resolved.{Resolved}
+use Rattle.asked_service.specs.Answers.{AreAnswers}
+use Rattle.asked_service.specs.ByRule.{AnswersAreTrue, answers_of}
+use Rattle.asked_service.specs.launched_units.Launching.{IsLaunchedUnit}
+use Rattle.asked_service.specs.launcher.declared.launched.Launched.{Launched as Service}
+use Rattle.asked_service.specs.site_table.Table.{Site}
 use Rattle.sample_inputs.specs.Made.{IsSample}
 use Rattle.sample_command.specs.Counts.{Counts, CountsAnswers}
 use Rattle.sample_command.specs.Prints.{PrintsSample, sample_laws, sampled_text}

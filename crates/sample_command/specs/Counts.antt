@@ -1,10 +1,10 @@
 -- The counts of a sample.
 use Rattle.std.specs.Prelude.{◌≡◌, ℕ, List, filter, length, not}
-use Rattle.judge_command.specs.abs_path.Paths.{Path}
-use Rattle.judge_command.specs.Answers.{Answer, is_denied}
-use Rattle.judge_command.specs.ByRule.{answers_of}
-use Rattle.judge_command.specs.kernel_model.World.{World}
-use Rattle.judge_command.specs.site_table.Table.{Site}
+use Rattle.asked_service.specs.abs_path.Paths.{Path}
+use Rattle.asked_service.specs.Answers.{Answer, is_denied}
+use Rattle.asked_service.specs.ByRule.{answers_of}
+use Rattle.asked_service.specs.kernel_model.World.{World}
+use Rattle.asked_service.specs.site_table.Table.{Site}
 use Rattle.sample_command.specs.declared.sampled.Sampled.{Sampled}
 
 -- how many rows a site has, `/` and `/proc` among them, how many questions are asked, and how many of these are denied, and open

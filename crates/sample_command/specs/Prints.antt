@@ -1,15 +1,15 @@
 -- What `sample` prints.
 use Rattle.std.specs.Prelude.{◌≡◌, ℕ, List, [], ◌∷◌, ◌++◌, codes}
 use Rattle.std.specs.Fmt.{decimal}
-use Rattle.judge_command.specs.call_table.Table as calls
-use Rattle.judge_command.specs.unit_inputs.command_answers.Laws.{Laws}
-use Rattle.judge_command.specs.unit_inputs.declared.command_answers.exit_status.ExitStatus.{ExitStatus}
-use Rattle.judge_command.specs.unit_inputs.declared.command_answers.exit_status.ExitStatus.TheVariants.{Done}
-use Rattle.judge_command.specs.dropin_merge.declared.resolved.Resolved.{Resolved}
-use Rattle.judge_command.specs.Answers.{Answer, AreAnswers}
-use Rattle.judge_command.specs.asked_service.launched_units.Launching.{IsLaunchedUnit}
-use Rattle.judge_command.specs.launcher.declared.launched.Launched.{Launched as Service}
-use Rattle.judge_command.specs.site_table.Table.{Site}
+use Rattle.asked_service.specs.call_table.Table as calls
+use Rattle.asked_service.specs.unit_inputs.command_answers.Laws.{Laws}
+use Rattle.asked_service.specs.unit_inputs.declared.command_answers.exit_status.ExitStatus.{ExitStatus}
+use Rattle.asked_service.specs.unit_inputs.declared.command_answers.exit_status.ExitStatus.TheVariants.{Done}
+use Rattle.asked_service.specs.dropin_merge.declared.resolved.Resolved.{Resolved}
+use Rattle.asked_service.specs.Answers.{Answer, AreAnswers}
+use Rattle.asked_service.specs.launched_units.Launching.{IsLaunchedUnit}
+use Rattle.asked_service.specs.launcher.declared.launched.Launched.{Launched as Service}
+use Rattle.asked_service.specs.site_table.Table.{Site}
 use Rattle.sample_inputs.specs.Made.{IsSample}
 use Rattle.sample_command.specs.Counts.{Counts}
 use Rattle.sample_command.specs.declared.sampled.Sampled.{Sampled}

@@ -1,12 +1,12 @@
 //! The command `sample` and a number.
 ghost use Rattle.std.specs.Prelude.{◌≤◌, IsErrOf};
-ghost use Rattle.judge_command.specs.unit_inputs.command_answers.Laws.{IsAdmitted};
+ghost use Rattle.asked_service.specs.unit_inputs.command_answers.Laws.{IsAdmitted};
 ghost use Rattle.sample_command.specs.Prints.{status_of, sample_laws, sampled_text};
 
 use crate::judging::judge_sample;
 use crate::launching::launch_sample;
 use crate::sampled::Sampled;
-use judge_command::{CommandError, truths};
+use asked_service::{CommandError, truths};
 use sample_inputs::made;
 use sample_inputs::sample_launch::launches_end_well;
 use std::alloc::Global;

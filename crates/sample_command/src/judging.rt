@@ -1,13 +1,13 @@
 //! A launched service that is judged.
 ghost use Rattle.std.specs.Prelude.{IfOk};
-ghost use Rattle.judge_command.specs.kernel_laws.Launched.{launch_of};
-ghost use Rattle.judge_command.specs.kernel_ways.Laws.{IsServedWorld};
-ghost use Rattle.judge_command.specs.kernel_ways.Offers.{RunsProgram};
+ghost use Rattle.asked_service.specs.kernel_laws.Launched.{launch_of};
+ghost use Rattle.asked_service.specs.kernel_ways.Laws.{IsServedWorld};
+ghost use Rattle.asked_service.specs.kernel_ways.Offers.{RunsProgram};
 ghost use Rattle.sample_command.specs.Counts.{CountsAnswers};
-ghost use Rattle.judge_command.specs.Asked.{IsAsked};
+ghost use Rattle.asked_service.specs.Asking.{IsAsked};
 
 use crate::sampled::Sampled;
-use judge_command::{Asked, Launched, ask, count_open};
+use asked_service::{Asked, Launched, ask, count_open};
 use std::alloc::{AllocError, Global};
 
 // Counts the answers to all that is asked.

@@ -1,9 +1,9 @@
 //! The launch of a made unit.
 ghost use Rattle.std.specs.Prelude.{IfOk};
-ghost use Rattle.judge_command.specs.asked_service.launched_units.Launching.{IsLaunchedUnit};
+ghost use Rattle.asked_service.specs.launched_units.Launching.{IsLaunchedUnit};
 ghost use Rattle.sample_command.specs.Accepted.{IsNeverRefused};
 
-use judge_command::{Launched, UnitRefusal, launch_whole};
+use asked_service::{Launched, UnitRefusal, launch_whole};
 use sample_inputs::SampleInputs;
 use std::alloc::{AllocError, Global};
 

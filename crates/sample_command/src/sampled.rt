@@ -2,8 +2,8 @@
 ghost use Rattle.std.specs.Prelude.{◌≡◌, IfOk};
 ghost use Rattle.sample_command.specs.Prints.{count_line};
 
+use asked_service::{ExitStatus, Ready, put_line};
 use host_io::{Sink, SinkError};
-use judge_command::{ExitStatus, Ready, put_line};
 use std::alloc::{AllocError, Global};
 
 /// What a sample came to.

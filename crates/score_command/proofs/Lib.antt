@@ -1,7 +1,15 @@
 pub mod Ends
 pub mod Steps
 pub mod Prepared
-pub mod OfUnitInputs
-pub use Rattle.report_text.proofs.OfDropinMerge as OfDropinMerge
-pub use Rattle.report_text.proofs.OfExposureScore as OfExposureScore
-pub use Rattle.unit_inputs.proofs.OfHostIo as OfHostIo
+pub mod FleetCommandEnds
+pub mod Reported
+pub mod FleetCommandPrepared
+pub mod Asked
+pub mod Came
+pub mod Ordered
+pub mod Gathered
+pub mod FleetReportAsked
+pub mod Taking
+pub mod Keyed
+pub mod Named
+pub mod FleetNamesAsked

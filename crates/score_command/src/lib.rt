@@ -9,6 +9,7 @@
 #![tactic(auto)]
 
 mod command;
+pub mod fleet_command;
 mod policies;
 mod preparing;
 mod printing;
@@ -18,14 +19,4 @@ mod weighing;
 pub use command::prepare;
 pub use policies::read_policy;
 pub use ready::Scored;
-pub use report_text::{
-    CustomTest, Facts, Policy, ResolveError, Resolved, ScoreError, Stored, ambient_count, facts,
-    resolve, score, weighs, writable_paths,
-};
-pub use unit_inputs::command_answers::{
-    CommandError, ExitStatus, Ready as UnitInputsReady, put_line, refuse, refused_line,
-};
-pub use unit_inputs::{
-    CallTable, NameError, Settings, SettingsError, SiteTable, UnitName, push_word, read_site,
-    read_table, settings, settings_line, unit_line,
-};
+pub use report_text::{CustomTest, Facts, Stored, ambient_count, writable_paths};

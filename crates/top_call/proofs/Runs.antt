@@ -3,7 +3,7 @@ use Rattle.std.proofs.Common.{◌≡◌, ℕ, List, Ok, Option, subst, sym}
 use Rattle.std.specs.Prelude.{IsTrue}
 use Rattle.derive_command.specs.host_io.Calls.{ShelfCall}
 use Rattle.derive_command.specs.host_io.Files.{Files}
-use Rattle.fleet_command.specs.exposure_score.StoredTests.{StoredTests}
+use Rattle.score_command.specs.exposure_score.StoredTests.{StoredTests}
 use Rattle.derive_command.specs.unit_inputs.command_answers.Asking.{course_of_run}
 use Rattle.derive_command.specs.unit_inputs.command_answers.ExitStatuses.{is_answer, is_whole}
 use Rattle.derive_command.specs.unit_inputs.command_answers.Laws.{fixed_laws}

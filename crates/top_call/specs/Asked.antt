@@ -2,25 +2,25 @@
 use Rattle.std.specs.Prelude.{ℕ, List, [], map, Option, Some, None}
 use Rattle.derive_command.specs.host_io.Calls.{Ask}
 use Rattle.derive_command.specs.host_io.Files.{Files}
-use Rattle.fleet_command.specs.exposure_score.StoredTests.{StoredTests}
+use Rattle.score_command.specs.exposure_score.StoredTests.{StoredTests}
 use Rattle.tighten_command.specs.tightening.Wishes.{Wishes}
 use Rattle.derive_command.specs.unit_inputs.command_answers.Laws.{Laws, fixed_laws, laws_over}
 use Rattle.derive_command.specs.unit_inputs.declared.command_answers.exit_status.ExitStatus.{ExitStatus}
 use Rattle.derive_command.specs.unit_inputs.declared.command_answers.exit_status.ExitStatus.TheVariants.{Done, NoCommand}
 use Rattle.filter_command.specs.Prints.{filter_laws}
 use Rattle.derive_command.specs.plan_command.Prints.{plan_laws}
-use Rattle.effect_command.specs.judge_command.Prints.{judge_laws}
-use Rattle.derive_command.specs.replay_command.Prints.{replay_laws}
+use Rattle.judge_command.specs.Prints.{judge_laws}
+use Rattle.replay_command.specs.Prints.{replay_laws}
 use Rattle.derive_command.specs.Prints.{derive_laws}
 use Rattle.effect_command.specs.Prints.{effect_laws}
 use Rattle.tighten_command.specs.Prints.{tighten_laws}
 use Rattle.why_command.specs.Prints.{why_laws}
 use Rattle.why_command.specs.lines_command.Prints.{lines_laws}
-use Rattle.fleet_command.specs.score_command.Prints.{score_laws}
+use Rattle.score_command.specs.Prints.{score_laws}
 use Rattle.check_command.specs.Prints.{check_laws}
 use Rattle.derive_command.specs.unit_inputs.Asking.{asks_with_file, input_asks}
-use Rattle.fleet_command.specs.Asking.{fleet_asks}
-use Rattle.fleet_command.specs.Prints.{fleet_laws}
+use Rattle.score_command.specs.fleet_command.Asking.{fleet_asks}
+use Rattle.score_command.specs.fleet_command.Prints.{fleet_laws}
 use Rattle.sample_command.specs.Prints.{sample_laws}
 use Rattle.top_call.specs.Requests.{Request, HelpAlone, VersionAlone, FilterOf, PlanOf, JudgeOf, ReplayOf, DeriveOf, EffectOf, TightenOf}
 use Rattle.top_call.specs.Requests.{WhyOf, LinesOf, ScoreOf, CheckOf, FleetOf, SampleOf, request_in}

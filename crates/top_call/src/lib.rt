@@ -2,8 +2,8 @@
 //!
 //! `run` takes words, a shelf, a sink, the stored tests of scores and the wishes for a tightened unit, and answers a
 //! status. Each command is a crate of its own: `filter_command`, `plan_command`, `judge_command`, `replay_command`,
-//! `derive_command`, `effect_command`, `tighten_command`, `why_command`, `score_command`, `check_command`,
-//! `fleet_command` and `sample_command`. It is prepared and then finished as `command_answers` says for all.
+//! `derive_command`, `effect_command`, `tighten_command`, `why_command`, `check_command` and `sample_command`;
+//! `score_command` has `score` and `fleet`. It is prepared and then finished as `command_answers` says for all.
 //!
 //! `run(alloc, &["filter", "web.service"], &mut shelf, &mut out, tests, wishes)` prints the filters of a unit.
 #![tactic(auto)]

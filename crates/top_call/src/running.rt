@@ -78,7 +78,7 @@ fn answer_request<S: Shelf, K: Sink>(
         ),
         Request::Fleet(policy) => finish(
             alloc,
-            fleet_command::prepare(alloc, shelf, policy, tests),
+            score_command::fleet_command::prepare(alloc, shelf, policy, tests),
             out,
         ),
         Request::Sample(number) => finish(alloc, sample_command::prepare(alloc, number), out),

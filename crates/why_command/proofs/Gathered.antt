@@ -2,9 +2,9 @@
 use Rattle.std.proofs.Common.{◌≡◌, ◌∙◌, ℕ, ◌+◌, ◌<◌, List, [], ◌∷◌, ◌++◌, append-nil, get_or, length, map, take, ap, refl, sym}
 use Rattle.std.proofs.lemmas.List.{take_more}
 use Rattle.std.proofs.lemmas.List.Concat.{flat_map-append}
-use Rattle.judge_command.specs.kernel_laws.Launched.{Launch}
-use Rattle.judge_command.specs.kernel_laws.declared.question_types.question.Question.{Question}
-use Rattle.deciding_lines.specs.declared.unit_lines.line.UnitLine.{UnitLine}
+use Rattle.asked_service.specs.kernel_laws.Launched.{Launch}
+use Rattle.asked_service.specs.kernel_laws.declared.question_types.question.Question.{Question}
+use Rattle.why_command.specs.declared.deciding_lines.unit_lines.line.UnitLine.{UnitLine}
 use Rattle.why_command.specs.opening_lines.ByRule.{opened_at, opened_by}
 use Rattle.why_command.specs.declared.opening_lines.each.LineAlone.{LineAlone}
 

@@ -8,3 +8,7 @@ pub mod Gathered
 pub mod Listed
 pub mod LinesCommandTold
 pub mod LinesCommandPrepared
+pub mod Parts
+pub mod LeftOut
+pub mod Asked
+pub mod Needed

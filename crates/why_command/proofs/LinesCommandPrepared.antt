@@ -1,25 +1,25 @@
 -- What is prepared, by the files.
 use Rattle.std.proofs.Common.{◌≡◌, ◌∙◌, ℕ, List, Some, None, Option, Result, Ok, Err, ◌⊎◌, inl, inr, refl, sym, subst}
 use Rattle.std.specs.Prelude.{IfSome, IsTrue}
-use Rattle.judge_command.specs.host_io.Files.{Files}
-use Rattle.judge_command.specs.unit_inputs.command_answers.ExitStatuses.{is_answer}
-use Rattle.judge_command.specs.unit_inputs.command_answers.Laws.{AcceptsFiles, GoTogether, IsAdmitted, laws_over}
-use Rattle.judge_command.specs.unit_inputs.command_answers.CommandErrors.{Prepares, first_refusal}
-use Rattle.judge_command.specs.unit_inputs.declared.command_answers.exit_status.ExitStatus.{ExitStatus}
-use Rattle.judge_command.specs.unit_inputs.declared.command_answers.exit_status.ExitStatus.TheVariants.{Done, LaunchRefused}
-use Rattle.judge_command.specs.unit_inputs.declared.command_answers.error.CommandError.{CommandError}
-use Rattle.judge_command.proofs.OfUnitInputs.FileCommands.{go_together, ready_is_admitted, stop_is_admitted}
-use Rattle.judge_command.proofs.OfUnitInputs.Refusing.{stops_as}
-use Rattle.judge_command.specs.asked_service.started_units.Starting.{start_refusals}
-use Rattle.judge_command.specs.unit_inputs.Inputs.{Inputs, input_refusals, inputs_of, inputs_view}
-use Rattle.judge_command.specs.unit_inputs.declared.inputs.UnitInputs.{UnitInputs}
-use Rattle.judge_command.specs.asked_service.declared.unit_launch.launching.UnitLaunch.{UnitLaunch}
-use Rattle.judge_command.specs.asked_service.declared.unit_launch.launching.UnitLaunch.TheVariants.{Launched, Refused}
-use Rattle.judge_command.specs.unit_inputs.Settled.{refusals_by}
-use Rattle.judge_command.proofs.OfUnitInputs.Steps.{AreRead, refusals_with}
-use Rattle.judge_command.proofs.OfUnitInputs.Steps as steps
-use Rattle.judge_command.specs.unit_inputs.command_answers.ReadyTexts.{status_of, text_of}
-use Rattle.judge_command.specs.unit_inputs.declared.command_answers.ready_text.ReadyText.{ReadyText}
+use Rattle.asked_service.specs.host_io.Files.{Files}
+use Rattle.asked_service.specs.unit_inputs.command_answers.ExitStatuses.{is_answer}
+use Rattle.asked_service.specs.unit_inputs.command_answers.Laws.{AcceptsFiles, GoTogether, IsAdmitted, laws_over}
+use Rattle.asked_service.specs.unit_inputs.command_answers.CommandErrors.{Prepares, first_refusal}
+use Rattle.asked_service.specs.unit_inputs.declared.command_answers.exit_status.ExitStatus.{ExitStatus}
+use Rattle.asked_service.specs.unit_inputs.declared.command_answers.exit_status.ExitStatus.TheVariants.{Done, LaunchRefused}
+use Rattle.asked_service.specs.unit_inputs.declared.command_answers.error.CommandError.{CommandError}
+use Rattle.asked_service.proofs.OfUnitInputs.FileCommands.{go_together, ready_is_admitted, stop_is_admitted}
+use Rattle.asked_service.proofs.OfUnitInputs.Refusing.{stops_as}
+use Rattle.asked_service.specs.started_units.Starting.{start_refusals}
+use Rattle.asked_service.specs.unit_inputs.Inputs.{Inputs, input_refusals, inputs_of, inputs_view}
+use Rattle.asked_service.specs.unit_inputs.declared.inputs.UnitInputs.{UnitInputs}
+use Rattle.asked_service.specs.declared.unit_launch.launching.UnitLaunch.{UnitLaunch}
+use Rattle.asked_service.specs.declared.unit_launch.launching.UnitLaunch.TheVariants.{Launched, Refused}
+use Rattle.asked_service.specs.unit_inputs.Settled.{refusals_by}
+use Rattle.asked_service.proofs.OfUnitInputs.Steps.{AreRead, refusals_with}
+use Rattle.asked_service.proofs.OfUnitInputs.Steps as steps
+use Rattle.asked_service.specs.unit_inputs.command_answers.ReadyTexts.{status_of, text_of}
+use Rattle.asked_service.specs.unit_inputs.declared.command_answers.ready_text.ReadyText.{ReadyText}
 use Rattle.why_command.specs.lines_command.Prints.{PrintsLines, TellsLaunch, TellsLines, lines_laws, lines_refusals}
 
 -- each ends as it may

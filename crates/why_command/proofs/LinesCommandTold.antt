@@ -1,18 +1,18 @@
 -- What is told of a launched service, and what is ready behind a launch.
 use Rattle.std.proofs.Common.{◌≡◌, ℕ, List, Result, Ok, Err, map, subst}
 use Rattle.std.specs.List.{All}
-use Rattle.judge_command.specs.unit_inputs.command_answers.CommandErrors.{Prepares}
-use Rattle.judge_command.specs.unit_inputs.declared.command_answers.error.CommandError.{CommandError}
-use Rattle.judge_command.specs.unit_inputs.declared.command_answers.error.CommandError.TheVariants as stop
-use Rattle.judge_command.specs.launcher.declared.launched.Launched.{Launched as Service}
+use Rattle.asked_service.specs.unit_inputs.command_answers.CommandErrors.{Prepares}
+use Rattle.asked_service.specs.unit_inputs.declared.command_answers.error.CommandError.{CommandError}
+use Rattle.asked_service.specs.unit_inputs.declared.command_answers.error.CommandError.TheVariants as stop
+use Rattle.asked_service.specs.launcher.declared.launched.Launched.{Launched as Service}
 use Rattle.why_command.specs.opening_lines.Opening.{IsAlone}
 use Rattle.why_command.specs.declared.opening_lines.each.LineAlone.{LineAlone}
-use Rattle.judge_command.specs.asked_service.started_units.Starting.{StartsAs, start_refusals}
-use Rattle.judge_command.specs.unit_inputs.Inputs.{Inputs}
-use Rattle.judge_command.specs.asked_service.declared.unit_launch.launching.UnitLaunch.{UnitLaunch}
-use Rattle.deciding_lines.specs.unit_lines.Lines.{lines_of}
-use Rattle.judge_command.specs.unit_inputs.command_answers.ReadyTexts.{IsReadyWith, status_of, text_of}
-use Rattle.judge_command.specs.unit_inputs.declared.command_answers.ready_text.ReadyText.{ReadyText}
+use Rattle.asked_service.specs.started_units.Starting.{StartsAs, start_refusals}
+use Rattle.asked_service.specs.unit_inputs.Inputs.{Inputs}
+use Rattle.asked_service.specs.declared.unit_launch.launching.UnitLaunch.{UnitLaunch}
+use Rattle.why_command.specs.deciding_lines.unit_lines.Lines.{lines_of}
+use Rattle.asked_service.specs.unit_inputs.command_answers.ReadyTexts.{IsReadyWith, status_of, text_of}
+use Rattle.asked_service.specs.unit_inputs.declared.command_answers.ready_text.ReadyText.{ReadyText}
 use Rattle.why_command.specs.lines_command.Lines.{lines_text}
 use Rattle.why_command.specs.lines_command.Prints.{TellsLaunch, TellsLines, TellsService}
 

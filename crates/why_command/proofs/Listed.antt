@@ -3,16 +3,16 @@ use Rattle.std.proofs.Common.{ℕ, List}
 use Rattle.std.specs.Prelude.{Contains}
 use Rattle.std.specs.List.{All, AllByRecursion}
 use Rattle.std.proofs.lemmas.List.Elements.{All-contains_itself, All-from_recursion, All-weaker, recursion_from_All}
-use Rattle.judge_command.specs.call_table.Table as calls
-use Rattle.judge_command.specs.kernel_laws.Questions.{questions}
-use Rattle.judge_command.specs.kernel_model.World.{World}
+use Rattle.asked_service.specs.call_table.Table as calls
+use Rattle.asked_service.specs.kernel_laws.Questions.{questions}
+use Rattle.asked_service.specs.kernel_model.World.{World}
 use Rattle.why_command.specs.opening_lines.Opening.{IsAlone, OpensOf, is_opened, no_question, stays_denied, was_open}
 use Rattle.why_command.specs.declared.opening_lines.alone.Alone.{Alone}
 use Rattle.why_command.specs.declared.opening_lines.alone.Alone.TheVariants.{Opens, Needed}
 use Rattle.why_command.specs.declared.opening_lines.each.LineAlone.{LineAlone}
-use Rattle.judge_command.specs.kernel_laws.declared.question_types.question.Question.{Question}
-use Rattle.judge_command.specs.unit_inputs.Inputs.{Inputs}
-use Rattle.judge_command.specs.dropin_merge.declared.unit_values.value.Place.{Place}
+use Rattle.asked_service.specs.kernel_laws.declared.question_types.question.Question.{Question}
+use Rattle.asked_service.specs.unit_inputs.Inputs.{Inputs}
+use Rattle.asked_service.specs.dropin_merge.declared.unit_values.value.Place.{Place}
 use Rattle.why_command.specs.lines_command.Lines.{IsListed}
 
 among : {before after : World} {list opened : List Question} (P : Question → Type 0) → OpensOf before after list opened

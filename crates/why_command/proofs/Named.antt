@@ -4,12 +4,12 @@ use Rattle.std.proofs.Common.{ap, subst, arith}
 use Rattle.std.specs.Prelude.{Contains, find}
 use Rattle.std.specs.Str.{bytes_eq}
 use Rattle.std.proofs.lemmas.Slice.Eq.{bytes_eq-Decides}
-use Rattle.judge_command.specs.call_table.Table as calls
-use Rattle.judge_command.specs.kernel_laws.Questions as asked
+use Rattle.asked_service.specs.call_table.Table as calls
+use Rattle.asked_service.specs.kernel_laws.Questions as asked
 use Rattle.question_text.specs.Printed.{IsPrintedSo, Reads}
-use Rattle.judge_command.specs.kernel_laws.declared.question_types.question.Question.{Question}
-use Rattle.judge_command.specs.report_text.Wording.{question_words}
-use Rattle.judge_command.specs.site_table.Table.{Site}
+use Rattle.asked_service.specs.kernel_laws.declared.question_types.question.Question.{Question}
+use Rattle.asked_service.specs.report_text.Wording.{question_words}
+use Rattle.asked_service.specs.site_table.Table.{Site}
 use Rattle.why_command.specs.Asking.{or_refused, question_named}
 
 module _ {X : Type 0} (p : X → Bool) where

@@ -2,19 +2,19 @@
 use Rattle.std.proofs.Common.{◌≡◌, Bool, true, false, List, [], ◌∷◌, ◌++◌, ap₂, subst}
 use Rattle.std.specs.Prelude.{◌&&◌, not, map, if◌then◌else◌}
 use Rattle.std.specs.List.{AllByRecursion}
-use Rattle.judge_command.specs.abs_path.Paths.{Path}
-use Rattle.judge_command.specs.call_table.Table as calls
-use Rattle.judge_command.specs.open_calls.chosen_calls.Chosen.{calls_for}
-use Rattle.judge_command.specs.Answers.{Denied, Open, IsTrueAnswer}
-use Rattle.judge_command.specs.ByRule.{AnswersAreTrue, answer_of}
-use Rattle.judge_command.specs.kernel_laws.Bound.{is_open}
-use Rattle.judge_command.specs.kernel_laws.Launched.{launch_of}
-use Rattle.judge_command.specs.kernel_laws.declared.question_types.question.Question.{Question}
-use Rattle.judge_command.specs.kernel_laws.Questions.{questions}
-use Rattle.judge_command.specs.kernel_model.World.{World}
-use Rattle.deciding_lines.specs.kernel_ways.Laws.{IsServedWorld}
-use Rattle.deciding_lines.specs.kernel_ways.Offers.{RunsProgram}
-use Rattle.judge_command.specs.site_table.Table.{Site}
+use Rattle.asked_service.specs.abs_path.Paths.{Path}
+use Rattle.asked_service.specs.call_table.Table as calls
+use Rattle.asked_service.specs.open_calls.chosen_calls.Chosen.{calls_for}
+use Rattle.asked_service.specs.Answers.{Denied, Open, IsTrueAnswer}
+use Rattle.asked_service.specs.ByRule.{AnswersAreTrue, answer_of}
+use Rattle.asked_service.specs.kernel_laws.Bound.{is_open}
+use Rattle.asked_service.specs.kernel_laws.Launched.{launch_of}
+use Rattle.asked_service.specs.kernel_laws.declared.question_types.question.Question.{Question}
+use Rattle.asked_service.specs.kernel_laws.Questions.{questions}
+use Rattle.asked_service.specs.kernel_model.World.{World}
+use Rattle.asked_service.specs.kernel_ways.Laws.{IsServedWorld}
+use Rattle.asked_service.specs.kernel_ways.Offers.{RunsProgram}
+use Rattle.asked_service.specs.site_table.Table.{Site}
 use Rattle.why_command.specs.opening_lines.ByRule.{opened_by}
 use Rattle.why_command.specs.opening_lines.Opening.{OpensOf, no_question, was_open, stays_denied, is_opened}
 

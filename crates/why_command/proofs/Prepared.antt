@@ -2,33 +2,33 @@
 use Rattle.std.proofs.Common.{◌≡◌, ◌∙◌, ℕ, List, [], Some, None, Option, Result, Ok, Err, Vec, Global, ◌⊎◌, inl, inr, refl, sym, ap, subst}
 use Rattle.std.specs.declared.alloc.AllocError.{AllocError}
 use Rattle.std.specs.Prelude.{Contains, IfOk, IfSome, IsErrOf, IsTrue}
-use Rattle.judge_command.specs.host_io.Files.{Files}
-use Rattle.judge_command.specs.call_table.Table.{Table}
-use Rattle.judge_command.specs.unit_inputs.command_answers.ExitStatuses.{is_answer}
-use Rattle.judge_command.specs.unit_inputs.command_answers.Laws.{AcceptsFiles, GoTogether, IsAdmitted, laws_over}
-use Rattle.judge_command.specs.unit_inputs.command_answers.CommandErrors.{IsAnswer, Prepares, first_refusal, error_of_line}
-use Rattle.judge_command.specs.unit_inputs.declared.command_answers.exit_status.ExitStatus.{ExitStatus}
-use Rattle.judge_command.specs.unit_inputs.declared.command_answers.exit_status.ExitStatus.TheVariants.{Done, LaunchRefused}
-use Rattle.judge_command.specs.unit_inputs.declared.command_answers.error.CommandError.{CommandError}
-use Rattle.judge_command.specs.unit_inputs.declared.command_answers.error.CommandError.TheVariants as stop
-use Rattle.judge_command.proofs.OfUnitInputs.FileCommands.{go_together, ready_is_admitted, stop_is_admitted}
-use Rattle.judge_command.proofs.OfUnitInputs.Refusing.{passes, stops, stops_as}
-use Rattle.deciding_lines.specs.Tried.{Tried}
-use Rattle.judge_command.specs.kernel_laws.Questions as asked
-use Rattle.judge_command.specs.kernel_laws.declared.question_types.question.Question.{Question}
-use Rattle.judge_command.specs.site_table.Table.{Site}
-use Rattle.judge_command.specs.asked_service.started_units.Starting.{start_refusals}
-use Rattle.judge_command.specs.unit_inputs.Inputs.{Inputs, input_refusals, inputs_of, inputs_view}
-use Rattle.judge_command.specs.unit_inputs.declared.inputs.UnitInputs.{UnitInputs}
-use Rattle.judge_command.specs.asked_service.declared.unit_launch.launching.UnitLaunch.{UnitLaunch}
-use Rattle.judge_command.specs.asked_service.declared.unit_launch.launching.UnitLaunch.TheVariants.{Launched, Refused}
-use Rattle.judge_command.specs.unit_inputs.Settled.{refusals_by}
-use Rattle.judge_command.proofs.OfUnitInputs.Steps as steps
-use Rattle.judge_command.proofs.OfUnitInputs.Steps.{AreRead, refusals_with}
+use Rattle.asked_service.specs.host_io.Files.{Files}
+use Rattle.asked_service.specs.call_table.Table.{Table}
+use Rattle.asked_service.specs.unit_inputs.command_answers.ExitStatuses.{is_answer}
+use Rattle.asked_service.specs.unit_inputs.command_answers.Laws.{AcceptsFiles, GoTogether, IsAdmitted, laws_over}
+use Rattle.asked_service.specs.unit_inputs.command_answers.CommandErrors.{IsAnswer, Prepares, first_refusal, error_of_line}
+use Rattle.asked_service.specs.unit_inputs.declared.command_answers.exit_status.ExitStatus.{ExitStatus}
+use Rattle.asked_service.specs.unit_inputs.declared.command_answers.exit_status.ExitStatus.TheVariants.{Done, LaunchRefused}
+use Rattle.asked_service.specs.unit_inputs.declared.command_answers.error.CommandError.{CommandError}
+use Rattle.asked_service.specs.unit_inputs.declared.command_answers.error.CommandError.TheVariants as stop
+use Rattle.asked_service.proofs.OfUnitInputs.FileCommands.{go_together, ready_is_admitted, stop_is_admitted}
+use Rattle.asked_service.proofs.OfUnitInputs.Refusing.{passes, stops, stops_as}
+use Rattle.why_command.specs.deciding_lines.Tried.{Tried}
+use Rattle.asked_service.specs.kernel_laws.Questions as asked
+use Rattle.asked_service.specs.kernel_laws.declared.question_types.question.Question.{Question}
+use Rattle.asked_service.specs.site_table.Table.{Site}
+use Rattle.asked_service.specs.started_units.Starting.{start_refusals}
+use Rattle.asked_service.specs.unit_inputs.Inputs.{Inputs, input_refusals, inputs_of, inputs_view}
+use Rattle.asked_service.specs.unit_inputs.declared.inputs.UnitInputs.{UnitInputs}
+use Rattle.asked_service.specs.declared.unit_launch.launching.UnitLaunch.{UnitLaunch}
+use Rattle.asked_service.specs.declared.unit_launch.launching.UnitLaunch.TheVariants.{Launched, Refused}
+use Rattle.asked_service.specs.unit_inputs.Settled.{refusals_by}
+use Rattle.asked_service.proofs.OfUnitInputs.Steps as steps
+use Rattle.asked_service.proofs.OfUnitInputs.Steps.{AreRead, refusals_with}
 use Rattle.why_command.specs.Asking.{question_in, refused_question}
-use Rattle.judge_command.specs.unit_inputs.command_answers.ReadyTexts.{status_of, text_of}
+use Rattle.asked_service.specs.unit_inputs.command_answers.ReadyTexts.{status_of, text_of}
 use Rattle.why_command.specs.Prints.{PrintsWhy, TellsLaunch, TellsWhy, refusals_behind, why_laws, why_refusals}
-use Rattle.judge_command.specs.unit_inputs.declared.command_answers.ready_text.ReadyText.{ReadyText}
+use Rattle.asked_service.specs.unit_inputs.declared.command_answers.ready_text.ReadyText.{ReadyText}
 
 -- each ends as it may
 ends_so : (tried : Tried) (launch : UnitLaunch) (status : ExitStatus) (text : List ℕ) → TellsLaunch tried launch status text

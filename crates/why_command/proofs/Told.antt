@@ -2,41 +2,41 @@
 use Rattle.std.proofs.Common.{◌≡◌, ◌∙◌, ℕ, Bool, true, false, List, ◌++◌, Result, Ok, Err, Vec, Global, refl, sym, ap, subst}
 use Rattle.std.specs.Prelude.{Contains, IfOk, IsErrOf, flat_map}
 use Rattle.std.specs.declared.alloc.AllocError.{AllocError}
-use Rattle.judge_command.specs.asked_service.Asked.{IsBounded, is_open_by}
-use Rattle.judge_command.specs.asked_service.Rows.{IsSo}
-use Rattle.judge_command.specs.asked_service.declared.bounding.Bounded.{Bounded}
-use Rattle.judge_command.specs.call_table.Table as calls
-use Rattle.judge_command.specs.open_calls.chosen_calls.Makers.{AreMadeByService}
-use Rattle.judge_command.specs.unit_inputs.command_answers.CommandErrors.{Prepares, first_refusal}
-use Rattle.judge_command.specs.unit_inputs.declared.command_answers.exit_status.ExitStatus.{ExitStatus}
-use Rattle.judge_command.specs.unit_inputs.declared.command_answers.error.CommandError.{CommandError}
-use Rattle.judge_command.specs.unit_inputs.declared.command_answers.error.CommandError.TheVariants as stop
-use Rattle.deciding_lines.proofs.Asked.{listed, own_calls, own_site}
-use Rattle.deciding_lines.specs.Deciding.{IsReason}
-use Rattle.deciding_lines.specs.Tried.{Tried}
-use Rattle.deciding_lines.specs.declared.reason.Reason.{Reason}
-use Rattle.judge_command.specs.Answers.{Denied, Open}
-use Rattle.judge_command.specs.Report.{answer_lines}
-use Rattle.judge_command.specs.kernel_model.declared.kernel_calls.call.Call.{Call}
-use Rattle.judge_command.specs.kernel_laws.Bound.{is_open}
-use Rattle.judge_command.specs.kernel_laws.Denied.{IsDenied, Shows}
-use Rattle.judge_command.specs.kernel_laws.Launched.{launch_of}
-use Rattle.judge_command.specs.kernel_laws.Questions as asked
-use Rattle.judge_command.specs.kernel_model.World.{World}
-use Rattle.deciding_lines.specs.kernel_ways.Laws.{IsServedWorld}
-use Rattle.deciding_lines.specs.kernel_ways.Offers.{RunsProgram}
-use Rattle.judge_command.specs.launcher.declared.launched.Launched.{Launched as Service}
-use Rattle.judge_command.specs.open_calls.declared.service.Service.{Service as Maker}
-use Rattle.judge_command.specs.kernel_laws.declared.question_types.question.Question.{Question}
-use Rattle.judge_command.specs.site_table.Table.{Site}
-use Rattle.judge_command.specs.asked_service.started_units.Starting.{StartsAs, start_refusals}
-use Rattle.judge_command.specs.asked_service.declared.unit_launch.launching.UnitLaunch.{UnitLaunch}
-use Rattle.judge_command.specs.asked_service.declared.unit_launch.launching.UnitLaunch.TheVariants.{Launched}
+use Rattle.asked_service.specs.Asked.{IsBounded, is_open_by}
+use Rattle.asked_service.specs.Rows.{IsSo}
+use Rattle.asked_service.specs.declared.bounding.Bounded.{Bounded}
+use Rattle.asked_service.specs.call_table.Table as calls
+use Rattle.asked_service.specs.open_calls.chosen_calls.Makers.{AreMadeByService}
+use Rattle.asked_service.specs.unit_inputs.command_answers.CommandErrors.{Prepares, first_refusal}
+use Rattle.asked_service.specs.unit_inputs.declared.command_answers.exit_status.ExitStatus.{ExitStatus}
+use Rattle.asked_service.specs.unit_inputs.declared.command_answers.error.CommandError.{CommandError}
+use Rattle.asked_service.specs.unit_inputs.declared.command_answers.error.CommandError.TheVariants as stop
+use Rattle.why_command.proofs.Asked.{listed, own_calls, own_site}
+use Rattle.why_command.specs.deciding_lines.Deciding.{IsReason}
+use Rattle.why_command.specs.deciding_lines.Tried.{Tried}
+use Rattle.why_command.specs.declared.deciding_lines.reason.Reason.{Reason}
+use Rattle.asked_service.specs.Answers.{Denied, Open}
+use Rattle.asked_service.specs.AnswerLines.{answer_lines}
+use Rattle.asked_service.specs.kernel_model.declared.kernel_calls.call.Call.{Call}
+use Rattle.asked_service.specs.kernel_laws.Bound.{is_open}
+use Rattle.asked_service.specs.kernel_laws.Denied.{IsDenied, Shows}
+use Rattle.asked_service.specs.kernel_laws.Launched.{launch_of}
+use Rattle.asked_service.specs.kernel_laws.Questions as asked
+use Rattle.asked_service.specs.kernel_model.World.{World}
+use Rattle.asked_service.specs.kernel_ways.Laws.{IsServedWorld}
+use Rattle.asked_service.specs.kernel_ways.Offers.{RunsProgram}
+use Rattle.asked_service.specs.launcher.declared.launched.Launched.{Launched as Service}
+use Rattle.asked_service.specs.open_calls.declared.service.Service.{Service as Maker}
+use Rattle.asked_service.specs.kernel_laws.declared.question_types.question.Question.{Question}
+use Rattle.asked_service.specs.site_table.Table.{Site}
+use Rattle.asked_service.specs.started_units.Starting.{StartsAs, start_refusals}
+use Rattle.asked_service.specs.declared.unit_launch.launching.UnitLaunch.{UnitLaunch}
+use Rattle.asked_service.specs.declared.unit_launch.launching.UnitLaunch.TheVariants.{Launched}
 use Rattle.why_command.specs.Asking.{CanBeAsked}
 use Rattle.why_command.specs.Lines.{reason_text}
-use Rattle.judge_command.specs.unit_inputs.command_answers.ReadyTexts.{IsReadyWith, status_of, text_of}
+use Rattle.asked_service.specs.unit_inputs.command_answers.ReadyTexts.{IsReadyWith, status_of, text_of}
 use Rattle.why_command.specs.Prints.{TellsLaunch, TellsService, TellsWhy, denied_by, open_by}
-use Rattle.judge_command.specs.unit_inputs.declared.command_answers.ready_text.ReadyText.{ReadyText}
+use Rattle.asked_service.specs.unit_inputs.declared.command_answers.ready_text.ReadyText.{ReadyText}
 
 -- what starts can be asked
 pub can_be_asked : (tried : Tried) (service : Service) (bounded : Bounded) → StartsAs tried.inputs (Launched service)

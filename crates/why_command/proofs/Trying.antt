@@ -1,18 +1,18 @@
 -- What the unit without a line comes to is what the line denies by itself.
 use Rattle.std.proofs.Common.{◌≡◌, ◌∙◌, List, [], ◌∷◌, Vec, Global, ap, ap₂, subst, sym}
-use Rattle.judge_command.specs.asked_service.declared.bounding.Bounded.{Bounded}
-use Rattle.deciding_lines.proofs.Asked.{own_calls, own_site, served}
-use Rattle.deciding_lines.specs.Tried.{inputs_without}
-use Rattle.judge_command.specs.Asked.{world_in}
-use Rattle.judge_command.specs.ByRule.{AnswersAreTrue}
-use Rattle.judge_command.specs.kernel_laws.Launched.{launch_of}
-use Rattle.judge_command.specs.kernel_laws.Questions.{questions}
-use Rattle.judge_command.specs.launcher.declared.launched.Launched.{Launched as Service}
-use Rattle.judge_command.specs.kernel_laws.declared.question_types.question.Question.{Question}
-use Rattle.judge_command.specs.asked_service.started_units.Starting.{StartsAs}
-use Rattle.judge_command.specs.unit_inputs.Inputs.{Inputs}
-use Rattle.judge_command.specs.asked_service.declared.unit_launch.launching.UnitLaunch.TheVariants.{Launched}
-use Rattle.judge_command.specs.dropin_merge.declared.unit_values.value.Place.{Place}
+use Rattle.asked_service.specs.declared.bounding.Bounded.{Bounded}
+use Rattle.why_command.proofs.Asked.{own_calls, own_site, served}
+use Rattle.why_command.specs.deciding_lines.Tried.{inputs_without}
+use Rattle.asked_service.specs.Asking.{world_in}
+use Rattle.asked_service.specs.ByRule.{AnswersAreTrue}
+use Rattle.asked_service.specs.kernel_laws.Launched.{launch_of}
+use Rattle.asked_service.specs.kernel_laws.Questions.{questions}
+use Rattle.asked_service.specs.launcher.declared.launched.Launched.{Launched as Service}
+use Rattle.asked_service.specs.kernel_laws.declared.question_types.question.Question.{Question}
+use Rattle.asked_service.specs.started_units.Starting.{StartsAs}
+use Rattle.asked_service.specs.unit_inputs.Inputs.{Inputs}
+use Rattle.asked_service.specs.declared.unit_launch.launching.UnitLaunch.TheVariants.{Launched}
+use Rattle.asked_service.specs.dropin_merge.declared.unit_values.value.Place.{Place}
 use Rattle.why_command.proofs.Opening.{opens_exactly}
 use Rattle.why_command.specs.opening_lines.ByRule.{opened_by}
 use Rattle.why_command.specs.opening_lines.Judging.{IsAloneOf, IsJudged, inputs_in}

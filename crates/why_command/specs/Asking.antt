@@ -1,16 +1,16 @@
 -- The question that words ask.
 use Rattle.std.specs.Prelude.{◌≡◌, ℕ, List, [], ◌∷◌, ◌++◌, codes, find, flat_map, Option, Some, None, Result, Ok, Err}
 use Rattle.std.specs.Str.{bytes_eq}
-use Rattle.judge_command.specs.asked_service.Asked.{IsBounded}
-use Rattle.judge_command.specs.asked_service.declared.bounding.Bounded.{Bounded}
-use Rattle.judge_command.specs.call_table.Table as calls
-use Rattle.deciding_lines.specs.Tried.{Tried}
-use Rattle.judge_command.specs.kernel_laws.declared.question_types.question.Question.{Question}
-use Rattle.judge_command.specs.kernel_laws.Questions.{questions}
-use Rattle.judge_command.specs.kernel_laws.Launched.{launch_of}
-use Rattle.deciding_lines.specs.kernel_ways.Offers.{RunsProgram}
-use Rattle.judge_command.specs.report_text.Wording.{question_words}
-use Rattle.judge_command.specs.site_table.Table.{Site}
+use Rattle.asked_service.specs.Asked.{IsBounded}
+use Rattle.asked_service.specs.declared.bounding.Bounded.{Bounded}
+use Rattle.asked_service.specs.call_table.Table as calls
+use Rattle.why_command.specs.deciding_lines.Tried.{Tried}
+use Rattle.asked_service.specs.kernel_laws.declared.question_types.question.Question.{Question}
+use Rattle.asked_service.specs.kernel_laws.Questions.{questions}
+use Rattle.asked_service.specs.kernel_laws.Launched.{launch_of}
+use Rattle.asked_service.specs.kernel_ways.Offers.{RunsProgram}
+use Rattle.asked_service.specs.report_text.Wording.{question_words}
+use Rattle.asked_service.specs.site_table.Table.{Site}
 
 -- words, with a space before each but the first
 abbrev pub spaced : List ℕ → List ℕ

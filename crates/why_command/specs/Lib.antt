@@ -3,3 +3,4 @@ pub mod Lines
 pub mod Prints
 pub mod opening_lines
 pub mod lines_command
+pub mod deciding_lines

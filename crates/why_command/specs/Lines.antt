@@ -1,16 +1,16 @@
 -- The lines of `why`.
 use Rattle.std.specs.Prelude.{ℕ, List, [], ◌∷◌, ◌++◌, codes, filter, flat_map, if◌then◌else◌, length}
 use Rattle.std.specs.Fmt.{decimal}
-use Rattle.deciding_lines.specs.declared.reason.Reason.{Reason}
-use Rattle.deciding_lines.specs.declared.reason.Reason.TheVariants as reason
-use Rattle.judge_command.specs.dropin_merge.declared.resolved.Resolved.{Resolved}
-use Rattle.judge_command.specs.dropin_merge.declared.resolved.UnitFile.{UnitFile}
-use Rattle.judge_command.specs.report_text.Notes.{path_at}
-use Rattle.judge_command.specs.text_forms.Escaped.{escaped_word}
-use Rattle.deciding_lines.specs.unit_lines.Lines.{lines_of}
-use Rattle.deciding_lines.specs.unit_lines.Without.{is_among}
-use Rattle.deciding_lines.specs.declared.unit_lines.line.UnitLine.{UnitLine}
-use Rattle.judge_command.specs.dropin_merge.declared.unit_values.value.Place.{Place}
+use Rattle.why_command.specs.declared.deciding_lines.reason.Reason.{Reason}
+use Rattle.why_command.specs.declared.deciding_lines.reason.Reason.TheVariants as reason
+use Rattle.asked_service.specs.dropin_merge.declared.resolved.Resolved.{Resolved}
+use Rattle.asked_service.specs.dropin_merge.declared.resolved.UnitFile.{UnitFile}
+use Rattle.asked_service.specs.report_text.Notes.{path_at}
+use Rattle.asked_service.specs.text_forms.Escaped.{escaped_word}
+use Rattle.why_command.specs.deciding_lines.unit_lines.Lines.{lines_of}
+use Rattle.why_command.specs.deciding_lines.unit_lines.Without.{is_among}
+use Rattle.why_command.specs.declared.deciding_lines.unit_lines.line.UnitLine.{UnitLine}
+use Rattle.asked_service.specs.dropin_merge.declared.unit_values.value.Place.{Place}
 
 -- the file, the number of the line, and what it assigns, so that each is one word
 abbrev pub place_words : List UnitFile → UnitLine → List ℕ

@@ -1,25 +1,25 @@
 -- What `why` prints, by the files.
 use Rattle.std.specs.Prelude.{◌≡◌, ◌⊎◌, ◌++◌, ◌∷◌, ℕ, IsSome, List, Option, Some, Ok, flat_map}
-use Rattle.judge_command.specs.host_io.Files.{Files}
-use Rattle.judge_command.specs.unit_inputs.command_answers.Laws.{FileLaws}
-use Rattle.judge_command.specs.unit_inputs.command_answers.CommandErrors.{refusal_in}
-use Rattle.judge_command.specs.unit_inputs.declared.command_answers.exit_status.ExitStatus.{ExitStatus}
-use Rattle.judge_command.specs.unit_inputs.declared.command_answers.exit_status.ExitStatus.TheVariants.{Done, LaunchRefused}
-use Rattle.deciding_lines.specs.Deciding.{IsReason}
-use Rattle.deciding_lines.specs.Tried.{Tried}
-use Rattle.deciding_lines.specs.declared.reason.Reason.{Reason}
-use Rattle.judge_command.specs.kernel_laws.declared.question_types.verdict.Verdict.TheVariants as verdict
-use Rattle.judge_command.specs.Answers.{Denied, Open, IsTrueAnswer}
-use Rattle.judge_command.specs.Report.{answer_lines}
-use Rattle.judge_command.specs.kernel_model.declared.kernel_calls.call.Call.{Call}
-use Rattle.judge_command.specs.launcher.declared.launched.Launched.{Launched as Service}
-use Rattle.judge_command.specs.asked_service.started_units.Starting.{StartsAs, start_refusals}
-use Rattle.judge_command.specs.unit_inputs.Inputs.{Inputs, input_refusals, inputs_of}
-use Rattle.judge_command.specs.asked_service.unit_launch.Refusals.{refusal_line}
-use Rattle.judge_command.specs.asked_service.declared.unit_launch.launching.UnitLaunch.{UnitLaunch}
-use Rattle.judge_command.specs.asked_service.declared.unit_launch.launching.UnitLaunch.TheVariants.{Launched, Refused}
-use Rattle.judge_command.specs.unit_names.Cutting.{name_of}
-use Rattle.judge_command.specs.unit_inputs.Settled.{refusals_by}
+use Rattle.asked_service.specs.host_io.Files.{Files}
+use Rattle.asked_service.specs.unit_inputs.command_answers.Laws.{FileLaws}
+use Rattle.asked_service.specs.unit_inputs.command_answers.CommandErrors.{refusal_in}
+use Rattle.asked_service.specs.unit_inputs.declared.command_answers.exit_status.ExitStatus.{ExitStatus}
+use Rattle.asked_service.specs.unit_inputs.declared.command_answers.exit_status.ExitStatus.TheVariants.{Done, LaunchRefused}
+use Rattle.why_command.specs.deciding_lines.Deciding.{IsReason}
+use Rattle.why_command.specs.deciding_lines.Tried.{Tried}
+use Rattle.why_command.specs.declared.deciding_lines.reason.Reason.{Reason}
+use Rattle.asked_service.specs.kernel_laws.declared.question_types.verdict.Verdict.TheVariants as verdict
+use Rattle.asked_service.specs.Answers.{Denied, Open, IsTrueAnswer}
+use Rattle.asked_service.specs.AnswerLines.{answer_lines}
+use Rattle.asked_service.specs.kernel_model.declared.kernel_calls.call.Call.{Call}
+use Rattle.asked_service.specs.launcher.declared.launched.Launched.{Launched as Service}
+use Rattle.asked_service.specs.started_units.Starting.{StartsAs, start_refusals}
+use Rattle.asked_service.specs.unit_inputs.Inputs.{Inputs, input_refusals, inputs_of}
+use Rattle.asked_service.specs.unit_launch.Refusals.{refusal_line}
+use Rattle.asked_service.specs.declared.unit_launch.launching.UnitLaunch.{UnitLaunch}
+use Rattle.asked_service.specs.declared.unit_launch.launching.UnitLaunch.TheVariants.{Launched, Refused}
+use Rattle.asked_service.specs.unit_names.Cutting.{name_of}
+use Rattle.asked_service.specs.unit_inputs.Settled.{refusals_by}
 use Rattle.why_command.specs.Asking.{question_in}
 use Rattle.why_command.specs.Lines.{reason_text}
 

@@ -1,18 +1,18 @@
 //! The answer to a question, and what denies it.
 ghost use Rattle.std.specs.Prelude.{◌≡◌, IfOk, IsErrOf, false, true};
-ghost use Rattle.judge_command.specs.asked_service.Asked.{is_open_by};
-ghost use Rattle.judge_command.specs.asked_service.Rows.{IsSo};
-ghost use Rattle.judge_command.specs.unit_inputs.command_answers.CommandErrors.{Prepares};
-ghost use Rattle.deciding_lines.specs.Tried.{CanBeTried, tried_of};
-ghost use Rattle.judge_command.specs.asked_service.started_units.Starting.{StartsAs, start_refusals};
-ghost use Rattle.judge_command.specs.asked_service.declared.unit_launch.launching.UnitLaunch.TheVariants.{Launched as Started};
+ghost use Rattle.asked_service.specs.Asked.{is_open_by};
+ghost use Rattle.asked_service.specs.Rows.{IsSo};
+ghost use Rattle.asked_service.specs.unit_inputs.command_answers.CommandErrors.{Prepares};
+ghost use Rattle.why_command.specs.deciding_lines.Tried.{CanBeTried, tried_of};
+ghost use Rattle.asked_service.specs.started_units.Starting.{StartsAs, start_refusals};
+ghost use Rattle.asked_service.specs.declared.unit_launch.launching.UnitLaunch.TheVariants.{Launched as Started};
 ghost use Rattle.why_command.specs.Asking.{CanBeAsked};
-ghost use Rattle.judge_command.specs.unit_inputs.command_answers.ReadyTexts.{IsReadyWith, status_of, text_of};
+ghost use Rattle.asked_service.specs.unit_inputs.command_answers.ReadyTexts.{IsReadyWith, status_of, text_of};
 ghost use Rattle.why_command.specs.Prints.{TellsLaunch, TellsService, TellsWhy};
 
+use crate::deciding_lines::Trial;
 use crate::telling::denied_text;
-use deciding_lines::Trial;
-use judge_command::{
+use asked_service::{
     Bounded, CommandError, ExitStatus, Launched, ReadyText, Service, UnitLaunch, bound, calls,
     open_lines, refusal_line, start,
 };

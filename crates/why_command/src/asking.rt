@@ -1,10 +1,10 @@
 //! The question that the words ask.
 ghost use Rattle.std.specs.Prelude.{◌≡◌, ◌++◌, Contains, IfOk, IsErrOf, OnOk, flat_map, map};
-ghost use Rattle.judge_command.specs.unit_inputs.command_answers.CommandErrors.{IsAnswer};
-ghost use Rattle.judge_command.specs.kernel_laws.Questions.{questions};
+ghost use Rattle.asked_service.specs.unit_inputs.command_answers.CommandErrors.{IsAnswer};
+ghost use Rattle.asked_service.specs.kernel_laws.Questions.{questions};
 ghost use Rattle.why_command.specs.Asking.{joined_words, question_in, refused_question, spaced};
 
-use judge_command::{CallTable, CommandError, Question, SiteTable, refuse};
+use asked_service::{CallTable, CommandError, Question, SiteTable, refuse};
 use question_text::read_question;
 use std::alloc::{AllocError, Global};
 

@@ -1,17 +1,17 @@
 //! The command `why`, the name of a unit and the words of a question.
 ghost use Rattle.std.specs.Prelude.{map};
-ghost use Rattle.judge_command.specs.unit_inputs.command_answers.Asking.{course};
-ghost use Rattle.judge_command.specs.unit_inputs.command_answers.Laws.{IsAdmitted, laws_over};
-ghost use Rattle.judge_command.specs.unit_inputs.Asking.{AsksInOrder, input_asks};
-ghost use Rattle.judge_command.specs.unit_inputs.ReadsFor.{ReadsFor};
-ghost use Rattle.judge_command.specs.unit_inputs.command_answers.ReadyTexts.{status_of, text_of};
+ghost use Rattle.asked_service.specs.unit_inputs.command_answers.Asking.{course};
+ghost use Rattle.asked_service.specs.unit_inputs.command_answers.Laws.{IsAdmitted, laws_over};
+ghost use Rattle.asked_service.specs.unit_inputs.Asking.{AsksInOrder, input_asks};
+ghost use Rattle.asked_service.specs.unit_inputs.ReadsFor.{ReadsFor};
+ghost use Rattle.asked_service.specs.unit_inputs.command_answers.ReadyTexts.{status_of, text_of};
 ghost use Rattle.why_command.specs.Prints.{why_laws};
 
 use crate::answering::answer;
 use crate::asking::asked_question;
-use deciding_lines::Trial;
+use crate::deciding_lines::Trial;
+use asked_service::{CommandError, ReadyText, read_inputs};
 use host_io::Shelf;
-use judge_command::{CommandError, ReadyText, read_inputs};
 use std::alloc::Global;
 
 /// Prepares `why`, the name of a unit and the words of a question.

@@ -10,6 +10,7 @@
 mod answering;
 mod asking;
 mod command;
+pub mod deciding_lines;
 mod lines;
 pub mod lines_command;
 pub mod opening_lines;

@@ -1,11 +1,11 @@
 //! The lines of `why`.
 ghost use Rattle.std.specs.Prelude.{◌≡◌, ◌++◌, filter, flat_map, length, IfOk, OnOk};
-ghost use Rattle.judge_command.specs.report_text.Notes.{path_at};
-ghost use Rattle.deciding_lines.specs.unit_lines.Without.{is_among, is_place};
+ghost use Rattle.asked_service.specs.report_text.Notes.{path_at};
+ghost use Rattle.why_command.specs.deciding_lines.unit_lines.Without.{is_among, is_place};
 ghost use Rattle.why_command.specs.Lines.{by_line, by_lines, lines_at, lines_line, lines_text, place_words, told_unless};
 
-use deciding_lines::unit_lines::{UnitLine, lines};
-use judge_command::{Place, Resolved, UnitFile, push_word};
+use crate::deciding_lines::unit_lines::{UnitLine, lines};
+use asked_service::{Place, Resolved, UnitFile, push_word};
 use std::alloc::{AllocError, Global};
 
 // The path of the file of this number.

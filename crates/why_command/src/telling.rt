@@ -1,14 +1,14 @@
 //! The text for a denied question.
 ghost use Rattle.std.specs.Prelude.{◌≡◌, ◌++◌, Contains, IfOk};
-ghost use Rattle.deciding_lines.specs.Deciding.{IsReason};
-ghost use Rattle.judge_command.specs.kernel_laws.Questions.{questions};
-ghost use Rattle.judge_command.specs.kernel_laws.declared.question_types.verdict.Verdict.TheVariants as verdict;
-ghost use Rattle.judge_command.specs.report_text.Answers.{verdict_line};
+ghost use Rattle.why_command.specs.deciding_lines.Deciding.{IsReason};
+ghost use Rattle.asked_service.specs.kernel_laws.Questions.{questions};
+ghost use Rattle.asked_service.specs.kernel_laws.declared.question_types.verdict.Verdict.TheVariants as verdict;
+ghost use Rattle.asked_service.specs.report_text.Answers.{verdict_line};
 ghost use Rattle.why_command.specs.Lines.{reason_text};
 
+use crate::deciding_lines::Reason;
 use crate::lines::lines_text;
-use deciding_lines::Reason;
-use judge_command::{CallTable, Question, Resolved, SiteTable, Verdict, verdict_line};
+use asked_service::{CallTable, Question, Resolved, SiteTable, Verdict, verdict_line};
 use std::alloc::{AllocError, Global};
 
 // What denies it.

@@ -1,7 +1,7 @@
 //! Compares a service on both sites of a pair.
 use crate::alike::asked::Asked;
 use crate::alike::traces::{Trace, trace_of};
-use asked_service::read_script;
+use report_text::read_script;
 use row_tools::{inputs_of, said, site_of};
 use std::alloc::{AllocError, Global};
 

@@ -2,14 +2,14 @@
 use Rattle.std.specs.Prelude.{ℕ, ◌==◌, Bool, false, List, [], ◌∷◌, ◌++◌, Contains, codes, count_by, flat_map, length}
 use Rattle.std.specs.Fmt.{decimal}
 use Rattle.std.specs.List.{All}
-use Rattle.judge_command.specs.call_table.Table as calls
-use Rattle.judge_command.specs.dropin_merge.declared.resolved.UnitFile.{UnitFile}
-use Rattle.judge_command.specs.report_text.Answers.{question_line}
-use Rattle.judge_command.specs.kernel_laws.Questions.{questions}
+use Rattle.asked_service.specs.call_table.Table as calls
+use Rattle.asked_service.specs.dropin_merge.declared.resolved.UnitFile.{UnitFile}
+use Rattle.asked_service.specs.report_text.Answers.{question_line}
+use Rattle.asked_service.specs.kernel_laws.Questions.{questions}
 use Rattle.why_command.specs.declared.opening_lines.alone.Alone.{Alone}
 use Rattle.why_command.specs.declared.opening_lines.alone.Alone.TheVariants.{Opens, Needed}
 use Rattle.why_command.specs.declared.opening_lines.each.LineAlone.{LineAlone}
-use Rattle.judge_command.specs.site_table.Table.{Site}
+use Rattle.asked_service.specs.site_table.Table.{Site}
 use Rattle.why_command.specs.Lines.{place_words}
 
 -- how many questions a line opens; or that it is needed

@@ -1,19 +1,19 @@
 -- What `why` and a unit alone print, by the files.
 use Rattle.std.specs.Prelude.{◌≡◌, ◌⊎◌, ◌++◌, ℕ, IsSome, List, Option, Some}
-use Rattle.judge_command.specs.host_io.Files.{Files}
-use Rattle.judge_command.specs.unit_inputs.command_answers.Laws.{FileLaws}
-use Rattle.judge_command.specs.unit_inputs.declared.command_answers.exit_status.ExitStatus.{ExitStatus}
-use Rattle.judge_command.specs.unit_inputs.declared.command_answers.exit_status.ExitStatus.TheVariants.{Done, LaunchRefused}
-use Rattle.judge_command.specs.launcher.declared.launched.Launched.{Launched as Service}
+use Rattle.asked_service.specs.host_io.Files.{Files}
+use Rattle.asked_service.specs.unit_inputs.command_answers.Laws.{FileLaws}
+use Rattle.asked_service.specs.unit_inputs.declared.command_answers.exit_status.ExitStatus.{ExitStatus}
+use Rattle.asked_service.specs.unit_inputs.declared.command_answers.exit_status.ExitStatus.TheVariants.{Done, LaunchRefused}
+use Rattle.asked_service.specs.launcher.declared.launched.Launched.{Launched as Service}
 use Rattle.why_command.specs.opening_lines.Opening.{AreAlone}
 use Rattle.why_command.specs.declared.opening_lines.each.LineAlone.{LineAlone}
-use Rattle.judge_command.specs.asked_service.started_units.Starting.{StartsAs, start_refusals}
-use Rattle.judge_command.specs.unit_inputs.Inputs.{Inputs, input_refusals, inputs_of}
-use Rattle.judge_command.specs.asked_service.unit_launch.Refusals.{refusal_line}
-use Rattle.judge_command.specs.asked_service.declared.unit_launch.launching.UnitLaunch.{UnitLaunch}
-use Rattle.judge_command.specs.asked_service.declared.unit_launch.launching.UnitLaunch.TheVariants.{Launched, Refused}
-use Rattle.judge_command.specs.unit_names.Cutting.{name_of}
-use Rattle.judge_command.specs.unit_inputs.Settled.{refusals_by}
+use Rattle.asked_service.specs.started_units.Starting.{StartsAs, start_refusals}
+use Rattle.asked_service.specs.unit_inputs.Inputs.{Inputs, input_refusals, inputs_of}
+use Rattle.asked_service.specs.unit_launch.Refusals.{refusal_line}
+use Rattle.asked_service.specs.declared.unit_launch.launching.UnitLaunch.{UnitLaunch}
+use Rattle.asked_service.specs.declared.unit_launch.launching.UnitLaunch.TheVariants.{Launched, Refused}
+use Rattle.asked_service.specs.unit_names.Cutting.{name_of}
+use Rattle.asked_service.specs.unit_inputs.Settled.{refusals_by}
 use Rattle.why_command.specs.lines_command.Lines.{lines_text}
 
 -- of a launched service: each assignment in force of the unit with exactly what it denies by itself

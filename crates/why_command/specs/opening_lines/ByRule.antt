@@ -1,8 +1,8 @@
 -- What a line opens, by the rule that decides what is open.
 use Rattle.std.specs.Prelude.{◌&&◌, not, Bool, List, [], ◌∷◌, flat_map, if◌then◌else◌}
-use Rattle.judge_command.specs.kernel_laws.Bound.{is_open}
-use Rattle.judge_command.specs.kernel_laws.Launched.{Launch}
-use Rattle.judge_command.specs.kernel_laws.declared.question_types.question.Question.{Question}
+use Rattle.asked_service.specs.kernel_laws.Bound.{is_open}
+use Rattle.asked_service.specs.kernel_laws.Launched.{Launch}
+use Rattle.asked_service.specs.kernel_laws.declared.question_types.question.Question.{Question}
 
 -- denied of the one launched service, and open of the other
 abbrev pub is_opened : Launch → Launch → Question → Bool

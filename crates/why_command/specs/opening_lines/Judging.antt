@@ -1,9 +1,9 @@
 -- A unit that is launched, with all that it is asked.
-use Rattle.judge_command.specs.Asked.{IsAsked, world_in}
-use Rattle.judge_command.specs.asked_service.started_units.Starting.{StartsAs, given}
-use Rattle.judge_command.specs.unit_inputs.Inputs.{Inputs}
-use Rattle.judge_command.specs.asked_service.declared.unit_launch.launching.UnitLaunch.TheVariants.{Launched}
-use Rattle.judge_command.specs.dropin_merge.declared.unit_values.value.Place.{Place}
+use Rattle.asked_service.specs.Asking.{IsAsked, world_in}
+use Rattle.asked_service.specs.started_units.Starting.{StartsAs, given}
+use Rattle.asked_service.specs.unit_inputs.Inputs.{Inputs}
+use Rattle.asked_service.specs.declared.unit_launch.launching.UnitLaunch.TheVariants.{Launched}
+use Rattle.asked_service.specs.dropin_merge.declared.unit_values.value.Place.{Place}
 use Rattle.why_command.specs.opening_lines.Opening.{IsAlone}
 use Rattle.why_command.specs.declared.opening_lines.alone.Alone.{Alone}
 use Rattle.why_command.specs.declared.opening_lines.judged.Judged.{Judged}

@@ -1,18 +1,18 @@
 -- What an assignment in force of a unit denies by itself.
 use Rattle.std.specs.Prelude.{◌≡◌, ℕ, List, [], ◌∷◌, map}
 use Rattle.std.specs.List.{All}
-use Rattle.deciding_lines.specs.Tried.{IsNotLaunched, inputs_without}
-use Rattle.judge_command.specs.kernel_laws.Denied.{IsDenied}
-use Rattle.judge_command.specs.kernel_laws.Questions.{questions}
-use Rattle.judge_command.specs.kernel_model.World.{World}
-use Rattle.judge_command.specs.launcher.declared.launched.Launched.{Launched as Service}
-use Rattle.judge_command.specs.kernel_laws.declared.question_types.question.Question.{Question}
-use Rattle.judge_command.specs.asked_service.started_units.Starting.{StartsAs}
-use Rattle.judge_command.specs.unit_inputs.Inputs.{Inputs}
-use Rattle.judge_command.specs.asked_service.declared.unit_launch.launching.UnitLaunch.TheVariants.{Launched}
-use Rattle.deciding_lines.specs.unit_lines.Lines.{lines_of}
-use Rattle.judge_command.specs.dropin_merge.declared.unit_values.value.Place.{Place}
-use Rattle.judge_command.specs.verdict_changes.Changes.{IsOpen}
+use Rattle.why_command.specs.deciding_lines.Tried.{IsNotLaunched, inputs_without}
+use Rattle.asked_service.specs.kernel_laws.Denied.{IsDenied}
+use Rattle.asked_service.specs.kernel_laws.Questions.{questions}
+use Rattle.asked_service.specs.kernel_model.World.{World}
+use Rattle.asked_service.specs.launcher.declared.launched.Launched.{Launched as Service}
+use Rattle.asked_service.specs.kernel_laws.declared.question_types.question.Question.{Question}
+use Rattle.asked_service.specs.started_units.Starting.{StartsAs}
+use Rattle.asked_service.specs.unit_inputs.Inputs.{Inputs}
+use Rattle.asked_service.specs.declared.unit_launch.launching.UnitLaunch.TheVariants.{Launched}
+use Rattle.why_command.specs.deciding_lines.unit_lines.Lines.{lines_of}
+use Rattle.asked_service.specs.dropin_merge.declared.unit_values.value.Place.{Place}
+use Rattle.asked_service.specs.verdict_changes.Changes.{IsOpen}
 use Rattle.why_command.specs.declared.opening_lines.alone.Alone.{Alone}
 use Rattle.why_command.specs.declared.opening_lines.alone.Alone.TheVariants.{Opens, Needed}
 use Rattle.why_command.specs.declared.opening_lines.each.LineAlone.{LineAlone}

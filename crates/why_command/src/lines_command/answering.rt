@@ -1,15 +1,15 @@
 //! The text of what each line of a unit denies by itself.
 ghost use Rattle.std.specs.Prelude.{IfOk, IsErrOf};
-ghost use Rattle.judge_command.specs.unit_inputs.command_answers.CommandErrors.{Prepares};
-ghost use Rattle.judge_command.specs.asked_service.started_units.Starting.{StartsAs, given, start_refusals};
-ghost use Rattle.judge_command.specs.asked_service.declared.unit_launch.launching.UnitLaunch.TheVariants.{Launched as Started};
-ghost use Rattle.judge_command.specs.unit_inputs.command_answers.ReadyTexts.{IsReadyWith, status_of, text_of};
+ghost use Rattle.asked_service.specs.unit_inputs.command_answers.CommandErrors.{Prepares};
+ghost use Rattle.asked_service.specs.started_units.Starting.{StartsAs, given, start_refusals};
+ghost use Rattle.asked_service.specs.declared.unit_launch.launching.UnitLaunch.TheVariants.{Launched as Started};
+ghost use Rattle.asked_service.specs.unit_inputs.command_answers.ReadyTexts.{IsReadyWith, status_of, text_of};
 ghost use Rattle.why_command.specs.lines_command.Prints.{TellsLaunch, TellsLines, TellsService};
 
+use crate::deciding_lines::unit_lines::lines;
 use crate::lines_command::lines::lines_text;
 use crate::opening_lines::Judged;
-use deciding_lines::unit_lines::lines;
-use judge_command::{
+use asked_service::{
     CallTable, CommandError, ExitStatus, Launched, ReadyText, Resolved, SiteTable, UnitLaunch, ask,
     refusal_line, start,
 };

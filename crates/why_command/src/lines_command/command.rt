@@ -1,14 +1,14 @@
 //! The command `why` and the name of a unit alone.
-ghost use Rattle.judge_command.specs.unit_inputs.command_answers.Asking.{course};
-ghost use Rattle.judge_command.specs.unit_inputs.command_answers.Laws.{IsAdmitted, laws_over};
-ghost use Rattle.judge_command.specs.unit_inputs.Asking.{AsksInOrder, input_asks};
-ghost use Rattle.judge_command.specs.unit_inputs.ReadsFor.{ReadsFor};
-ghost use Rattle.judge_command.specs.unit_inputs.command_answers.ReadyTexts.{status_of, text_of};
+ghost use Rattle.asked_service.specs.unit_inputs.command_answers.Asking.{course};
+ghost use Rattle.asked_service.specs.unit_inputs.command_answers.Laws.{IsAdmitted, laws_over};
+ghost use Rattle.asked_service.specs.unit_inputs.Asking.{AsksInOrder, input_asks};
+ghost use Rattle.asked_service.specs.unit_inputs.ReadsFor.{ReadsFor};
+ghost use Rattle.asked_service.specs.unit_inputs.command_answers.ReadyTexts.{status_of, text_of};
 ghost use Rattle.why_command.specs.lines_command.Prints.{lines_laws};
 
 use crate::lines_command::answering::answer;
+use asked_service::{CommandError, ReadyText, read_inputs};
 use host_io::Shelf;
-use judge_command::{CommandError, ReadyText, read_inputs};
 use std::alloc::Global;
 
 /// Prepares `why` and the name of a unit.

@@ -1,13 +1,13 @@
 //! The lines of `why` and a unit alone.
 ghost use Rattle.std.specs.Prelude.{◌≡◌, ◌++◌, Contains, IfOk, OnOk, codes, count_by, flat_map};
 ghost use Rattle.std.specs.List.{All};
-ghost use Rattle.judge_command.specs.report_text.Answers.{question_line};
-ghost use Rattle.judge_command.specs.kernel_laws.Questions.{questions};
+ghost use Rattle.asked_service.specs.report_text.Answers.{question_line};
+ghost use Rattle.asked_service.specs.kernel_laws.Questions.{questions};
 ghost use Rattle.why_command.specs.lines_command.Lines.{IsListed, alone_words, counts_line, counts_text, is_idle, line_told, lines_text, opened_lines};
 
 use crate::opening_lines::{Alone, LineAlone};
 use crate::push_assignment;
-use judge_command::{CallTable, Question, Resolved, SiteTable, UnitFile, question_line};
+use asked_service::{CallTable, Question, Resolved, SiteTable, UnitFile, question_line};
 use std::alloc::{AllocError, Global};
 
 // The words after an assignment: how many questions it opens, or that it is needed.

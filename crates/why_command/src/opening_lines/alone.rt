@@ -1,14 +1,14 @@
 //! What a line of a unit denies by itself.
 ghost use Rattle.std.specs.Prelude.{◌∷◌, [], IfOk};
-ghost use Rattle.judge_command.specs.asked_service.started_units.Starting.{StartsAs};
-ghost use Rattle.judge_command.specs.asked_service.declared.unit_launch.launching.UnitLaunch.TheVariants.{Launched as Starts};
-ghost use Rattle.deciding_lines.specs.Tried.{inputs_without};
+ghost use Rattle.asked_service.specs.started_units.Starting.{StartsAs};
+ghost use Rattle.asked_service.specs.declared.unit_launch.launching.UnitLaunch.TheVariants.{Launched as Starts};
+ghost use Rattle.why_command.specs.deciding_lines.Tried.{inputs_without};
 ghost use Rattle.why_command.specs.opening_lines.Judging.{IsAloneOf, IsJudged, inputs_in};
 
+use crate::deciding_lines::{Started, start_without};
 use crate::opening_lines::judged::Judged;
 use crate::opening_lines::opened::opened;
-use deciding_lines::{Started, start_without};
-use judge_command::{Launched, Place, Question, bound, truths};
+use asked_service::{Launched, Place, Question, bound, truths};
 use std::alloc::{AllocError, Global};
 
 /// What an assignment in force denies by itself.

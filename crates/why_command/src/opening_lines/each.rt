@@ -3,9 +3,9 @@ ghost use Rattle.std.specs.Prelude.{◌≡◌, IfOk, map};
 ghost use Rattle.std.specs.List.{All};
 ghost use Rattle.why_command.specs.opening_lines.Judging.{IsAloneOf, IsJudged};
 
+use crate::deciding_lines::unit_lines::UnitLine;
 use crate::opening_lines::alone::Alone;
 use crate::opening_lines::judged::Judged;
-use deciding_lines::unit_lines::UnitLine;
 use std::alloc::{AllocError, Global};
 
 /// An assignment in force, and what it denies by itself.

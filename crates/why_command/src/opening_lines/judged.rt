@@ -1,6 +1,6 @@
 //! A launched unit, with all questions about it.
 
-use judge_command::{Asked, CallTable, Resolved, SiteTable};
+use asked_service::{Asked, CallTable, Resolved, SiteTable};
 
 /// A launched unit, with all questions about it. Its lines are tried one after the other.
 #[derive(Drop)]

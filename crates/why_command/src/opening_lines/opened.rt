@@ -1,11 +1,11 @@
 //! The questions that are denied for one service and open for another.
 ghost use Rattle.std.specs.Prelude.{◌≡◌, ◌++◌, Contains, IfOk, OnOk};
-ghost use Rattle.judge_command.specs.asked_service.Asked.{IsBounded};
-ghost use Rattle.judge_command.specs.kernel_laws.Launched.{launch_of};
-ghost use Rattle.judge_command.specs.kernel_laws.Questions.{questions};
+ghost use Rattle.asked_service.specs.Asked.{IsBounded};
+ghost use Rattle.asked_service.specs.kernel_laws.Launched.{launch_of};
+ghost use Rattle.asked_service.specs.kernel_laws.Questions.{questions};
 ghost use Rattle.why_command.specs.opening_lines.ByRule.{is_opened, opened_at, opened_by};
 
-use judge_command::{Bounded, Question};
+use asked_service::{Bounded, Question};
 use std::alloc::{AllocError, Global};
 
 // Whether a question is denied for the first service and open for the second. If it is open for the first, the second is not

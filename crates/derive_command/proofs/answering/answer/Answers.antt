@@ -1,5 +1,5 @@
-use Rattle.replay_command.specs.unit_inputs.declared.command_answers.exit_status.ExitStatus.TheVariants.{Done}
-use Rattle.trace_profile.specs.Extended.{drop_in_text}
+use Rattle.asked_service.specs.unit_inputs.declared.command_answers.exit_status.ExitStatus.TheVariants.{Done}
+use Rattle.derive_command.specs.trace_profile.Extended.{drop_in_text}
 use Rattle.derive_command.proofs.Told.{derived_answers, error_answers, ready_reads_nothing, telling_reads_nothing}
 use Rattle.derive_command.proofs.answering.answer.Goals as goal
 

@@ -1,5 +1,5 @@
-use Rattle.replay_command.specs.plan_command.Refusals.{error_line}
-use Rattle.replay_command.specs.unit_inputs.SettingsRefusals.{settings_line}
+use Rattle.asked_service.specs.plan_command.Refusals.{error_line}
+use Rattle.asked_service.specs.unit_inputs.SettingsRefusals.{settings_line}
 use Rattle.derive_command.specs.Refusals.{seccomp_line}
 use Rattle.derive_command.proofs.Stopped.{stop_tells}
 use Rattle.derive_command.proofs.answering.tell.Goals as goal

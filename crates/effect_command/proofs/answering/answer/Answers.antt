@@ -1,11 +1,11 @@
 use Rattle.std.proofs.Common.{Err, Ok}
-use Rattle.judge_command.specs.unit_inputs.command_answers.CommandErrors.{Prepares}
-use Rattle.judge_command.proofs.OfUnitInputs.FileCommands.{at_stop}
-use Rattle.judge_command.specs.asked_service.started_units.Starting.{given}
-use Rattle.judge_command.specs.unit_inputs.command_answers.ReadyTexts.{status_of, text_of}
+use Rattle.asked_service.specs.unit_inputs.command_answers.CommandErrors.{Prepares}
+use Rattle.asked_service.proofs.OfUnitInputs.FileCommands.{at_stop}
+use Rattle.asked_service.specs.started_units.Starting.{given}
+use Rattle.asked_service.specs.unit_inputs.command_answers.ReadyTexts.{status_of, text_of}
 use Rattle.effect_command.specs.Prints.{TellsBoth, TellsWith}
 use Rattle.effect_command.specs.Refusals.{refusals_behind_dropin}
-use Rattle.judge_command.proofs.OfUnitInputs.ReadyTexts.{ready_reads_nothing}
+use Rattle.asked_service.proofs.OfUnitInputs.ReadyTexts.{ready_reads_nothing}
 use Rattle.effect_command.proofs.Prepared.{answers_both, answers_refused, answers_refused_with, starts_over, with_longer}
 use Rattle.effect_command.proofs.answering.answer.Goals as goal
 

@@ -1,18 +1,18 @@
 use Rattle.std.proofs.Common.{◌≡◌, Some}
-use Rattle.judge_command.specs.unit_inputs.command_answers.Laws.{IsAdmitted, laws_over}
-use Rattle.judge_command.proofs.OfUnitInputs.FileCommands.{at_stop}
-use Rattle.judge_command.specs.unit_names.Cutting.{name_of}
-use Rattle.judge_command.specs.unit_inputs.Inputs.{inputs_of, inputs_view}
-use Rattle.judge_command.specs.asked_service.started_units.Starting.{given}
-use Rattle.judge_command.proofs.OfAskedService.Given.{same_inputs}
-use Rattle.judge_command.proofs.OfUnitInputs.Reading.{named, read_behind}
-use Rattle.judge_command.specs.unit_inputs.command_answers.ReadyTexts.{status_of, text_of}
+use Rattle.asked_service.specs.unit_inputs.command_answers.Laws.{IsAdmitted, laws_over}
+use Rattle.asked_service.proofs.OfUnitInputs.FileCommands.{at_stop}
+use Rattle.asked_service.specs.unit_names.Cutting.{name_of}
+use Rattle.asked_service.specs.unit_inputs.Inputs.{inputs_of, inputs_view}
+use Rattle.asked_service.specs.started_units.Starting.{given}
+use Rattle.asked_service.proofs.Given.{same_inputs}
+use Rattle.asked_service.proofs.OfUnitInputs.Reading.{named, read_behind}
+use Rattle.asked_service.specs.unit_inputs.command_answers.ReadyTexts.{status_of, text_of}
 use Rattle.effect_command.specs.Prints.{effect_laws}
 use Rattle.effect_command.proofs.Prepared.{admitted_as, stops_at_dropin, stops_at_inputs}
-use Rattle.judge_command.specs.unit_inputs.Asking.{asks_with_file}
-use Rattle.judge_command.specs.host_io.Calls.{Whole}
-use Rattle.judge_command.specs.unit_grammar.declared.unit.UnitText.{UnitText}
-use Rattle.judge_command.proofs.OfUnitInputs.Ordering.{order_quiet, stops_at_file, stops_before_file, with_file}
+use Rattle.asked_service.specs.unit_inputs.Asking.{asks_with_file}
+use Rattle.asked_service.specs.host_io.Calls.{Whole}
+use Rattle.asked_service.specs.unit_grammar.declared.unit.UnitText.{UnitText}
+use Rattle.asked_service.proofs.OfUnitInputs.Ordering.{order_quiet, stops_at_file, stops_before_file, with_file}
 use Rattle.effect_command.proofs.command.prepare.Goals as goal
 
 pub returns-in_err-inputs-clause-prepares : goal.returns-in_err-inputs-clause-prepares

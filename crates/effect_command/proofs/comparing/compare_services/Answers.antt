@@ -1,9 +1,9 @@
 use Rattle.std.proofs.Common.{refl}
-use Rattle.judge_command.specs.unit_inputs.declared.command_answers.error.CommandError.TheVariants as stop
-use Rattle.judge_command.proofs.OfUnitInputs.FileCommands.{at_stop}
-use Rattle.judge_command.specs.asked_service.declared.unit_launch.launching.UnitLaunch.TheVariants.{Launched}
+use Rattle.asked_service.specs.unit_inputs.declared.command_answers.error.CommandError.TheVariants as stop
+use Rattle.asked_service.proofs.OfUnitInputs.FileCommands.{at_stop}
+use Rattle.asked_service.specs.declared.unit_launch.launching.UnitLaunch.TheVariants.{Launched}
 use Rattle.effect_command.specs.Prints.{TellsBoth}
-use Rattle.judge_command.specs.unit_inputs.command_answers.ReadyTexts.{IsReadyWith}
+use Rattle.asked_service.specs.unit_inputs.command_answers.ReadyTexts.{IsReadyWith}
 use Rattle.effect_command.proofs.Compared.{compared, same_calls, same_site}
 use Rattle.effect_command.proofs.comparing.compare_services.Goals as goal
 

@@ -1,5 +1,5 @@
-use Rattle.judge_command.proofs.OfUnitInputs.Asking.{went_quiet}
-use Rattle.judge_command.specs.unit_inputs.command_answers.Asking.{input_file}
+use Rattle.asked_service.proofs.OfUnitInputs.Asking.{went_quiet}
+use Rattle.asked_service.specs.unit_inputs.command_answers.Asking.{input_file}
 use Rattle.std.proofs.Common.{[], ◌∷◌}
 use Rattle.effect_command.proofs.dropin.read_dropin.Goals as goal
 

@@ -1,9 +1,9 @@
 use Rattle.std.proofs.Common.{◌∙◌, ◌++◌, ap}
 use Rattle.std.specs.Prelude.{flat_map, map}
-use Rattle.judge_command.proofs.OfAskedService.Listed.{listed_at, some_question}
+use Rattle.asked_service.proofs.Listed.{listed_at, some_question}
 use Rattle.effect_command.specs.Lines.{kind_of}
 use Rattle.effect_command.specs.Told.{changes_at, lines_in}
-use Rattle.judge_command.proofs.OfReportText.More.{told_more}
+use Rattle.asked_service.proofs.OfReportText.More.{told_more}
 use Rattle.std.proofs.lemmas.List.{take_all}
 use Rattle.effect_command.proofs.telling.tell_questions.Goals as goal
 

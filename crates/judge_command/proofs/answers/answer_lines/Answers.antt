@@ -2,8 +2,8 @@ use Rattle.std.proofs.Common.{◌≡◌, ◌∙◌, subst}
 use Rattle.std.specs.Prelude.{IfOk}
 use Rattle.asked_service.specs.kernel_laws.declared.question_types.verdict.Verdict.TheVariants.{Denied}
 use Rattle.asked_service.specs.kernel_laws.Bound.{is_open}
-use Rattle.judge_command.specs.Asked.{launch_in}
-use Rattle.judge_command.proofs.Lent.{chosen_for_it, is_served, lists_it, opens_it, runs_it}
+use Rattle.asked_service.specs.Asking.{launch_in}
+use Rattle.asked_service.proofs.Lent.{chosen_for_it, is_served, lists_it, opens_it, runs_it}
 use Rattle.judge_command.proofs.Texts.{denied_text, not_open, own_line, own_lines}
 use Rattle.judge_command.proofs.answers.answer_lines.Goals as goal
 

@@ -1,4 +1,5 @@
-use Rattle.judge_command.specs.Asked.{answer_in, world_in}
+use Rattle.asked_service.specs.Asking.{world_in}
+use Rattle.judge_command.specs.Asked.{answer_in}
 use Rattle.judge_command.proofs.Ends.{answer_ends}
 use Rattle.judge_command.proofs.answers.print_answer.Goals as goal
 

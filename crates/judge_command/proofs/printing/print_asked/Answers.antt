@@ -2,8 +2,9 @@ use Rattle.std.proofs.Common.{◌≡◌, ◌++◌, Err, Ok, ap, length, subst, �
 use Rattle.std.specs.Prelude.{IfOk}
 use Rattle.asked_service.proofs.OfUnitInputs.Texts.{text_short, text_then}
 use Rattle.asked_service.specs.unit_launch.Told.{told_of}
-use Rattle.judge_command.specs.Asked.{denied_among, world_in}
-use Rattle.judge_command.specs.ByRule.{answers_of}
+use Rattle.asked_service.specs.Asking.{world_in}
+use Rattle.judge_command.specs.Asked.{denied_among}
+use Rattle.asked_service.specs.ByRule.{answers_of}
 use Rattle.judge_command.proofs.Ends.{count_ends, launched_ends}
 use Rattle.judge_command.proofs.Counted.{count_is, few_are}
 use Rattle.judge_command.proofs.Texts.{answers_part, answers_put, behind_launch, count_part, folders_part, folders_put, launch_part}

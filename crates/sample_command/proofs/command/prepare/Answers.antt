@@ -1,5 +1,5 @@
 use Rattle.std.proofs.Common.{refl, subst}
-use Rattle.judge_command.specs.call_table.Facts.{IsWhole}
+use Rattle.asked_service.specs.call_table.Facts.{IsWhole}
 use Rattle.sample_command.proofs.Accepted.{never_refused}
 use Rattle.sample_command.proofs.Prepared.{prints_it}
 use Rattle.sample_command.proofs.command.prepare.Goals as goal

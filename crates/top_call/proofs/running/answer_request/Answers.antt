@@ -18,14 +18,14 @@ use Rattle.why_command.specs.Prints.{why_laws}
 use Rattle.why_command.proofs.Prepared.{together as why_together}
 use Rattle.why_command.specs.lines_command.Prints.{lines_laws}
 use Rattle.why_command.proofs.LinesCommandPrepared.{together as lines_together}
-use Rattle.fleet_command.specs.exposure_score.StoredTests.{stored_by}
-use Rattle.fleet_command.specs.score_command.Prints.{score_laws, scored_text, status_of as score_status}
-use Rattle.fleet_command.proofs.OfScoreCommand.Prepared.{together as score_together}
+use Rattle.score_command.specs.exposure_score.StoredTests.{stored_by}
+use Rattle.score_command.specs.Prints.{score_laws, scored_text, status_of as score_status}
+use Rattle.score_command.proofs.Prepared.{together as score_together}
 use Rattle.check_command.specs.Checked.{checked_text, status_of as check_status}
 use Rattle.check_command.specs.Prints.{check_laws}
 use Rattle.check_command.proofs.Together.{together as check_together}
-use Rattle.fleet_command.specs.Prints.{fleet_laws, status_of as fleet_status, text_of as fleet_text}
-use Rattle.fleet_command.proofs.Prepared.{together as fleet_together}
+use Rattle.score_command.specs.fleet_command.Prints.{fleet_laws, status_of as fleet_status, text_of as fleet_text}
+use Rattle.score_command.proofs.FleetCommandPrepared.{together as fleet_together}
 use Rattle.derive_command.proofs.OfUnitInputs.Refusing.{quiet}
 use Rattle.sample_command.specs.Prints.{sample_laws, sampled_text, status_of as sample_status}
 use Rattle.sample_command.proofs.Prepared.{together as sample_together}
@@ -35,7 +35,7 @@ use Rattle.derive_command.specs.host_io.Calls.{Whole}
 use Rattle.derive_command.specs.unit_inputs.Asking.{asks_with_file, input_asks}
 use Rattle.derive_command.proofs.OfUnitInputs.Ended.{order_finished}
 use Rattle.derive_command.proofs.OfUnitInputs.Ordering.{asked_so, order_quiet}
-use Rattle.fleet_command.specs.Asking.{fleet_asks}
+use Rattle.score_command.specs.fleet_command.Asking.{fleet_asks}
 use Rattle.top_call.proofs.Asked.{asked_fixed}
 use Rattle.top_call.proofs.running.answer_request.Goals as goal
 

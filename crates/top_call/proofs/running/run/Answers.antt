@@ -1,6 +1,6 @@
 use Rattle.std.proofs.Common.{map}
 use Rattle.std.specs.Option.{option_map}
-use Rattle.fleet_command.specs.exposure_score.StoredTests.{stored_by}
+use Rattle.score_command.specs.exposure_score.StoredTests.{stored_by}
 use Rattle.tighten_command.specs.tightening.Wishes.{wishes_by}
 use Rattle.top_call.specs.Requests.{request_of}
 use Rattle.top_call.proofs.Runs.{does_for_words}

@@ -1,10 +1,10 @@
-use Rattle.judge_command.specs.unit_inputs.command_answers.CommandErrors.{Prepares}
-use Rattle.judge_command.proofs.OfUnitInputs.FileCommands.{at_stop}
-use Rattle.deciding_lines.specs.Tried.{tried_of}
-use Rattle.judge_command.specs.asked_service.started_units.Starting.{start_refusals}
-use Rattle.judge_command.specs.unit_inputs.command_answers.ReadyTexts.{status_of, text_of}
+use Rattle.asked_service.specs.unit_inputs.command_answers.CommandErrors.{Prepares}
+use Rattle.asked_service.proofs.OfUnitInputs.FileCommands.{at_stop}
+use Rattle.why_command.specs.deciding_lines.Tried.{tried_of}
+use Rattle.asked_service.specs.started_units.Starting.{start_refusals}
+use Rattle.asked_service.specs.unit_inputs.command_answers.ReadyTexts.{status_of, text_of}
 use Rattle.why_command.specs.Prints.{TellsLaunch, TellsWhy}
-use Rattle.judge_command.proofs.OfUnitInputs.ReadyTexts.{ready_reads_nothing}
+use Rattle.asked_service.proofs.OfUnitInputs.ReadyTexts.{ready_reads_nothing}
 use Rattle.why_command.proofs.Told.{answers_launch, answers_stop}
 use Rattle.why_command.proofs.answering.answer.Goals as goal
 

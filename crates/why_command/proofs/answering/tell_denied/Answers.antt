@@ -1,7 +1,7 @@
 use Rattle.std.proofs.Common.{refl, ◌++◌}
-use Rattle.deciding_lines.specs.Tried.{tried_of}
-use Rattle.judge_command.specs.Answers.{Denied}
-use Rattle.judge_command.specs.Report.{answer_lines}
+use Rattle.why_command.specs.deciding_lines.Tried.{tried_of}
+use Rattle.asked_service.specs.Answers.{Denied}
+use Rattle.asked_service.specs.AnswerLines.{answer_lines}
 use Rattle.why_command.specs.Lines.{reason_text}
 use Rattle.why_command.specs.Prints.{TellsService}
 use Rattle.why_command.proofs.Told.{tells_denied, told_as}

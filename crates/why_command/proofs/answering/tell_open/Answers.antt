@@ -1,10 +1,10 @@
 use Rattle.std.proofs.Common.{refl, subst, ◌≡◌, ◌++◌}
 use Rattle.std.specs.Prelude.{IfOk, flat_map}
-use Rattle.deciding_lines.specs.Tried.{tried_of}
-use Rattle.judge_command.specs.kernel_laws.declared.question_types.verdict.Verdict.TheVariants as verdict
-use Rattle.judge_command.specs.Answers.{Open}
-use Rattle.judge_command.specs.Report.{answer_lines}
-use Rattle.judge_command.specs.report_text.Answers.{call_line, verdict_line}
+use Rattle.why_command.specs.deciding_lines.Tried.{tried_of}
+use Rattle.asked_service.specs.kernel_laws.declared.question_types.verdict.Verdict.TheVariants as verdict
+use Rattle.asked_service.specs.Answers.{Open}
+use Rattle.asked_service.specs.AnswerLines.{answer_lines}
+use Rattle.asked_service.specs.report_text.Answers.{call_line, verdict_line}
 use Rattle.why_command.specs.Prints.{TellsService}
 use Rattle.why_command.proofs.Told.{lists_it, maker_lists, maker_opens, maker_runs, maker_served, told_as, tells_open}
 use Rattle.why_command.proofs.answering.tell_open.Goals as goal

@@ -1,6 +1,6 @@
 use Rattle.std.proofs.Common.{false, sym, true, ◌∙◌}
-use Rattle.deciding_lines.specs.Tried.{tried_of}
-use Rattle.deciding_lines.proofs.Asked.{listed, listed_of, served}
+use Rattle.why_command.specs.deciding_lines.Tried.{tried_of}
+use Rattle.why_command.proofs.Asked.{listed, listed_of, served}
 use Rattle.why_command.proofs.Told.{can_be_asked, so_as, still_starts, told_of_it}
 use Rattle.why_command.proofs.answering.tell_service.Goals as goal
 

@@ -1,16 +1,16 @@
 use Rattle.std.proofs.Common.{map, sym, ◌≡◌, ◌∙◌, Some}
 use Rattle.std.specs.Prelude.{IsErrOf}
-use Rattle.judge_command.specs.unit_inputs.declared.command_answers.error.CommandError.TheVariants.{ReadFault}
-use Rattle.judge_command.specs.unit_inputs.command_answers.Laws.{IsAdmitted, laws_over}
-use Rattle.judge_command.proofs.OfUnitInputs.FileCommands.{at_stop}
-use Rattle.judge_command.specs.kernel_laws.declared.question_types.question.Question.{Question}
-use Rattle.judge_command.specs.asked_service.started_units.Starting.{given}
-use Rattle.judge_command.specs.unit_inputs.Asking.{input_asks}
-use Rattle.judge_command.specs.unit_inputs.Inputs.{inputs_of, inputs_view}
-use Rattle.judge_command.proofs.OfUnitInputs.Ordering.{order_quiet, order_quiet_stopped}
-use Rattle.judge_command.proofs.OfAskedService.Given.{same_inputs}
-use Rattle.judge_command.proofs.OfUnitInputs.Reading.{read_then}
-use Rattle.judge_command.specs.unit_inputs.command_answers.ReadyTexts.{status_of, text_of}
+use Rattle.asked_service.specs.unit_inputs.declared.command_answers.error.CommandError.TheVariants.{ReadFault}
+use Rattle.asked_service.specs.unit_inputs.command_answers.Laws.{IsAdmitted, laws_over}
+use Rattle.asked_service.proofs.OfUnitInputs.FileCommands.{at_stop}
+use Rattle.asked_service.specs.kernel_laws.declared.question_types.question.Question.{Question}
+use Rattle.asked_service.specs.started_units.Starting.{given}
+use Rattle.asked_service.specs.unit_inputs.Asking.{input_asks}
+use Rattle.asked_service.specs.unit_inputs.Inputs.{inputs_of, inputs_view}
+use Rattle.asked_service.proofs.OfUnitInputs.Ordering.{order_quiet, order_quiet_stopped}
+use Rattle.asked_service.proofs.Given.{same_inputs}
+use Rattle.asked_service.proofs.OfUnitInputs.Reading.{read_then}
+use Rattle.asked_service.specs.unit_inputs.command_answers.ReadyTexts.{status_of, text_of}
 use Rattle.why_command.specs.Prints.{why_laws}
 use Rattle.why_command.proofs.Prepared.{admitted_as, as_any, listed_as, stops_at_inputs, stops_at_question}
 use Rattle.why_command.proofs.command.prepare.Goals as goal

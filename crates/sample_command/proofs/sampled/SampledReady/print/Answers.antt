@@ -1,6 +1,6 @@
 use Rattle.std.proofs.Common.{◌++◌, Err}
 use Rattle.std.specs.Prelude.{codes}
-use Rattle.judge_command.proofs.OfUnitInputs.Texts.{printed_text, text_at_error, text_cut, text_then}
+use Rattle.asked_service.proofs.OfUnitInputs.Texts.{printed_text, text_at_error, text_cut, text_then}
 use Rattle.sample_command.specs.Prints.{count_line}
 use Rattle.sample_command.proofs.Ends.{count_ends}
 use Rattle.sample_command.proofs.sampled.SampledReady.print.Goals as goal

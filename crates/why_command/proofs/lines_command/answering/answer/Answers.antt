@@ -1,8 +1,8 @@
-use Rattle.judge_command.specs.unit_inputs.command_answers.CommandErrors.{Prepares}
-use Rattle.judge_command.proofs.OfUnitInputs.FileCommands.{at_stop}
-use Rattle.judge_command.specs.asked_service.started_units.Starting.{given, start_refusals}
-use Rattle.judge_command.proofs.OfUnitInputs.ReadyTexts.{ready_reads_nothing}
-use Rattle.judge_command.specs.unit_inputs.command_answers.ReadyTexts.{status_of, text_of}
+use Rattle.asked_service.specs.unit_inputs.command_answers.CommandErrors.{Prepares}
+use Rattle.asked_service.proofs.OfUnitInputs.FileCommands.{at_stop}
+use Rattle.asked_service.specs.started_units.Starting.{given, start_refusals}
+use Rattle.asked_service.proofs.OfUnitInputs.ReadyTexts.{ready_reads_nothing}
+use Rattle.asked_service.specs.unit_inputs.command_answers.ReadyTexts.{status_of, text_of}
 use Rattle.why_command.specs.lines_command.Prints.{TellsLaunch, TellsLines}
 use Rattle.why_command.proofs.LinesCommandTold.{answers_launch, answers_stop}
 use Rattle.why_command.proofs.lines_command.answering.answer.Goals as goal

@@ -1,11 +1,11 @@
 use Rattle.std.proofs.Common.{refl, subst, sym, ◌∙◌, ◌≡◌}
 use Rattle.std.specs.Prelude.{IfOk}
 use Rattle.std.specs.List.{All}
-use Rattle.deciding_lines.proofs.Asked.{served}
-use Rattle.judge_command.specs.launcher.declared.launched.Launched.{Launched as Service}
-use Rattle.judge_command.specs.Asked.{world_in}
-use Rattle.judge_command.specs.asked_service.started_units.Starting.{StartsAs, given}
-use Rattle.judge_command.specs.asked_service.declared.unit_launch.launching.UnitLaunch.TheVariants.{Launched}
+use Rattle.why_command.proofs.Asked.{served}
+use Rattle.asked_service.specs.launcher.declared.launched.Launched.{Launched as Service}
+use Rattle.asked_service.specs.Asking.{world_in}
+use Rattle.asked_service.specs.started_units.Starting.{StartsAs, given}
+use Rattle.asked_service.specs.declared.unit_launch.launching.UnitLaunch.TheVariants.{Launched}
 use Rattle.why_command.proofs.Told.{told_as}
 use Rattle.why_command.specs.lines_command.Lines.{IsListed, lines_text}
 use Rattle.why_command.specs.lines_command.Prints.{TellsService}

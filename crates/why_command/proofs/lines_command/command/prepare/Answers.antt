@@ -1,13 +1,13 @@
 use Rattle.std.proofs.Common.{◌≡◌, Some}
-use Rattle.judge_command.specs.unit_inputs.command_answers.Laws.{IsAdmitted, laws_over}
-use Rattle.judge_command.proofs.OfUnitInputs.FileCommands.{at_stop}
-use Rattle.judge_command.specs.asked_service.started_units.Starting.{given}
-use Rattle.judge_command.specs.unit_inputs.Asking.{input_asks}
-use Rattle.judge_command.specs.unit_inputs.Inputs.{inputs_of, inputs_view}
-use Rattle.judge_command.proofs.OfUnitInputs.Ordering.{order_quiet}
-use Rattle.judge_command.proofs.OfAskedService.Given.{same_inputs}
-use Rattle.judge_command.proofs.OfUnitInputs.Reading.{read_then}
-use Rattle.judge_command.specs.unit_inputs.command_answers.ReadyTexts.{status_of, text_of}
+use Rattle.asked_service.specs.unit_inputs.command_answers.Laws.{IsAdmitted, laws_over}
+use Rattle.asked_service.proofs.OfUnitInputs.FileCommands.{at_stop}
+use Rattle.asked_service.specs.started_units.Starting.{given}
+use Rattle.asked_service.specs.unit_inputs.Asking.{input_asks}
+use Rattle.asked_service.specs.unit_inputs.Inputs.{inputs_of, inputs_view}
+use Rattle.asked_service.proofs.OfUnitInputs.Ordering.{order_quiet}
+use Rattle.asked_service.proofs.Given.{same_inputs}
+use Rattle.asked_service.proofs.OfUnitInputs.Reading.{read_then}
+use Rattle.asked_service.specs.unit_inputs.command_answers.ReadyTexts.{status_of, text_of}
 use Rattle.why_command.specs.lines_command.Prints.{lines_laws}
 use Rattle.why_command.proofs.LinesCommandPrepared.{admitted_as, stops_at_inputs}
 use Rattle.why_command.proofs.lines_command.command.prepare.Goals as goal

@@ -1,6 +1,6 @@
 use Rattle.std.proofs.Common.{Contains, subst, sym}
 use Rattle.std.specs.List.{All}
-use Rattle.judge_command.specs.kernel_laws.Questions.{questions}
+use Rattle.asked_service.specs.kernel_laws.Questions.{questions}
 use Rattle.why_command.specs.lines_command.Lines.{IsListed}
 use Rattle.why_command.proofs.lines_command.lines.push_opened.Goals as goal
 

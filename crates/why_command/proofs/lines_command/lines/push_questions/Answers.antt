@@ -1,7 +1,7 @@
 use Rattle.std.specs.Prelude.{codes}
-use Rattle.judge_command.proofs.OfAskedService.Listed.{some_question}
-use Rattle.judge_command.proofs.OfReportText.More.{told_more}
-use Rattle.judge_command.specs.report_text.Answers.{question_line}
+use Rattle.asked_service.proofs.Listed.{some_question}
+use Rattle.asked_service.proofs.OfReportText.More.{told_more}
+use Rattle.asked_service.specs.report_text.Answers.{question_line}
 use Rattle.why_command.proofs.lines_command.lines.push_questions.Goals as goal
 
 pub loop-question-preserved : goal.loop-question-preserved

@@ -1,6 +1,6 @@
 use Rattle.std.proofs.Common.{◌≡◌, ◌++◌, take}
 use Rattle.std.specs.Prelude.{codes, flat_map}
-use Rattle.judge_command.specs.report_text.Answers.{question_line}
+use Rattle.asked_service.specs.report_text.Answers.{question_line}
 use Rattle.why_command.proofs.lines_command.lines.push_questions.Given as goal
 
 abbrev pub invariant-loop-question : goal.invariant-loop-question

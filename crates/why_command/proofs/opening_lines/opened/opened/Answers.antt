@@ -1,7 +1,7 @@
 use Rattle.std.proofs.Common.{ap, ◌∙◌}
 use Rattle.std.proofs.lemmas.List.{take_all}
-use Rattle.judge_command.proofs.OfAskedService.Listed.{listed_at, some_question}
-use Rattle.judge_command.specs.kernel_laws.Launched.{launch_of}
+use Rattle.asked_service.proofs.Listed.{listed_at, some_question}
+use Rattle.asked_service.specs.kernel_laws.Launched.{launch_of}
 use Rattle.why_command.specs.opening_lines.ByRule.{opened_by}
 use Rattle.why_command.proofs.Gathered.{opened_more}
 use Rattle.why_command.proofs.opening_lines.opened.opened.Goals as goal

@@ -1,5 +1,5 @@
 use Rattle.std.proofs.Common.{◌≡◌, take}
-use Rattle.judge_command.specs.kernel_laws.Launched.{launch_of}
+use Rattle.asked_service.specs.kernel_laws.Launched.{launch_of}
 use Rattle.why_command.specs.opening_lines.ByRule.{opened_by}
 use Rattle.why_command.proofs.opening_lines.opened.opened.Given as goal
 

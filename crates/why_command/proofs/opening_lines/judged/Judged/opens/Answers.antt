@@ -1,6 +1,6 @@
 use Rattle.std.proofs.Common.{[], ◌∷◌}
-use Rattle.deciding_lines.proofs.Asked.{served}
-use Rattle.deciding_lines.specs.Tried.{inputs_without}
+use Rattle.why_command.proofs.Asked.{served}
+use Rattle.why_command.specs.deciding_lines.Tried.{inputs_without}
 use Rattle.why_command.specs.opening_lines.Judging.{inputs_in}
 use Rattle.why_command.proofs.Trying.{all_after, all_before, opens_it}
 use Rattle.why_command.proofs.opening_lines.judged.Judged.opens.Goals as goal

@@ -1,4 +1,0 @@
-pub mod Parts
-pub mod LeftOut
-pub mod Asked
-pub mod Needed

@@ -1,6 +1,0 @@
-use Rattle.std.proofs.Common.{◌≡◌, ◌++◌, take}
-use Rattle.deciding_lines.specs.Bare.{is_identity, places_of}
-use Rattle.deciding_lines.proofs.bare.push_identities.Given as goal
-
-abbrev pub invariant-loop-line : goal.invariant-loop-line
-invariant-loop-line l = l.places.items ≡ l.fn.places.items ++ places_of is_identity (take l.line-index l.lines)

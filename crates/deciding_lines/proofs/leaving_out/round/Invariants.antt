@@ -1,9 +1,0 @@
-use Rattle.std.proofs.Common.{length}
-use Rattle.deciding_lines.specs.LeavingOut.{IsHeld}
-use Rattle.deciding_lines.proofs.leaving_out.round.Given as goal
-
-abbrev pub invariant-loop-thing : goal.invariant-loop-thing
-invariant-loop-thing g l = IsHeld (g.S.Search.serves l.search) (g.S.Search.fails l.search) l.things l.left l.kept
-
-abbrev pub decreases-loop-thing : goal.decreases-loop-thing
-decreases-loop-thing g l = length l.left

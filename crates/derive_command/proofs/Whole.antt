@@ -1,0 +1,49 @@
+-- What is derived for a script, with what holds of every table, site and script.
+use Rattle.std.proofs.Common.{◌≡◌, ℕ, ◌<◌, ◌^◌, None, Result, Ok, Err, List, All, sym, subst}
+use Rattle.std.specs.Prelude.{IsErrAnd}
+use Rattle.std.proofs.lemmas.List.Elements.{recursion_from_All}
+use Rattle.asked_service.specs.call_table.Facts.{IsWhole}
+use Rattle.asked_service.specs.call_table.Table as calls
+use Rattle.asked_service.specs.dropin_merge.declared.resolved.Resolved.{Resolved}
+use Rattle.asked_service.specs.kernel_model.kernel_calls.Calls.{IsCall}
+use Rattle.asked_service.specs.kernel_model.declared.kernel_calls.call.Call.{Call}
+use Rattle.asked_service.specs.launched_units.Launching.{IsNotLaunched}
+use Rattle.asked_service.specs.declared.launched_units.refusal.UnitRefusal.{UnitRefusal}
+use Rattle.asked_service.specs.declared.launched_units.refusal.UnitRefusal.TheVariants as refusal
+use Rattle.asked_service.proofs.OfLauncher.TwoAbis.{word_archs}
+use Rattle.asked_service.specs.site_table.Table.{IsSite, Site}
+use Rattle.derive_command.specs.trace_profile.Derived.{Derives, IsOnlyOne}
+use Rattle.derive_command.specs.trace_profile.Errors.{error_of}
+use Rattle.derive_command.specs.trace_profile.Extended.{open_unit}
+use Rattle.derive_command.specs.trace_profile.Finding.{DerivesOpen}
+use Rattle.derive_command.specs.trace_profile.PlainNames.{IsReadFrom}
+use Rattle.derive_command.specs.trace_profile.Scripts.{first_seccomp}
+use Rattle.derive_command.specs.declared.trace_profile.derived.DeriveError.{DeriveError}
+use Rattle.derive_command.specs.declared.trace_profile.derived.Derived.{Derived}
+use Rattle.derive_command.proofs.OneList.{least_is_only_one}
+use Rattle.derive_command.proofs.PlainTables.{table_is_plain}
+
+module _ (unit : Resolved) (table : calls.Table) (site : Site) (script : List Call) (sound : IsSite site) (whole : IsWhole table) (native : table.arch < 2 ^ 32) (second : calls.arch_of table 1 < 2 ^ 32) (fit : All IsCall script) (none : first_seccomp table script ≡ None) where
+  pub derives_all : (derived : Derived) → DerivesOpen unit table site script (Ok derived) → Derives unit table site script (Ok derived)
+  derives_all derived is = (none, is, λ plain. least_is_only_one unit table site script derived.names sound whole (word_archs table native second) (recursion_from_All IsCall script fit) none plain is)
+
+  -- over a table that was read
+  pub only_over_read : (derived : Derived) → DerivesOpen unit table site script (Ok derived) → (bytes : List ℕ)
+      → IsReadFrom bytes table → IsOnlyOne unit table site script derived.names
+  only_over_read derived is bytes read =
+      (derives_all derived is).2 (table_is_plain bytes table read.fits_a_file read.is_its_table)
+
+-- why there is nothing
+module _ (unit : Resolved) (table : calls.Table) (site : Site) (script : List Call) (none : first_seccomp table script ≡ None) where
+  refuses : (error : UnitRefusal) → IsNotLaunched (open_unit unit table) table site error
+      → Derives unit table site script (Err (error_of error))
+  refuses (refusal.Settings own) is = (none, is)
+  refuses (refusal.Plan own) is = (none, is)
+  refuses (refusal.Launch own) is = (none, is)
+  refuses refusal.Memory is = tt
+
+  pub derives_none : (error : UnitRefusal) (result : Result Derived DeriveError) → IsErrAnd result (λ told. told ≡ error_of error)
+      → IsNotLaunched (open_unit unit table) table site error
+      → Derives unit table site script result
+  derives_none error (Ok derived) is not_it = absurd is
+  derives_none error (Err told) is not_it = subst (λ own. Derives unit table site script (Err own)) (sym is) (refuses error not_it)

@@ -1,0 +1,10 @@
+use Rattle.derive_command.specs.trace_profile.Searching.{tried_of}
+use Rattle.derive_command.proofs.Tried.{marked_serve}
+use Rattle.derive_command.proofs.trace_profile.finding.begin.Goals as goal
+
+pub returns-then-serves : goal.returns-then-serves
+returns-then-serves c =
+    marked_serve (tried_of c.args.trial.now) c.deref-2.result.now c.args.every.items c.deref.result.now c.in_ok-used.used.items
+    c.deref-3.result.now c.in_ok-serves.serves
+    c.requires.serving c.deref.ensures.value c.in_ok-used.ensures.those_that_are_marked c.deref-3.ensures.value
+    c.in_ok-serves.ensures.tells_whether_they_serve c.if-serves.true

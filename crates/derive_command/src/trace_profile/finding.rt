@@ -1,0 +1,119 @@
+//! The least list, derived.
+
+ghost use Rattle.asked_service.specs.launched_units.Launching.{IsNotLaunched};
+ghost use Rattle.derive_command.specs.trace_profile.Derived.{Derives, Serves, tried_with};
+ghost use Rattle.derive_command.specs.trace_profile.Extended.{extended};
+ghost use Rattle.derive_command.specs.trace_profile.Finding.{DerivesOpen};
+ghost use Rattle.std.specs.Prelude.{◌≡◌, ℕ, All, IfOk, IfErr, List, None, length};
+ghost use Rattle.derive_command.specs.trace_profile.Derived.{IsLeast, IsOnlyOne};
+ghost use Rattle.derive_command.specs.trace_profile.PlainNames.{IsReadFrom};
+ghost use Rattle.derive_command.specs.trace_profile.Searching.{AreServing, tried_of};
+ghost use Rattle.asked_service.specs.kernel_model.kernel_calls.Calls.{IsCall};
+
+use crate::trace_profile::derived::{DeriveError, Derived, Names};
+use crate::trace_profile::extending::extended;
+use crate::trace_profile::names::{every_name, marked};
+use crate::trace_profile::replies::replies_of;
+use crate::trace_profile::scripts::first_seccomp;
+use crate::trace_profile::searching::Trial;
+use crate::trace_profile::used::used_marks;
+use asked_service::launched_units::{UnitRefusal, launch_whole};
+use asked_service::{Call, CallTable, Reply, Resolved, Script, SiteTable, fits};
+use std::alloc::{AllocError, Global};
+
+// Names that serve: those that the script uses, which as a rule do, or else all.
+fn begin(alloc: Global, trial: &Trial, every: Vec<u32>) -> Result<Vec<u32>, AllocError>
+    requires one_each { length trial.now.said.now ≡ length trial.now.script.now }
+    requires serving { AreServing (tried_of trial.now) every.items }
+    ensures { IfOk result (λ names. AreServing (tried_of trial.now) names.items) }
+{
+    let marks = used_marks(alloc, trial.calls, trial.script)?;
+    let used = marked(alloc, &every, &marks)?;
+    let serves = trial.serves(alloc, &used)?;
+    if serves { Ok(used) } else { Ok(every) }
+}
+
+// The replies of the unit that allows these names, where it is launched.
+fn replies_with(
+    alloc: Global,
+    unit: &Resolved,
+    calls: &CallTable,
+    site: &SiteTable,
+    names: &[u32],
+    script: &[Call],
+) -> Result<Vec<Reply>, UnitRefusal>
+    ensures replies { IfOk result (λ said. Serves (tried_with unit.now calls.now site.now script.now said.items) names.now) }
+    ensures one_each { IfOk result (λ said. length said.items ≡ length script.now) }
+    ensures refused { IfErr result (λ error. IsNotLaunched (extended unit.now calls.now names.now) calls.now site.now error) }
+{
+    let open = extended(alloc, unit, calls, names)?;
+    let mut service = launch_whole(alloc, &open, calls, site)?;
+    let said = replies_of(alloc, &mut service.world, script)?;
+    Ok(said)
+}
+
+// The least list, for a script that asks to push no program.
+fn derive_open(
+    alloc: Global,
+    unit: &Resolved,
+    calls: &CallTable,
+    site: &SiteTable,
+    script: &Script,
+) -> Result<Derived, UnitRefusal>
+    ensures { DerivesOpen unit.now calls.now site.now script.now result }
+{
+    let every = every_name(alloc, calls)?;
+    let said = replies_with(alloc, unit, calls, site, &every, script.list())?;
+    let trial = Trial {
+        unit,
+        calls,
+        site,
+        script: script.list(),
+        said: &said,
+    };
+    let names = trial.least(alloc, begin(alloc, &trial, every)?)?;
+    Ok(Derived {
+        names: Names::new(names),
+    })
+}
+
+// The contract of `fits` gives what every call satisfies. The function changes nothing.
+fn calls_fit(script: &[Call])
+    ensures { All IsCall script.now }
+{
+    for call in script {
+        fits(call);
+    }
+}
+
+/// Finds the least list of names with which the unit answers the calls of a script like with all names.
+///
+/// With these names and `@default` allowed, and no other call, the unit is launched. Each call of the script has the reply that
+/// it has if every call of the table is allowed. Without any of them the unit is not launched, or some reply differs.
+///
+/// No other list has these properties, and none of its names is in `@default`. This holds for each table that was read from a
+/// file, which has at most 1 MiB, and for any other with plain names.
+///
+/// Returns `Seccomp` with the first call of the script that asks to push a program, before all else. Returns `Settings`, `Plan`
+/// or `Launch` exactly if the unit that allows every call is refused for that reason, the first of them in this order. Memory
+/// can run out for any unit.
+pub fn derive(
+    alloc: Global,
+    unit: &Resolved,
+    calls: &CallTable,
+    site: &SiteTable,
+    script: &Script,
+) -> Result<Derived, DeriveError>
+    ensures derives { Derives unit.now calls.now site.now script.now result }
+    ensures only_list_over_a_read_table { IfOk result (λ derived. (bytes : List ℕ) → IsReadFrom bytes calls.now
+        → IsOnlyOne unit.now calls.now site.now script.now derived.names) }
+{
+    if let Some(number) = first_seccomp(calls, script.list()) {
+        return Err(DeriveError::Seccomp(number));
+    }
+    // These calls borrow parts of the table and of the site, and so give what every table and every site satisfies.
+    calls.look_at();
+    let _uid = site.dynamic_uid();
+    calls_fit(script.list());
+    Ok(derive_open(alloc, unit, calls, site, script)?)
+}

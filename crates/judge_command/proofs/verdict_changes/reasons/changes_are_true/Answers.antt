@@ -1,5 +1,0 @@
-use Rattle.judge_command.proofs.Changed.{changes_are_true}
-use Rattle.judge_command.proofs.verdict_changes.reasons.changes_are_true.Goals as goal
-
-pub returns : goal.returns
-returns c = record { exactly_what_changes = changes_are_true c.truths.ensures.answers c.blindness.ensures.exact }

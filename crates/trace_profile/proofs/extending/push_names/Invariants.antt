@@ -1,7 +1,0 @@
-use Rattle.std.proofs.Common.{◌≡◌, ◌∷◌, ◌++◌, take}
-use Rattle.std.specs.Prelude.{flat_map}
-use Rattle.trace_profile.specs.Extended.{name_at}
-use Rattle.trace_profile.proofs.extending.push_names.Given as goal
-
-abbrev pub invariant-loop-place : goal.invariant-loop-place
-invariant-loop-place l = l.text.items ≡ l.initial.text.items ++ flat_map (λ place. 32 ∷ name_at l.calls place) (take l.place-index l.names)

@@ -1,7 +1,0 @@
-use Rattle.std.proofs.Common.{take}
-use Rattle.std.specs.List.{list_any}
-use Rattle.trace_profile.specs.Used.{MarksMore, is_line_of}
-use Rattle.trace_profile.proofs.used.mark_calls.Given as goal
-
-abbrev pub invariant-loop-call : goal.invariant-loop-call
-invariant-loop-call l = MarksMore (λ at. list_any (is_line_of l.calls at) (take l.call-index l.script)) l.initial.marks l.marks

@@ -1,0 +1,130 @@
+-- What one verdict tells of a unit without some of its lines.
+use Rattle.std.proofs.Common.{◌≡◌, ℕ, Bool, true, false, List, Some, Result, Ok, Err, Vec, Global, sym, ap, subst}
+use Rattle.std.specs.Prelude.{Contains, IfOk}
+use Rattle.std.specs.declared.alloc.AllocError.{AllocError}
+use Rattle.asked_service.proofs.Exact.{all_at}
+use Rattle.asked_service.specs.Asked.{IsBounded, is_open_by}
+use Rattle.asked_service.specs.declared.bounding.Bounded.{Bounded}
+use Rattle.asked_service.specs.unit_inputs.command_answers.CommandErrors.{Prepares}
+use Rattle.asked_service.specs.unit_inputs.declared.command_answers.error.CommandError.{CommandError}
+use Rattle.asked_service.specs.unit_inputs.declared.command_answers.error.CommandError.TheVariants as stop
+use Rattle.asked_service.specs.call_table.Table as calls
+use Rattle.asked_service.specs.dropin_merge.declared.resolved.Resolved.{Resolved}
+use Rattle.asked_service.specs.kernel_laws.Bound.{is_open}
+use Rattle.asked_service.specs.kernel_laws.Launched.{Launch, launch_of}
+use Rattle.asked_service.specs.kernel_laws.Questions as asked
+use Rattle.asked_service.specs.kernel_model.World.{World}
+use Rattle.asked_service.specs.kernel_ways.Laws.{IsExact, IsServedWorld, QuestionsAreExact}
+use Rattle.asked_service.specs.launcher.declared.launched.Launched.{Launched as Service}
+use Rattle.asked_service.specs.kernel_laws.declared.question_types.question.Question.{Question}
+use Rattle.asked_service.specs.site_table.Table.{Site}
+use Rattle.asked_service.specs.started_units.Starting.{StartsAs, first_start, given, start_refusals}
+use Rattle.asked_service.specs.unit_inputs.Inputs.{Inputs}
+use Rattle.asked_service.specs.declared.unit_launch.launching.UnitLaunch.{UnitLaunch}
+use Rattle.asked_service.specs.declared.unit_launch.launching.UnitLaunch.TheVariants.{Launched, Refused}
+use Rattle.asked_service.specs.declared.unit_launch.refusal.LaunchRefusal.{LaunchRefusal}
+use Rattle.asked_service.specs.unit_launch.Refusals.{refusal_line}
+use Rattle.why_command.specs.deciding_lines.unit_lines.Without.{without}
+use Rattle.asked_service.specs.dropin_merge.declared.unit_values.value.Place.{Place}
+use Rattle.why_command.specs.deciding_lines.Tried.{IsDeniedWithout, IsNotLaunched, IsOpenWithout, IsSaid, TellsOpen, Tried, denied, inputs_without}
+use Rattle.why_command.specs.deciding_lines.Tried.{IsStarted, TellsLaunch, TellsStop, launch_refused, unit_refused}
+use Rattle.why_command.specs.declared.deciding_lines.starting.Started.{Started}
+use Rattle.why_command.specs.declared.deciding_lines.starting.Started.TheVariants as started
+
+-- a verdict by the rule says so
+said_exactly : (world : World) (question : Question) (answer : Bool) → IsExact world question
+    → answer ≡ is_open (launch_of world) question → IsSaid world question answer
+said_exactly world question true exact is = exact.opens (sym is)
+said_exactly world question false exact is = exact.denies (sym is)
+
+pub said : QuestionsAreExact → (world : World) → IsServedWorld world → (question : Question)
+    → Contains (asked.questions world.calls world.site) question
+    → (answer : Bool) → answer ≡ is_open_by world question → IsSaid world question answer
+said exact world served question listed answer is =
+    said_exactly world question answer
+    (all_at (IsExact world) (asked.questions world.calls world.site) question (exact world served) listed) is
+
+-- also where it is bounded
+module _ (service : Service) (bounded : Bounded) (same : bounded.service ≡ service) (question : Question) (is_listed : Contains (asked.questions service.world.calls service.world.site) question) where
+  pub listed_of : Contains (asked.questions bounded.service.world.calls bounded.service.world.site) question
+  listed_of = subst (λ (own : Service). Contains (asked.questions own.world.calls own.world.site) question) (sym same) is_listed
+
+  pub said_of : QuestionsAreExact → IsBounded bounded → (answer : Bool) → answer ≡ is_open_by bounded.service.world question
+      → IsSaid service.world question answer
+  said_of exact bounds answer is =
+      subst (λ (own : Service). IsSaid own.world question answer) same
+      (said exact bounded.service.world bounds.served question listed_of answer is)
+
+-- what starts is served, over the tables
+module _ (inputs : Inputs) (service : Service) (starts : StartsAs inputs (Launched service)) where
+  pub served : IsServedWorld service.world
+  served = starts.comes_to.is_served
+
+  pub own_calls : service.world.calls ≡ inputs.calls
+  own_calls = ap (λ (made : Launch). made.calls) starts.comes_to.leaves_one_process.leaves.is
+
+  pub own_site : service.world.site ≡ inputs.site
+  own_site = ap (λ (made : Launch). made.site) starts.comes_to.leaves_one_process.leaves.is
+
+  pub listed : (question : Question) → Contains (asked.questions inputs.calls inputs.site) question
+      → Contains (asked.questions service.world.calls service.world.site) question
+  listed question is =
+      subst (λ (table : calls.Table). Contains (asked.questions table service.world.site) question) (sym own_calls)
+      (subst (λ (site : Site). Contains (asked.questions inputs.calls site) question) (sym own_site) is)
+
+-- what a unit starts as without some of its lines
+module _ (name : List ℕ) (inputs : Inputs) (places : List Place) (less : Resolved) (is : less ≡ without places inputs.unit) where
+  as_without : (P : Inputs → Type 0) → P (given less inputs.calls inputs.site) → P (inputs_without inputs places)
+  as_without P holds = subst (λ (own : Resolved). P (given own inputs.calls inputs.site)) is holds
+
+  starts_without : (service : Service) → Prepares (StartsAs (given less inputs.calls inputs.site))
+      (start_refusals name (given less inputs.calls inputs.site)) (Ok (Launched service))
+      → StartsAs (inputs_without inputs places) (Launched service)
+  starts_without service prepared = as_without (λ own. StartsAs own (Launched service)) prepared.1
+
+  refuses_launch : (refusal : LaunchRefusal) (line : List ℕ) → line ≡ refusal_line refusal
+      → Prepares (StartsAs (given less inputs.calls inputs.site)) (start_refusals name (given less inputs.calls inputs.site))
+      (Ok (Refused refusal)) → IsNotLaunched name (inputs_without inputs places) line
+  refuses_launch refusal line says prepared = subst (IsNotLaunched name (inputs_without inputs places)) (sym says)
+      (launch_refused refusal (as_without (λ own. StartsAs own (Refused refusal)) prepared.1))
+
+  refuses_unit : (line : Vec ℕ Global) → Prepares {T = UnitLaunch} (StartsAs (given less inputs.calls inputs.site))
+      (start_refusals name (given less inputs.calls inputs.site)) (Err (stop.Refused line))
+      → IsNotLaunched name (inputs_without inputs places) line.items
+  refuses_unit line refuses = unit_refused line.items (as_without (λ own. first_start name own ≡ Some line.items) refuses)
+
+  pub starts_as : (launch : UnitLaunch) → Prepares (StartsAs (given less inputs.calls inputs.site))
+      (start_refusals name (given less inputs.calls inputs.site)) (Ok launch) → (result : Result Started AllocError)
+      → IfOk result (TellsLaunch launch) → IfOk result (IsStarted name (inputs_without inputs places))
+  starts_as launch prepared (Err none) told = tt
+  starts_as (Launched service) prepared (Ok made) told =
+      subst (IsStarted name (inputs_without inputs places)) (sym told) (starts_without service prepared)
+  starts_as (Refused refusal) prepared (Ok (started.Launched service)) told = absurd told
+  starts_as (Refused refusal) prepared (Ok (started.Refused line)) told = refuses_launch refusal line.items told prepared
+
+  pub stops_as : (why : CommandError) → Prepares {T = UnitLaunch} (StartsAs (given less inputs.calls inputs.site))
+      (start_refusals name (given less inputs.calls inputs.site)) (Err why) → (result : Result Started AllocError)
+      → IfOk result (TellsStop why) → IfOk result (IsStarted name (inputs_without inputs places))
+  stops_as why refuses (Err none) told = tt
+  stops_as (stop.Refused line) refuses (Ok made) told =
+      subst (IsStarted name (inputs_without inputs places)) (sym told) (refuses_unit line refuses)
+  stops_as stop.ReadFault refuses (Ok made) told = absurd told
+  stops_as stop.Memory refuses (Ok made) told = absurd told
+
+-- what is told of a launch without them
+module _ (tried : Tried) (places : List Place) where
+  pub tells_service : (service : Service) → StartsAs (inputs_without tried.inputs places) (Launched service)
+      → (result : Result Bool AllocError) → IfOk result (IsSaid service.world tried.question) → IfOk result (TellsOpen tried places)
+  tells_service service starts (Ok true) found = record { service = service; starts = starts; shown = found }
+  tells_service service starts (Ok false) found = denied (record { service = service; starts = starts; denied = found })
+  tells_service service starts (Err none) found = tt
+
+  pub open_as : (service : Service) → StartsAs (inputs_without tried.inputs places) (Launched service) → (answer : Bool) → answer ≡ true
+      → IsSaid service.world tried.question answer → IsOpenWithout tried places
+  open_as service starts answer is found =
+      record { service = service; starts = starts; shown = subst (IsSaid service.world tried.question) is found }
+
+  pub denied_as : (service : Service) → StartsAs (inputs_without tried.inputs places) (Launched service) → (answer : Bool)
+      → answer ≡ false → IsSaid service.world tried.question answer → IsDeniedWithout tried places
+  denied_as service starts answer is found =
+      record { service = service; starts = starts; denied = subst (IsSaid service.world tried.question) is found }

@@ -1,0 +1,6 @@
+use Rattle.std.proofs.Common.{◌≡◌, ◌++◌, take}
+use Rattle.why_command.specs.deciding_lines.Bare.{is_other, places_of}
+use Rattle.why_command.proofs.deciding_lines.bare.push_others.Given as goal
+
+abbrev pub invariant-loop-line : goal.invariant-loop-line
+invariant-loop-line l = l.places.items ≡ l.fn.places.items ++ places_of is_other (take l.line-index l.lines)
