@@ -105,6 +105,7 @@ pub const JMP_JSET_K: u16 = JMP | JSET | K;
 pub const RET_K: u16 = RET | K;
 
 /// Returns the operation of a code, or None if the code is not in the table.
+#[inline(always)]
 pub(crate) fn decode(code: u16) -> Option<Op>
     ensures { result ≡ op_of code }
 {

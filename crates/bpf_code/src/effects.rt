@@ -9,6 +9,7 @@ use crate::machine::{CallData, DATA_LEN, Effect, Insn, Regs};
 use crate::ops::{AluOp, Op, Operand, Reg, Source, Test};
 
 // Returns the low or the high 32 bits.
+#[inline(always)]
 fn half(n: u64, high: bool) -> u32
     ensures { result ≡ (if high then n / 2 ^ 32 else n % 2 ^ 32) }
 {
@@ -20,6 +21,7 @@ fn half(n: u64, high: bool) -> u32
 }
 
 // Returns a word of the arguments.
+#[inline(always)]
 fn argument_word(args: &[u64], at: usize) -> u32
     requires { at < 2 * length args.now }
     ensures { result ≡ slice_index (flat_map halves args.now) at }
@@ -28,6 +30,7 @@ fn argument_word(args: &[u64], at: usize) -> u32
 }
 
 // Returns a word of the data.
+#[inline(always)]
 fn word(input: &CallData, at: u32) -> u32
     requires { at < 16 }
     ensures { result ≡ slice_index (words_of input.now) at }
@@ -41,6 +44,7 @@ fn word(input: &CallData, at: u32) -> u32
     }
 }
 
+#[inline(always)]
 fn operate(op: AluOp, a: u32, b: u32) -> u32
     requires { op ≡ AluOp.Div → 0 < b }
     ensures { result ≡ result_of_op op a b }
@@ -58,6 +62,7 @@ fn operate(op: AluOp, a: u32, b: u32) -> u32
     }
 }
 
+#[inline(always)]
 fn test_holds(test: Test, a: u32, b: u32) -> bool
     ensures { result ≡ holds test a b }
 {
@@ -69,6 +74,7 @@ fn test_holds(test: Test, a: u32, b: u32) -> bool
     }
 }
 
+#[inline(always)]
 fn operand_value(operand: Operand, insn: Insn, regs: &Regs) -> u32
     ensures { result ≡ value_of operand insn regs.now }
 {
@@ -79,6 +85,7 @@ fn operand_value(operand: Operand, insn: Insn, regs: &Regs) -> u32
 }
 
 // Performs an operation on A. A division by 0 ends the program.
+#[inline(always)]
 fn alu(op: AluOp, regs: &mut Regs, n: u32) -> Effect
     ensures { (result, regs.new) ≡ alu_effect op n regs.old }
 {
@@ -92,6 +99,7 @@ fn alu(op: AluOp, regs: &mut Regs, n: u32) -> Effect
 }
 
 /// Performs an instruction that has no fault, given the operation of its code.
+#[inline(always)]
 pub fn perform(op: Op, insn: Insn, regs: &mut Regs, input: &CallData) -> Effect
     requires { (left : ℕ) × (op_fault op insn left ≡ None) }
     ensures by_the_effect { (result, regs.new) ≡ effect_of op insn regs.old input.now }

@@ -14,6 +14,7 @@ use crate::machine::{CallData, Effect, Insn, Regs};
 use crate::program::Program;
 
 // Performs an instruction without a fault, given how many instructions follow it.
+#[inline(always)]
 fn step(insn: Insn, left: usize, regs: &mut Regs, input: &CallData) -> Effect
     requires fine { fault_of insn left ≡ None }
     requires more { is_return (op_of insn.code) ≡ false → 0 < left }
