@@ -14,6 +14,8 @@ pub mod OneMore
 pub mod Looping
 pub mod Folding
 pub mod Sections
+pub mod Spotting
+pub mod Keyed
 pub mod OfHostIo
 pub mod OfUnitGrammar
 pub use Rattle.unit_grammar.proofs.OfTextForms as OfTextForms

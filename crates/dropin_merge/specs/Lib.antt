@@ -2,9 +2,11 @@ pub mod Answers
 pub mod Asking
 pub mod Changed
 pub mod Judging
+pub mod KeyWalk
 pub mod Places
 pub mod Ranks
 pub mod Resolving
+pub mod Spots
 pub mod Steps
 pub mod Winners
 pub mod unit_values

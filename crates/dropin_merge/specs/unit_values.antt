@@ -1,3 +1,4 @@
+pub mod Service
 pub mod Assignments
 pub mod Walk
 pub mod Values

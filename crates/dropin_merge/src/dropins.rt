@@ -1,5 +1,5 @@
 // Reads the drop-ins of a unit after its fragment.
-ghost use Rattle.std.specs.Prelude.{◌≡◌, ◌∷◌, [], IfOk, IfSome, length, map};
+ghost use Rattle.std.specs.Prelude.{◌≡◌, ◌∷◌, ◌++◌, [], IfOk, IfSome, OnOk, length, map};
 ghost use Rattle.std.specs.List.{Contains};
 ghost use Rattle.std.specs.String.{string_bytes};
 ghost use Rattle.host_io.specs.Calls.{AsksExactly};
@@ -14,14 +14,23 @@ ghost use Rattle.dropin_merge.specs.declared.errors.ResolveError.TheVariants.{Re
 use crate::errors::ResolveError;
 use crate::files::{Found, file_at};
 use crate::places::dropin_places;
-use crate::resolved::{UnitFile, UnitFiles};
+use crate::resolved::UnitFile;
+use crate::unit_files::UnitFiles;
 use crate::winners::{collect_winners, winning_paths};
 use host_io::Shelf;
-use std::alloc::Global;
+use std::alloc::{AllocError, Global};
 use unit_names::UnitName;
 
 /// The most drop-ins of a unit.
 const MOST_DROPINS: usize = 256;
+
+// Keeps a file after the others.
+fn keep_file(files: &mut Vec<UnitFile>, file: UnitFile) -> Result<(), AllocError>
+    ensures { OnOk result (files.new.items ≡ files.old.items ++ file ∷ []) }
+{
+    files.push(file)?;
+    Ok(())
+}
 
 // Returns a fragment and, after it, the drop-ins at these paths.
 fn read_dropins<S: Shelf>(
@@ -38,14 +47,14 @@ fn read_dropins<S: Shelf>(
     ensures fault_rose { HasCause (S.faults shelf.old) (S.faults shelf.new) result }
     ensures no_other_fault { StaysUnless ReadFault (S.faults shelf.old) (S.faults shelf.new) result }
 {
-    let mut files = UnitFiles::empty(alloc);
-    files.push(fragment)?;
+    let mut files = Vec::new(alloc);
+    keep_file(&mut files, fragment)?;
     for path in paths {
         if let Found::Says(dropin) = file_at(alloc, shelf, path.as_str())? {
-            files.push(dropin)?;
+            keep_file(&mut files, dropin)?;
         }
     }
-    Ok(files)
+    Ok(UnitFiles::new(files))
 }
 
 /// Returns the files in force of a unit, given its fragment.

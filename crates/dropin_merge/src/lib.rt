@@ -14,12 +14,15 @@ mod listing;
 mod places;
 mod resolved;
 mod resolving;
+mod spots;
+mod unit_files;
 pub mod unit_values;
 mod winners;
 
 pub use errors::ResolveError;
-pub use resolved::{Resolved, UnitFile, UnitFiles};
+pub use resolved::{Resolved, UnitFile};
 pub use resolving::resolve;
+pub use unit_files::UnitFiles;
 pub use unit_grammar::{
     Assignment, Assignments, Held, HeldList, ItemList, Line, NoteCause, Notes, Text, UnitError,
     UnitText, linux_numbers, push_u64, push_word, read_bool, read_decimal, read_lines, read_text,

@@ -4,8 +4,9 @@
 ghost use Rattle.std.specs.Prelude.{◌≡◌, IfOk};
 ghost use Rattle.dropin_merge.specs.Changed.{extended, read_by};
 
+use crate::unit_files::UnitFiles;
 use std::alloc::{AllocError, Global};
-use unit_grammar::{ItemList, Text, UnitText};
+use unit_grammar::{Text, UnitText};
 use unit_names::{UnitName, Version};
 
 /// A file in force.
@@ -28,9 +29,6 @@ impl UnitFile {
         })
     }
 }
-
-/// Files in force, which contracts see as a list.
-pub type UnitFiles = ItemList<UnitFile>;
 
 // Returns copies of the files.
 fn copied(alloc: Global, files: &[UnitFile]) -> Result<Vec<UnitFile>, AllocError>

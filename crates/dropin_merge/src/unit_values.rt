@@ -9,6 +9,7 @@
 mod assignments;
 mod flags;
 mod force;
+mod keyed;
 mod lasting;
 mod laws;
 mod lines;
@@ -19,6 +20,7 @@ mod value;
 mod words;
 mod written;
 
+pub(crate) use assignments::is_of_service;
 pub use assignments::{ServiceAssignments, service_assignments};
 pub use flags::flag_of_key;
 pub use force::in_force;

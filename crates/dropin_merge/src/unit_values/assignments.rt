@@ -10,7 +10,7 @@ use unit_grammar::Assignment;
 /// The section of a unit file that describes the service.
 const SECTION: &str = "Service";
 
-fn is_of_service(assignment: &Assignment) -> bool
+pub(crate) fn is_of_service(assignment: &Assignment) -> bool
     ensures { result ≡ is_of_service assignment.now }
 {
     assignment.section.as_str() == SECTION
@@ -70,6 +70,18 @@ impl<'a> Iterator for ServiceAssignments<'a> {
             self.left = self.files[self.begun].text.assignments.list();
             self.begun += 1;
         }
+    }
+}
+
+// Returns an iterator with no assignments left.
+pub(crate) fn no_assignments<'a>() -> ServiceAssignments<'a>
+    ensures { assignments_left result ≡ [] }
+{
+    ServiceAssignments {
+        files: &[],
+        begun: 0,
+        file: 0,
+        left: &[],
     }
 }
 

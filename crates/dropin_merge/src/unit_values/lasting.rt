@@ -6,7 +6,7 @@ ghost use Rattle.dropin_merge.specs.unit_values.Values.{notes_of};
 ghost use Rattle.dropin_merge.specs.unit_values.Lasting.{unread_notes, unit_last, unit_last_notes, unit_last_text};
 
 use crate::Resolved;
-use crate::unit_values::assignments::service_assignments;
+use crate::unit_values::keyed::assignments_of_key;
 use crate::unit_values::noting::note_value;
 use crate::unit_values::reading::given_value;
 use crate::unit_values::value::{FileNote, Said, Value};
@@ -59,7 +59,7 @@ pub fn last_of_key<T: KeyValue>(
     let mut last = default;
     let mut notes = Vec::new(alloc);
     let mut unread = Vec::new(alloc);
-    for (place, assignment) in service_assignments(unit) {
+    for (place, assignment) in assignments_of_key(unit, key) {
         let value = given_value(
             alloc,
             unit.systemd,
@@ -97,7 +97,7 @@ pub fn last_text_of_key(alloc: Global, unit: &Resolved, key: &str) -> Result<Sai
 {
     let mut last = Text::new(alloc, "")?;
     let mut notes = Vec::new(alloc);
-    for (place, assignment) in service_assignments(unit) {
+    for (place, assignment) in assignments_of_key(unit, key) {
         let value = given_value(
             alloc,
             unit.systemd,

@@ -6,7 +6,7 @@ ghost use Rattle.dropin_merge.specs.unit_values.Lines.{listed_line};
 ghost use Rattle.dropin_merge.specs.unit_values.Listed.{listed, is_reset, unit_listed, unit_listed_notes};
 
 use crate::Resolved;
-use crate::unit_values::assignments::service_assignments;
+use crate::unit_values::keyed::assignments_of_key;
 use crate::unit_values::lines::{Line, read_line};
 use crate::unit_values::noting::note_value;
 use crate::unit_values::reading::given_value;
@@ -78,7 +78,7 @@ pub fn lines_of_key(
     let mut all = Vec::new(alloc);
     let mut notes = Vec::new(alloc);
     let mut unread = Vec::new(alloc);
-    for (place, assignment) in service_assignments(unit) {
+    for (place, assignment) in assignments_of_key(unit, key) {
         let value = given_value(
             alloc,
             unit.systemd,

@@ -4,7 +4,7 @@ ghost use Rattle.std.specs.List.{cons_option};
 ghost use Rattle.dropin_merge.specs.unit_values.Values.{expanded_at, unexpanded_at, given_by, note_of, notes_of, values_of};
 
 use crate::Resolved;
-use crate::unit_values::assignments::service_assignments;
+use crate::unit_values::keyed::assignments_of_key;
 use crate::unit_values::value::{FileNote, Place, Said, Value};
 use std::alloc::{AllocError, Global};
 use unit_grammar::{Assignment, NoteCause, Text};
@@ -80,7 +80,7 @@ pub fn values_of_key(
 {
     let mut values = Vec::new(alloc);
     let mut notes = Vec::new(alloc);
-    for (place, assignment) in service_assignments(unit) {
+    for (place, assignment) in assignments_of_key(unit, key) {
         let value = given_value(
             alloc,
             unit.systemd,

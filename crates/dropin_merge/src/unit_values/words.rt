@@ -6,7 +6,7 @@ ghost use Rattle.dropin_merge.specs.unit_values.Lasting.{unread_notes};
 ghost use Rattle.dropin_merge.specs.unit_values.Words.{split, words_behind, unit_words, unit_words_notes};
 
 use crate::Resolved;
-use crate::unit_values::assignments::service_assignments;
+use crate::unit_values::keyed::assignments_of_key;
 use crate::unit_values::lines::{Words, read_words};
 use crate::unit_values::noting::note_value;
 use crate::unit_values::reading::given_value;
@@ -49,7 +49,7 @@ pub fn words_of_key(alloc: Global, unit: &Resolved, key: &str) -> Result<Said<Wo
     let mut words = Words::empty(alloc);
     let mut notes = Vec::new(alloc);
     let mut unread = Vec::new(alloc);
-    for (place, assignment) in service_assignments(unit) {
+    for (place, assignment) in assignments_of_key(unit, key) {
         let value = given_value(
             alloc,
             unit.systemd,

@@ -3,7 +3,7 @@ ghost use Rattle.std.specs.Prelude.{◌≡◌, IfOk};
 ghost use Rattle.dropin_merge.specs.unit_values.Values.{written_by, written_values};
 
 use crate::Resolved;
-use crate::unit_values::assignments::service_assignments;
+use crate::unit_values::keyed::assignments_of_key;
 use crate::unit_values::reading::add_given;
 use crate::unit_values::value::{Place, Value};
 use std::alloc::{AllocError, Global};
@@ -33,7 +33,7 @@ pub fn written_values(alloc: Global, unit: &Resolved, key: &str) -> Result<Vec<V
     ensures all_values_in_order { IfOk result (λ values. values.items ≡ written_values unit.now key.now) }
 {
     let mut values = Vec::new(alloc);
-    for (place, assignment) in service_assignments(unit) {
+    for (place, assignment) in assignments_of_key(unit, key) {
         let value = written_value(alloc, key, place, assignment)?;
         add_given(&mut values, value)?;
     }

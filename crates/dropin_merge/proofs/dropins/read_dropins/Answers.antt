@@ -10,7 +10,7 @@ use Rattle.dropin_merge.proofs.Asking as asked
 use Rattle.dropin_merge.proofs.Pathed.{contains_read, refuses_wider, led_next}
 use Rattle.dropin_merge.proofs.Reading.{dropin_more, dropin_stops}
 use Rattle.dropin_merge.proofs.dropins.read_dropins.Goals as goal
-use Rattle.dropin_merge.proofs.dropins.read_dropins.Goals.{in-Says+in_ok-push-2, in_default}
+use Rattle.dropin_merge.proofs.dropins.read_dropins.Goals.{in-Says+in_ok-keep_file-2, in_default}
 
 pub returns-in_err-dropin-clause-refuses_a_path : goal.returns-in_err-dropin-clause-refuses_a_path
 returns-in_err-dropin-clause-refuses_a_path g c =
@@ -30,7 +30,7 @@ returns-in_err-dropin-clause-reads_in_order g c =
     rw (p.1, p.2)
     (dropin_stops (g.S.Shelf.told c.args.shelf.now) (g.S.Shelf.told c.loop-path.shelf)
     (λ files. joined_by (c.args.fragment ∷ []) (dropins_read files (map string_bytes c.args.paths.now)))
-    c.loop-path.files c.args.paths.now c.loop-path.path-index c.path-item.result c.as_str.result.now c.in_err-dropin.field-0.0
+    c.loop-path.files.items c.args.paths.now c.loop-path.path-index c.path-item.result c.as_str.result.now c.in_err-dropin.field-0.0
     c.loop-path.invariant.told c.loop-path-test.true c.path-item.is c.as_str.ensures.value c.in_err-dropin.ensures.reads_the_file
     c.loop-path.invariant.left)
 
@@ -46,18 +46,18 @@ returns-in_err-dropin-clause-asks_in_order g c =
 
 pub loop-path-preserved : goal.loop-path-preserved
 loop-path-preserved g c =
-    let made : c.match-branch-3.files ≡ c.loop-path.files ++ file_in c.in_ok-dropin.field-0 =
-    elim c.match-branch-3.branch [ in-Says+in_ok-push-2 w ↦ search rules | in_default w ↦ search (rules, append-nil) ] in
+    let made : c.match-branch-3.files.items ≡ c.loop-path.files.items ++ file_in c.in_ok-dropin.field-0 =
+    elim c.match-branch-3.branch [ in-Says+in_ok-keep_file-2 w ↦ search rules | in_default w ↦ search (rules, append-nil) ] in
     record {
       told = c.in_ok-dropin.ensures.map_stays ∙ c.loop-path.invariant.told;
       stays = c.in_ok-dropin.ensures.no_other_fault ∙ c.loop-path.invariant.stays;
       left = λ files e.
-          dropin_more files (g.S.Shelf.told c.loop-path.shelf) c.loop-path.files c.match-branch-3.files c.args.paths.now
+          dropin_more files (g.S.Shelf.told c.loop-path.shelf) c.loop-path.files.items c.match-branch-3.files.items c.args.paths.now
           c.loop-path.path-index c.path-item.result c.as_str.result.now c.in_ok-dropin.field-0 _
           (c.loop-path.invariant.told ∙ e) c.loop-path-test.true c.path-item.is c.as_str.ensures.value
           c.in_ok-dropin.ensures.reads_the_file made (c.loop-path.invariant.left files e);
       led =
-          led_next c.args.fragment (map string_bytes c.args.paths.now) c.loop-path.path-index c.loop-path.files c.match-branch-3.files
+          led_next c.args.fragment (map string_bytes c.args.paths.now) c.loop-path.path-index c.loop-path.files.items c.match-branch-3.files.items
           c.in_ok-dropin.field-0 c.as_str.result.now
           c.loop-path.invariant.led c.in_ok-dropin.ensures.has_the_path
           (contains_read c.args.paths.now c.loop-path.path-index c.path-item.result c.as_str.result.now c.loop-path-test.true
@@ -71,9 +71,9 @@ loop-path-preserved g c =
           c.in_ok-dropin.ensures.asks_for_it c.loop-path.invariant.asks;
     }
 
-pub returns-in_err-push-2-clause-asks_in_order : goal.returns-in_err-push-2-clause-asks_in_order
-returns-in_err-push-2-clause-asks_in_order g c =
-    let p = err_from_is_err_and c.from_residual-in_err-push-2.result c.from_residual-in_err-push-2.ensures.1 in
+pub returns-in_err-keep_file-2-clause-asks_in_order : goal.returns-in_err-keep_file-2-clause-asks_in_order
+returns-in_err-keep_file-2-clause-asks_in_order g c =
+    let p = err_from_is_err_and c.from_residual-in_err-keep_file-2.result c.from_residual-in_err-keep_file-2.ensures.1 in
     rw (p.1, p.2)
     (asked.dropin_cut g.S.Shelf.asks (g.S.Shelf.told c.args.shelf.now)
     (g.S.Shelf.told c.loop-path.shelf) c.loop-path.invariant.told c.args.shelf.now c.loop-path.shelf _ c.args.paths.now

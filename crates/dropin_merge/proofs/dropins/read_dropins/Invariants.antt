@@ -13,9 +13,9 @@ invariant-loop-path g l = record {
   told : g.S.Shelf.told l.shelf ≡ g.S.Shelf.told l.fn.shelf;
   stays : g.S.Shelf.faults l.shelf ≡ g.S.Shelf.faults l.fn.shelf;
   left : (files : Files) → g.S.Shelf.told l.fn.shelf ≡ Some files
-      → joined_by l.files (dropins_read files (map string_bytes (drop l.path-index l.paths)))
+      → joined_by l.files.items (dropins_read files (map string_bytes (drop l.path-index l.paths)))
       ≡ joined_by (l.fn.fragment ∷ []) (dropins_read files (map string_bytes l.paths));
-  led : IsLedBy (λ file. Contains (map string_bytes l.paths) file.path) l.fn.fragment l.path-index l.files;
+  led : IsLedBy (λ file. Contains (map string_bytes l.paths) file.path) l.fn.fragment l.path-index l.files.items;
   asks : (files : Files) → g.S.Shelf.told l.fn.shelf ≡ Some files
       → Going g.S.Shelf.asks l.fn.shelf l.shelf (dropin_asks files (map string_bytes l.paths))
       (dropin_asks files (map string_bytes (drop l.path-index l.paths)));

@@ -1,7 +1,7 @@
 use Rattle.std.proofs.Common.{◌≡◌, ◌++◌, []}
 use Rattle.std.specs.Prelude.{fold}
 use Rattle.std.specs.List.{filter_map}
-use Rattle.dropin_merge.specs.unit_values.Walk.{assignments_left}
+use Rattle.dropin_merge.specs.KeyWalk.{key_left}
 use Rattle.dropin_merge.specs.unit_values.Values.{given_by, note_of, values_of, notes_of}
 use Rattle.dropin_merge.specs.unit_values.Lasting.{unread_notes}
 use Rattle.dropin_merge.specs.unit_values.Words.{split, words_behind}
@@ -10,8 +10,8 @@ use Rattle.dropin_merge.proofs.unit_values.words.words_of_key.Given as goal
 abbrev pub invariant-loop-place : goal.invariant-loop-place
 invariant-loop-place l = record {
   means : fold words_behind [] (values_of l.unit l.key) ≡ fold words_behind l.words
-      (filter_map (given_by l.unit.systemd l.unit.name l.key) (assignments_left l.place-iterator));
-  notes : notes_of l.unit l.key ≡ l.notes.items ++ filter_map (note_of l.unit.systemd l.unit.name l.key) (assignments_left l.place-iterator);
+      (filter_map (given_by l.unit.systemd l.unit.name l.key) (key_left l.place-iterator));
+  notes : notes_of l.unit l.key ≡ l.notes.items ++ filter_map (note_of l.unit.systemd l.unit.name l.key) (key_left l.place-iterator);
   unread : unread_notes split (values_of l.unit l.key) ≡ l.unread.items ++ unread_notes split
-      (filter_map (given_by l.unit.systemd l.unit.name l.key) (assignments_left l.place-iterator));
+      (filter_map (given_by l.unit.systemd l.unit.name l.key) (key_left l.place-iterator));
 }
