@@ -36,7 +36,7 @@ _BY_WAY: dict[str, tuple[str, ...]] = {
     "sched_setattr": ("sched-setattr",),
     "personality": ("wx-programs",),
     "program": ("wx-programs",),
-    "memfd": ("wx-programs", "other-calls"),
+    "memfd": ("wx-programs", "other-calls", "memfd-programs"),
     "shm": ("wx-programs",),
     "executable-already": ("mdwe-prctl",),
 }
@@ -50,9 +50,9 @@ _OF_PLAN = (
     ("home-tmpfs", r"/(home|root|run/user)(/|$)"),
     ("tunables-cgroup", r"/sys/fs/(cgroup|selinux)(/|$)"), ("sys-writable", r"/sys(/|$)"),
     ("private-folders", r"/var/(lib|cache|log)/private(/|$)"), ("memory-pressure", r"/sys/fs/cgroup(/|$)"), ("device-folders", r"/dev(/|$)"),
-    ("device-log", r"/dev/log$"),
+    ("device-programs", r"/dev/(pts|shm|mqueue|hugepages)(/|$)"), ("device-log", r"/dev/log$"),
     ("shared-tmp", r"/(var/)?tmp(/|$)"), ("disconnected-tmp", r"/(var/)?tmp(/|$)"),
-    *((name, r"") for name in ("old-names-open", "flags-apart", "linked-folders", "beaten", "folders-open", "folders-shown", "links")),
+    *((name, r"") for name in ("old-names-open", "flags-apart", "linked-folders", "beaten", "folders-open", "folders-shown")),
 )  # fmt: skip
 
 
@@ -64,12 +64,13 @@ _OF_NUMBERS = {
 
 
 class Told:
-    """The partings that views tell of a unit."""
+    """The partings that views tell of a unit, and the names of those that its text meets, with answers or without."""
 
-    def __init__(self, partings: Iterable[Parting], judges_i386: bool):
+    def __init__(self, partings: Iterable[Parting], judges_i386: bool, by_text: Iterable[str] = ()):
         self._judges_i386 = judges_i386
         self._each = [(parting.name, parting.direction, frozenset(getattr(parting, "answers", None) or ())) for parting in partings]
         self.names = {name for name, _, _ in self._each}
+        self._of_plan = self.names.union(by_text)
 
     def cover(self, question: Question, way: str) -> str | None:
         """The parting that covers a question that was reached this way; None where there is none."""
@@ -91,9 +92,10 @@ class Told:
         """The partings that touch a question without speaking of the way."""
         return tuple(name for name, direction, answers in self._each if direction != Direction.OPEN_HERE and question in answers)
 
-    def of_plan(self, path: str) -> str | None:
-        """The parting by which a path may be open there that the plan closes."""
-        return next((name for name, pattern in _OF_PLAN if name in self.names and re.match(pattern, path)), None)
+    def of_plan(self, path: str, is_linked: bool = False) -> str | None:
+        """The parting by which a path, which may lead through a link, may be open there that the plan closes."""
+        found = next((name for name, pattern in _OF_PLAN if name in self._of_plan and re.match(pattern, path)), None)
+        return found or (self.first("links") if is_linked else None)
 
     def of_number(self, call: str) -> str | None:
         """The parting by which a call passes there that the filters here refuse."""

@@ -48,7 +48,7 @@ def plan_of(
                 differing.setdefault(key, []).append(path)
     for (what, direction), paths in sorted(differing.items()):
         for path in paths:
-            parting = told.of_plan(path) if direction == "DENIED" else "open here"
+            parting = told.of_plan(path, path in machine.links) if direction == "DENIED" else "open here"
             comparison.plan.append((path, what, parting or "NEW"))
 
 
