@@ -1,21 +1,32 @@
 -- One more question that is asked, and one more line that is told.
-use Rattle.std.proofs.Common.{◌≡◌, ◌∙◌, ℕ, ◌+◌, ◌<◌, List, [], ◌∷◌, ◌++◌, append-nil, get_or, length, map, take, ap, refl, sym}
+use Rattle.std.proofs.Common.{◌≡◌, ◌∙◌, ℕ, ◌+◌, ◌<◌, Bool, true, false, List, [], ◌∷◌, ◌++◌, get_or, length, map, take, ap, refl, sym}
+use Rattle.std.specs.Prelude.{not, if◌then◌else◌}
 use Rattle.std.proofs.lemmas.List.{take_more}
-use Rattle.std.proofs.lemmas.List.Concat.{flat_map-append}
+use Rattle.std.proofs.lemmas.List.Elements.{filter_more}
+use Rattle.asked_service.specs.kernel_laws.Bound.{is_open}
 use Rattle.asked_service.specs.kernel_laws.Launched.{Launch}
 use Rattle.asked_service.specs.kernel_laws.declared.question_types.question.Question.{Question}
 use Rattle.why_command.specs.declared.deciding_lines.unit_lines.line.UnitLine.{UnitLine}
-use Rattle.why_command.specs.opening_lines.ByRule.{opened_at, opened_by}
+use Rattle.why_command.specs.opening_lines.ByRule.{open_among, shut_among}
 use Rattle.why_command.specs.declared.opening_lines.each.LineAlone.{LineAlone}
 
-pub opened_more : (before after : Launch) (opened now : List Question) (list : List Question) (i : ℕ) (d : Question) → i < length list
-    → opened ≡ opened_by before after (take i list)
-    → now ≡ opened ++ opened_at before after (get_or list i d) → now ≡ opened_by before after (take (i + 1) list)
-opened_more before after opened now list i d lt was adds =
-    adds ∙ ap (λ front. front ++ opened_at before after (get_or list i d)) was
-    ∙ ap (λ end. opened_by before after (take i list) ++ end) (sym (append-nil (opened_at before after (get_or list i d))))
-    ∙ sym (flat_map-append (opened_at before after) (take i list) (get_or list i d ∷ []))
-    ∙ ap (opened_by before after) (sym (take_more list i d lt))
+module _ (launch : Launch) (found now list : List Question) (i : ℕ) (d : Question) (lt : i < length list) where
+  pub open_more : found ≡ open_among launch (take i list)
+      → now ≡ found ++ (if is_open launch (get_or list i d) then get_or list i d ∷ [] else []) → now ≡ open_among launch (take (i + 1) list)
+  open_more was adds =
+      adds ∙ ap (λ front. front ++ (if is_open launch (get_or list i d) then get_or list i d ∷ [] else [])) was
+      ∙ sym (filter_more (is_open launch) list i d lt)
+
+  pub shut_more : found ≡ shut_among launch (take i list)
+      → now ≡ found ++ (if is_open launch (get_or list i d) then [] else get_or list i d ∷ []) → now ≡ shut_among launch (take (i + 1) list)
+  shut_more was adds =
+      adds ∙ ap (λ front. front ++ (if is_open launch (get_or list i d) then [] else get_or list i d ∷ [])) was
+      ∙ ap (λ end. shut_among launch (take i list) ++ end) (turned (is_open launch (get_or list i d)))
+      ∙ sym (filter_more (λ question. not (is_open launch question)) list i d lt)
+    where
+      turned : (b : Bool) → (if b then [] else get_or list i d ∷ []) ≡ (if not b then get_or list i d ∷ [] else [])
+      turned true = refl
+      turned false = refl
 
 pub lines_more : (told : List LineAlone) (one : LineAlone) (lines : List UnitLine) (i : ℕ) (line d : UnitLine) → i < length lines
     → line ≡ get_or lines i d → one.line.now ≡ line

@@ -12,3 +12,4 @@ pub mod Parts
 pub mod LeftOut
 pub mod Asked
 pub mod Needed
+pub mod InForce

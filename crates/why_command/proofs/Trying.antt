@@ -36,9 +36,6 @@ module _ (judged : Judged) (is : IsJudged judged) (place : Place) where
 
   -- the unit without the line is launched
   module _ (service : Service) (starts : StartsAs less (Launched service)) (after : Bounded) (same : after.service ≡ service) (list : List Question) (listed : list ≡ judged.asked.questions.items) where
-    pub all_before : list ≡ questions (world_in judged.asked).calls (world_in judged.asked).site
-    all_before = listed ∙ is.is_asked.questions
-
     pub all_after : list ≡ questions after.service.world.calls after.service.world.site
     all_after =
         listed ∙ all_of

@@ -1,2 +1,4 @@
 pub mod Lines
 pub mod Without
+pub mod Marks
+pub mod Seen

@@ -6,9 +6,12 @@
 //!
 //! `without(alloc, &unit, &[lines(alloc, &unit)?[0].place])?` is the same unit, whose files lack its first line in force.
 
+mod in_force;
 mod less;
 mod line;
 mod listing;
+mod place_row;
+mod place_set;
 
 pub(crate) use less::all_but;
 pub use less::without;

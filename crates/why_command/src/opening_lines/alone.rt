@@ -1,13 +1,13 @@
 //! What a line of a unit denies by itself.
-ghost use Rattle.std.specs.Prelude.{◌∷◌, [], IfOk};
+ghost use Rattle.std.specs.Prelude.{◌≡◌, ◌∷◌, [], IfOk};
 ghost use Rattle.asked_service.specs.started_units.Starting.{StartsAs};
 ghost use Rattle.asked_service.specs.declared.unit_launch.launching.UnitLaunch.TheVariants.{Launched as Starts};
 ghost use Rattle.why_command.specs.deciding_lines.Tried.{inputs_without};
-ghost use Rattle.why_command.specs.opening_lines.Judging.{IsAloneOf, IsJudged, inputs_in};
+ghost use Rattle.why_command.specs.opening_lines.Judging.{IsAloneOf, IsJudged, inputs_in, shut_in};
 
 use crate::deciding_lines::{Started, start_without};
 use crate::opening_lines::judged::Judged;
-use crate::opening_lines::opened::opened;
+use crate::opening_lines::opened::{opened, shut};
 use asked_service::{Launched, Place, Question, bound, truths};
 use std::alloc::{AllocError, Global};
 
@@ -21,18 +21,50 @@ pub enum Alone {
 }
 
 impl Judged<'_> {
-    // What the line at a place denies, by the service of the unit without it.
-    fn opens(&self, alloc: Global, place: Place, service: Launched<'_>) -> Result<Alone, AllocError>
+    /// Returns the questions that are denied of the unit.
+    pub(crate) fn shut_questions(&self, alloc: Global) -> Result<Vec<Question>, AllocError>
         requires judged { IsJudged self.now }
+        ensures denied_of_the_unit { IfOk result (λ shut. shut.items ≡ shut_in self.now) }
+    {
+        let list = self.asked.questions.as_slice();
+        shut(alloc, &self.asked.bounded, list)
+    }
+
+    // What the line at a place denies, by the service of the unit without it. Only questions that are denied with it are asked.
+    fn opens(
+        &self,
+        alloc: Global,
+        place: Place,
+        service: Launched<'_>,
+        shut: &[Question],
+    ) -> Result<Alone, AllocError>
+        requires judged { IsJudged self.now }
+        requires shut { shut.now ≡ shut_in self.now }
         requires starts { StartsAs (inputs_without (inputs_in self.now) (place ∷ [])) (Starts service) }
         ensures { IfOk result (IsAloneOf self.now place) }
     {
         // The law that the verdicts are exact.
         truths();
         let after = bound(alloc, service)?;
-        let list = self.asked.questions.as_slice();
-        let found = opened(alloc, &self.asked.bounded, &after, list)?;
+        let found = opened(alloc, &after, shut)?;
         Ok(Alone::Opens(found))
+    }
+
+    /// What the line at a place denies by itself, of the questions that are denied of the unit.
+    pub(crate) fn alone_of(
+        &self,
+        alloc: Global,
+        place: Place,
+        shut: &[Question],
+    ) -> Result<Alone, AllocError>
+        requires judged { IsJudged self.now }
+        requires shut { shut.now ≡ shut_in self.now }
+        ensures is_so { IfOk result (IsAloneOf self.now place) }
+    {
+        match start_without(alloc, self.name, self.unit, self.calls, self.site, &[place])? {
+            Started::Launched(service) => self.opens(alloc, place, service, shut),
+            Started::Refused(_) => Ok(Alone::Needed),
+        }
     }
 
     /// What the line at a place denies by itself: exactly the questions that are denied of the unit and open of the unit without it;
@@ -41,9 +73,7 @@ impl Judged<'_> {
         requires judged { IsJudged self.now }
         ensures is_so { IfOk result (IsAloneOf self.now place) }
     {
-        match start_without(alloc, self.name, self.unit, self.calls, self.site, &[place])? {
-            Started::Launched(service) => self.opens(alloc, place, service),
-            Started::Refused(_) => Ok(Alone::Needed),
-        }
+        let shut = self.shut_questions(alloc)?;
+        self.alone_of(alloc, place, &shut)
     }
 }

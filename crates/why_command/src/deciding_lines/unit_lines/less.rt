@@ -1,35 +1,15 @@
 //! A unit without some of its assignments in force.
-ghost use Rattle.std.specs.Prelude.{◌≡◌, ◌++◌, ◌&&◌, [], filter, map, not, IfOk, OnOk};
-ghost use Rattle.std.specs.List.{cons_option, enumerate_from, list_any};
-ghost use Rattle.std.specs.Str.{bytes_eq};
-ghost use Rattle.why_command.specs.deciding_lines.unit_lines.Lines.{is_in_force};
-ghost use Rattle.why_command.specs.deciding_lines.unit_lines.Without.{all_but, file_without, is_among, is_place, is_taken, kept_of, left_of, without};
+ghost use Rattle.std.specs.Prelude.{◌≡◌, ◌++◌, ◌∷◌, [], filter, map, not, if◌then◌else◌, IfOk, IfSome, OnOk};
+ghost use Rattle.std.specs.List.{enumerate_from};
+ghost use Rattle.why_command.specs.deciding_lines.unit_lines.Seen.{IsSeen};
+ghost use Rattle.why_command.specs.deciding_lines.unit_lines.Without.{all_but, file_without, is_taken, kept_of, left_of, without};
 
+use crate::deciding_lines::unit_lines::in_force::{Seen, is_in_force_after};
+use crate::deciding_lines::unit_lines::place_set::PlaceSet;
 use asked_service::{
-    Assignment, Assignments, Place, Resolved, Text, UnitFile, UnitFiles, UnitText, Version, is_read,
+    Assignment, Assignments, Place, Resolved, Text, UnitFile, UnitFiles, UnitText, Version,
 };
 use std::alloc::{AllocError, Global};
-
-/// The section of a unit file that describes the service.
-const SECTION: &str = "Service";
-
-fn is_in_force(systemd: Option<Version>, assignment: &Assignment) -> bool
-    ensures { result ≡ is_in_force systemd assignment.now }
-{
-    assignment.section.as_str() == SECTION && is_read(systemd, assignment.key.as_str())
-}
-
-fn is_place(one: Place, other: Place) -> bool
-    ensures { result ≡ is_place one other }
-{
-    one.file == other.file && one.line == other.line
-}
-
-fn is_among(places: &[Place], place: Place) -> bool
-    ensures { result ≡ is_among places.now place }
-{
-    places.iter().any(|one| is_place(*one, place))
-}
 
 /// These places, but for some of them.
 pub(crate) fn all_but(
@@ -39,29 +19,53 @@ pub(crate) fn all_but(
 ) -> Result<Vec<Place>, AllocError>
     ensures the_others { IfOk result (λ others. others.items ≡ all_but some.now places.now) }
 {
+    let some = PlaceSet::of(alloc, some)?;
     let mut others = Vec::new(alloc);
     for place in places {
-        if !is_among(some, *place) {
+        if !some.contains(*place) {
             others.push(*place)?;
         }
     }
     Ok(others)
 }
 
-// Whether an assignment of the file of this number is taken away.
-fn is_taken(
+/// Whether an assignment is taken away.
+struct Taking<'a> {
+    is_taken: bool,
+    // The last assignment that was looked at.
+    seen: Option<Seen<'a>>,
+}
+
+// Looks whether an assignment of the file of this number is taken away. Only if its place is among the places, its key matters.
+fn take<'a>(
     systemd: Option<Version>,
-    places: &[Place],
+    places: &PlaceSet<'_>,
     number: usize,
-    assignment: &Assignment,
-) -> bool
-    ensures { result ≡ is_taken systemd places.now number assignment.now }
+    seen: Option<Seen<'a>>,
+    assignment: &'a Assignment,
+) -> Taking<'a>
+    requires before { IfSome seen (IsSeen systemd) }
+    ensures takes { result.is_taken ≡ is_taken systemd places.now number assignment.now }
+    ensures seen { IfSome result.seen (IsSeen systemd) }
 {
     let place = Place {
         file: number,
         line: assignment.line,
     };
-    is_in_force(systemd, assignment) && is_among(places, place)
+    if !places.contains(place) {
+        return Taking {
+            is_taken: false,
+            seen,
+        };
+    }
+    let is_in_force = is_in_force_after(systemd, seen, assignment);
+    Taking {
+        is_taken: is_in_force,
+        seen: Some(Seen {
+            assignment,
+            is_in_force,
+        }),
+    }
 }
 
 // The same assignment once more.
@@ -77,35 +81,53 @@ fn copied(alloc: Global, assignment: &Assignment) -> Result<Assignment, AllocErr
 }
 
 // Keeps an assignment, unless it is taken away.
-fn keep_unless_taken(
+fn keep_unless(
     alloc: Global,
     kept: &mut Vec<Assignment>,
-    systemd: Option<Version>,
-    places: &[Place],
-    number: usize,
+    is_taken: bool,
     assignment: &Assignment,
 ) -> Result<(), AllocError>
-    ensures { OnOk result (kept.new.items ≡ kept.old.items ++ kept_of systemd places.now number assignment.now) }
+    ensures { OnOk result (kept.new.items ≡ kept.old.items ++ (if is_taken then [] else assignment.now ∷ [])) }
 {
-    if !is_taken(systemd, places, number, assignment) {
+    if !is_taken {
         kept.push(copied(alloc, assignment)?)?;
     }
     Ok(())
+}
+
+// Keeps it or not, and returns the last assignment that was looked at.
+fn keep_if_left<'a>(
+    alloc: Global,
+    kept: &mut Vec<Assignment>,
+    systemd: Option<Version>,
+    places: &PlaceSet<'_>,
+    number: usize,
+    seen: Option<Seen<'a>>,
+    assignment: &'a Assignment,
+) -> Result<Option<Seen<'a>>, AllocError>
+    requires before { IfSome seen (IsSeen systemd) }
+    ensures keeps { OnOk result (kept.new.items ≡ kept.old.items ++ kept_of systemd places.now number assignment.now) }
+    ensures seen { IfOk result (λ next. IfSome next (IsSeen systemd)) }
+{
+    let Taking { is_taken, seen } = take(systemd, places, number, seen, assignment);
+    keep_unless(alloc, kept, is_taken, assignment)?;
+    Ok(seen)
 }
 
 // The assignments of the file of this number that are left.
 fn left_of(
     alloc: Global,
     systemd: Option<Version>,
-    places: &[Place],
+    places: &PlaceSet<'_>,
     number: usize,
     assignments: &[Assignment],
 ) -> Result<Vec<Assignment>, AllocError>
     ensures { IfOk result (λ left. left.items ≡ left_of systemd places.now number assignments.now) }
 {
     let mut kept = Vec::new(alloc);
+    let mut seen = None;
     for assignment in assignments {
-        keep_unless_taken(alloc, &mut kept, systemd, places, number, assignment)?;
+        seen = keep_if_left(alloc, &mut kept, systemd, places, number, seen, assignment)?;
     }
     Ok(kept)
 }
@@ -114,7 +136,7 @@ fn left_of(
 fn file_without(
     alloc: Global,
     systemd: Option<Version>,
-    places: &[Place],
+    places: &PlaceSet<'_>,
     number: usize,
     file: &UnitFile,
 ) -> Result<UnitFile, AllocError>
@@ -134,7 +156,7 @@ fn file_without(
 fn files_without(
     alloc: Global,
     systemd: Option<Version>,
-    places: &[Place],
+    places: &PlaceSet<'_>,
     files: &[UnitFile],
 ) -> Result<Vec<UnitFile>, AllocError>
     ensures { IfOk result (λ less. less.items ≡ map (file_without systemd places.now) (enumerate_from 0 files.now)) }
@@ -152,9 +174,11 @@ fn files_without(
 pub fn without(alloc: Global, unit: &Resolved, places: &[Place]) -> Result<Resolved, AllocError>
     ensures lacks_them { IfOk result (λ less. less ≡ without places.now unit.now) }
 {
+    let places = PlaceSet::of(alloc, places)?;
+    let files = files_without(alloc, unit.systemd, &places, unit.files.list())?;
     Ok(Resolved {
         name: unit.name.copy(alloc)?,
-        files: UnitFiles::new(files_without(alloc, unit.systemd, places, unit.files.list())?),
+        files: UnitFiles::new(files),
         systemd: unit.systemd,
     })
 }

@@ -1,8 +1,7 @@
 use Rattle.std.proofs.Common.{◌≡◌, take}
 use Rattle.asked_service.specs.kernel_laws.Launched.{launch_of}
-use Rattle.why_command.specs.opening_lines.ByRule.{opened_by}
+use Rattle.why_command.specs.opening_lines.ByRule.{open_among}
 use Rattle.why_command.proofs.opening_lines.opened.opened.Given as goal
 
 abbrev pub invariant-loop-question : goal.invariant-loop-question
-invariant-loop-question l = l.opened.items ≡ opened_by (launch_of l.before.service.world) (launch_of l.after.service.world)
-    (take l.question-index l.list)
+invariant-loop-question l = l.opened.items ≡ open_among (launch_of l.after.service.world) (take l.question-index l.shut)

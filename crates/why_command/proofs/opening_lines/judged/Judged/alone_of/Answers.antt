@@ -1,4 +1,4 @@
-use Rattle.why_command.proofs.opening_lines.judged.Judged.alone.Goals as goal
+use Rattle.why_command.proofs.opening_lines.judged.Judged.alone_of.Goals as goal
 
 pub opens-requires-clause-starts : goal.opens-requires-clause-starts
 opens-requires-clause-starts c = rw c.in-Launched.is at c.in_ok-service.ensures.starts
