@@ -12,7 +12,7 @@ use Rattle.judge.specs.exec_settings.declared.service.Settings.{Settings}
 use Rattle.judge.specs.kern_mounts.declared.step.MountStep.{MountStep}
 use Rattle.judge.specs.launcher.declared.launched.Launched.{Launched as Service}
 use Rattle.judge.specs.mount_plan.Host.{host_of}
-use Rattle.judge.specs.path_settings.declared.mentions.Mention.{Mention}
+use Rattle.judge.specs.path_settings.declared.mentioned.Mentioned.{Mentioned}
 use Rattle.judge.specs.site_table.Table.{Site}
 use Rattle.report_text.specs.unit_grammar.declared.unit.UnitText.{UnitText}
 use Rattle.plan_command.specs.unit_names.Names.{Name}
@@ -32,7 +32,7 @@ longer_is unit bytes more (Ok longer) said is = is ∙ ap (extended unit) said
 module _ (unit : Resolved) (table : calls.Table) (site : Site) (made : Settings) (steps lent : List MountStep) (settled : (refusal_of unit table site ≡ None) × AreSettings unit table site made) (laid : LaysOut (host_of site) made.mentions (Ok steps)) (lends : lent ≡ steps) where
   planned : LaysOut (host_of site) (unit_mentions unit site) (Ok lent)
   planned =
-      subst (λ (mentions : List Mention). LaysOut (host_of site) mentions (Ok lent)) settled.1.mentions_written_and_implied
+      subst (λ (mentions : Mentioned). LaysOut (host_of site) mentions (Ok lent)) settled.1.mentions_written_and_implied
       (subst (λ plan. LaysOut (host_of site) made.mentions (Ok plan)) (sym lends) laid)
 
   -- the unit is launched

@@ -15,7 +15,7 @@ use Rattle.judge.specs.dropin_merge.declared.resolved.Resolved.{Resolved}
 use Rattle.judge.specs.exec_settings.AreSettings.{AreSettings, HasWantedRules}
 use Rattle.judge.specs.exec_settings.Dynamic.{unit_filters}
 use Rattle.judge.specs.exec_settings.Mounts.{unit_mentions}
-use Rattle.judge.specs.exec_settings.Settings.{unit_new_privileges}
+use Rattle.judge.specs.exec_settings.Settings.{unit_keeps, unit_new_privileges}
 use Rattle.judge.specs.exec_settings.declared.errors.SettingsError.{SettingsError}
 use Rattle.judge.specs.exec_settings.declared.service.Settings.{Settings}
 use Rattle.report_text.specs.filter_settings.filter_rules.Installed.{place_of}
@@ -38,11 +38,11 @@ use Rattle.judge.proofs.OfLauncher.LaunchesAlike.{launches_alike}
 use Rattle.judge.proofs.OfLauncher.Programs.{they_are_read, they_match}
 use Rattle.judge.specs.mount_plan.Answers.{Plans}
 use Rattle.judge.specs.mount_plan.Host.{host_of}
-use Rattle.judge.specs.mount_plan.Plan.{table_of}
+use Rattle.judge.specs.mount_plan.Planned.{planned}
 use Rattle.judge.specs.mount_plan.declared.error.PlanError.{PlanError}
 use Rattle.judge.specs.mount_plan.declared.error.PlanError.TheVariants as plan
-use Rattle.judge.specs.path_settings.declared.mentions.Mention.{Mention}
-use Rattle.judge.specs.path_settings.view_map.Kept.{Host, Refusal, kept_of, missing, wrong_kind}
+use Rattle.judge.specs.path_settings.declared.mentioned.Mentioned.{Mentioned}
+use Rattle.judge.specs.path_settings.view_map.Kept.{Host, Refusal, missing, wrong_kind}
 use Rattle.judge.specs.site_table.Table.{Site}
 use Rattle.asked_service.proofs.OtherPrograms.{installed}
 use Rattle.asked_service.specs.OneLaunch.{AreOneAnswer, AreOneLaunch, AreOneService, AreTables, LaunchesOnce, StartsOnce}
@@ -71,13 +71,13 @@ some_error a b e = cc
 ok_identity : (a b : Identity) → ◌≡◌ {A = Result Identity IdentityError} (Ok a) (Ok b) → a ≡ b
 ok_identity a b e = cc
 
-ok_mentions : (a b : List Mention) → ◌≡◌ {A = Result (List Mention) Refusal} (Ok a) (Ok b) → a ≡ b
-ok_mentions a b e = cc
+ok_table : (a b : Table) → ◌≡◌ {A = Result Table Refusal} (Ok a) (Ok b) → a ≡ b
+ok_table a b e = cc
 
-same_missing : (a b : Path) → ◌≡◌ {A = Result (List Mention) Refusal} (Err (missing a)) (Err (missing b)) → a ≡ b
+same_missing : (a b : Path) → ◌≡◌ {A = Result Table Refusal} (Err (missing a)) (Err (missing b)) → a ≡ b
 same_missing a b e = cc
 
-same_kind : (a b : Path) → ◌≡◌ {A = Result (List Mention) Refusal} (Err (wrong_kind a)) (Err (wrong_kind b)) → a ≡ b
+same_kind : (a b : Path) → ◌≡◌ {A = Result Table Refusal} (Err (wrong_kind a)) (Err (wrong_kind b)) → a ≡ b
 same_kind a b e = cc
 
 same_program : (a b : Path) → PrivilegedProgram a ≡ PrivilegedProgram b → a ≡ b
@@ -109,28 +109,32 @@ filters_alike said table (made ∷ filters) (made' ∷ filters') (code ∷ codes
 )
 
 -- what is asked of a launch, by its parts
-abbrev asked : Path → Identity → ℕ → ℕ → Bool → Bool → List (List ℕ) → Wanted
-asked program ids bounding ambient on memory programs = record {
+abbrev asked : Path → Identity → ℕ → ℕ → Bool → Bool → Bool → List (List ℕ) → Wanted
+asked program ids bounding ambient keeps on memory programs = record {
   program = program;
   uid = ids.uid;
   gid = ids.gid;
   groups = ids.groups;
   bounding = bounding;
   ambient = ambient;
+  keeps_capabilities = keeps;
   no_new_privs = on;
   mdwe = memory;
   programs = programs;
 }
 
-same_asked : (program program' : Path) (ids ids' : Identity) (bounding bounding' ambient ambient' : ℕ) (on on' memory memory' : Bool)
-    (programs : List (List ℕ)) → program ≡ program' → ids ≡ ids' → bounding ≡ bounding' → ambient ≡ ambient' → on ≡ on' → memory ≡ memory'
-    → asked program ids bounding ambient on memory programs ≡ asked program' ids' bounding' ambient' on' memory' programs
-same_asked program program' ids ids' bounding bounding' ambient ambient' on on' memory memory' programs a b c d e f =
-    ap (λ own. asked own ids bounding ambient on memory programs) a ∙ ap (λ own. asked program' own bounding ambient on memory programs) b
-    ∙ ap (λ own. asked program' ids' own ambient on memory programs) c
-    ∙ ap (λ own. asked program' ids' bounding' own on memory programs) d
-    ∙ ap (λ own. asked program' ids' bounding' ambient' own memory programs) e
-    ∙ ap (λ own. asked program' ids' bounding' ambient' on' own programs) f
+same_asked : (program program' : Path) (ids ids' : Identity) (bounding bounding' ambient ambient' : ℕ) (keeps keeps' on on' memory memory' : Bool)
+    (programs : List (List ℕ)) → program ≡ program' → ids ≡ ids' → bounding ≡ bounding' → ambient ≡ ambient' → keeps ≡ keeps' → on ≡ on'
+    → memory ≡ memory'
+    → asked program ids bounding ambient keeps on memory programs ≡ asked program' ids' bounding' ambient' keeps' on' memory' programs
+same_asked program program' ids ids' bounding bounding' ambient ambient' keeps keeps' on on' memory memory' programs a b c d k e f =
+    ap (λ own. asked own ids bounding ambient keeps on memory programs) a
+    ∙ ap (λ own. asked program' own bounding ambient keeps on memory programs) b
+    ∙ ap (λ own. asked program' ids' own ambient keeps on memory programs) c
+    ∙ ap (λ own. asked program' ids' bounding' own keeps on memory programs) d
+    ∙ ap (λ own. asked program' ids' bounding' ambient' own on memory programs) k
+    ∙ ap (λ own. asked program' ids' bounding' ambient' keeps' own memory programs) e
+    ∙ ap (λ own. asked program' ids' bounding' ambient' keeps' on' own programs) f
 
 abbrev ids_of : Settings → Identity
 ids_of settings = record { uid = settings.uid; gid = settings.gid; groups = settings.groups }
@@ -151,9 +155,11 @@ module _ (unit : Resolved) (table : calls.Table) (site : Site) where
   same_wanted settings settings' are are' programs =
       let ids : ids_of settings ≡ ids_of settings' = ok_identity _ _ (sym are.runs_as ∙ are'.runs_as) in
       same_asked settings.program settings'.program (ids_of settings) (ids_of settings') settings.bounding settings'.bounding
-      settings.ambient settings'.ambient settings.no_new_privs settings'.no_new_privs settings.mdwe settings'.mdwe programs
+      settings.ambient settings'.ambient settings.keeps_capabilities settings'.keeps_capabilities settings.no_new_privs
+      settings'.no_new_privs settings.mdwe settings'.mdwe programs
       (some_path settings.program settings'.program (sym are.launches_the_first_command ∙ are'.launches_the_first_command)) ids
       (are.bounding_without_what_is_taken ∙ sym are'.bounding_without_what_is_taken) (are.ambient ∙ sym are'.ambient)
+      (are.keeps_for_the_filters ∙ ap (λ (own : Identity). unit_keeps unit table own.uid) ids ∙ sym are'.keeps_for_the_filters)
       (are.new_privileges ∙ ap (λ (own : Identity). unit_new_privileges unit table own.uid) ids ∙ sym are'.new_privileges)
       (are.refuses_memory ∙ sym are'.refuses_memory)
 
@@ -305,10 +311,9 @@ module _ (unit : Resolved) (table : calls.Table) (site : Site) where
         (subst (λ (own : Table). IsRefused table site settings' own other) (sym same) barred')
 
 -- ---- a unit has one plan
-one_table : (row_at : Host) (mentions kept kept' : List Mention) (plan plan' : Table) → kept_of row_at mentions ≡ Ok kept
-    → kept_of row_at mentions ≡ Ok kept' → plan ≡ table_of row_at kept → plan' ≡ table_of row_at kept' → plan ≡ plan'
-one_table row_at mentions kept kept' plan plan' keeps keeps' is is' =
-    is ∙ ap (table_of row_at) (ok_mentions kept kept' (sym keeps ∙ keeps')) ∙ sym is'
+one_table : (row_at : Host) (mentions : Mentioned) (plan plan' : Table) → planned row_at mentions ≡ Ok plan
+    → planned row_at mentions ≡ Ok plan' → plan ≡ plan'
+one_table row_at mentions plan plan' is is' = ok_table plan plan' (sym is ∙ is')
 
 pub starts_once : StartsOnce
 starts_once inputs one other tables is is' =
@@ -318,7 +323,7 @@ starts_once inputs one other tables is is' =
     let their = is'.is_plan in
     comes_once inputs.unit inputs.calls inputs.site tables is.settings is'.settings is.are_settings is'.are_settings is.plan is'.plan
     own.can_be_mounted
-    (one_table host mentions own.kept their.kept is.plan is'.plan own.keeps their.keeps own.table_of_the_kept their.table_of_the_kept)
+    (one_table host mentions is.plan is'.plan own.is_planned their.is_planned)
     one other is.comes_to is'.comes_to
 
 -- ---- a unit has one answer
@@ -333,20 +338,20 @@ module _ (unit : Resolved) (table : calls.Table) (site : Site) (tables : AreTabl
   paths_once (plan.Kind path) plan.Memory is is' = absurd is'
   paths_once plan.Memory other is is' = absurd is
 
-  planned : (error : PlanError) (steps : Table) → RefusesPath (host_of site) (unit_mentions unit site) error
+  not_planned : (error : PlanError) (steps : Table) → RefusesPath (host_of site) (unit_mentions unit site) error
       → Plans (host_of site) (unit_mentions unit site) (Ok steps) → ⊥
-  planned (plan.Missing path) steps is has = let clash = sym is ∙ has.1 in cc
-  planned (plan.Kind path) steps is has = let clash = sym is ∙ has.1 in cc
-  planned plan.Memory steps is has = is
+  not_planned (plan.Missing path) steps is has = let clash = sym is ∙ has in cc
+  not_planned (plan.Kind path) steps is has = let clash = sym is ∙ has in cc
+  not_planned plan.Memory steps is has = is
 
   one_plan : (steps steps' : Table) → Plans (host_of site) (unit_mentions unit site) (Ok steps)
       → Plans (host_of site) (unit_mentions unit site) (Ok steps') → steps ≡ steps'
-  one_plan steps steps' has has' = one_table (host_of site) (unit_mentions unit site) has.0 has'.0 steps steps' has.1 has'.1 has.2 has'.2
+  one_plan steps steps' has has' = one_table (host_of site) (unit_mentions unit site) steps steps' has has'
 
   launched_or_refused : (service : Service) (why : UnitRefusal) → IsLaunchedUnit unit table site service
       → IsNotLaunched unit table site why → why ≡ Memory
   launched_or_refused service (InSettings error) is barred = let clash = sym is.accepted ∙ barred in cc
-  launched_or_refused service (Plan error) is barred = absurd (planned error is.plan barred.1 is.is_plan)
+  launched_or_refused service (Plan error) is barred = absurd (not_planned error is.plan barred.1 is.is_plan)
   launched_or_refused service (Launch why) is barred =
       let same = one_plan is.plan barred.plan is.is_plan barred.is_plan in
       absurd (comes_once unit table site tables is.settings barred.settings is.are_settings barred.are_settings is.plan barred.plan
@@ -363,10 +368,10 @@ module _ (unit : Resolved) (table : calls.Table) (site : Site) (tables : AreTabl
   refused_once (InSettings error) Memory barred barred' told told' = absurd (told' refl)
   refused_once (Plan error) (InSettings error') barred barred' told told' = let clash = sym barred.0 ∙ barred' in cc
   refused_once (Plan error) (Plan error') barred barred' told told' = ap Plan (paths_once error error' barred.1 barred'.1)
-  refused_once (Plan error) (Launch why) barred barred' told told' = absurd (planned error barred'.plan barred.1 barred'.is_plan)
+  refused_once (Plan error) (Launch why) barred barred' told told' = absurd (not_planned error barred'.plan barred.1 barred'.is_plan)
   refused_once (Plan error) Memory barred barred' told told' = absurd (told' refl)
   refused_once (Launch why) (InSettings error) barred barred' told told' = let clash = sym barred.accepted ∙ barred' in cc
-  refused_once (Launch why) (Plan error) barred barred' told told' = absurd (planned error barred.plan barred'.1 barred.is_plan)
+  refused_once (Launch why) (Plan error) barred barred' told told' = absurd (not_planned error barred.plan barred'.1 barred.is_plan)
   refused_once (Launch why) (Launch why') barred barred' told told' =
       let same = one_plan barred.plan barred'.plan barred.is_plan barred'.is_plan in
       ap Launch

@@ -26,7 +26,7 @@ use Rattle.judge.specs.launcher.declared.launched.Launched.{Launched as Service}
 use Rattle.judge.specs.launcher.Answers.{LaunchesTo, codes_of, given_bytes, wanted_of}
 use Rattle.judge.specs.launcher.LaunchedWorlds.{IsMeant}
 use Rattle.judge.specs.launcher.Launches.{AreRead}
-use Rattle.judge.proofs.OfLauncher.Conditions.{settings_can_be_launched}
+use Rattle.judge.proofs.OfLauncher.Conditions.{keeps_for_user, settings_can_be_launched}
 use Rattle.judge.proofs.OfLauncher.Matching.{means}
 use Rattle.judge.proofs.OfLauncher.Programs.{they_are_read, they_match}
 use Rattle.judge.proofs.OfLauncher.TwoAbis.{filters_there}
@@ -61,11 +61,11 @@ module _ (unit : Resolved) (table : calls.Table) (site : Site) (settings : Setti
   served =
       let fit = settings_can_be_launched unit table site settings sound are in
       launched_is_served own table site (wanted_of settings (given_bytes service.filters)) plan service.world service.steps whole arch
-      sound are.filters_as_wanted.refuse_by_numbers can fit.uid each launches.ends
+      sound are.filters_as_wanted.refuse_by_numbers can fit.uid (keeps_for_user settings (given_bytes service.filters) fit) each launches.ends
 
   pub runs_program : IsPath settings.program → RunsProgram (launch_of service.world) service.program
   runs_program named =
       let fit = settings_can_be_launched unit table site settings sound are in
-      let runs = launched_runs_program own table site (wanted_of settings (given_bytes service.filters)) plan service.world service.steps whole arch sound are.filters_as_wanted.refuse_by_numbers can fit.uid each named launches.ends in
+      let runs = launched_runs_program own table site (wanted_of settings (given_bytes service.filters)) plan service.world service.steps whole arch sound are.filters_as_wanted.refuse_by_numbers can fit.uid (keeps_for_user settings (given_bytes service.filters) fit) each named launches.ends in
       let P : Path → Type 0 = λ path. RunsProgram (launch_of service.world) path in
       subst P (sym launches.program) runs

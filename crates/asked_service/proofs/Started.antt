@@ -19,7 +19,7 @@ use Rattle.judge.specs.mount_plan.Answers.{Plans}
 use Rattle.judge.specs.mount_plan.Host.{host_of}
 use Rattle.judge.specs.mount_plan.declared.error.PlanError.{PlanError}
 use Rattle.judge.specs.mount_plan.declared.error.PlanError.TheVariants as plan
-use Rattle.judge.specs.path_settings.declared.mentions.Mention.{Mention}
+use Rattle.judge.specs.mount_plan.Planned.{planned as planned_at}
 use Rattle.plan_command.proofs.Plans.{plan_is}
 use Rattle.plan_command.specs.Planned.{IsPlan}
 use Rattle.plan_command.specs.Refusals.{error_line, plan_line}
@@ -27,7 +27,7 @@ use Rattle.judge.specs.site_table.Table.{Site}
 use Rattle.asked_service.specs.declared.unit_launch.launching.UnitLaunch.TheVariants.{Launched, Refused}
 use Rattle.asked_service.specs.declared.unit_launch.refusal.LaunchRefusal.{LaunchRefusal}
 use Rattle.plan_command.specs.unit_inputs.SettingsRefusals.{settings_line}
-use Rattle.judge.specs.path_settings.view_map.Kept.{Refusal, kept_of}
+use Rattle.judge.specs.path_settings.view_map.Kept.{Refusal}
 use Rattle.asked_service.specs.started_units.Starting.{StartsAs, TellsRefusal, given, start_refusals}
 
 module _ (name : List ℕ) (unit : Resolved) (table : calls.Table) (site : Site) where
@@ -35,11 +35,11 @@ module _ (name : List ℕ) (unit : Resolved) (table : calls.Table) (site : Site)
   refusals = start_refusals name (given unit table site)
 
   -- of what a setting and the paths are found to be
-  abbrev refusals_from : Option SettingsError → Result (List Mention) Refusal → List (Option (List ℕ))
+  abbrev refusals_from : Option SettingsError → Result (List MountStep) Refusal → List (Option (List ℕ))
   refusals_from settings kept = option_map (settings_line name) settings ∷ (refusal_in (or_line (plan_line name) kept) ∷ [])
 
-  abbrev kept : Result (List Mention) Refusal
-  kept = kept_of (host_of site) (unit_mentions unit site)
+  abbrev kept : Result (List MountStep) Refusal
+  kept = planned_at (host_of site) (unit_mentions unit site)
 
   -- a setting is refused
   pub at_settings : (error : SettingsError) → refusal_of unit table site ≡ Some error

@@ -35,7 +35,7 @@ pub use kernel_ways::linux_numbers::capabilities::{
     CAP_LAST_CAP, CAP_SETGID, CAP_SETUID, CAP_SYS_ADMIN,
 };
 pub use kernel_ways::{
-    FilterProgram, LaunchError, Launched, Mentions, MountSteps, PlanError, Resolved, Settings,
+    FilterProgram, LaunchError, Launched, Mentioned, MountSteps, PlanError, Resolved, Settings,
     SettingsError, Version, blindness, is_covered, is_read, launch, openness, plan, reach,
     settings,
 };

@@ -34,5 +34,5 @@ pub use dropin_merge::{
 };
 pub use error::IdentityError;
 pub use identities::identity_of_unit;
-pub use new_privileges::{is_no_new_privileges_set, no_new_privs};
+pub use new_privileges::{is_no_new_privileges_set, keeps_capabilities, no_new_privs};
 pub use site_table::{CapSet, Row, RowCause, RowKind, SiteError, SiteTable, Version, read_site};

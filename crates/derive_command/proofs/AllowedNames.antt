@@ -20,7 +20,8 @@ use Rattle.asked_service.specs.call_table.Lookups.{has_name, place_named}
 use Rattle.asked_service.specs.call_table.Names.{behind_at, is_name, is_name_byte}
 use Rattle.asked_service.specs.call_table.Table.{Table, every_call}
 use Rattle.asked_service.specs.call_table.declared.listed.CallLine.{CallLine}
-use Rattle.asked_service.specs.filter_settings.filter_rules.Calls.{call_action, hidden_action, if_adds, is_unknown, list_action, listed_action}
+use Rattle.asked_service.specs.filter_settings.filter_rules.Calls.{call_action, hidden_action, if_adds, is_unknown, list_action, listed_action, listed_by}
+use Rattle.asked_service.specs.filter_settings.filter_rules.GivingUp.{is_on_list}
 use Rattle.asked_service.specs.filter_settings.filter_rules.Covers.{covers, covers_by}
 use Rattle.asked_service.specs.filter_settings.declared.filter_rules.mentions.CallList.{CallList}
 use Rattle.asked_service.specs.filter_settings.declared.filter_rules.mentions.Mention.{Mention}
@@ -178,6 +179,27 @@ module _ (table : Table) where
               ∙ without_action mention.action parts.1
           by false tail = tail
 
+    -- a word that allows is found where some word covers the name
+    found_some : (p : Mention → Bool) (mentions : List Mention) → list_any is_odd mentions ≡ false
+        → is_some (option_and_then if_adds (find p mentions)) ≡ list_any p mentions
+    found_some p [] plain = refl
+    found_some p (mention ∷ mentions) plain = by (p mention) (found_some p mentions (or_off (is_odd mention) (list_any is_odd mentions) plain).1)
+      where
+        or_off : (a b : Bool) → (a || b) ≡ false → (a ≡ false) × (b ≡ false)
+        or_off true b e = cc
+        or_off false b e = (refl, e)
+
+        on : (b : Bool) → not b ≡ false → b ≡ true
+        on true e = refl
+        on false e = cc
+
+        by : (b : Bool) → is_some (option_and_then if_adds (find p mentions)) ≡ list_any p mentions
+            → is_some (option_and_then if_adds (cond b (Some mention) (find p mentions))) ≡ (b || list_any p mentions)
+        by true tail =
+            let parts = or_off (not mention.adds) (is_some mention.action) (or_off (is_odd mention) (list_any is_odd mentions) plain).0 in
+            ap (λ adds. is_some (cond adds (Some mention) None)) (on mention.adds parts.0)
+        by false tail = tail
+
     none_odd : (words : List (List ℕ)) → list_any is_odd (map mention_for words) ≡ false
     none_odd [] = refl
     none_odd (word ∷ words) = none_odd words
@@ -264,7 +286,55 @@ module _ (table : Table) where
           (mentions_are systemd names first)
           ∙ action_by (is_known table default_word)
 
+      some_by : (b : Bool) → is_some (listed_by table (words_by b ++ write_words systemd) name)
+          ≡ (is_let_through names name || is_added systemd name)
+      some_by b =
+          let mentions = words_by b ++ write_words systemd in
+          let p : Mention → Bool = λ mention. covers table mention.name name in
+          let turned = IsPermutation-reverse mentions in
+          let plain : list_any is_odd mentions ≡ false =
+          list_any-append is_odd (words_by b) (write_words systemd) ∙ ap (λ t. t || list_any is_odd (write_words systemd)) (odd_by b) ∙ write_plain (is_257 systemd) in
+          let any : list_any p mentions ≡ (is_let_through names name || is_added systemd name) =
+          list_any-append p (words_by b) (write_words systemd) ∙ ap (λ t. t || list_any p (write_words systemd)) (any_by b) ∙ ap (λ t. is_let_through names name || t) (write_found (is_257 systemd) name) in
+          found_some p (reverse mentions) (sym (list_any-IsPermutation is_odd mentions (reverse mentions) turned) ∙ plain)
+          ∙ sym (list_any-IsPermutation p mentions (reverse mentions) turned) ∙ any
+
+      -- whether the name is on the list
+      pub on_is : is_on_list table (said_list systemd names) name ≡ (is_let_through names name || is_added systemd name)
+      on_is =
+          ap (λ rest. is_some (listed_by table
+          ((mention_for default_word ∷ (cons_option (word_mention systemd table Allow true default_word) rest ++ []))
+          ++ write_words systemd) name)) (mentions_are systemd names first)
+          ∙ some_by (is_known table default_word)
+
     -- ---- a name less
+    among_fewer : (place : ℕ) (names : List ℕ) (name : List ℕ) → is_among (without place names) name ≡ true → is_among names name ≡ true
+    among_fewer place [] name h = h
+    among_fewer place (one ∷ names) name h = by (one == place) h (among_fewer place names name)
+      where
+        rest : (a b c : Bool) → (a || b) ≡ true → (b ≡ true → c ≡ true) → (a || c) ≡ true
+        rest true b c e more = refl
+        rest false b c e more = more e
+
+        later : (a c : Bool) → c ≡ true → (a || c) ≡ true
+        later true c e = refl
+        later false c e = e
+
+        by : (b : Bool) → is_among (cond (not b) (one ∷ without place names) (without place names)) name ≡ true
+            → (is_among (without place names) name ≡ true → is_among names name ≡ true)
+            → (bytes_eq (name_at table one) name || is_among names name) ≡ true
+        by true e more = later (bytes_eq (name_at table one) name) (is_among names name) (more e)
+        by false e more = rest (bytes_eq (name_at table one) name) (is_among (without place names) name) (is_among names name) e more
+
+    -- fewer names let through no more
+    pub fewer_let : (place : ℕ) (names : List ℕ) (name : List ℕ) → is_let_through (without place names) name ≡ true
+        → is_let_through names name ≡ true
+    fewer_let place names name h = by (covers table default_word name) h
+      where
+        by : (a : Bool) → (a || is_among (without place names) name) ≡ true → (a || is_among names name) ≡ true
+        by true e = refl
+        by false e = among_fewer place names name e
+
     none_left : (place : ℕ) (names : List ℕ) → list_any (λ one. one == place) (without place names) ≡ false
     none_left place [] = refl
     none_left place (one ∷ names) = by (one == place) refl (none_left place names)

@@ -2,9 +2,9 @@
 use Rattle.std.proofs.Common.{◌≡◌, ℕ, Bool, true, false, cond, codes, List, [], ◌∷◌, ◌++◌, Option, Some, ◌⊎◌, inl, inr, refl, ap, ◌∙◌, sym}
 use Rattle.std.proofs.Common.{subst, length, arith}
 use Rattle.std.specs.Prelude.{nat_le, ◌+◌, ◌≤◌, ◌||◌, not}
+use Rattle.std.specs.List.{AllByRecursion}
 use Rattle.std.proofs.lemmas.Bool.Decides.{nat_tests}
 use Rattle.std.proofs.lemmas.List.Sums.{sum_by-append, sum_by-cons}
-use Rattle.asked_service.specs.abs_path.Paths.{Path}
 use Rattle.asked_service.specs.bpf_code.declared.machine.Insn.{Insn}
 use Rattle.asked_service.specs.bpf_code.declared.machine.CallData.{CallData}
 use Rattle.asked_service.specs.bpf_code.declared.decision.Decision.{Decision}
@@ -21,10 +21,10 @@ use Rattle.asked_service.specs.kern_mounts.Finds.{finds}
 use Rattle.asked_service.specs.kern_mounts.Mounts.{Mounts as MountList}
 use Rattle.asked_service.specs.kern_mounts.Split.{Table}
 use Rattle.asked_service.specs.kernel_model.declared.kernel_calls.call.Call.{Call}
-use Rattle.asked_service.specs.kernel_model.declared.kernel_calls.payload.Payload.TheVariants.{OnePath, Code}
+use Rattle.asked_service.specs.kernel_model.declared.kernel_calls.payload.Payload.TheVariants.{Code}
 use Rattle.asked_service.specs.kernel_model.declared.kernel_calls.rule.Rule.{Rule}
 use Rattle.asked_service.specs.kernel_model.kernel_calls.Operation as d
-use Rattle.asked_service.specs.kernel_model.kernel_calls.Operation.{Asked, Does, asked_of, asked_by}
+use Rattle.asked_service.specs.kernel_model.kernel_calls.Operation.{Does, asked_of, asked_by}
 use Rattle.asked_service.specs.kernel_model.Effects as f
 use Rattle.asked_service.specs.kernel_model.Effects.{Effect, push_effect}
 use Rattle.asked_service.specs.kernel_model.Runs.{IsDone}
@@ -39,12 +39,13 @@ use Rattle.asked_service.specs.mount_plan.Host.{host_of as site_host}
 use Rattle.asked_service.specs.launcher.Alike.{HasWordArchs, above}
 use Rattle.asked_service.specs.launcher.Launch.{LaunchStep, Launched, PrivilegedProgram, Wanted, first_call, number_of, launch_step}
 use Rattle.asked_service.specs.launcher.Launch.{launch_steps, launch_from, is_privileged_row, mount_steps, with_unshare, identity_steps}
-use Rattle.asked_service.specs.launcher.Launch.{filter_steps, program_steps}
+use Rattle.asked_service.specs.launcher.Launch.{Makes, Mounts, filter_steps, last_steps}
 use Rattle.asked_service.specs.launcher.Launches.{HasLaunchCalls, AreRead}
-use Rattle.asked_service.proofs.OfLauncher.Alike.{own_step, lifted, step_above}
+use Rattle.asked_service.proofs.OfLauncher.Alike.{own_step, lifted, step_above, calls_kept}
 use Rattle.asked_service.proofs.OfLauncher.CallsMade.{done_on}
 use Rattle.asked_service.proofs.OfLauncher.HostRoot.{begins_at_host}
 use Rattle.asked_service.proofs.OfLauncher.LaunchData.{fits}
+use Rattle.asked_service.proofs.OfLauncher.LaunchesAlike.{IsOtherStep, last_other}
 use Rattle.asked_service.proofs.OfLauncher.LaunchCalls.{launch_calls}
 use Rattle.asked_service.proofs.OfLauncher.LaunchWorld.{ready_at}
 use Rattle.asked_service.proofs.OfLauncher.Leading.{Leads, append_assoc, append_none, append_split, launched_leads, leads_parts}
@@ -160,23 +161,46 @@ module _ (table : calls.Table) (site : Site) (whole : IsWhole table) (arch : Has
     passes stack bytes (decision.Errno errno) did = absurd did
     passes stack bytes decision.Kill did = absurd did
 
-    module _ (program : Path) where
+    -- ---- the steps with all filters in force
+    -- what steps leave that push no program, below three lists
+    record Goes (both one other : List (List Insn)) (steps : List LaunchStep) (from last last' : World) : Type 0 where
+      pub base : World
+      pub as_one' : last ≡ above one base
+      pub as_other : last' ≡ above other base
+      pub leads : Leads (above both from) steps (above both base)
+
+    -- they are done below a list that decides each call as one of two others, below which they are done
+    goes_on : (both one other : List (List Insn)) → AnswersAsEither both one other → (steps : List LaunchStep) (from last last' : World)
+        → from.calls ≡ table → AllByRecursion (IsOtherStep table site whole arch) steps
+        → Leads (above one from) steps last → Leads (above other from) steps last' → Goes both one other steps from last last'
+    goes_on both one other like [] from last last' here none l m =
+        record { base = from; as_one' = sym l; as_other = sym m; leads = refl }
+    goes_on both one other like (Mounts entry ∷ steps) from last last' here none l m = absurd none.0
+    goes_on both one other like (Makes call ∷ steps) from last last' here none l m =
+        let nothing : (op flags : ℕ) (bytes : List ℕ) → asked_of from.calls call ≡ Does (d.Seccomp op flags bytes) → ⊥ = λ op flags bytes e. none.0.other op flags bytes (sym (ap (λ (t : calls.Table). asked_of t call) here) ∙ e) in
+        let fit : IsCallData (record { nr = call.nr; arch = calls.arch_of from.calls call.abi; ip = 0; args = call.args }) = subst (λ (t : calls.Table). IsCallData (record { nr = call.nr; arch = calls.arch_of t call.abi; ip = 0; args = call.args })) (sym here) none.0.fit in
+        let did : IsDone (own_step one from call).0 = subst (λ (out : Reply × World). IsDone out.0) (step_above one from call) l.0 in
+        let does : IsDone (own_step other from call).0 = subst (λ (out : Reply × World). IsDone out.0) (step_above other from call) m.0 in
+        let same = both_done one other from call nothing did does in
+        let own = as_one both one other from call nothing like fit same in
+        let next : World = (own_step one from call).1 in
+        let l' : Leads (above one next) steps last = subst (λ (out : Reply × World). Leads out.1 steps last) (step_above one from call) l.1 in
+        let m' : Leads (above other next) steps last' = subst (λ (out : Reply × World). Leads out.1 steps last') (step_above other from call ∙ ap (lifted other) (sym same)) m.1 in
+        let together : step (above both from) call ≡ lifted both (own_step one from call) = step_above both from call ∙ ap (lifted both) own in
+        let more = goes_on both one other like steps next last last' (calls_kept one from call ∙ here) none.1 l' m' in
+        record {
+          base = more.base;
+          as_one' = more.as_one';
+          as_other = more.as_other;
+          leads = (
+            subst (λ (out : Reply × World). IsDone out.0) (sym together) did,
+            subst (λ (out : Reply × World). Leads out.1 steps (above both more.base)) (sym together) more.leads,
+          );
+        }
+
+    module _ (rest : List LaunchStep) (none : AllByRecursion (IsOtherStep table site whole arch) rest) where
       abbrev left : List (List ℕ) → List LaunchStep
-      left programs = filter_steps table.calls programs ++ program_steps table.calls program
-
-      abbrev call : Call
-      call = first_call table.calls (codes "execve") (0 ∷ 0 ∷ 0 ∷ 0 ∷ 0 ∷ 0 ∷ []) (OnePath program)
-
-      asks : asked_of table call ≡ Does (d.Execve program)
-      asks = ap (λ (o : Option Rule). asked_by o call) calls'.execve
-
-      other_operation : (op flags : ℕ) (bytes : List ℕ) → ◌≡◌ {A = Asked} (Does (d.Execve program))
-          (Does (d.Seccomp op flags bytes)) → ⊥
-      other_operation op flags bytes e = cc
-
-      stepped : (stack : List (List Insn)) → step (with_stack stack) call ≡ lifted stack (own_step stack (with_stack []) call)
-      stepped stack = ap (λ (v : World). step v call) (sym (ap (λ (s : List (List Insn)). with_stack s) (append_none stack)))
-          ∙ step_above stack (with_stack []) call
+      left programs = filter_steps table.calls programs ++ rest
 
       -- the three launches from here on
       record Ends (programs : List (List ℕ)) (from last last' : World) (both one other : List (List Insn)) : Type 0 where
@@ -185,22 +209,22 @@ module _ (table : calls.Table) (site : Site) (whole : IsWhole table) (arch : Has
         pub as_other : last' ≡ above other base
         pub leads : Leads from (left programs) (above both base)
 
-      -- the program is executed
+      with_own : (stack : List (List Insn)) → with_stack stack ≡ above stack (with_stack [])
+      with_own stack = ap (λ (s : List (List Insn)). with_stack s) (sym (append_none stack))
+
+      -- the steps behind the filters
       executed : (both one other : List (List Insn)) (last last' : World) → AnswersAsEither both one other
           → Leads (with_stack one) (left []) last → Leads (with_stack other) (left []) last'
           → Ends [] (with_stack both) last last' both one other
       executed both one other last last' like l m =
-          let nothing : (op flags : ℕ) (bytes : List ℕ) → asked_of table call ≡ Does (d.Seccomp op flags bytes) → ⊥ = λ op flags bytes e. other_operation op flags bytes (sym asks ∙ e) in
-          let did : IsDone (own_step one (with_stack []) call).0 = subst (λ (out : Reply × World). IsDone out.0) (stepped one) l.0 in
-          let does : IsDone (own_step other (with_stack []) call).0 = subst (λ (out : Reply × World). IsDone out.0) (stepped other) m.0 in
-          let same = both_done one other (with_stack []) call nothing did does in
-          let own = as_one both one other (with_stack []) call nothing like (fits table whole arch (codes "execve") 0 (omega arith)) same in
-          let together : step (with_stack both) call ≡ lifted both (own_step one (with_stack []) call) = stepped both ∙ ap (lifted both) own in
+          let l' = subst (λ (v : World). Leads v rest last) (with_own one) l in
+          let m' = subst (λ (v : World). Leads v rest last') (with_own other) m in
+          let done = goes_on both one other like rest (with_stack []) last last' refl none l' m' in
           record {
-            base = (own_step one (with_stack []) call).1;
-            as_one' = sym l.1 ∙ ap (λ (out : Reply × World). out.1) (stepped one);
-            as_other = sym m.1 ∙ ap (λ (out : Reply × World). out.1) (stepped other ∙ ap (lifted other) (sym same));
-            leads = (subst (λ (out : Reply × World). IsDone out.0) (sym together) did, ap (λ (out : Reply × World). out.1) together);
+            base = done.base;
+            as_one' = done.as_one';
+            as_other = done.as_other;
+            leads = subst (λ (v : World). Leads v rest (above both done.base)) (sym (with_own both)) done.leads;
           }
 
       executed_all : (both one other : List (List Insn)) (last last' : World) → Ends [] (with_stack both) last last' both one other
@@ -303,14 +327,14 @@ module _ (table : calls.Table) (site : Site) (wanted : Wanted) (plan : Table) wh
   before = with_unshare table.calls (mount_steps plan) ++ identity_steps table.calls wanted
 
   abbrev after : List (List ℕ) → List LaunchStep
-  after programs = filter_steps table.calls programs ++ program_steps table.calls wanted.program
+  after programs = filter_steps table.calls programs ++ last_steps table.calls wanted
 
   abbrev steps_of : List (List ℕ) → List LaunchStep
   steps_of programs = launch_steps table.calls (record wanted { programs = programs }) plan
 
   split : (programs : List (List ℕ)) → steps_of programs ≡ before ++ after programs
   split programs = append_split (with_unshare table.calls (mount_steps plan)) (identity_steps table.calls wanted)
-      (filter_steps table.calls programs) (program_steps table.calls wanted.program)
+      (filter_steps table.calls programs) (last_steps table.calls wanted)
 
   abbrev begun : World
   begun = start_world table site
@@ -348,7 +372,8 @@ either_launches table site wanted plan programs of_one of_other both one other l
     let r : 0 + room_of both ≤ max_insns_per_path = let h = installed.room in omega arith in
     let r1 : 0 + room_of one ≤ max_insns_per_path = let h = first.installed.room in omega arith in
     let r2 : 0 + room_of other ≤ max_insns_per_path = let h = second.installed.room in omega arith in
-    let ends = pushing table site whole arch ready.creds ready.namespace ready.tables wanted.program programs of_one of_other both one other [] [] [] last last' installed.read first.installed.read second.installed.read long long2
+    let ends = pushing table site whole arch ready.creds ready.namespace ready.tables (last_steps table.calls wanted)
+    (last_other table site whole arch wanted) programs of_one of_other both one other [] [] [] last last' installed.read first.installed.read second.installed.read long long2
     (λ input fit. then_by both one other input (like input fit)) r r1 r2 l m in
     let all = leads_join (start_world table site) (before table site wanted plan) (after table site wanted plan programs) parts1.mid (above both ends.base) parts1.before
     (subst (λ (v : World). Leads v (after table site wanted plan programs) (above both ends.base)) (sym ready.is) ends.leads) in

@@ -1,7 +1,8 @@
 -- The least list is the only one, and names no call of `@default`.
 use Rattle.std.proofs.Common.{◌≡◌, ◌≢◌, ◌⊎◌, inl, inr, ℕ, Bool, true, false, cond, codes, Some, None, Result, Ok, List, [], ◌∷◌, ◌++◌}
 use Rattle.std.proofs.Common.{length, map, refl, ap, ◌∙◌, sym, subst, arith}
-use Rattle.std.specs.Prelude.{◌≤◌, ◌==◌, ◌||◌, not}
+use Rattle.std.specs.Prelude.{◌≤◌, ◌==◌, ◌&&◌, ◌||◌, is_some, not}
+use Rattle.std.proofs.lemmas.Bool.{and_from, and_parts}
 use Rattle.std.specs.List.{AllByRecursion}
 use Rattle.std.specs.Option.{option_map}
 use Rattle.std.proofs.lemmas.List.Elements.{All-from_recursion, recursion_from_All}
@@ -10,7 +11,7 @@ use Rattle.asked_service.specs.bpf_code.Reading.{bytes_of}
 use Rattle.asked_service.specs.bpf_code.declared.machine.Insn.{Insn}
 use Rattle.asked_service.specs.call_table.Facts.{IsWhole}
 use Rattle.asked_service.specs.call_table.Table as calls
-use Rattle.asked_service.specs.cred_settings.NewPrivileges.{is_in_effect_in}
+use Rattle.asked_service.specs.cred_settings.NewPrivileges.{is_in_effect_in, is_keeping}
 use Rattle.asked_service.specs.cred_settings.declared.accounts.Identity.{Identity}
 use Rattle.asked_service.specs.cred_settings.declared.error.IdentityError.{IdentityError}
 use Rattle.asked_service.specs.dropin_merge.declared.resolved.Resolved.{Resolved}
@@ -20,13 +21,16 @@ use Rattle.asked_service.specs.exec_settings.RunsAs.{unit_identity}
 use Rattle.asked_service.specs.exec_settings.Groups.{missing_group}
 use Rattle.asked_service.specs.exec_settings.Mounts.{paths_refusal, unit_mentions}
 use Rattle.asked_service.specs.exec_settings.Refusals.{command_refusal, first_reason, group_refusal, identity_refusal, refusal_of}
-use Rattle.asked_service.specs.exec_settings.Filtered.{counts_as_filter, has_filter}
-use Rattle.asked_service.specs.exec_settings.Settings.{unit_ambient, unit_bounding, unit_new_privileges, unit_program}
+use Rattle.asked_service.specs.exec_settings.Filtered.{counts_as_filter, has_filter, is_filtered}
+use Rattle.asked_service.specs.exec_settings.Settings.{keeps_by, unit_ambient, unit_bounding, unit_keeps, unit_new_privileges, unit_program}
 use Rattle.asked_service.specs.exec_settings.declared.errors.SettingsError.TheVariants.{MissingGroup}
 use Rattle.asked_service.specs.exec_settings.declared.service.Settings.{Settings}
 use Rattle.asked_service.specs.filter_settings.filter_rules.Covers.{covers}
 use Rattle.asked_service.specs.call_rules.declared.actions.Action.TheVariants.{Allow as Allowed}
+use Rattle.asked_service.specs.filter_settings.filter_rules.Calls.{listed_by}
+use Rattle.asked_service.specs.filter_settings.filter_rules.GivingUp.{may_give_up}
 use Rattle.asked_service.specs.filter_settings.filter_rules.Installed.{installed, place_of}
+use Rattle.asked_service.specs.unit_names.Versions.{is_257}
 use Rattle.asked_service.specs.filter_settings.filter_rules.Names.{Place}
 use Rattle.asked_service.specs.filter_settings.declared.filter_rules.mentions.Mention.{Mention}
 use Rattle.asked_service.specs.filter_settings.declared.filter_rules.settings.FilterSettings.{FilterSettings}
@@ -52,26 +56,25 @@ use Rattle.asked_service.proofs.OfLauncher.Matching.{room}
 use Rattle.asked_service.proofs.OfLauncher.Programs.{they_are_read, they_match}
 use Rattle.asked_service.specs.mount_plan.Answers.{Plans}
 use Rattle.asked_service.specs.mount_plan.Host.{host_of}
-use Rattle.asked_service.specs.mount_plan.Plan.{table_of}
+use Rattle.asked_service.specs.mount_plan.Planned.{planned}
 use Rattle.asked_service.specs.mount_plan.declared.error.PlanError.{PlanError}
 use Rattle.asked_service.specs.mount_plan.declared.error.PlanError.TheVariants as plan
-use Rattle.asked_service.specs.path_settings.declared.mentions.Mention.{Mention as PathMention}
 use Rattle.asked_service.specs.site_table.Table.{IsSite, Site}
 use Rattle.asked_service.specs.declared.unit_launch.refusal.LaunchRefusal.{LaunchRefusal}
 use Rattle.asked_service.specs.declared.unit_launch.refusal.LaunchRefusal.TheVariants as refusal
 use Rattle.asked_service.specs.unit_launch.Launching.{IsRefused}
-use Rattle.asked_service.specs.path_settings.view_map.Kept.{Refusal, kept_of}
+use Rattle.asked_service.specs.path_settings.view_map.Kept.{Refusal}
 use Rattle.derive_command.specs.trace_profile.allow_laws.Either.{PushNone}
 use Rattle.derive_command.specs.trace_profile.allow_laws.Launches.{LaunchesBy}
 use Rattle.derive_command.proofs.Either.{either_replies}
 use Rattle.derive_command.proofs.Launches.{either_launches}
-use Rattle.derive_command.specs.trace_profile.Derived.{Fails, IsDerived, IsOnlyOne, not_launched, other_reply, tried_with}
+use Rattle.derive_command.specs.trace_profile.Derived.{Fails, IsDerived, IsOnlyOne, KeepAlike, not_launched, other_reply, tried_with}
 use Rattle.derive_command.specs.trace_profile.Extended.{every_name, extended, is_first_line, name_at, open_unit}
 use Rattle.derive_command.specs.trace_profile.Names.{AreNames, without}
 use Rattle.derive_command.specs.trace_profile.Only.{LeastIsOnlyOne}
 use Rattle.derive_command.specs.trace_profile.PlainNames.{HasPlainNames, IsBesideDefault}
 use Rattle.derive_command.specs.trace_profile.Scripts.{first_seccomp}
-use Rattle.derive_command.proofs.AllowedNames.{action_is, as_either, as_with_it, is_added, is_let_through, rest_in, said_list}
+use Rattle.derive_command.proofs.AllowedNames.{action_is, as_either, as_with_it, fewer_let, is_added, is_let_through, on_is, rest_in, said_list}
 use Rattle.derive_command.proofs.AsEither.{HasPrograms, gives, installed_same, programs_either, same_long, with_list}
 use Rattle.derive_command.proofs.ExtendedUnit.{adds_calls, filters_are, tails_are}
 use Rattle.derive_command.proofs.Lists.{every_are_names, some_are_names}
@@ -115,20 +118,33 @@ module _ (unit : Resolved) (table : calls.Table) (site : Site) (sound : IsSite s
     paths : unit_mentions longer site ≡ unit_mentions unit site
     paths = but.mentions unit _ (adds_calls unit table plain.plain names first) site
 
+    abbrev settled : FilterSettings
+    settled = with_list table base mentions
+
+    -- whether systemd keeps capabilities for its filters, by the restrictions of the unit and by three names
+    abbrev restricts : Bool
+    restricts = has_filter settled table || (marks_memory settled || counts_as_filter unit)
+
+    keeps : (uid : ℕ) → unit_keeps longer table uid ≡ is_keeping unit.systemd restricts uid (may_give_up table settled.calls)
+    keeps uid =
+        ap (λ settings. keeps_by longer settings table uid) filters
+        ∙ ap (λ on. is_keeping unit.systemd (has_filter settled table || (marks_memory settled || on)) uid (may_give_up table settled.calls))
+        (but.counted unit _ (adds_calls unit table plain.plain names first))
+
     privileges : (uid : ℕ) → unit_new_privileges longer table uid
-        ≡ is_in_effect_in unit.systemd (sets_new_privileges unit) (has_filter (with_list table base mentions) table)
-        (has_filter (with_list table base mentions) table || counts_as_filter unit) uid (unit_ambient unit table)
+        ≡ is_in_effect_in unit.systemd (sets_new_privileges unit) (has_filter settled table) restricts uid (unit_ambient unit table)
+        (unit_keeps longer table uid)
     privileges uid =
         ap (λ on. is_in_effect_in unit.systemd on (has_filter (unit_filters longer table) table)
-        (has_filter (unit_filters longer table) table || counts_as_filter longer) uid (unit_ambient longer table))
+        (is_filtered longer (unit_filters longer table) table) uid (unit_ambient longer table) (unit_keeps longer table uid))
         (but.sets unit _ (adds_calls unit table plain.plain names first))
         ∙ ap (λ settings. is_in_effect_in unit.systemd (sets_new_privileges unit) (has_filter settings table)
-        (has_filter settings table || counts_as_filter longer) uid (unit_ambient longer table)) filters
-        ∙ ap (λ on. is_in_effect_in unit.systemd (sets_new_privileges unit) (has_filter (with_list table base mentions) table)
-        (has_filter (with_list table base mentions) table || on) uid (unit_ambient longer table))
+        (is_filtered longer settings table) uid (unit_ambient longer table) (unit_keeps longer table uid)) filters
+        ∙ ap (λ on. is_in_effect_in unit.systemd (sets_new_privileges unit) (has_filter settled table)
+        (has_filter settled table || (marks_memory settled || on)) uid (unit_ambient longer table) (unit_keeps longer table uid))
         (but.counted unit _ (adds_calls unit table plain.plain names first))
-        ∙ ap (is_in_effect_in unit.systemd (sets_new_privileges unit) (has_filter (with_list table base mentions) table)
-        (has_filter (with_list table base mentions) table || counts_as_filter unit) uid) ambient
+        ∙ ap (λ set. is_in_effect_in unit.systemd (sets_new_privileges unit) (has_filter settled table) restricts uid set
+        (unit_keeps longer table uid)) ambient
 
     refused : refusal_of longer table site
         ≡ first_reason (command_refusal unit site ∷ identity_refusal unit site ∷ option_map MissingGroup
@@ -179,13 +195,16 @@ module _ (unit : Resolved) (table : calls.Table) (site : Site) (sound : IsSite s
     same_paths : unit_mentions (extended unit table names) site ≡ unit_mentions (extended unit table others) site
     same_paths = paths names are ∙ sym (paths others are_too)
 
-    same_privileges : (uid : ℕ) → unit_new_privileges (extended unit table names) table uid
+    same_privileges : KeepAlike unit table names others → (uid : ℕ) → unit_new_privileges (extended unit table names) table uid
         ≡ unit_new_privileges (extended unit table others) table uid
-    same_privileges uid =
+    same_privileges alike uid =
         privileges names are uid
         ∙ ap (λ (places : List Place). is_in_effect_in unit.systemd (sets_new_privileges unit) (not (length places == 0))
-        (not (length places == 0) || counts_as_filter unit) uid (unit_ambient unit table))
+        (not (length places == 0) || (marks_memory (settled names are) || counts_as_filter unit)) uid (unit_ambient unit table)
+        (unit_keeps (extended unit table names) table uid))
         (installed_same table base (mentions names are) (mentions others are_too))
+        ∙ ap (is_in_effect_in unit.systemd (sets_new_privileges unit) (has_filter (settled others are_too) table)
+        (restricts others are_too) uid (unit_ambient unit table)) (alike uid)
         ∙ sym (privileges others are_too uid)
 
     -- a list of calls does not decide about memory
@@ -199,58 +218,177 @@ module _ (unit : Resolved) (table : calls.Table) (site : Site) (sound : IsSite s
     ok_same a b e = cc
 
     wanted_same : (program program' : Path) (uid uid' gid gid' : ℕ) (groups groups' : List ℕ) (bounding bounding' ambient ambient' : ℕ)
-        (on on' memory memory' : Bool) (programs : List (List ℕ))
-        → program ≡ program' → uid ≡ uid' → gid ≡ gid' → groups ≡ groups' → bounding ≡ bounding' → ambient ≡ ambient' → on ≡ on'
-        → memory ≡ memory'
-        → ◌≡◌ {A = Wanted} (record { program = program; uid = uid; gid = gid; groups = groups; bounding = bounding; ambient = ambient; no_new_privs = on; mdwe = memory; programs = programs })
-        (record { program = program'; uid = uid'; gid = gid'; groups = groups'; bounding = bounding'; ambient = ambient'; no_new_privs = on'; mdwe = memory'; programs = programs })
-    wanted_same program program' uid uid' gid gid' groups groups' bounding bounding' ambient ambient' on on' memory memory' programs a b c d e f g h = cc
+        (keeps keeps' on on' memory memory' : Bool) (programs : List (List ℕ))
+        → program ≡ program' → uid ≡ uid' → gid ≡ gid' → groups ≡ groups' → bounding ≡ bounding' → ambient ≡ ambient' → keeps ≡ keeps'
+        → on ≡ on' → memory ≡ memory'
+        → ◌≡◌ {A = Wanted} (record { program = program; uid = uid; gid = gid; groups = groups; bounding = bounding; ambient = ambient; keeps_capabilities = keeps; no_new_privs = on; mdwe = memory; programs = programs })
+        (record { program = program'; uid = uid'; gid = gid'; groups = groups'; bounding = bounding'; ambient = ambient'; keeps_capabilities = keeps'; no_new_privs = on'; mdwe = memory'; programs = programs })
+    wanted_same program program' uid uid' gid gid' groups groups' bounding bounding' ambient ambient' keeps keeps' on on' memory memory' programs a b c d e f k g h = cc
 
     -- their launches are asked the same, but for the programs
-    same_wanted : (settings settings' : Settings) → AreSettings (extended unit table names) table site settings
+    same_wanted : KeepAlike unit table names others → (settings settings' : Settings) → AreSettings (extended unit table names) table site settings
         → AreSettings (extended unit table others) table site settings' → (programs : List (List ℕ))
         → wanted_of settings programs ≡ wanted_of settings' programs
-    same_wanted settings settings' fit fit' programs =
+    same_wanted alike settings settings' fit fit' programs =
         let ids : ◌≡◌ {A = Identity} (record { uid = settings.uid; gid = settings.gid; groups = settings.groups }) (record { uid = settings'.uid; gid = settings'.gid; groups = settings'.groups }) =
         ok_same _ _ (sym fit.runs_as ∙ identity names are ∙ sym (identity others are_too) ∙ fit'.runs_as) in
         let uid : settings.uid ≡ settings'.uid = ap (λ (own : Identity). own.uid) ids in
         wanted_same settings.program settings'.program settings.uid settings'.uid settings.gid settings'.gid settings.groups
-        settings'.groups settings.bounding settings'.bounding settings.ambient settings'.ambient settings.no_new_privs
-        settings'.no_new_privs settings.mdwe settings'.mdwe programs
+        settings'.groups settings.bounding settings'.bounding settings.ambient settings'.ambient settings.keeps_capabilities
+        settings'.keeps_capabilities settings.no_new_privs settings'.no_new_privs settings.mdwe settings'.mdwe programs
         (some_same settings.program settings'.program (sym fit.launches_the_first_command ∙ program names are
         ∙ sym (program others are_too) ∙ fit'.launches_the_first_command))
         uid (ap (λ (own : Identity). own.gid) ids) (ap (λ (own : Identity). own.groups) ids)
         (fit.bounding_without_what_is_taken ∙ bounding names are ∙ sym (bounding others are_too) ∙ sym fit'.bounding_without_what_is_taken)
         (fit.ambient ∙ ambient names are ∙ sym (ambient others are_too) ∙ sym fit'.ambient)
-        (fit.new_privileges ∙ same_privileges settings.uid ∙ ap (unit_new_privileges (extended unit table others) table) uid
+        (fit.keeps_for_the_filters ∙ alike settings.uid ∙ ap (unit_keeps (extended unit table others) table) uid
+        ∙ sym fit'.keeps_for_the_filters)
+        (fit.new_privileges ∙ same_privileges alike settings.uid ∙ ap (unit_new_privileges (extended unit table others) table) uid
         ∙ sym fit'.new_privileges)
         (fit.refuses_memory ∙ memory_same ∙ sym fit'.refuses_memory)
 
-    ok_plan : (a b : List PathMention) → ◌≡◌ {A = Result (List PathMention) Refusal} (Ok a) (Ok b) → a ≡ b
+    ok_plan : (a b : List MountStep) → ◌≡◌ {A = Result (List MountStep) Refusal} (Ok a) (Ok b) → a ≡ b
     ok_plan a b e = cc
 
     -- and have the same plan
     same_plan : (one other : List MountStep) → Plans (host_of site) (unit_mentions (extended unit table names) site) (Ok one)
         → Plans (host_of site) (unit_mentions (extended unit table others) site) (Ok other) → one ≡ other
     same_plan one other has has' =
-        let kept = ok_plan has.0 has'.0 (sym has.1 ∙ ap (kept_of (host_of site)) same_paths ∙ has'.1) in
-        has.2 ∙ ap (table_of (host_of site)) kept ∙ sym has'.2
+        ok_plan one other (sym has ∙ ap (planned (host_of site)) same_paths ∙ has')
 
-    same_launch : (settings settings' : Settings) (one other : Table) → AreSettings (extended unit table names) table site settings
+    same_launch : KeepAlike unit table names others → (settings settings' : Settings) (one other : Table) → AreSettings (extended unit table names) table site settings
         → AreSettings (extended unit table others) table site settings'
         → Plans (host_of site) (unit_mentions (extended unit table names) site) (Ok one)
         → Plans (host_of site) (unit_mentions (extended unit table others) site) (Ok other) → (programs : List (List ℕ))
         → launch_with table site settings one programs ≡ launch_with table site settings' other programs
-    same_launch settings settings' one other fit fit' has has' programs =
-        ap (λ (wanted : Wanted). launch table site wanted one) (same_wanted settings settings' fit fit' programs)
+    same_launch alike settings settings' one other fit fit' has has' programs =
+        ap (λ (wanted : Wanted). launch table site wanted one) (same_wanted alike settings settings' fit fit' programs)
         ∙ ap (launch table site (wanted_of settings' programs)) (same_plan one other has has')
+
+    -- the lists of calls restrict alike
+    restricts_same : restricts names are ≡ restricts others are_too
+    restricts_same = ap (λ (places : List Place). not (length places == 0) || (marks_memory (settled names are) || counts_as_filter unit))
+        (installed_same table base (mentions names are) (mentions others are_too))
+
+  -- ---- whether systemd keeps capabilities with one name less
+  abbrev is_on : (names : List ℕ) → AreNames table names → List ℕ → Bool
+  is_on names are name = is_some (listed_by table (mentions names are) name)
+
+  on_is_let : (names : List ℕ) (are : AreNames table names) (name : List ℕ)
+      → is_on names are name ≡ (is_let_through table plain.plain names name || is_added table plain.plain unit.systemd name)
+  unfolding mentions
+  on_is_let names are name = on_is table plain.plain unit.systemd names (first names are) Allowed name
+
+  abbrev gives_up : (names : List ℕ) → AreNames table names → Bool
+  gives_up names are = is_on names are (codes "capget") && (is_on names are (codes "capset") && is_on names are (codes "prctl"))
+
+  -- where two lists keep alike, and a third keeps no more than the first, and as both where they both do
+  kept_alike : (known limits user third one other : Bool) → (third ≡ true → one ≡ true)
+      → (one ≡ true → other ≡ true → third ≡ true)
+      → (known && ((limits && user) && one)) ≡ (known && ((limits && user) && other))
+      → (known && ((limits && user) && third)) ≡ (known && ((limits && user) && one))
+  kept_alike false limits user third one other fewer both same = refl
+  kept_alike true false user third one other fewer both same = refl
+  kept_alike true true false third one other fewer both same = refl
+  kept_alike true true true true one other fewer both same = sym (fewer refl)
+  kept_alike true true true false false other fewer both same = refl
+  kept_alike true true true false true other fewer both same = both refl (sym same)
+
+  module _ (names others : List ℕ) (are : AreNames table names) (are_too : AreNames table others) (place : ℕ)
+      (h : is_first_line table place ≡ true) (are_third : AreNames table (without place names))
+      (lacks : has others place ≡ false) (alike : KeepAlike unit table names others) where
+    abbrev added : List ℕ → Bool
+    added name = is_added table plain.plain unit.systemd name
+
+    or_on : (a b c : Bool) → (a ≡ true → b ≡ true) → (a || c) ≡ true → (b || c) ≡ true
+    or_on true b c to e = ap (λ t. t || c) (to refl)
+    or_on false true c to e = refl
+    or_on false false c to e = e
+
+    fewer_on : (name : List ℕ) → is_on (without place names) are_third name ≡ true → is_on names are name ≡ true
+    fewer_on name e = on_is_let names are name
+        ∙ or_on (is_let_through table plain.plain (without place names) name) (is_let_through table plain.plain names name) (added name)
+        (fewer_let table plain.plain place names name) (sym (on_is_let (without place names) are_third name) ∙ e)
+
+    both_on : (name : List ℕ) → is_on names are name ≡ true → is_on others are_too name ≡ true
+        → is_on (without place names) are_third name ≡ true
+    both_on name e d = by (as_either table plain.plain place h names others (first (without place names) are_third) (first others are_too) lacks name)
+      where
+        by : (is_let_through table plain.plain (without place names) name ≡ is_let_through table plain.plain names name) ⊎
+            (is_let_through table plain.plain (without place names) name ≡ is_let_through table plain.plain others name)
+            → is_on (without place names) are_third name ≡ true
+        by (inl same) = on_is_let (without place names) are_third name ∙ ap (λ t. t || added name) same
+            ∙ sym (on_is_let names are name) ∙ e
+        by (inr same) = on_is_let (without place names) are_third name ∙ ap (λ t. t || added name) same
+            ∙ sym (on_is_let others are_too name) ∙ d
+
+    fewer_given : gives_up (without place names) are_third ≡ true → gives_up names are ≡ true
+    fewer_given e =
+        let a = and_parts (is_on (without place names) are_third (codes "capget")) (is_on (without place names) are_third (codes "capset") && is_on (without place names) are_third (codes "prctl")) e in
+        let b = and_parts (is_on (without place names) are_third (codes "capset")) (is_on (without place names) are_third (codes "prctl")) a.1 in
+        and_from (is_on names are (codes "capget")) (is_on names are (codes "capset") && is_on names are (codes "prctl"))
+        (fewer_on (codes "capget") a.0)
+        (and_from (is_on names are (codes "capset")) (is_on names are (codes "prctl")) (fewer_on (codes "capset") b.0)
+        (fewer_on (codes "prctl") b.1))
+
+    both_given : gives_up names are ≡ true → gives_up others are_too ≡ true → gives_up (without place names) are_third ≡ true
+    both_given e d =
+        let a = and_parts (is_on names are (codes "capget")) (is_on names are (codes "capset") && is_on names are (codes "prctl")) e in
+        let b = and_parts (is_on names are (codes "capset")) (is_on names are (codes "prctl")) a.1 in
+        let c = and_parts (is_on others are_too (codes "capget")) (is_on others are_too (codes "capset") && is_on others are_too (codes "prctl")) d in
+        let f = and_parts (is_on others are_too (codes "capset")) (is_on others are_too (codes "prctl")) c.1 in
+        and_from (is_on (without place names) are_third (codes "capget")) (is_on (without place names) are_third (codes "capset")
+        && is_on (without place names) are_third (codes "prctl")) (both_on (codes "capget") a.0 c.0)
+        (and_from (is_on (without place names) are_third (codes "capset")) (is_on (without place names) are_third (codes "prctl"))
+        (both_on (codes "capset") b.0 f.0) (both_on (codes "prctl") b.1 f.1))
+
+    fewer_alike : KeepAlike unit table names (without place names)
+    fewer_alike uid =
+        let decided = kept_alike (is_257 unit.systemd) (restricts names are) (not (uid == 0)) (gives_up (without place names) are_third) (gives_up names are) (gives_up others are_too) fewer_given both_given
+        (sym (keeps names are uid) ∙ alike uid ∙ keeps others are_too uid
+        ∙ ap (λ on. is_keeping unit.systemd on uid (gives_up others are_too)) (sym (restricts_same names others are are_too))) in
+        keeps names are uid ∙ sym decided
+        ∙ ap (λ on. is_keeping unit.systemd on uid (gives_up (without place names) are_third))
+        (restricts_same names (without place names) are are_third)
+        ∙ sym (keeps (without place names) are_third uid)
+
+  -- two lists that let the same through keep alike
+  same_alike : (names others : List ℕ) (are : AreNames table names) (are_too : AreNames table others)
+      → ((name : List ℕ) → is_let_through table plain.plain others name ≡ is_let_through table plain.plain names name)
+      → KeepAlike unit table names others
+  same_alike names others are are_too same uid =
+      keeps names are uid ∙ ap (λ on. is_keeping unit.systemd on uid (gives_up names are)) (restricts_same names others are are_too)
+      ∙ ap (is_keeping unit.systemd (restricts others are_too) uid) (one (codes "capget") (is_on names are (codes "capset") && is_on names are (codes "prctl"))
+      ∙ ap (λ b. is_on others are_too (codes "capget") && b) (one (codes "capset") (is_on names are (codes "prctl")))
+      ∙ ap (λ b. is_on others are_too (codes "capget") && (is_on others are_too (codes "capset") && b)) (on_same (codes "prctl")))
+      ∙ sym (keeps others are_too uid)
+    where
+      on_same : (name : List ℕ) → is_on names are name ≡ is_on others are_too name
+      on_same name = on_is_let names are name ∙ ap (λ b. b || is_added table plain.plain unit.systemd name) (sym (same name))
+          ∙ sym (on_is_let others are_too name)
+
+      one : (name : List ℕ) (rest : Bool) → (is_on names are name && rest) ≡ (is_on others are_too name && rest)
+      one name rest = ap (λ b. b && rest) (on_same name)
+
+  -- only systemd 257 keeps any
+  alike_by : (names others : List ℕ) → (is_257 unit.systemd ≡ true → KeepAlike unit table names others) → KeepAlike unit table names others
+  alike_by names others given = by (is_257 unit.systemd) refl
+    where
+      rest : List ℕ → ℕ → Bool
+      rest one uid = (is_filtered (extended unit table one) (unit_filters (extended unit table one) table) table && not (uid == 0))
+          && may_give_up table (unit_filters (extended unit table one) table).calls
+
+      by : (b : Bool) → is_257 unit.systemd ≡ b → KeepAlike unit table names others
+      by true e uid = given e uid
+      by false e uid = ap (λ b. b && rest names uid) e ∙ sym (ap (λ b. b && rest others uid) e)
 
   -- ---- three such units, of which the third decides each name as one of the others
   module _ (script : List Call) (fits : AreCalls script) (none : first_seccomp table script ≡ None)
       (names others third : List ℕ) (are : AreNames table names) (are_too : AreNames table others) (are_third : AreNames table third)
       (pivot : (name : List ℕ) → (is_let_through table plain.plain third name ≡ is_let_through table plain.plain names name) ⊎
       (is_let_through table plain.plain third name ≡ is_let_through table plain.plain others name))
-      (service other : Service) (launched : IsLaunchedUnit (extended unit table names) table site service) (launched_too : IsLaunchedUnit (extended unit table others) table site other) where
+      (service other : Service) (launched : IsLaunchedUnit (extended unit table names) table site service) (launched_too : IsLaunchedUnit (extended unit table others) table site other)
+      (alike : KeepAlike unit table names others) (alike_third : KeepAlike unit table names third) where
     -- where the two reply alike, the launch of the third ends well, and it replies so too
     record GoesAlong (settings : Settings) (mounts : Table) (programs : List (List ℕ)) (codes : List (List Insn)) : Type 0 where
       last : World
@@ -307,7 +445,7 @@ module _ (unit : Resolved) (table : calls.Table) (site : Site) (sound : IsSite s
           installed = installed_by others are_too other_settings launched_too.are_settings
               (given_bytes other.filters) other_codes other_read other_match;
           steps = other.steps;
-          launched = same_launch names others are are_too own_settings other_settings launched.plan launched_too.plan
+          launched = same_launch names others are are_too alike own_settings other_settings launched.plan launched_too.plan
               launched.are_settings launched_too.are_settings launched.is_plan launched_too.is_plan (given_bytes other.filters)
               ∙ m.launches.ends;
         } in
@@ -320,7 +458,7 @@ module _ (unit : Resolved) (table : calls.Table) (site : Site) (sound : IsSite s
         record {
           last = above codes together.base;
           steps = together.steps;
-          ends = sym (same_launch names third are are_third own_settings settings launched.plan mounts launched.are_settings fit
+          ends = sym (same_launch names third are are_third alike_third own_settings settings launched.plan mounts launched.are_settings fit
               launched.is_plan has programs) ∙ together.launched;
           replies_so = λ e.
               either_replies codes own_codes other_codes together.base script like (subst HasWordArchs (sym told) arch) fits
@@ -351,7 +489,7 @@ module _ (unit : Resolved) (table : calls.Table) (site : Site) (sound : IsSite s
         → Plans (host_of site) (unit_mentions (extended unit table third) site) (Ok mounts) → (why : LaunchRefusal)
         → IsRefused table site settings mounts why → ⊥
     refused_launch settings mounts fit has (refusal.Privileged program) ends =
-        let here = same_launch third names are_third are settings launched.settings mounts launched.plan fit launched.are_settings has launched.is_plan (given_bytes service.filters) in
+        let here = same_launch third names are_third are (λ uid. sym (alike_third uid)) settings launched.settings mounts launched.plan fit launched.are_settings has launched.is_plan (given_bytes service.filters) in
         let e = sym (ends (given_bytes service.filters)) ∙ here ∙ launched.launched.launches.ends in
         cc
     refused_launch settings mounts fit has (refusal.Refused step errno) ends =
@@ -365,12 +503,12 @@ module _ (unit : Resolved) (table : calls.Table) (site : Site) (sound : IsSite s
 
     refused_path : (error : PlanError) → RefusesPath (host_of site) (unit_mentions (extended unit table third) site) error → ⊥
     refused_path (plan.Missing path) e =
-        let same = ap (kept_of (host_of site)) (same_paths third names are_third are) in
-        let clash = sym e ∙ same ∙ launched.is_plan.1 in
+        let same = ap (planned (host_of site)) (same_paths third names are_third are) in
+        let clash = sym e ∙ same ∙ launched.is_plan in
         cc
     refused_path (plan.Kind path) e =
-        let same = ap (kept_of (host_of site)) (same_paths third names are_third are) in
-        let clash = sym e ∙ same ∙ launched.is_plan.1 in
+        let same = ap (planned (host_of site)) (same_paths third names are_third are) in
+        let clash = sym e ∙ same ∙ launched.is_plan in
         cc
     refused_path plan.Memory e = e
 
@@ -395,9 +533,9 @@ module _ (unit : Resolved) (table : calls.Table) (site : Site) (sound : IsSite s
         → IsLaunchedUnit (open_unit unit table) table site other → replies other.world script ≡ replies service.world script
     opened_alike service other launched launched_too =
         replies_as script fits none (every_name table) (every_name table) (every_name table) (every_are_names table)
-        (every_are_names table) (every_are_names table) (λ name. inl refl) service service launched launched other launched_too refl
+        (every_are_names table) (every_are_names table) (λ name. inl refl) service service launched launched (λ uid. refl) (λ uid. refl) other launched_too refl
 
-    module _ (names others : List ℕ) (derived : IsDerived unit table site script names) (derived_too : IsDerived unit table site script others) where
+    module _ (names others : List ℕ) (derived : IsDerived unit table site script names) (derived_too : IsDerived unit table site script others) (alike : KeepAlike unit table names others) where
       said : List Reply
       said = replies derived.service.world script
 
@@ -438,7 +576,8 @@ module _ (unit : Resolved) (table : calls.Table) (site : Site) (sound : IsSite s
               (as_either table plain.plain place (line_of_name place is) names others (first (without place names) (fewer place))
               (first others are_too) e)
               derived.least.serves.service derived_too.least.serves.service derived.least.serves.launched
-              derived_too.least.serves.launched said own_said other_said
+              derived_too.least.serves.launched alike
+              (fewer_alike names others are are_too place (line_of_name place is) (fewer place) e alike) said own_said other_said
               (at_member (λ name. Fails (tried_with unit table site script said) (without name names)) names place fails is))
 
       -- and not in `@default`
@@ -451,8 +590,10 @@ module _ (unit : Resolved) (table : calls.Table) (site : Site) (sound : IsSite s
               (does_not_fail script fits none names names (without place names) are are (fewer place)
               (λ name. inl (as_with_it table plain.plain place (line_of_name place is) names names
               (first (without place names) (fewer place)) (first names are) e name))
-              derived.least.serves.service derived.least.serves.service derived.least.serves.launched derived.least.serves.launched said
-              own_said own_said
+              derived.least.serves.service derived.least.serves.service derived.least.serves.launched derived.least.serves.launched
+              (λ uid. refl) (same_alike names (without place names) are (fewer place)
+              (as_with_it table plain.plain place (line_of_name place is) names names (first (without place names) (fewer place)) (first names are) e))
+              said own_said own_said
               (at_member (λ name. Fails (tried_with unit table site script said) (without name names)) names place fails is))
 
     each_member : (P : ℕ → Type 0) (xs : List ℕ) → ((x : ℕ) → has xs x ≡ true → P x) → AllByRecursion P xs
@@ -466,9 +607,11 @@ module _ (unit : Resolved) (table : calls.Table) (site : Site) (sound : IsSite s
     pub only_one : (names : List ℕ) → IsDerived unit table site script names → IsOnlyOne unit table site script names
     only_one names derived = record {
       beside_default = All-from_recursion (IsBesideDefault table) names
-          (each_member (IsBesideDefault table) names (beside names names derived derived));
-      only = λ others derived_too. same_lists others names derived_too.least.are_names.in_order derived.least.are_names.in_order
-          (member others names derived_too derived) (member names others derived derived_too);
+          (each_member (IsBesideDefault table) names (beside names names derived derived (λ uid. refl)));
+      only = λ others derived_too given.
+          let alike : KeepAlike unit table names others = alike_by names others given in
+          same_lists others names derived_too.least.are_names.in_order derived.least.are_names.in_order
+          (member others names derived_too derived (λ uid. sym (alike uid))) (member names others derived derived_too alike);
     }
 
 pub least_is_only_one : LeastIsOnlyOne

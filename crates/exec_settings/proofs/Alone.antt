@@ -43,6 +43,7 @@ use Rattle.filter_settings.specs.CallLists.{call_list, call_notes, unit_call_lis
 use Rattle.filter_settings.specs.ErrorActions.{default_action, error_action_value, unit_error_action}
 use Rattle.filter_settings.specs.FamilyLists.{family_list, family_notes, unit_family_list, unit_family_list_notes}
 use Rattle.filter_settings.specs.Lines.{in_force}
+use Rattle.filter_settings.specs.filter_rules.GivingUp.{may_give_up}
 use Rattle.filter_settings.specs.filter_rules.Memory.{marks_memory}
 use Rattle.filter_settings.specs.Namespaces.{namespaces_notes, namespaces_of, unit_namespaces, unit_namespaces_notes}
 use Rattle.filter_settings.specs.Settings.{filter_notes, list_notes, protection_notes as flag_protection_notes, restriction_notes}
@@ -51,20 +52,20 @@ use Rattle.cred_settings.specs.declared.accounts.Identity.{Identity}
 use Rattle.cred_settings.specs.declared.error.IdentityError.{IdentityError}
 use Rattle.cred_settings.specs.Ambient.{ambient_of}
 use Rattle.cred_settings.specs.CapLists.{caps_read, names_notes, unit_caps, unit_caps_notes}
-use Rattle.cred_settings.specs.dropin_merge.unit_names.Versions.{is_252, is_known}
+use Rattle.cred_settings.specs.dropin_merge.unit_names.Versions.{is_known}
 use Rattle.cred_settings.specs.dropin_merge.unit_names.declared.version.Version.TheVariants.{V252, V257}
 use Rattle.cred_settings.specs.dropin_merge.unit_names.declared.version.Version.{Version}
 use Rattle.cred_settings.specs.CapSums.{counted}
 use Rattle.cred_settings.specs.Groups.{group_word}
 use Rattle.cred_settings.specs.FurtherGroups.{further_words}
 use Rattle.cred_settings.specs.Identities.{identity_from, identity_notes, identity_of}
-use Rattle.cred_settings.specs.NewPrivileges.{is_in_effect, is_in_effect_in_252, is_in_effect_in}
+use Rattle.cred_settings.specs.NewPrivileges.{is_in_effect, is_in_effect_by, is_in_effect_in, is_keeping}
 use Rattle.cred_settings.specs.Users.{superuser}
 use Rattle.mount_settings.specs.declared.protections.Switches.{Switches}
 use Rattle.mount_settings.specs.Assigned.{assigned_by, dialect_of, given_to, key_of}
 use Rattle.mount_settings.specs.Protections.{protection_notes}
 use Rattle.mount_settings.specs.Notes.{given_notes, notes_by, written_notes}
-use Rattle.mount_settings.specs.Settings.{all_mentions}
+use Rattle.mount_settings.specs.Settings.{all_mentions, nothing_in}
 use Rattle.mount_settings.specs.Written.{unit_written, written}
 use Rattle.exec_settings.specs.declared.service.Settings.{Settings}
 use Rattle.exec_settings.specs.AreSettings.{AreSettings}
@@ -85,8 +86,8 @@ use Rattle.exec_settings.specs.Order.{AreInOrder}
 use Rattle.exec_settings.specs.Dynamic.{dynamic_notes, is_dynamic, sets_new_privileges, unit_filters, with_dynamic_user}
 use Rattle.exec_settings.specs.Mounts.{paths_refusal, unit_mentions, unit_switches}
 use Rattle.exec_settings.specs.RunsAs.{unit_identity}
-use Rattle.exec_settings.specs.Filtered.{counts_as_filter, has_filter, has_value}
-use Rattle.exec_settings.specs.Settings.{ambient_within, program_path, unit_ambient, unit_bounding, unit_new_privileges, unit_program}
+use Rattle.exec_settings.specs.Filtered.{counts_as_filter, has_value, is_filtered}
+use Rattle.exec_settings.specs.Settings.{ambient_within, new_privileges_by, program_path, unit_ambient, unit_bounding, unit_keeps, unit_new_privileges, unit_program}
 use Rattle.filter_settings.specs.Domains.{domain_named}
 use Rattle.filter_settings.specs.declared.filter_rules.personality.Domain.TheVariants.{Linux}
 use Rattle.filter_settings.proofs.Joined.{made}
@@ -138,8 +139,14 @@ cut_none set = same_sets (cut none set) none
 none_within : (systemd : Option Version) (bounding : ℕ) → ambient_within systemd none bounding ≡ none
 none_within systemd bounding = either_way (is_known systemd) (cut none bounding) none (cut_none bounding)
 
-never : (systemd : Option Version) (uid ambient : ℕ) → is_in_effect_in systemd false false false uid ambient ≡ false
-never systemd uid ambient = either_way (is_252 systemd) (is_in_effect_in_252 false false uid) (is_in_effect false false uid ambient) refl
+unkept : (systemd : Option Version) (uid : ℕ) (gives : Bool) → is_keeping systemd false uid gives ≡ false
+unkept None uid gives = refl
+unkept (Some V252) uid gives = refl
+unkept (Some V257) uid gives = refl
+
+never : (systemd : Option Version) (uid ambient : ℕ) (keeps : Bool) → is_in_effect_in systemd false false false uid ambient keeps ≡ false
+never systemd uid ambient keeps =
+    either_way (is_known systemd) (is_in_effect_by false false uid keeps) (is_in_effect false false uid ambient) refl
 
 first_alone : (reason : Option SettingsError) → first_reason (reason ∷ None ∷ None ∷ None ∷ []) ≡ reason
 first_alone None = refl
@@ -314,14 +321,24 @@ module _ (unit : Resolved) (h : HasCommandAlone unit) where
   unset : sets_new_privileges unit ≡ false
   unset = ap (λ on. on || is_dynamic unit) (off (codes "NoNewPrivileges") refl) ∙ not_dynamic
 
+  unfiltered : (table : Table) → is_filtered unit (unit_filters unit table) table ≡ false
+  unfiltered table =
+      ap (λ settings. is_filtered unit settings table) (filters_bare table)
+      ∙ ap (λ places. not (length places == 0) || counts_as_filter unit) (none_installed unit.systemd table.second)
+      ∙ none_counts
+
+  nothing_kept : (table : Table) (uid : ℕ) → unit_keeps unit table uid ≡ false
+  nothing_kept table uid =
+      ap (λ on. is_keeping unit.systemd on uid (may_give_up table (unit_filters unit table).calls)) (unfiltered table)
+      ∙ unkept unit.systemd uid (may_give_up table (unit_filters unit table).calls)
+
   no_new : (table : Table) (uid : ℕ) → unit_new_privileges unit table uid ≡ false
   no_new table uid =
-      ap (λ on. is_in_effect_in unit.systemd on (has_filter (unit_filters unit table) table)
-      (has_filter (unit_filters unit table) table || counts_as_filter unit) uid (unit_ambient unit table)) unset
-      ∙ ap (λ places. is_in_effect_in unit.systemd false (not (length places == 0)) (not (length places == 0) || counts_as_filter unit) uid
-      (unit_ambient unit table)) (none_on table)
-      ∙ ap (λ on. is_in_effect_in unit.systemd false false on uid (unit_ambient unit table)) none_counts
-      ∙ never unit.systemd uid (unit_ambient unit table)
+      ap (λ on. new_privileges_by unit on (unit_filters unit table) table uid (unit_ambient unit table)) unset
+      ∙ ap (λ places. is_in_effect_in unit.systemd false (not (length places == 0)) (is_filtered unit (unit_filters unit table) table) uid
+      (unit_ambient unit table) (unit_keeps unit table uid)) (none_on table)
+      ∙ ap (λ on. is_in_effect_in unit.systemd false false on uid (unit_ambient unit table) (unit_keeps unit table uid)) (unfiltered table)
+      ∙ never unit.systemd uid (unit_ambient unit table) (unit_keeps unit table uid)
 
   -- paths
   no_path_key : (systemd : Option Version) → key_named (dialect_of systemd) (codes "ExecStart") ≡ None
@@ -349,7 +366,7 @@ module _ (unit : Resolved) (h : HasCommandAlone unit) where
       let d = not_dynamic in
       cc
 
-  no_mentions : (site : Site) → unit_mentions unit site ≡ []
+  no_mentions : (site : Site) → unit_mentions unit site ≡ nothing_in unit.systemd
   unfolding unit_mentions
   no_mentions site =
       ap (λ switches. all_mentions unit site switches (unit_written unit)) none_switched
@@ -514,6 +531,7 @@ module _ (unit : Resolved) (h : HasCommandAlone unit) where
         groups = ap (λ one. one.groups) ids;
         bounding = are.bounding_without_what_is_taken ∙ bounding_all table;
         ambient = are.ambient ∙ ambient_none table;
+        keeps = are.keeps_for_the_filters ∙ nothing_kept table made.uid;
         new_privileges = are.new_privileges ∙ no_new table made.uid;
         memory = are.refuses_memory ∙ ap marks_memory (filters_bare table);
         filters = no_names made.filters.items (are.filters_as_wanted.exactly_those_on ∙ none_on table);

@@ -11,9 +11,8 @@ use Rattle.cred_settings.specs.Identities.{identity_of}
 use Rattle.cred_settings.specs.declared.accounts.Identity.{Identity}
 use Rattle.cred_settings.specs.declared.error.IdentityError.{IdentityError}
 use Rattle.cred_settings.specs.dropin_merge.declared.resolved.Resolved.{Resolved}
-use Rattle.mount_settings.specs.Effects.{stands}
+use Rattle.mount_settings.specs.Effects.{has_row}
 use Rattle.mount_settings.specs.Written.{unit_written}
-use Rattle.mount_settings.specs.path_settings.declared.mentions.Mention.{Mention}
 use Rattle.cred_settings.specs.site_table.declared.row.Row.{Row}
 use Rattle.cred_settings.specs.site_table.Table.{Site, site_with, kind_at}
 use Rattle.cred_settings.specs.site_table.Kinds.{is_exe}
@@ -55,23 +54,21 @@ placed : (p : Row → Bool) (rows : List Row) → is_some (position p rows) ≡ 
 placed p rows = some_if (ltb (position_or_len p rows) (length rows)) (position_or_len p rows)
     ∙ sym (get_within rows (position_or_len p rows)) ∙ sym (ap is_some (find_at p rows)) ∙ sym (some_kind (find p rows))
 
-stands_same : (site other : Site) (mention : Mention) → kind_at other.rows mention.path ≡ kind_at site.rows mention.path
-    → stands other mention ≡ stands site mention
-stands_same site other mention same = placed (λ row. is_same row.path mention.path) other.rows ∙ ap is_some same
-    ∙ sym (placed (λ row. is_same row.path mention.path) site.rows)
+row_same : (site other : Site) (path : Path) → kind_at other.rows path ≡ kind_at site.rows path → has_row other path ≡ has_row site path
+row_same site other path same = placed (λ row. is_same row.path path) other.rows ∙ ap is_some same
+    ∙ sym (placed (λ row. is_same row.path path) site.rows)
 
-each_stands : (site other : Site) (mentions : List Mention) → AllByRecursion
-    (λ mention. kind_at other.rows mention.path ≡ kind_at site.rows mention.path) mentions
-    → AllByRecursion (λ mention. stands other mention ≡ stands site mention) mentions
-each_stands site other [] same = tt
-each_stands site other (mention ∷ mentions) same = (stands_same site other mention same.0, each_stands site other mentions same.1)
+each_row : (site other : Site) (paths : List Path) → AllByRecursion (λ path. kind_at other.rows path ≡ kind_at site.rows path) paths
+    → AllByRecursion (λ path. has_row other path ≡ has_row site path) paths
+each_row site other [] same = tt
+each_row site other (path ∷ paths) same = (row_same site other path same.0, each_row site other paths same.1)
 
-mentions_same : (unit : Resolved) (site other : Site) → AllByRecursion
-    (λ mention. kind_at other.rows mention.path ≡ kind_at site.rows mention.path) (implied_by unit)
+mentions_same : (unit : Resolved) (site other : Site)
+    → AllByRecursion (λ path. kind_at other.rows path ≡ kind_at site.rows path) (implied_by unit)
     → unit_mentions unit other ≡ unit_mentions unit site
 unfolding unit_mentions
 mentions_same unit site other same =
-    same_for_sites site other unit (unit_switches unit) (unit_written unit) unit.systemd (each_stands site other (implied_by unit) same)
+    same_for_sites site other unit (unit_switches unit) (unit_written unit) unit.systemd (each_row site other (implied_by unit) same)
 
 -- ---- ids do not depend on the rows of a site
 ids_same : (unit : Resolved) (site other : Site) → AreSameFor unit site other → unit_identity unit other ≡ unit_identity unit site
@@ -144,6 +141,7 @@ settings_rest unit table site other made same own = record {
   runs_as = ids_same unit site other same ∙ own.runs_as;
   bounding_without_what_is_taken = own.bounding_without_what_is_taken;
   ambient = own.ambient;
+  keeps_for_the_filters = own.keeps_for_the_filters;
   new_privileges = own.new_privileges;
   refuses_memory = own.refuses_memory;
   filters_as_wanted = own.filters_as_wanted;

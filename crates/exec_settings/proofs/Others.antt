@@ -22,6 +22,7 @@ use Rattle.filter_settings.specs.CallLists.{call_list, call_notes, unit_call_lis
 use Rattle.filter_settings.specs.ErrorActions.{default_action, error_action_value, unit_error_action}
 use Rattle.filter_settings.specs.FamilyLists.{family_list, family_notes, unit_family_list, unit_family_list_notes}
 use Rattle.filter_settings.specs.Lines.{in_force}
+use Rattle.filter_settings.specs.filter_rules.GivingUp.{may_give_up}
 use Rattle.filter_settings.specs.filter_rules.Memory.{marks_memory}
 use Rattle.filter_settings.specs.Architectures.{is_second, is_read, value_notes, unit_refuses_second, unit_architectures_notes}
 use Rattle.filter_settings.specs.Namespaces.{namespaces_notes, namespaces_of, unit_namespaces, unit_namespaces_notes}
@@ -33,7 +34,7 @@ use Rattle.cred_settings.specs.CapLists.{caps_read, names_notes, unit_caps, unit
 use Rattle.cred_settings.specs.FurtherGroups.{further_words}
 use Rattle.cred_settings.specs.Groups.{group_word}
 use Rattle.cred_settings.specs.Identities.{identity_from, identity_notes, identity_of}
-use Rattle.cred_settings.specs.NewPrivileges.{is_in_effect_in}
+use Rattle.cred_settings.specs.NewPrivileges.{is_in_effect_in, is_keeping}
 use Rattle.cred_settings.specs.Users.{user_word}
 use Rattle.mount_settings.specs.Assigned.{assigned_by, dialect_of}
 use Rattle.mount_settings.specs.Notes.{notes_by, written_notes}
@@ -67,7 +68,7 @@ use Rattle.exec_settings.specs.Refusals.{outside, privileged, refusal_of}
 use Rattle.exec_settings.specs.RunsAs.{unit_identity}
 use Rattle.exec_settings.specs.Sections.{SameWithoutOthers}
 use Rattle.exec_settings.specs.Filtered.{counts_as_filter, has_filter, has_value}
-use Rattle.exec_settings.specs.Settings.{ambient_within, program_path, unit_ambient, unit_bounding, unit_new_privileges, unit_program}
+use Rattle.exec_settings.specs.Settings.{ambient_within, keeps_by, new_privileges_by, program_path, unit_ambient, unit_bounding, unit_keeps, unit_new_privileges, unit_program}
 use Rattle.mount_settings.proofs.SameUnits.{SameValues, each_of, mount_keys, noted_keys, same_mentions, same_protection_notes}
 use Rattle.filter_settings.specs.Domains.{domain_named, unit_domain}
 use Rattle.filter_settings.specs.declared.filter_rules.personality.Domain.TheVariants.{Linux}
@@ -267,16 +268,29 @@ module _ (unit : Resolved) where
   sets = ap (λ on. on || is_dynamic alone) (flag (codes "NoNewPrivileges"))
       ∙ ap (λ on. unit_flag unit (codes "NoNewPrivileges") || on) dynamic
 
+  -- the same, by whether a setting counts as a filter
+  abbrev by_count : Table → ℕ → Bool → Bool
+  by_count table uid counts =
+      is_keeping unit.systemd (has_filter (unit_filters unit table) table || (marks_memory (unit_filters unit table) || counts)) uid
+      (may_give_up table (unit_filters unit table).calls)
+
+  restricted : (table : Table) (uid : ℕ) (is_set : Bool) (set : ℕ)
+      → new_privileges_by alone is_set (unit_filters unit table) table uid set
+      ≡ new_privileges_by unit is_set (unit_filters unit table) table uid set
+  restricted table uid is_set set =
+      ap (λ counts. is_in_effect_in unit.systemd is_set (has_filter (unit_filters unit table) table)
+      (has_filter (unit_filters unit table) table || (marks_memory (unit_filters unit table) || counts)) uid set (by_count table uid counts))
+      counted
+
+  keeps_same : (table : Table) (uid : ℕ) → unit_keeps alone table uid ≡ unit_keeps unit table uid
+  keeps_same table uid = ap (λ settings. keeps_by alone settings table uid) (filters table) ∙ ap (by_count table uid) counted
+
   new_privileges : (table : Table) (uid : ℕ) → unit_new_privileges alone table uid ≡ unit_new_privileges unit table uid
   new_privileges table uid =
-      ap (λ on. is_in_effect_in unit.systemd on (has_filter (unit_filters alone table) table)
-      (has_filter (unit_filters alone table) table || counts_as_filter alone) uid (unit_ambient alone table)) sets
-      ∙ ap (λ settings. is_in_effect_in unit.systemd (sets_new_privileges unit) (has_filter settings table)
-      (has_filter settings table || counts_as_filter alone) uid (unit_ambient alone table)) (filters table)
-      ∙ ap (λ on. is_in_effect_in unit.systemd (sets_new_privileges unit) (has_filter (unit_filters unit table) table)
-      (has_filter (unit_filters unit table) table || on) uid (unit_ambient alone table)) counted
-      ∙ ap (is_in_effect_in unit.systemd (sets_new_privileges unit) (has_filter (unit_filters unit table) table)
-      (has_filter (unit_filters unit table) table || counts_as_filter unit) uid) (ambient table)
+      ap (λ on. new_privileges_by alone on (unit_filters alone table) table uid (unit_ambient alone table)) sets
+      ∙ ap (λ settings. new_privileges_by alone (sets_new_privileges unit) settings table uid (unit_ambient alone table)) (filters table)
+      ∙ restricted table uid (sets_new_privileges unit) (unit_ambient alone table)
+      ∙ ap (new_privileges_by unit (sets_new_privileges unit) (unit_filters unit table) table uid) (ambient table)
 
   identity_noted : identity_notes alone ≡ identity_notes unit
   unfolding identity_notes
@@ -442,6 +456,7 @@ module _ (unit : Resolved) where
     runs_as = sym (runs_as site) ∙ are.runs_as;
     bounding_without_what_is_taken = are.bounding_without_what_is_taken ∙ bounding table;
     ambient = are.ambient ∙ ambient table;
+    keeps_for_the_filters = are.keeps_for_the_filters ∙ keeps_same table made.uid;
     new_privileges = are.new_privileges ∙ new_privileges table made.uid;
     refuses_memory = are.refuses_memory ∙ ap marks_memory (filters table);
     filters_as_wanted = subst (λ settings. AreFilters settings table made.filters.items) (filters table) are.filters_as_wanted;
@@ -457,6 +472,7 @@ module _ (unit : Resolved) where
     runs_as = runs_as site ∙ are.runs_as;
     bounding_without_what_is_taken = are.bounding_without_what_is_taken ∙ sym (bounding table);
     ambient = are.ambient ∙ sym (ambient table);
+    keeps_for_the_filters = are.keeps_for_the_filters ∙ sym (keeps_same table made.uid);
     new_privileges = are.new_privileges ∙ sym (new_privileges table made.uid);
     refuses_memory = are.refuses_memory ∙ sym (ap marks_memory (filters table));
     filters_as_wanted = subst (λ settings. AreFilters settings table made.filters.items) (sym (filters table)) are.filters_as_wanted;

@@ -9,16 +9,18 @@ use Rattle.cred_settings.specs.dropin_merge.declared.resolved.Resolved.{Resolved
 use Rattle.filter_settings.specs.call_rules.Sizes.{CanCompile}
 use Rattle.filter_settings.specs.filter_rules.Costs.{HasShortCases, most_room}
 use Rattle.filter_settings.specs.filter_rules.Refusing.{AreRefusing}
+use Rattle.filter_settings.specs.filter_rules.GivingUp.{may_give_up}
 use Rattle.filter_settings.specs.filter_rules.Installed.{place_of, installed}
+use Rattle.filter_settings.specs.filter_rules.Memory.{marks_memory}
 use Rattle.filter_settings.specs.declared.filter_rules.installed.Filter.{Filter}
 use Rattle.filter_settings.specs.declared.filter_rules.settings.FilterSettings.{FilterSettings}
 use Rattle.cred_settings.specs.Ambient.{ambient_of}
 use Rattle.cred_settings.specs.Bounding.{bounding_of}
-use Rattle.cred_settings.specs.NewPrivileges.{is_in_effect_in}
+use Rattle.cred_settings.specs.NewPrivileges.{is_in_effect_in, is_keeping}
 use Rattle.exec_settings.specs.AreSettings.{AreFilters, HasWantedRules}
 use Rattle.exec_settings.specs.Bounding.{taken_caps}
-use Rattle.exec_settings.specs.Filtered.{counts_as_filter, has_filter}
-use Rattle.exec_settings.specs.Settings.{ambient_within, unit_ambient, unit_bounding, unit_new_privileges}
+use Rattle.exec_settings.specs.Filtered.{counts_as_filter, has_filter, is_filtered}
+use Rattle.exec_settings.specs.Settings.{ambient_within, unit_ambient, unit_bounding, unit_keeps, unit_new_privileges}
 use Rattle.exec_settings.specs.Dynamic.{sets_new_privileges, unit_filters}
 
 pub filters_are : (settings found : FilterSettings) (table : Table) (filters : List Filter) → found ≡ settings
@@ -51,17 +53,38 @@ module _ (unit : Resolved) (table : Table) where
       ∙ ap (λ set. ambient_within unit.systemd set bounding) by_key
       ∙ ap (ambient_within unit.systemd (ambient_of unit)) bounded
 
-  pub new_privileges_are : (filters : List Filter) (is_set has counts on : Bool) (uid ambient : ℕ)
+  abbrev own : FilterSettings
+  own = unit_filters unit table
+
+  pub filtered_is : (filters : List Filter) (has memory counts on : Bool) → map place_of filters ≡ installed (unit_filters unit table) table
+      → has ≡ not (length filters == 0) → memory ≡ marks_memory (unit_filters unit table) → counts ≡ counts_as_filter unit
+      → on ≡ (has || (memory || counts)) → on ≡ is_filtered unit (unit_filters unit table) table
+  filtered_is filters has memory counts on named counted marks others is =
+      is
+      ∙ ap (λ b. b || (memory || counts)) (counted ∙ some_filter filters named)
+      ∙ ap (λ b. has_filter own table || (b || counts)) marks
+      ∙ ap (λ b. has_filter own table || (marks_memory own || b)) others
+
+  pub keeps_is : (filtered gives keeps : Bool) (uid : ℕ) → filtered ≡ is_filtered unit (unit_filters unit table) table
+      → gives ≡ may_give_up table (unit_filters unit table).calls → keeps ≡ is_keeping unit.systemd filtered uid gives
+      → keeps ≡ unit_keeps unit table uid
+  keeps_is filtered gives keeps uid restricts by_list is =
+      is
+      ∙ ap (λ b. is_keeping unit.systemd b uid gives) restricts
+      ∙ ap (is_keeping unit.systemd (is_filtered unit own table) uid) by_list
+
+  pub new_privileges_are : (filters : List Filter) (is_set has filtered keeps on : Bool) (uid ambient : ℕ)
       → map place_of filters ≡ installed (unit_filters unit table) table → is_set ≡ sets_new_privileges unit
-      → has ≡ not (length filters == 0) → counts ≡ counts_as_filter unit → ambient ≡ unit_ambient unit table
-      → on ≡ is_in_effect_in unit.systemd is_set has (has || counts) uid ambient
+      → has ≡ not (length filters == 0) → filtered ≡ is_filtered unit (unit_filters unit table) table → ambient ≡ unit_ambient unit table
+      → keeps ≡ unit_keeps unit table uid
+      → on ≡ is_in_effect_in unit.systemd is_set has filtered uid ambient keeps
       → on ≡ unit_new_privileges unit table uid
-  new_privileges_are filters is_set has counts on uid ambient named by_keys counted others kept effect =
+  new_privileges_are filters is_set has filtered keeps on uid ambient named by_keys counted restricts cuts holds effect =
       effect
-      ∙ ap (λ b. is_in_effect_in unit.systemd b has (has || counts) uid ambient) by_keys
-      ∙ ap (λ b. is_in_effect_in unit.systemd (sets_new_privileges unit) b (b || counts) uid ambient)
-      (counted ∙ some_filter filters named)
-      ∙ ap (λ b. is_in_effect_in unit.systemd (sets_new_privileges unit) (has_filter (unit_filters unit table) table)
-      (has_filter (unit_filters unit table) table || b) uid ambient) others
-      ∙ ap (λ set. is_in_effect_in unit.systemd (sets_new_privileges unit) (has_filter (unit_filters unit table) table)
-      (has_filter (unit_filters unit table) table || counts_as_filter unit) uid set) kept
+      ∙ ap (λ b. is_in_effect_in unit.systemd b has filtered uid ambient keeps) by_keys
+      ∙ ap (λ b. is_in_effect_in unit.systemd (sets_new_privileges unit) b filtered uid ambient keeps) (counted ∙ some_filter filters named)
+      ∙ ap (λ b. is_in_effect_in unit.systemd (sets_new_privileges unit) (has_filter own table) b uid ambient keeps) restricts
+      ∙ ap (λ set. is_in_effect_in unit.systemd (sets_new_privileges unit) (has_filter own table) (is_filtered unit own table) uid set keeps)
+      cuts
+      ∙ ap (is_in_effect_in unit.systemd (sets_new_privileges unit) (has_filter own table) (is_filtered unit own table) uid
+      (unit_ambient unit table)) holds

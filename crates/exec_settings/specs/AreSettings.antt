@@ -13,8 +13,7 @@ use Rattle.filter_settings.specs.filter_rules.Memory.{marks_memory}
 use Rattle.filter_settings.specs.filter_rules.Wanted.{wanted_action}
 use Rattle.filter_settings.specs.declared.filter_rules.installed.Filter.{Filter}
 use Rattle.filter_settings.specs.declared.filter_rules.settings.FilterSettings.{FilterSettings}
-use Rattle.mount_settings.specs.path_settings.Mentions.{leaves_the_root}
-use Rattle.mount_settings.specs.path_settings.Short.{AreShort}
+use Rattle.mount_settings.specs.path_settings.Mentioned.{leaves_the_root, AreShort}
 use Rattle.cred_settings.specs.site_table.Table.{Site}
 use Rattle.exec_settings.specs.declared.service.Settings.{Settings}
 use Rattle.exec_settings.specs.Dynamic.{unit_filters}
@@ -22,7 +21,7 @@ use Rattle.exec_settings.specs.Mounts.{unit_mentions}
 use Rattle.exec_settings.specs.Notes.{all_notes}
 use Rattle.exec_settings.specs.Order.{AreInOrder}
 use Rattle.exec_settings.specs.RunsAs.{unit_identity}
-use Rattle.exec_settings.specs.Settings.{unit_ambient, unit_bounding, unit_new_privileges, unit_program}
+use Rattle.exec_settings.specs.Settings.{unit_ambient, unit_bounding, unit_keeps, unit_new_privileges, unit_program}
 
 -- the rules of a filter for an ABI take on every call the action that the settings say by names and words
 abbrev pub HasWantedRules : FilterSettings → Table → Filter → Type 0
@@ -45,6 +44,7 @@ pub record AreSettings (unit : Resolved) (table : Table) (site : Site) (made : S
   pub runs_as : unit_identity unit site ≡ Ok (record { uid = made.uid; gid = made.gid; groups = made.groups })
   pub bounding_without_what_is_taken : made.bounding ≡ unit_bounding unit table
   pub ambient : made.ambient ≡ unit_ambient unit table
+  pub keeps_for_the_filters : made.keeps_capabilities ≡ unit_keeps unit table made.uid
   pub new_privileges : made.no_new_privs ≡ unit_new_privileges unit table made.uid
   pub refuses_memory : made.mdwe ≡ marks_memory (unit_filters unit table)
   pub filters_as_wanted : AreFilters (unit_filters unit table) table made.filters.items

@@ -2,7 +2,7 @@
 use Rattle.std.specs.Prelude.{nat_lt, cond, Bool, List, length, Option, Some, None, codes}
 use Rattle.cred_settings.specs.dropin_merge.declared.resolved.Resolved.{Resolved}
 use Rattle.filter_settings.specs.declared.filter_rules.settings.FilterSettings.{FilterSettings}
-use Rattle.mount_settings.specs.path_settings.declared.mentions.Mention.{Mention}
+use Rattle.mount_settings.specs.path_settings.declared.mentioned.Mentioned.{Mentioned}
 use Rattle.cred_settings.specs.site_table.Table.{Site}
 use Rattle.cred_settings.specs.dropin_merge.unit_values.Flags.{unit_flag}
 use Rattle.mount_settings.specs.declared.protections.Switches.{Switches}
@@ -30,7 +30,7 @@ unit_switches unit = record {
 }
 
 -- all mentions: the written ones, followed by the implied ones
-unfoldable pub unit_mentions : Resolved → Site → List Mention
+unfoldable pub unit_mentions : Resolved → Site → Mentioned
 unit_mentions unit site = all_mentions unit site (unit_switches unit) (unit_written unit)
 
 -- a unit with more than 128 written paths is refused

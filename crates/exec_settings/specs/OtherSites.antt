@@ -5,7 +5,7 @@ use Rattle.filter_settings.specs.call_table.Table.{Table}
 use Rattle.cred_settings.specs.dropin_merge.declared.resolved.Resolved.{Resolved}
 use Rattle.mount_settings.specs.Settings.{deciding}
 use Rattle.mount_settings.specs.Written.{unit_written}
-use Rattle.mount_settings.specs.path_settings.declared.mentions.Mention.{Mention}
+use Rattle.mount_settings.specs.abs_path.Paths.{Path}
 use Rattle.cred_settings.specs.site_table.Table.{Site, kind_at}
 use Rattle.exec_settings.specs.AreSettings.{AreSettings}
 use Rattle.exec_settings.specs.Mounts.{unit_switches}
@@ -13,9 +13,8 @@ use Rattle.exec_settings.specs.Refusals.{refusal_of}
 use Rattle.exec_settings.specs.Search.{searched_by}
 use Rattle.exec_settings.specs.declared.service.Settings.{Settings}
 
--- the paths that keys in force imply, even if a site does not have them (systemd.exec(5), Sandboxing). Written paths that a version of
--- systemd leaves as they are, if a site has them, precede them
-abbrev pub implied_by : Resolved → List Mention
+-- the paths that keys in force imply, even if a site does not have them (systemd.exec(5), Sandboxing)
+abbrev pub implied_by : Resolved → List Path
 implied_by unit = deciding unit (unit_switches unit) (unit_written unit)
 
 -- both sites have the same ids and accounts. They have a row of the same kind, or no row, at each path that a key in force implies and
@@ -24,7 +23,7 @@ pub record AreSameFor (unit : Resolved) (site other : Site) : Type 0 where
   pub dynamic_uid : other.dynamic_uid ≡ site.dynamic_uid
   pub users : other.users ≡ site.users
   pub groups : other.groups ≡ site.groups
-  pub implied : AllByRecursion (λ mention. kind_at other.rows mention.path ≡ kind_at site.rows mention.path) (implied_by unit)
+  pub implied : AllByRecursion (λ path. kind_at other.rows path ≡ kind_at site.rows path) (implied_by unit)
   pub searched : AllByRecursion (λ path. kind_at other.rows path ≡ kind_at site.rows path) (searched_by unit)
 
 -- such sites give the unit the same settings

@@ -1,5 +1,6 @@
 //! Reads the keys of the filters of system calls, or names the group of calls that the table lacks.
 ghost use Rattle.std.specs.Prelude.{◌≡◌, ◌++◌, IfOk, OnOk};
+ghost use Rattle.filter_settings.specs.filter_rules.GivingUp.{may_give_up};
 ghost use Rattle.filter_settings.specs.filter_rules.Known.{HasKnownFamilies};
 ghost use Rattle.filter_settings.specs.filter_rules.Memory.{marks_memory};
 ghost use Rattle.filter_settings.specs.filter_rules.Refusing.{AreRefusing};
@@ -15,7 +16,7 @@ use crate::dynamic::with_dynamic_user;
 use crate::errors::SettingsError;
 use crate::groups::missing_group;
 use cred_settings::{CapSet, FileNote, Resolved, Text};
-use filter_settings::filter_rules::{Filter, FilterSettings, filters, marks_memory};
+use filter_settings::filter_rules::{Filter, FilterSettings, filters, marks_memory, may_give_up};
 use filter_settings::{CallTable, filter_settings};
 use mount_settings::Switches;
 use std::alloc::Global;
@@ -27,6 +28,8 @@ pub struct Restrictions {
     pub filters: Vec<Filter>,
     /// Whether the kernel is to refuse memory that can be both written and executed, without a filter.
     pub mdwe: bool,
+    /// Whether a service with these filters may still give up capabilities.
+    pub may_give_up: bool,
     /// The capabilities that these keys take from the bounding set.
     pub taken: CapSet,
     /// The values of the keys that also imply paths.
@@ -81,6 +84,7 @@ pub fn read_filters(
     ensures refuses_first { RefusesFirst (group_refusal unit.now calls.now) result }
     ensures as_wanted { IfOk result (λ made. AreFilters (unit_filters unit.now calls.now) calls.now made.filters.items) }
     ensures marks { IfOk result (λ made. made.mdwe ≡ marks_memory (unit_filters unit.now calls.now)) }
+    ensures gives_up { IfOk result (λ made. made.may_give_up ≡ may_give_up calls.now (unit_filters unit.now calls.now).calls) }
     ensures taken { IfOk result (λ made. made.taken ≡ taken_caps (unit_filters unit.now calls.now)) }
     ensures switches { IfOk result (λ made. made.switches ≡ unit_switches unit.now) }
     ensures noted { OnOk result (notes.new.items ≡ notes.old.items ++ filter_notes unit.now calls.now) }
@@ -89,6 +93,7 @@ pub fn read_filters(
     Ok(Restrictions {
         filters: filters(alloc, calls, &found)?,
         mdwe: marks_memory(&found),
+        may_give_up: may_give_up(calls, &found.calls),
         taken: taken_caps(&found),
         switches: switches_of(is_dynamic, &found),
     })

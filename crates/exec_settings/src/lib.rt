@@ -49,9 +49,9 @@ pub use filter_settings::{
 };
 pub use judged::is_read;
 pub use mount_settings::{
-    HomeProtection, Mentions, MountSettingsError, NameError, PathKey, Protections, Switches,
-    SystemProtection, UnitName, Version, WrittenPath, WrittenPaths, expand, mount_settings,
-    written_paths,
+    HomeProtection, Mentioned, Mentions, MountSettingsError, NameError, PathKey, Protections,
+    Switches, SystemProtection, UnitName, Version, WrittenPath, WrittenPaths, expand,
+    mount_settings, written_paths,
 };
 pub use reading::settings;
 pub use service::Settings;

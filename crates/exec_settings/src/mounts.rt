@@ -2,15 +2,14 @@
 ghost use Rattle.std.specs.Prelude.{◌≡◌, ◌++◌, None, IfOk, OnOk, IsTrue};
 ghost use Rattle.mount_settings.specs.Protections.{protection_notes};
 ghost use Rattle.mount_settings.specs.Roots.{root_key};
-ghost use Rattle.mount_settings.specs.path_settings.Mentions.{leaves_the_root};
-ghost use Rattle.mount_settings.specs.path_settings.Short.{AreShort};
+ghost use Rattle.mount_settings.specs.path_settings.Mentioned.{leaves_the_root, AreShort};
 ghost use Rattle.mount_settings.specs.Written.{unit_written};
 ghost use Rattle.exec_settings.specs.Mounts.{paths_refusal, unit_mentions, unit_switches};
 ghost use Rattle.exec_settings.specs.Refusals.{RefusesFirst};
 
 use crate::errors::SettingsError;
 use cred_settings::{FileNote, Resolved, SiteTable};
-use mount_settings::{Mentions, MountSettingsError, Switches, WrittenPaths, mount_settings};
+use mount_settings::{Mentioned, MountSettingsError, Switches, WrittenPaths, mount_settings};
 use std::alloc::Global;
 
 /// Returns the mentions of a unit with these written paths. It adds the notes on the keys that protect the file system
@@ -23,7 +22,7 @@ pub fn read_mentions(
     site: &SiteTable,
     switches: Switches,
     notes: &mut Vec<FileNote>,
-) -> Result<Mentions, SettingsError>
+) -> Result<Mentioned, SettingsError>
     requires of_the_unit { paths.now ≡ unit_written unit.now }
     requires of_its_keys { switches ≡ unit_switches unit.now }
     ensures too_many { RefusesFirst (paths_refusal unit.now) result }

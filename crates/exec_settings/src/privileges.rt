@@ -18,11 +18,11 @@ pub fn ambient_within(systemd: Option<Version>, ambient: CapSet, bounding: CapSe
     }
 }
 
-/// Returns whether one of the two is true.
-pub fn either(one: bool, other: bool) -> bool
-    ensures one_of_two { result ≡ (one || other) }
+/// Returns whether one of the three is true.
+pub fn any_of_three(one: bool, two: bool, three: bool) -> bool
+    ensures one_is_true { result ≡ (one || (two || three)) }
 {
-    one || other
+    one || two || three
 }
 
 // Returns whether the key has a value in force.
@@ -33,7 +33,7 @@ fn has_value(alloc: Global, unit: &Resolved, key: &str) -> Result<bool, AllocErr
     Ok(!in_force(values.as_slice()).is_empty())
 }
 
-/// Returns whether a setting is on that systemd 252 counts as a filter of system calls. These settings are
+/// Returns whether a setting is on that a version of systemd counts as a filter of system calls. These settings are
 /// ProtectKernelTunables=, SystemCallArchitectures= and SystemCallLog=. They count even if the model has no filter for them.
 #[tactic(auto, unfolding(crate::specs::Filtered::counts_as_filter))]
 pub fn counts_as_filter(alloc: Global, unit: &Resolved) -> Result<bool, AllocError>

@@ -8,10 +8,10 @@ use crate::errors::SettingsError;
 use crate::filters::read_filters;
 use crate::mounts::read_mentions;
 use crate::notes::{put_in_order, text_notes};
-use crate::privileges::{ambient_within, counts_as_filter, either};
+use crate::privileges::{ambient_within, any_of_three, counts_as_filter};
 use crate::program::launched_program;
 use crate::service::Settings;
-use cred_settings::{Identity, Resolved, SiteTable, no_new_privs};
+use cred_settings::{Identity, Resolved, SiteTable, keeps_capabilities, no_new_privs};
 use filter_settings::CallTable;
 use mount_settings::written_paths;
 use std::alloc::Global;
@@ -41,7 +41,8 @@ pub fn settings(
     put_in_order(&mut notes)?;
     let Identity { uid, gid, groups } = own.identity;
     let has_filter = !made.filters.is_empty();
-    let is_filtered = either(has_filter, counts);
+    let is_filtered = any_of_three(has_filter, made.mdwe, counts);
+    let keeps = keeps_capabilities(unit.systemd, is_filtered, uid, made.may_give_up);
     let bounding = own.bounding.minus(made.taken);
     let ambient = ambient_within(unit.systemd, own.ambient, bounding);
     Ok(Settings {
@@ -51,6 +52,7 @@ pub fn settings(
         groups,
         bounding,
         ambient,
+        keeps_capabilities: keeps,
         no_new_privs: no_new_privs(
             unit.systemd,
             own.sets_no_new_privs,
@@ -58,6 +60,7 @@ pub fn settings(
             is_filtered,
             uid,
             ambient,
+            keeps,
         ),
         mdwe: made.mdwe,
         filters: made.filters,

@@ -11,6 +11,7 @@ pub mod Namespaces
 pub mod Blocked
 pub mod Personality
 pub mod Calls
+pub mod GivingUp
 pub mod Refusing
 pub mod Wanted
 pub mod Installed

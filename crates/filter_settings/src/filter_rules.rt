@@ -13,6 +13,7 @@ mod calls;
 mod choice;
 mod covers;
 mod families;
+mod giving_up;
 mod installed;
 mod mapping;
 mod marks;
@@ -29,6 +30,7 @@ mod suid;
 
 pub use calls::{allowed_calls, allows_call, denies_no_call};
 pub use families::{denies_no_family, permits_family};
+pub use giving_up::may_give_up;
 pub use installed::{Filter, filters};
 pub use mentions::{CallList, FamilyList, FamilyMention, FamilyMentions, Mention, Mentions, Mode};
 pub use names::{FilterName, FilterPlace};

@@ -4,7 +4,7 @@ use Rattle.std.proofs.Common.{subst, length, arith, eqb}
 use Rattle.std.specs.Prelude.{map, filter, not, ◌+◌}
 use Rattle.std.specs.List.{AllByRecursion}
 use Rattle.ceilings.specs.bpf_code.declared.machine.Insn.{Insn}
-use Rattle.ceilings.specs.cap_sets.Sets.{has}
+use Rattle.ceilings.specs.cap_sets.Sets.{has, union, cut, minus}
 use Rattle.ceilings.specs.call_table.Table as calls
 use Rattle.ceilings.specs.site_table.Table.{Site, row_at}
 use Rattle.ceilings.specs.kern_creds.declared.creds.Creds.{Creds}
@@ -26,13 +26,13 @@ use Rattle.ceilings.specs.launcher.Launch.{Wanted, LaunchStep, Makes, Mounts, La
 use Rattle.ceilings.specs.launcher.Launch.{launch_step, launch_steps, launch_on, launch_from, is_privileged_row, mount_steps, with_unshare}
 use Rattle.ceilings.specs.launcher.Launch.{if_user, has_flags, capbset_drop, cap_ambient, ambient_raise, set_mode_filter, identity_steps}
 use Rattle.ceilings.specs.launcher.Launch.{filter_steps, program_steps, group_steps, drop_steps, inherit_steps, user_steps, raise_steps}
-use Rattle.ceilings.specs.launcher.Launch.{left_steps, privilege_steps, memory_steps}
+use Rattle.ceilings.specs.launcher.Launch.{left_steps, privilege_steps, memory_steps, give_up_steps, given_up_steps, last_steps, capset_step, held, with_held}
 use Rattle.ceilings.specs.launcher.Launches.{HasLaunchCalls, Leaves}
 use Rattle.ceilings.proofs.OfLauncher.HostRoot.{begins_at_host}
 use Rattle.ceilings.proofs.OfLauncher.LaunchCalls.{launch_calls}
 use Rattle.ceilings.proofs.OfLauncher.LaunchCreds.{IsReady}
-use Rattle.ceilings.proofs.OfLauncher.LaunchWorld.{launch_leaves, ready_at, filtered}
-use Rattle.ceilings.proofs.OfLauncher.Leading.{Leads, launched_leads, leads_parts, append_parts}
+use Rattle.ceilings.proofs.OfLauncher.LaunchWorld.{launch_leaves, left_behind, left_over, ready_at, filtered}
+use Rattle.ceilings.proofs.OfLauncher.Leading.{Leads, launched_leads, leads_parts, append_assoc, append_parts}
 use Rattle.ceilings.proofs.OfLauncher.Solo.{At}
 use Rattle.ceilings.specs.mount_plan.Host.{host_of}
 use Rattle.ceilings.proofs.OfPathSettings.ViewMapLists.{all_appended}
@@ -145,7 +145,7 @@ module _ (lines : calls.Table) where
   none_identity wanted =
       let own = lines.calls in
       let grouped : AllByRecursion NamesNone (group_steps own wanted) = (tt, (tt, tt)) in
-      let dropped = all_map NamesNone (λ cap. prctl_step own capbset_drop cap 0) (filter (λ cap. not (has wanted.bounding cap)) (count_from 0 41)) (λ cap. tt) in
+      let dropped = all_map NamesNone (λ cap. prctl_step own capbset_drop cap 0) (filter (λ cap. not (has (with_held wanted.keeps_capabilities wanted.bounding) cap)) (count_from 0 41)) (λ cap. tt) in
       let raised = all_map NamesNone (λ cap. prctl_step own cap_ambient ambient_raise cap) (filter (has wanted.ambient) (count_from 0 41)) (λ cap. tt) in
       let one = all_appended NamesNone (group_steps own wanted) (drop_steps own wanted) grouped dropped in
       let two = all_appended NamesNone (group_steps own wanted ++ drop_steps own wanted) (inherit_steps own wanted) one (tt, tt) in
@@ -155,6 +155,18 @@ module _ (lines : calls.Table) where
       let six = all_appended NamesNone (group_steps own wanted ++ drop_steps own wanted ++ inherit_steps own wanted ++ user_steps own wanted ++ raise_steps own wanted ++ left_steps own wanted) (privilege_steps own wanted) five (all_if NamesNone wanted.no_new_privs _ tt) in
       all_appended NamesNone (group_steps own wanted ++ drop_steps own wanted ++ inherit_steps own wanted ++ user_steps own wanted ++
       raise_steps own wanted ++ left_steps own wanted ++ privilege_steps own wanted) (memory_steps own wanted) six (all_if NamesNone wanted.mdwe _ tt)
+
+  none_given : (wanted : Wanted) → AllByRecursion NamesNone (give_up_steps lines.calls wanted)
+  none_given wanted = by wanted.keeps_capabilities
+    where
+      dropped : AllByRecursion NamesNone (given_up_steps lines.calls (minus held wanted.bounding))
+      dropped = all_map NamesNone (λ cap. prctl_step lines.calls capbset_drop cap 0)
+          (filter (has (minus held wanted.bounding)) (count_from 0 41)) (λ cap. tt)
+
+      by : (b : Bool) → AllByRecursion NamesNone (cond b (given_up_steps lines.calls (minus held wanted.bounding)
+          ++ capset_step lines.calls wanted.ambient wanted.ambient (union wanted.ambient (cut held wanted.bounding)) ∷ []) [])
+      by true = all_appended NamesNone (given_up_steps lines.calls (minus held wanted.bounding)) _ dropped (tt, tt)
+      by false = tt
 
   none_filters : (programs : List (List ℕ)) → AllByRecursion NamesNone (filter_steps lines.calls programs)
   none_filters programs = all_map NamesNone (λ bytes. makes lines.calls (codes "seccomp") set_mode_filter 0 0 (pay.Code bytes)) programs
@@ -191,24 +203,28 @@ has_plan {plan = plan} l = record {
 abbrev before_filters : calls.Table → Wanted → Table → List LaunchStep
 before_filters lines wanted plan = with_unshare lines.calls (mount_steps plan) ++ identity_steps lines.calls wanted
 
+abbrev with_filters : calls.Table → Wanted → Table → List LaunchStep
+with_filters lines wanted plan = before_filters lines wanted plan ++ filter_steps lines.calls wanted.programs
+
 abbrev before_program : calls.Table → Wanted → Table → List LaunchStep
-before_program lines wanted plan = before_filters lines wanted plan ++ filter_steps lines.calls wanted.programs
+before_program lines wanted plan = with_filters lines wanted plan ++ give_up_steps lines.calls wanted
 
 pub launch_is_blind : LaunchIsBlind
-launch_is_blind folder lines site other wanted plan last steps whole can small fit agree blind e =
+launch_is_blind folder lines site other wanted plan last steps whole can small keeps fit agree blind e =
     by (is_privileged_row (finds (row_at site.rows) plan wanted.program)) refl e
   where
     -- the program finds the same: the launched service is blind, and has the plan as its table
     same : FindsSame site other plan wanted.program
     same =
-        let has = has_plan (launch_leaves lines site wanted plan last steps whole can small e).0 in
+        let has = has_plan (launch_leaves lines site wanted plan last steps whole can small keeps e).0 in
         subst (λ (t : Table). FindsSame site other t wanted.program) has.own
         (finds_same folder site other agree (table_of last has.process.namespace) wanted.program
         (not_shown folder site other agree last 1 has.process wanted.program has.lives fit (blind [] tt)))
 
     joined : launch_steps lines.calls wanted plan ≡ before_program lines wanted plan ++ program_steps lines.calls wanted.program
     joined = sym (append_parts (with_unshare lines.calls (mount_steps plan)) (identity_steps lines.calls wanted)
-        (filter_steps lines.calls wanted.programs) (program_steps lines.calls wanted.program))
+        (filter_steps lines.calls wanted.programs) (last_steps lines.calls wanted))
+        ∙ sym (append_assoc (with_filters lines wanted plan) (give_up_steps lines.calls wanted) (program_steps lines.calls wanted.program))
 
     by : (b : Bool) → is_privileged_row (finds (row_at site.rows) plan wanted.program) ≡ b
         → cond b (PrivilegedProgram wanted.program) (launch_from (start_world lines site) (launch_steps lines.calls wanted plan) 0)
@@ -220,13 +236,16 @@ launch_is_blind folder lines site other wanted plan last steps whole can small f
         let calls' : HasLaunchCalls lines.calls = launch_calls lines whole in
         let done = launched_leads (start_world lines site) (launch_steps lines.calls wanted plan) 0 last steps e in
         let parts = leads_parts (start_world lines site) (before_program lines wanted plan) (program_steps lines.calls wanted.program) last (subst (λ (list : List LaunchStep). Leads (start_world lines site) list last) joined done.0) in
-        let filters = leads_parts (start_world lines site) (before_filters lines wanted plan) (filter_steps lines.calls wanted.programs) parts.mid parts.before in
+        let given = leads_parts (start_world lines site) (with_filters lines wanted plan) (give_up_steps lines.calls wanted) parts.mid parts.before in
+        let filters = leads_parts (start_world lines site) (before_filters lines wanted plan) (filter_steps lines.calls wanted.programs) given.mid given.before in
         let ready = ready_at lines site calls' wanted plan filters.mid (begins_at_host (host_of site) plan can) small filters.before in
-        let pushed = filtered lines site calls' [] plan (IsReady wanted.uid wanted.ambient) wanted.programs [] filters.mid parts.mid ready filters.after in
+        let pushed = filtered lines site calls' [] plan (IsReady wanted.uid wanted.ambient (with_held wanted.keeps_capabilities wanted.ambient)) wanted.programs [] filters.mid given.mid ready filters.after in
+        let left' = left_behind lines site calls' pushed.codes' plan wanted keeps given.mid parts.mid pushed.at given.after in
         let none = all_appended NamesNone (before_filters lines wanted plan) (filter_steps lines.calls wanted.programs) (all_appended NamesNone (with_unshare lines.calls (mount_steps plan)) (identity_steps lines.calls wanted) (none_plan lines plan) (none_identity lines wanted)) (none_filters lines wanted.programs) in
-        let there = leads_there site other (start_world lines site) parts.mid (before_program lines wanted plan) refl agree.spaces agree.systemd none parts.before in
+        let all_none = all_appended NamesNone (with_filters lines wanted plan) (give_up_steps lines.calls wanted) none (none_given lines wanted) in
+        let there = leads_there site other (start_world lines site) parts.mid (before_program lines wanted plan) refl agree.spaces agree.systemd all_none parts.before in
         let stepped = step_sited site other parts.mid (first_call lines.calls (codes "execve") (0 ∷ 0 ∷ 0 ∷ 0 ∷ 0 ∷ 0 ∷ []) (pay.OnePath wanted.program)) there.1 agree.spaces agree.systemd
-        (λ process lives. subst (λ (t : Table). FindsSame site other t wanted.program) (sym (living_solo lines site (IsReady wanted.uid wanted.ambient) pushed.codes' plan parts.mid pushed.at process lives)) same) in
+        (λ process lives. subst (λ (t : Table). FindsSame site other t wanted.program) (sym (living_solo lines site (IsReady wanted.uid wanted.ambient (left_over lines site calls' wanted)) pushed.codes' plan parts.mid left'.at process lives)) same) in
         let exec : Leads (with_site other parts.mid) (program_steps lines.calls wanted.program) (with_site other last) =
         (subst (λ (out : Reply × World). IsDone out.0) (sym stepped) parts.after.0, ap (λ (out : Reply × World). out.1) stepped ∙ ap (with_site other) parts.after.1) in
         let there' = leads_join (start_world lines other) (before_program lines wanted plan) (program_steps lines.calls wanted.program) (with_site other parts.mid) (with_site other last) there.0 exec in

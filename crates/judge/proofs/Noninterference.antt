@@ -1,7 +1,7 @@
 -- What a service is blind to, it cannot tell: its settings, its plan, its launch and its replies are the same.
-use Rattle.std.proofs.Common.{◌≡◌, ◌∙◌, ◌⊎◌, ℕ, true, List, inl, inr, ap, sym, subst}
+use Rattle.std.proofs.Common.{◌≡◌, ◌∙◌, ◌⊎◌, ℕ, Bool, true, List, [], ◌∷◌, map, inl, inr, ap, sym, subst}
 use Rattle.std.specs.Prelude.{nat_le, length}
-use Rattle.std.specs.List.{AllByRecursion}
+use Rattle.std.specs.List.{AllByRecursion, list_all}
 use Rattle.std.proofs.lemmas.Bool.{and_parts}
 use Rattle.ceilings.specs.abs_path.Paths.{Path, text_of, is_normal}
 use Rattle.ceilings.specs.call_table.Table as calls
@@ -19,16 +19,18 @@ use Rattle.ceilings.specs.kernel_model.World.{World}
 use Rattle.ceilings.specs.launcher.Answers.{wanted_of}
 use Rattle.ceilings.specs.launcher.Launch.{Launched, Wanted}
 use Rattle.ceilings.specs.launcher.Launches.{Leaves}
-use Rattle.ceilings.proofs.OfLauncher.Conditions.{settings_can_be_launched}
+use Rattle.ceilings.proofs.OfLauncher.Conditions.{keeps_for_user, settings_can_be_launched}
 use Rattle.ceilings.proofs.OfLauncher.LaunchWorld.{launch_leaves}
 use Rattle.ceilings.specs.mount_plan.Host.{host_of}
-use Rattle.ceilings.specs.mount_plan.Resting.{ShowsNothingOf}
-use Rattle.ceilings.proofs.OfMountPlan.PlanIsBlind.{plan_is_blind}
-use Rattle.ceilings.specs.path_settings.Mentions.{AreKept, is_path, is_whole, has_whole_source}
-use Rattle.ceilings.specs.path_settings.declared.mentions.Mention.{Mention}
+use Rattle.ceilings.specs.mount_plan.Resting.{HasTheHostsRoot, HaveSameSources, ShowsNothingOf}
+use Rattle.ceilings.proofs.OfMountPlan.BothPlans.{plan_is_blind}
+use Rattle.ceilings.specs.mount_plan.Planned.{paths_of}
+use Rattle.ceilings.specs.path_settings.Mentioned.{AreKept, leaves_the_root}
+use Rattle.ceilings.specs.path_settings.Mentions.{is_path, is_whole, has_whole_source}
+use Rattle.ceilings.specs.path_settings.declared.mentioned.Mentioned.{Mentioned}
+use Rattle.ceilings.specs.path_settings.declared.mentioned.Mentioned.TheVariants.{Base, Systemd}
+use Rattle.ceilings.specs.path_settings.systemd.Entries.{is_whole as is_whole_entry, has_whole_source as has_entry_source}
 use Rattle.ceilings.specs.site_table.Table.{Site}
-use Rattle.ceilings.specs.path_settings.view_map.Resting.{AreSameSources}
-use Rattle.ceilings.proofs.OfPathSettings.ViewMapLists.{all_from_test, all_weaker}
 use Rattle.judge.specs.Alike.{BlindToOthers, IsAlike, IsServiceOf}
 use Rattle.judge.specs.Sites.{AgreeForUnit, AgreeOutside}
 use Rattle.judge.specs.Worlds.{with_site}
@@ -38,12 +40,24 @@ use Rattle.judge.proofs.Runs.{replies_are_blind}
 use Rattle.judge.proofs.ShownNothing.{blind_is_shown_nothing}
 use Rattle.judge.proofs.Sites.{same_hosts}
 
-kept_normal : (mentions : List Mention) → AreKept mentions → AllByRecursion (λ mention. is_normal mention.path ≡ true) mentions
-kept_normal mentions kept =
-    all_weaker (λ mention. is_whole mention ≡ true) (λ mention. is_normal mention.path ≡ true) mentions
+paths_normal : {X : Type 0} (at : X → Path) (test : X → Bool) (xs : List X)
+    → ((x : X) → test x ≡ true → is_normal (at x) ≡ true) → list_all test xs ≡ true
+    → AllByRecursion (λ path. is_normal path ≡ true) (map at xs)
+paths_normal at test [] each all = tt
+paths_normal at test (x ∷ xs) each all =
+    let both = and_parts (test x) (list_all test xs) all in (each x both.0, paths_normal at test xs each both.1)
+
+kept_normal : (mentions : Mentioned) → AreKept mentions → AllByRecursion (λ path. is_normal path ≡ true) (paths_of mentions)
+kept_normal (Base list) kept = paths_normal (λ mention. mention.path) is_whole list
     (λ mention whole. (and_parts (is_normal mention.path) (nat_le (length (text_of mention.path)) 512)
-    (and_parts (is_path mention.path) (has_whole_source mention.kind) whole).0).0)
-    (all_from_test is_whole mentions kept.whole)
+    (and_parts (is_path mention.path) (has_whole_source mention.kind) whole).0).0) kept.whole
+kept_normal (Systemd list) kept = paths_normal (λ one. one.path) is_whole_entry list
+    (λ one whole. (and_parts (is_normal one.path) (nat_le (length (text_of one.path)) 512)
+    (and_parts (is_path one.path) (has_entry_source one.mode) whole).0).0) kept.whole
+
+hosts_root : (mentions : Mentioned) → leaves_the_root mentions ≡ true → HasTheHostsRoot mentions
+hosts_root (Base list) leave = tt
+hosts_root (Systemd list) leave = leave
 
 -- ---- a folder of a site
 module _ (folder : Path) (unit : Resolved) (table : calls.Table) (site other : Site) (made : Settings) (plan : Table)
@@ -51,7 +65,8 @@ module _ (folder : Path) (unit : Resolved) (table : calls.Table) (site other : S
     (s : IsServiceOf unit table site made plan programs last steps) where
   leaves : Leaves table site (wanted_of made programs) plan last
   leaves = (launch_leaves table site (wanted_of made programs) plan last steps s.whole s.mounts
-      (settings_can_be_launched unit table site made s.is_site s.settings).uid s.launches).0
+      (settings_can_be_launched unit table site made s.is_site s.settings).uid
+      (keeps_for_user made programs (settings_can_be_launched unit table site made s.is_site s.settings)) s.launches).0
 
   at_site : last.site ≡ site
   at_site = ap (λ (launch : Launch). launch.site) leaves.is
@@ -64,9 +79,8 @@ module _ (folder : Path) (unit : Resolved) (table : calls.Table) (site other : S
         let has = has_plan leaves in
         let small : IsSmall plan = record { few = s.mounts.few; places = s.mounts.places_are_short } in
         let nothing : ShowsNothingOf plan folder = subst (λ (t : Table). ShowsNothingOf t folder) has.own (blind_is_shown_nothing folder last 1 has.process has.lives (subst IsSmall (sym has.own) small) fit blind) in
-        let sources : AreSameSources (host_of site) (host_of other) made.mentions = subst (λ (mentions : List Mention). AreSameSources (host_of site) (host_of other) mentions) (sym s.settings.mentions_written_and_implied) agree.sources in
-        let planned = plan_is_blind folder (host_of site) (host_of other) made.mentions s.planned.0 (kept_normal made.mentions s.mentions) s.planned.1 sources (same_hosts folder site other agree.outside)
-        (subst (λ (t : Table). ShowsNothingOf t folder) s.planned.2 nothing) in
+        let sources : HaveSameSources (host_of site) (host_of other) made.mentions = subst (λ (mentions : Mentioned). HaveSameSources (host_of site) (host_of other) mentions) (sym s.settings.mentions_written_and_implied) agree.sources in
+        let planned = plan_is_blind folder (host_of site) (host_of other) made.mentions plan (kept_normal made.mentions s.mentions) (hosts_root made.mentions s.settings.leaves_the_root) s.planned sources (same_hosts folder site other agree.outside) nothing in
         let few : AreSameFor unit site other = record {
           dynamic_uid = agree.outside.dynamic_uid;
           users = agree.outside.users;
@@ -78,9 +92,9 @@ module _ (folder : Path) (unit : Resolved) (table : calls.Table) (site other : S
         record {
           accepted = refusal_rests unit table site other few ∙ s.accepted;
           settings = there;
-          planned = (s.planned.0, planned.0, s.planned.2 ∙ sym planned.1);
-          launches = launch_is_blind folder table site other wanted plan last steps s.whole s.mounts can.uid s.program agree.outside blind
-              s.launches;
+          planned = planned;
+          launches = launch_is_blind folder table site other wanted plan last steps s.whole s.mounts can.uid
+              (keeps_for_user made programs can) s.program agree.outside blind s.launches;
           replies = λ calls fits. (replies_are_blind folder other last calls
               (subst (λ (s : Site). AgreeOutside folder s other) (sym at_site) agree.outside) blind fits).replies;
         }

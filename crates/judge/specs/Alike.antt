@@ -18,7 +18,7 @@ use Rattle.ceilings.specs.launcher.Answers.{launch_with}
 use Rattle.ceilings.specs.launcher.Launch.{Launched}
 use Rattle.ceilings.specs.mount_plan.Answers.{Plans}
 use Rattle.ceilings.specs.mount_plan.Host.{host_of}
-use Rattle.ceilings.specs.path_settings.Mentions.{AreKept}
+use Rattle.ceilings.specs.path_settings.Mentioned.{AreKept}
 use Rattle.ceilings.specs.site_table.Table.{Site, IsSite}
 use Rattle.judge.specs.Sites.{AgreeForUnit}
 use Rattle.judge.specs.Worlds.{with_site}

@@ -10,7 +10,7 @@ use Rattle.ceilings.specs.exec_settings.Search.{searched_by}
 use Rattle.ceilings.specs.mount_plan.Host.{host_of}
 use Rattle.ceilings.specs.site_table.Table.{Site, kind_at}
 use Rattle.ceilings.specs.site_table.declared.row.Row.{Row}
-use Rattle.ceilings.specs.path_settings.view_map.Resting.{AreSameSources}
+use Rattle.ceilings.specs.mount_plan.Resting.{HaveSameSources}
 
 -- the rows that do not lie strictly below the folder
 abbrev pub rows_outside : Path → List Row → List Row
@@ -30,6 +30,6 @@ pub record AgreeOutside (folder : Path) (site other : Site) : Type 0 where
 -- The source of each bind, written or implied, is a directory in both, a row of another kind in both, or a row of neither
 pub record AgreeForUnit (folder : Path) (unit : Resolved) (site other : Site) : Type 0 where
   pub outside : AgreeOutside folder site other
-  pub implied : AllByRecursion (λ mention. kind_at other.rows mention.path ≡ kind_at site.rows mention.path) (implied_by unit)
+  pub implied : AllByRecursion (λ path. kind_at other.rows path ≡ kind_at site.rows path) (implied_by unit)
   pub searched : AllByRecursion (λ path. kind_at other.rows path ≡ kind_at site.rows path) (searched_by unit)
-  pub sources : AreSameSources (host_of site) (host_of other) (unit_mentions unit site)
+  pub sources : HaveSameSources (host_of site) (host_of other) (unit_mentions unit site)

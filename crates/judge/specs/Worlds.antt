@@ -17,6 +17,7 @@ use Rattle.ceilings.specs.mount_plan.Host.{host_of}
 use Rattle.ceilings.specs.mount_plan.Resting.{ShowsNothingOf}
 use Rattle.ceilings.specs.site_table.Table.{Site}
 use Rattle.ceilings.specs.launcher.Launch.{Wanted, Launched, launch}
+use Rattle.ceilings.specs.launcher.Launches.{KeepsForUser}
 use Rattle.judge.specs.Sites.{AgreeOutside}
 
 -- the world on another site
@@ -36,7 +37,7 @@ RepliesAreBlind = (folder : Path) (other : Site) (world : World) (calls : List C
 -- a launch that leaves such a world leaves it there too, after the same number of steps
 abbrev pub LaunchIsBlind : Type 0
 LaunchIsBlind = (folder : Path) (table : calls.Table) (site other : Site) (wanted : Wanted) (plan : Table) (last : World) (steps : ℕ)
-    → IsWhole table → CanBeMounted (host_of site) plan → wanted.uid < no_id → IsPath wanted.program
+    → IsWhole table → CanBeMounted (host_of site) plan → wanted.uid < no_id → KeepsForUser wanted → IsPath wanted.program
     → AgreeOutside folder site other → IsBlind last folder → launch table site wanted plan ≡ Launched last steps
     → launch table other wanted plan ≡ Launched (with_site other last) steps
 

@@ -19,7 +19,7 @@ mod two_sites;
 
 pub use blindness::blind;
 pub use ceilings::{
-    Ceiling, FilterProgram, Flags, LaunchError, Launched, Mentions, MountStep, MountSteps,
+    Ceiling, FilterProgram, Flags, LaunchError, Launched, Mentioned, MountStep, MountSteps,
     MountTable, PlanError, Settings, SettingsError, Version, What,
     blindness as kernel_ways_blindness, ceiling, is_read, launch, openness, plan, settings,
 };

@@ -13,7 +13,7 @@ ghost use Rattle.ceilings.specs.launcher.Answers.{given_bytes, launch_with};
 ghost use Rattle.ceilings.specs.launcher.Launch.{Launched};
 ghost use Rattle.ceilings.specs.mount_plan.Answers.{Plans};
 ghost use Rattle.ceilings.specs.mount_plan.Host.{host_of};
-ghost use Rattle.ceilings.specs.path_settings.Mentions.{AreKept};
+ghost use Rattle.ceilings.specs.path_settings.Mentioned.{AreKept};
 ghost use Rattle.ceilings.specs.site_table.Table.{IsSite};
 ghost use Rattle.judge.specs.Alike.{IsAlike};
 ghost use Rattle.judge.specs.Sites.{AgreeForUnit};

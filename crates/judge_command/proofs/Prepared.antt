@@ -5,7 +5,7 @@ use Rattle.asked_service.specs.host_io.Files.{Files}
 use Rattle.asked_service.specs.kern_mounts.declared.step.MountStep.{MountStep}
 use Rattle.asked_service.specs.mount_plan.Host.{host_of}
 use Rattle.asked_service.specs.exec_settings.Mounts.{unit_mentions}
-use Rattle.asked_service.specs.path_settings.declared.mentions.Mention.{Mention}
+use Rattle.asked_service.specs.path_settings.declared.mentioned.Mentioned.{Mentioned}
 use Rattle.asked_service.specs.unit_inputs.command_answers.CommandErrors.{Prepares, first_refusal}
 use Rattle.asked_service.specs.unit_inputs.declared.command_answers.error.CommandError.{CommandError}
 use Rattle.asked_service.specs.unit_inputs.declared.command_answers.error.CommandError.TheVariants as stop
@@ -46,7 +46,7 @@ module _ (told : Option Files) (unit : List ℕ) where
     plainly None said = tt
     plainly (Some files) said = as_any (λ one. told' one files) (λ (one : SettledUnit). Unit {0}) (unit_refusals files unit) why said
 
-  module _ (one : SettledUnit) (mentions : List Mention) (site : Site) (same : mentions ≡ unit_mentions (inputs_view one.inputs).unit (inputs_view one.inputs).site) (lies : site ≡ (inputs_view one.inputs).site) where
+  module _ (one : SettledUnit) (mentions : Mentioned) (site : Site) (same : mentions ≡ unit_mentions (inputs_view one.inputs).unit (inputs_view one.inputs).site) (lies : site ≡ (inputs_view one.inputs).site) where
     -- a path is refused
     pub stops_at_paths : (why : CommandError) → IfSome told (IsInputOf unit one)
         → Prepares (IsPlan (host_of site) mentions) (path_refusals unit (host_of site) mentions) (Err why)

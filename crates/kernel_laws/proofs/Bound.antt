@@ -163,7 +163,7 @@ module _ (launch : Launch) (uids gids : Bool) (power : Power) (l : IsLaunched la
     where
       by : (b : Bool) → lets launch SetsCaps ≡ b → IsWithin (cut top.permitted (cond b c.bounding c.inheritable)) caps
       by true p = cut_within_left _ _ _ (capset_caps p)
-      by false p = cut_within_right _ _ _ (within_through _ _ _ l.inheritable_effective eff_caps)
+      by false p = cut_within_right _ _ _ (within_through _ _ _ (l.inheritable_effective p) eff_caps)
 
   -- a row that some process can run with its marks honoured
   runs : (row : Row) → CanRun launch power row → (row.effective ≡ true → IsWithin row.caps c.bounding) → can_run launch power row ≡ true

@@ -31,7 +31,7 @@ use Rattle.kernel_model.specs.declared.process.Process.{Process}
 use Rattle.kernel_model.specs.World.{World, of_number, process_of, mounts_of, table_of}
 use Rattle.kernel_laws.specs.Kinds.{asks, words, wide_words, AreWords}
 use Rattle.kernel_laws.specs.declared.question_types.kind.CallKind.{CallKind}
-use Rattle.kernel_laws.specs.declared.question_types.kind.CallKind.TheVariants.{ForNamespace}
+use Rattle.kernel_laws.specs.declared.question_types.kind.CallKind.TheVariants.{ForNamespace, SetsCaps}
 use Rattle.filter_settings.specs.declared.filter_rules.namespace_types.NamespaceType.TheVariants.{User}
 
 -- the table of calls and the site that the kernel is given, and process 1: its credentials(7), its filters (seccomp(2)), the oldest
@@ -113,7 +113,8 @@ pub record IsLaunched (launch : Launch) : Type 0 where
   pub ambient_inheritable : IsWithin launch.creds.ambient launch.creds.inheritable
   pub ambient_permitted : IsWithin launch.creds.ambient launch.creds.permitted
   pub inheritable_bounding : IsWithin launch.creds.inheritable launch.creds.bounding
-  pub inheritable_effective : IsWithin launch.creds.inheritable launch.creds.effective
+  -- what is inheritable is effective, unless some call of capset(2) passes
+  pub inheritable_effective : lets launch SetsCaps ≡ false → IsWithin launch.creds.inheritable launch.creds.effective
   pub root : launch.creds.uids.effective ≡ 0 → IsWithin launch.creds.bounding launch.creds.effective
   -- the table starts at `/`, no later place leads to an earlier one, and no entry is without set-user-id programs
   pub rooted : StartsAtRoot launch.table

@@ -10,7 +10,7 @@ use Rattle.launcher.specs.call_table.declared.call_names.rule.CallRule.TheVarian
 use Rattle.launcher.specs.call_table.declared.listed.CallLine.{CallLine}
 use Rattle.launcher.specs.call_table.Lookups.{numbered}
 use Rattle.launcher.specs.call_table.Table as calls
-use Rattle.launcher.specs.cap_sets.Sets.{has}
+use Rattle.launcher.specs.cap_sets.Sets.{has, union, cut, minus}
 use Rattle.launcher.specs.kern_creds.declared.creds.Creds.{Creds}
 use Rattle.launcher.specs.kern_creds.Capset.{after_capset}
 use Rattle.launcher.specs.kern_creds.Prctl.{after_drop_bounding, after_raise, after_lower, after_clear_ambient, after_set_keepcaps}
@@ -52,7 +52,8 @@ use Rattle.launcher.proofs.OfKernelModel.Lists.{each-append, length-set, length-
 use Rattle.launcher.specs.kernel_laws.Questions.{if_so, count_from}
 use Rattle.launcher.specs.Launch.{Wanted, LaunchStep, Makes, Mounts, number_of, first_call, makes, capset_step, prctl_step, launch_step}
 use Rattle.launcher.specs.Launch.{launch_steps, mount_steps, with_unshare, group_steps, drop_steps, inherit_steps, user_steps, raise_steps}
-use Rattle.launcher.specs.Launch.{left_steps, privilege_steps, memory_steps, identity_steps, filter_steps, program_steps, call_steps, set_keepcaps}
+use Rattle.launcher.specs.Launch.{left_steps, privilege_steps, memory_steps, identity_steps, filter_steps, program_steps, give_up_steps}
+use Rattle.launcher.specs.Launch.{given_up_steps, last_steps, call_steps, held, with_held, set_keepcaps}
 use Rattle.launcher.specs.Launch.{capbset_drop, set_no_new_privs, cap_ambient, ambient_raise, set_mdwe, refuse_exec_gain, set_mode_filter}
 use Rattle.launcher.specs.Launches.{HasLaunchCalls}
 use Rattle.launcher.proofs.Leading.{Leads, leads_parts}
@@ -383,15 +384,22 @@ module _ (table : calls.Table) where
     join : (one other : List LaunchStep) → AreQuiet one → AreQuiet other → AreQuiet (one ++ other)
     join one other h g = each-append IsQuiet one other h g
 
+    given_quiet : (b : Bool) → AreQuiet (cond b (given_up_steps table.calls (minus held wanted.bounding)
+        ++ capset_step table.calls wanted.ambient wanted.ambient (union wanted.ambient (cut held wanted.bounding)) ∷ []) [])
+    given_quiet false = tt
+    given_quiet true = join (given_up_steps table.calls (minus held wanted.bounding)) _
+        (each_made (λ cap. prctl_step table.calls capbset_drop cap 0) (λ cap. prctl_quiet capbset_drop cap 0)
+        (filter (has (minus held wanted.bounding)) (count_from 0 41))) (capset_quiet _ _ _, tt)
+
     calls_quiet : AreQuiet (call_steps table.calls wanted)
     calls_quiet =
         let lines = table.calls in
         let groups : AreQuiet (group_steps lines wanted) = (quiet_call (codes "setgroups") _ (Ids wanted.groups) (Known known.Setgroups) _ calls'.setgroups refl refl, (quiet_call (codes "setresgid") _ Nothing (Known known.Setresgid) _ calls'.setresgid refl refl, tt)) in
-        let drops : AreQuiet (drop_steps lines wanted) = each_made (λ cap. prctl_step lines capbset_drop cap 0) (λ cap. prctl_quiet capbset_drop cap 0) (filter (λ cap. not (has wanted.bounding cap)) (count_from 0 41)) in
-        let inherits : AreQuiet (inherit_steps lines wanted) = (capset_quiet _ _ wanted.ambient, tt) in
+        let drops : AreQuiet (drop_steps lines wanted) = each_made (λ cap. prctl_step lines capbset_drop cap 0) (λ cap. prctl_quiet capbset_drop cap 0) (filter (λ cap. not (has (with_held wanted.keeps_capabilities wanted.bounding) cap)) (count_from 0 41)) in
+        let inherits : AreQuiet (inherit_steps lines wanted) = (capset_quiet _ _ _, tt) in
         let users : AreQuiet (user_steps lines wanted) = unless_quiet (eqb wanted.uid 0) _ (prctl_quiet set_keepcaps 1 0, (quiet_call (codes "setresuid") _ Nothing (Known known.Setresuid) _ calls'.setresuid refl refl, tt)) in
         let raises : AreQuiet (raise_steps lines wanted) = each_made (λ cap. prctl_step lines cap_ambient ambient_raise cap) (λ cap. prctl_quiet cap_ambient ambient_raise cap) (filter (has wanted.ambient) (count_from 0 41)) in
-        let left' : AreQuiet (left_steps lines wanted) = unless_quiet (eqb wanted.uid 0) _ (capset_quiet wanted.ambient wanted.ambient wanted.ambient, tt) in
+        let left' : AreQuiet (left_steps lines wanted) = unless_quiet (eqb wanted.uid 0) _ (capset_quiet _ _ _, tt) in
         let marks : AreQuiet (privilege_steps lines wanted) = if_quiet wanted.no_new_privs _ (prctl_quiet set_no_new_privs 1 0) in
         let memory : AreQuiet (memory_steps lines wanted) = if_quiet wanted.mdwe _ (prctl_quiet set_mdwe refuse_exec_gain 0) in
         let filters : AreQuiet (filter_steps lines wanted.programs) = each_made (λ bytes. makes lines (codes "seccomp") set_mode_filter 0 0 (Code bytes)) (λ bytes. quiet_call (codes "seccomp") _ (Code bytes) (Known known.Seccomp) _ calls'.seccomp refl refl) wanted.programs in
@@ -404,7 +412,8 @@ module _ (table : calls.Table) where
         let six = join (group_steps lines wanted ++ drop_steps lines wanted ++ inherit_steps lines wanted ++ user_steps lines wanted ++ raise_steps lines wanted ++ left_steps lines wanted) (privilege_steps lines wanted) five marks in
         let seven = join (group_steps lines wanted ++ drop_steps lines wanted ++ inherit_steps lines wanted ++ user_steps lines wanted ++ raise_steps lines wanted ++ left_steps lines wanted ++ privilege_steps lines wanted) (memory_steps lines wanted) six memory in
         let eight = join (identity_steps lines wanted) (filter_steps lines wanted.programs) seven filters in
-        join (identity_steps lines wanted ++ filter_steps lines wanted.programs) (program_steps lines wanted.program) eight program
+        join (identity_steps lines wanted ++ filter_steps lines wanted.programs) (last_steps lines wanted) eight
+        (join (give_up_steps lines wanted) (program_steps lines wanted.program) (given_quiet wanted.keeps_capabilities) program)
 
     -- the mounts in a namespace of their own
     unshared : (steps : List LaunchStep) (world mid : World) → world.calls ≡ table → AreQuiet steps

@@ -62,11 +62,11 @@ use Rattle.launcher.proofs.OfKernelLaws.ReachLaws.{reach_of_the_table}
 use Rattle.launcher.specs.Launch.{Wanted, Launched, launch, PrivilegedProgram, number_of, first_call, launch_from, launch_steps}
 use Rattle.launcher.specs.Launch.{program_steps, is_privileged_row}
 use Rattle.launcher.specs.LaunchedWorlds.{IsMeant}
-use Rattle.launcher.specs.Launches.{HasLaunchCalls, AreRead}
+use Rattle.launcher.specs.Launches.{HasLaunchCalls, AreRead, KeepsForUser}
 use Rattle.launcher.proofs.HostRoot.{BeginsAtHostRoot, begins_at_host}
 use Rattle.launcher.proofs.LaunchCalls.{launch_calls}
 use Rattle.launcher.proofs.LaunchCreds.{IsReady}
-use Rattle.launcher.proofs.LaunchWorld.{before_program}
+use Rattle.launcher.proofs.LaunchWorld.{before_program, left_over}
 use Rattle.launcher.proofs.LaunchedWorlds.{launched_is_world}
 use Rattle.launcher.proofs.Leading.{Leads, launched_leads}
 use Rattle.launcher.proofs.Solo.{At, solo, only, does, own_table}
@@ -194,14 +194,14 @@ module _ (table : calls.Table) (site : Site) where
     pub record Launches (last : World) : Type 0 where
       pub stack : List (List Insn)
       pub read : AreRead wanted.programs stack
-      pub ends : Ends calls' plan wanted.program (IsReady wanted.uid wanted.ambient) stack last
+      pub ends : Ends calls' plan wanted.program (IsReady wanted.uid wanted.ambient (left_over table site calls' wanted)) stack last
 
-    launches : (last : World) → BeginsAtHostRoot plan → wanted.uid < no_id
+    launches : (last : World) → BeginsAtHostRoot plan → wanted.uid < no_id → KeepsForUser wanted
         → Leads (start_world table site) (launch_steps table.calls wanted plan) last → Launches last
-    launches last begins small l =
-        let before = before_program table site calls' wanted plan last begins small l in
-        let filters = before.filters in
-        record { stack = filters.codes'; read = filters.read; ends = ends calls' plan wanted.program (IsReady wanted.uid wanted.ambient) filters.codes' before.mid last filters.at before.runs }
+    launches last begins small keeps l =
+        let before = before_program table site calls' wanted plan last begins small keeps l in
+        let ready : Creds → Type 0 = IsReady wanted.uid wanted.ambient (left_over table site calls' wanted) in
+        record { stack = before.stack; read = before.read; ends = ends calls' plan wanted.program ready before.stack before.mid last before.left.at before.runs }
 
 -- ---- numbers
 -- what is found by its number has what all lines have
@@ -275,7 +275,7 @@ record Facts (launch : Launch) (path : Path) (last : World) : Type 0 where
   leave : (flags_at launch.table path).no_exec ≡ false
   plain : is_privileged (marks_of program) ≡ false
 
-module _ (settings : FilterSettings) (table : calls.Table) (site : Site) (wanted : Wanted) (plan : Table) (last : World) (steps : ℕ) (whole : IsWhole table) (arch : HasWordArchs table) (is : IsSite site) (refusing : AreRefusing settings) (can : CanBeMounted (site_host site) plan) (small : wanted.uid < no_id) (meant : AllByRecursion (IsMeant settings table) wanted.programs) (e : launch table site wanted plan ≡ Launched last steps) where
+module _ (settings : FilterSettings) (table : calls.Table) (site : Site) (wanted : Wanted) (plan : Table) (last : World) (steps : ℕ) (whole : IsWhole table) (arch : HasWordArchs table) (is : IsSite site) (refusing : AreRefusing settings) (can : CanBeMounted (site_host site) plan) (small : wanted.uid < no_id) (keeps : KeepsForUser wanted) (meant : AllByRecursion (IsMeant settings table) wanted.programs) (e : launch table site wanted plan ≡ Launched last steps) where
   facts_by : (b : Bool) → is_privileged_row (finds (row_at site.rows) plan wanted.program) ≡ b
       → cond b (PrivilegedProgram wanted.program) (launch_from (start_world table site) (launch_steps table.calls wanted plan) 0)
       ≡ Launched last steps → (own : Launch) × Facts own wanted.program last
@@ -283,10 +283,10 @@ module _ (settings : FilterSettings) (table : calls.Table) (site : Site) (wanted
   facts_by false unmarked e' =
       let calls' = launch_calls table whole in
       let l = (launched_leads (start_world table site) (launch_steps table.calls wanted plan) 0 last steps e').0 in
-      let x = launches table site calls' wanted plan last (begins_at_host (site_host site) plan can) small l in
+      let x = launches table site calls' wanted plan last (begins_at_host (site_host site) plan can) small keeps l in
       let ran' = x.ends.ran in
       let own : Launch = record { calls = table; site = site; creds = ran'.after; stack = x.stack; table = plan } in
-      let world : IsLaunchedWorld last = launched_is_world settings table site wanted plan last steps whole arch refusing can small meant e in
+      let world : IsLaunchedWorld last = launched_is_world settings table site wanted plan last steps whole arch refusing can small keeps meant e in
       let launched : IsLaunched own = subst IsLaunched x.ends.is world.launched in
       let bounded : IsWithin ran'.after.bounding all = subst (λ (set : ℕ). IsWithin set all) (sym ran'.bounding) x.ends.ready.has.bounding in
       let plain : is_privileged (marks_of ran'.program) ≡ false = ap (λ b. b && is_privileged (marks_of ran'.program)) (sym ran'.exe) ∙ ap is_privileged_row (sym ran'.is) ∙ unmarked in
@@ -309,13 +309,13 @@ module _ (settings : FilterSettings) (table : calls.Table) (site : Site) (wanted
   facts = facts_by (is_privileged_row (finds (row_at site.rows) plan wanted.program)) refl e
 
 pub launched_is_served : LaunchedIsServed
-launched_is_served settings table site wanted plan last steps whole arch is refusing can small meant e =
-    let f = (facts settings table site wanted plan last steps whole arch is refusing can small meant e).1 in
+launched_is_served settings table site wanted plan last steps whole arch is refusing can small keeps meant e =
+    let f = (facts settings table site wanted plan last steps whole arch is refusing can small keeps meant e).1 in
     record { launched = f.launched; few = f.few; offers = f.offers }
 
 pub launched_runs_program : LaunchedRunsProgram
-launched_runs_program settings table site wanted plan last steps whole arch is refusing can small meant named e =
-    let f = facts settings table site wanted plan last steps whole arch is refusing can small meant e in
+launched_runs_program settings table site wanted plan last steps whole arch is refusing can small keeps meant named e =
+    let f = facts settings table site wanted plan last steps whole arch is refusing can small keeps meant e in
     let found : FindsRow (row_at f.0.site.rows) f.0.table ToExec f.1.program = record { path = wanted.program; can_be_named = named; is_found = f.1.found; is_allowed = ap not f.1.leave } in
     let runs : RunsProgram f.0 wanted.program = (record { program = f.1.program; found = found; exe = f.1.exe; plain = f.1.plain }, refl) in
     subst (λ (l : Launch). RunsProgram l wanted.program) (sym f.1.is) runs

@@ -17,6 +17,7 @@ use Rattle.launcher.specs.kernel_laws.Launched.{Launch, launch_of}
 use Rattle.launcher.specs.kernel_model.World.{World}
 use Rattle.launcher.specs.Launch.{Wanted, Launched, launch}
 use Rattle.launcher.specs.LaunchedWorlds.{IsMeant}
+use Rattle.launcher.specs.Launches.{KeepsForUser}
 use Rattle.launcher.specs.linux_numbers.Limits.{no_id}
 use Rattle.launcher.specs.mount_plan.Host.{host_of}
 use Rattle.launcher.specs.site_table.Table.{Site, IsSite}
@@ -37,7 +38,7 @@ abbrev pub LaunchedIsServed : Type 0
 LaunchedIsServed = (settings : FilterSettings) (table : calls.Table) (site : Site) (wanted : Wanted) (plan : Table) (last : World)
     (steps : ℕ)
     → IsWhole table → HasWordArchs table → IsSite site → AreRefusing settings → CanBeMounted (host_of site) plan
-    → wanted.uid < no_id → AllByRecursion (IsMeant settings table) wanted.programs
+    → wanted.uid < no_id → KeepsForUser wanted → AllByRecursion (IsMeant settings table) wanted.programs
     → launch table site wanted plan ≡ Launched last steps → IsServedWorld last
 
 -- the path that the settings give finds the program, which has no set-id bit and no capability, on a mount that runs programs
@@ -45,5 +46,5 @@ abbrev pub LaunchedRunsProgram : Type 0
 LaunchedRunsProgram = (settings : FilterSettings) (table : calls.Table) (site : Site) (wanted : Wanted) (plan : Table) (last : World)
     (steps : ℕ)
     → IsWhole table → HasWordArchs table → IsSite site → AreRefusing settings → CanBeMounted (host_of site) plan
-    → wanted.uid < no_id → AllByRecursion (IsMeant settings table) wanted.programs → IsPath wanted.program
+    → wanted.uid < no_id → KeepsForUser wanted → AllByRecursion (IsMeant settings table) wanted.programs → IsPath wanted.program
     → launch table site wanted plan ≡ Launched last steps → RunsProgram (launch_of last) wanted.program

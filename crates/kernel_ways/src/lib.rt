@@ -68,7 +68,7 @@ pub fn blindness()
 {}
 
 pub use launcher::{
-    CallData, CallKind, Decision, FilterProgram, LaunchError, Launched, Mentions, MountSteps,
+    CallData, CallKind, Decision, FilterProgram, LaunchError, Launched, Mentioned, MountSteps,
     NamespaceType, PlanError, Power, Resolved, Settings, SettingsError, Version, Wish, is_read,
     launch, linux_numbers, plan, settings,
 };

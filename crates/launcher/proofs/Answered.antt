@@ -24,6 +24,7 @@ use Rattle.launcher.specs.Launch.{launch_from, launch_steps, mount_steps, with_u
 use Rattle.launcher.specs.Launches.{AreRead}
 use Rattle.launcher.specs.LaunchesAlike.{AreInstalled, EndAlike}
 use Rattle.launcher.specs.Matching.{AreMatching}
+use Rattle.launcher.proofs.Conditions.{keeps_for_user}
 use Rattle.launcher.proofs.LaunchesAlike.{launches_alike}
 use Rattle.launcher.proofs.LaunchWorld.{launch_leaves}
 use Rattle.launcher.proofs.Matching.{alike, room}
@@ -112,7 +113,7 @@ module _ (table : calls.Table) (site : Site) (settings : Settings) (plan : Table
   -- what a launched service is
   pub service_left : (service : Service) → LaunchesTo table site settings plan service → LeavesService table site settings plan service
   service_left service l =
-      let left = launch_leaves table site (wanted_of settings (given_bytes service.filters)) plan service.world service.steps whole can fit.uid l.ends in
+      let left = launch_leaves table site (wanted_of settings (given_bytes service.filters)) plan service.world service.steps whole can fit.uid (keeps_for_user settings (given_bytes service.filters) fit) l.ends in
       let own = left.0 in
       record {
         leaves = own;

@@ -6,7 +6,7 @@ use Rattle.std.proofs.lemmas.List.Sums.{sum_by-cons}
 use Rattle.kernel_laws.specs.bpf_code.Reading.{bytes_of}
 use Rattle.exec_settings.specs.call_rules.Sizes.{most_insns}
 use Rattle.kernel_laws.specs.call_table.declared.listed.CallLine.{CallLine}
-use Rattle.exec_settings.specs.cap_sets.Sets.{has}
+use Rattle.exec_settings.specs.cap_sets.Sets.{has, union, cut, minus}
 use Rattle.exec_settings.specs.filter_settings.filter_rules.Costs.{most_room}
 use Rattle.exec_settings.specs.filter_settings.declared.filter_rules.installed.Filter.{Filter}
 use Rattle.kernel_laws.specs.kernel_model.declared.kernel_calls.payload.Payload.TheVariants.{Code}
@@ -15,8 +15,8 @@ use Rattle.kernel_laws.specs.linux_numbers.Limits.{max_insns_per_path}
 use Rattle.launcher.specs.declared.filters.FilterProgram.{FilterProgram}
 use Rattle.launcher.specs.Answers.{AreProgramsOf, codes_of, given_bytes}
 use Rattle.launcher.specs.Launch.{Wanted, LaunchStep, makes, prctl_step, group_steps, drop_steps, inherit_steps, user_steps, raise_steps}
-use Rattle.launcher.specs.Launch.{left_steps, privilege_steps, memory_steps, identity_steps, filter_steps, program_steps, call_steps, set_mode_filter}
-use Rattle.launcher.specs.Launch.{capbset_drop, cap_ambient, ambient_raise}
+use Rattle.launcher.specs.Launch.{left_steps, privilege_steps, memory_steps, identity_steps, filter_steps, program_steps, give_up_steps, given_up_steps, last_steps, call_steps}
+use Rattle.launcher.specs.Launch.{set_mode_filter, capbset_drop, cap_ambient, ambient_raise, capset_step, held, with_held}
 
 counted : (from count : ℕ) → length (count_from from count) ≡ count
 counted from zero = refl
@@ -56,7 +56,7 @@ behind first then m n one two = let e = length-append first then in omega (arith
 few_identity : (lines : List CallLine) (wanted : Wanted) → length (identity_steps lines wanted) ≤ 90
 few_identity lines wanted =
     let groups : length (group_steps lines wanted) ≤ 2 = omega arith in
-    let drops : length (drop_steps lines wanted) ≤ 41 = each_cap (λ cap. prctl_step lines capbset_drop cap 0) (λ cap. not (has wanted.bounding cap)) in
+    let drops : length (drop_steps lines wanted) ≤ 41 = each_cap (λ cap. prctl_step lines capbset_drop cap 0) (λ cap. not (has (with_held wanted.keeps_capabilities wanted.bounding) cap)) in
     let inherit : length (inherit_steps lines wanted) ≤ 1 = omega arith in
     let user : length (user_steps lines wanted) ≤ 2 = if_two (eqb wanted.uid 0) _ _ in
     let raises : length (raise_steps lines wanted) ≤ 41 = each_cap (λ cap. prctl_step lines cap_ambient ambient_raise cap) (has wanted.ambient) in
@@ -81,6 +81,16 @@ few_filters (filter ∷ filters) (one ∷ made) are =
     let sum = sum_by-cons (λ (f : Filter). most_insns f.rules + 4) filter filters in
     omega (arith, more, sum)
 
+few_last : (lines : List CallLine) (wanted : Wanted) → length (last_steps lines wanted) ≤ 43
+few_last lines wanted = behind (give_up_steps lines wanted) (program_steps lines wanted.program) 42 1 (by wanted.keeps_capabilities) (omega arith)
+  where
+    by : (b : Bool) → length (cond b (given_up_steps lines (minus held wanted.bounding)
+        ++ capset_step lines wanted.ambient wanted.ambient (union wanted.ambient (cut held wanted.bounding)) ∷ []) []) ≤ 42
+    by false = omega arith
+    by true = behind (given_up_steps lines (minus held wanted.bounding))
+        (capset_step lines wanted.ambient wanted.ambient (union wanted.ambient (cut held wanted.bounding)) ∷ []) 41 1
+        (each_cap (λ cap. prctl_step lines capbset_drop cap 0) (has (minus held wanted.bounding))) (omega arith)
+
 pub few_calls : (lines : List CallLine) (wanted : Wanted) (filters : List Filter) (made : List FilterProgram) → AreProgramsOf filters made
     → most_room filters ≤ max_insns_per_path → wanted.programs ≡ given_bytes made
     → length (call_steps lines wanted) ≤ 40000
@@ -92,5 +102,6 @@ few_calls lines wanted filters made are room given =
     let programs = ap (λ (ps : List (List ℕ)). length ps) given in
     let steps = length-map wanted.programs (λ code. makes lines (codes "seccomp") set_mode_filter 0 0 (Code code)) in
     let one = length-append (identity_steps lines wanted) (filter_steps lines wanted.programs) in
-    let whole = length-append (identity_steps lines wanted ++ filter_steps lines wanted.programs) (program_steps lines wanted.program) in
-    omega (arith, own, few, room, own_codes, bytes, programs, steps, one, whole)
+    let last = few_last lines wanted in
+    let whole = length-append (identity_steps lines wanted ++ filter_steps lines wanted.programs) (last_steps lines wanted) in
+    omega (arith, own, last, few, room, own_codes, bytes, programs, steps, one, whole)

@@ -2,10 +2,10 @@
 use Rattle.std.proofs.Common.{◌≡◌, ℕ, Bool, true, false, cond, List, Option, Some, None, Result, Ok, Err, refl, ap, ◌∙◌, sym, subst, arith}
 use Rattle.std.proofs.Common.{rules, eqb}
 use Rattle.std.specs.Prelude.{◌&&◌, ◌||◌, not, nat_lt}
-use Rattle.std.proofs.lemmas.Bool.{and_parts, not-false, eqb-true}
+use Rattle.std.proofs.lemmas.Bool.{and_from, and_parts, not-false, eqb-true}
 use Rattle.std.proofs.lemmas.Bool.Decides.{nat_tests}
 use Rattle.exec_settings.specs.cap_sets.Sets.{has, none, all, single, union, cut, minus, within, IsWithin}
-use Rattle.exec_settings.proofs.OfCapSets.Members.{has_single, within_self, within_both, none_within, within_through, cut_within_left}
+use Rattle.exec_settings.proofs.OfCapSets.Members.{has_minus, has_single, within_self, within_both, none_within, within_through, cut_within_left}
 use Rattle.exec_settings.proofs.OfCapSets.Members.{cut_within_right, within_cut, union_within, within_union_left, within_union_right}
 use Rattle.exec_settings.proofs.OfCapSets.Members.{minus_within, single_within, IsWithin-from_within}
 use Rattle.kernel_laws.specs.kern_creds.declared.creds.Creds.{Creds}
@@ -207,54 +207,123 @@ raises uid p e i cap creds now h is =
           },
         )
 
--- the last capset: it keeps what is ambient
-pub set_ambient : (uid p e amb : ℕ) (creds now : Creds) → Has uid p e amb creds × IsWithin amb creds.ambient
-    → after_capset creds amb amb amb ≡ Ok now → Has uid amb amb amb now × IsWithin amb now.ambient
-set_ambient uid p e amb creds now (h, raised) is =
-    by_unless (λ (c : Creds). Has uid amb amb amb c × IsWithin amb c.ambient) (may_capset creds amb amb amb) 1
-    (with_sets creds amb amb amb) now is λ may. (
+-- the capset that leaves a user one set: it keeps what is ambient of it
+pub set_left : (uid p e i amb : ℕ) (creds now : Creds) → Has uid p e i creds × IsWithin amb creds.ambient → IsWithin amb i
+    → after_capset creds i i i ≡ Ok now → Has uid i i i now × IsWithin amb now.ambient
+set_left uid p e i amb creds now (h, raised) own is =
+    by_unless (λ (c : Creds). Has uid i i i c × IsWithin amb c.ambient) (may_capset creds i i i) 1 (with_sets creds i i i) now is λ may. (
       record {
         uids = h.uids;
         gids = h.gids;
         permitted = refl;
         effective = refl;
         inheritable = refl;
-        ambient_inheritable = cut_within_left creds.ambient (cut amb amb) amb h.ambient_inheritable;
-        ambient_permitted = cut_within_left creds.ambient (cut amb amb) amb h.ambient_inheritable;
+        ambient_inheritable = cut_within_left creds.ambient (cut i i) i h.ambient_inheritable;
+        ambient_permitted = cut_within_left creds.ambient (cut i i) i h.ambient_inheritable;
         inheritable_bounding = h.inheritable_bounding;
         bounding = h.bounding;
       },
-      within_cut amb creds.ambient (cut amb amb) raised (within_cut amb amb amb (within_self amb) (within_self amb)),
+      within_cut amb creds.ambient (cut i i) raised (within_cut amb i i own own),
     )
 
--- before the program is executed
-pub record IsReady (uid i : ℕ) (creds : Creds) : Type 0 where
+-- before the program is executed: the inheritable set is this one, and a user has the ambient set
+pub record IsReady (uid amb i : ℕ) (creds : Creds) : Type 0 where
   pub sets : ℕ
   pub has : Has uid sets sets i creds
-  pub inherits : IsWithin i sets
   pub root : eqb uid 0 ≡ true → sets ≡ all
-  pub raised : eqb uid 0 ≡ false → IsWithin i creds.ambient
+  pub raised : eqb uid 0 ≡ false → IsWithin amb creds.ambient
 
-pub no_new_privs : (uid i : ℕ) (creds now : Creds) → IsReady uid i creds
-    → ◌≡◌ {A = Result Creds ℕ} (Ok (after_set_no_new_privs creds)) (Ok now) → IsReady uid i now
-no_new_privs uid i creds now r is =
-    subst (IsReady uid i) (ok_is (after_set_no_new_privs creds) now is) (record { sets = r.sets; has = let h = r.has in search rules; inherits = r.inherits; root = r.root; raised = r.raised })
+pub no_new_privs : (uid amb i : ℕ) (creds now : Creds) → IsReady uid amb i creds
+    → ◌≡◌ {A = Result Creds ℕ} (Ok (after_set_no_new_privs creds)) (Ok now) → IsReady uid amb i now
+no_new_privs uid amb i creds now r is =
+    subst (IsReady uid amb i) (ok_is (after_set_no_new_privs creds) now is)
+    (record { sets = r.sets; has = let h = r.has in search rules; root = r.root; raised = r.raised })
 
-pub refuses_memory : (uid i : ℕ) (creds now : Creds) → IsReady uid i creds
-    → ◌≡◌ {A = Result Creds ℕ} (Ok (after_set_mdwe creds)) (Ok now) → IsReady uid i now
-refuses_memory uid i creds now r is =
-    subst (IsReady uid i) (ok_is (after_set_mdwe creds) now is) (record { sets = r.sets; has = let h = r.has in search rules; inherits = r.inherits; root = r.root; raised = r.raised })
+pub refuses_memory : (uid amb i : ℕ) (creds now : Creds) → IsReady uid amb i creds
+    → ◌≡◌ {A = Result Creds ℕ} (Ok (after_set_mdwe creds)) (Ok now) → IsReady uid amb i now
+refuses_memory uid amb i creds now r is =
+    subst (IsReady uid amb i) (ok_is (after_set_mdwe creds) now is)
+    (record { sets = r.sets; has = let h = r.has in search rules; root = r.root; raised = r.raised })
 
-pub ready_root : (uid amb : ℕ) (creds : Creds) → eqb uid 0 ≡ true → Has uid all all amb creds → IsReady uid amb creds
-ready_root uid amb creds e h = record { sets = all; has = h; inherits = within_through amb creds.bounding all h.inheritable_bounding h.bounding; root = λ _. refl; raised = λ o. absurd (differ o) }
+pub ready_root : (uid amb i : ℕ) (creds : Creds) → eqb uid 0 ≡ true → Has uid all all i creds → IsReady uid amb i creds
+ready_root uid amb i creds e h = record { sets = all; has = h; root = λ _. refl; raised = λ o. absurd (differ o) }
   where
     differ : eqb uid 0 ≡ false → ⊥
     differ o = cc
 
-pub ready_user : (uid amb : ℕ) (creds : Creds) → eqb uid 0 ≡ false → Has uid amb amb amb creds × IsWithin amb creds.ambient
-    → IsReady uid amb creds
-ready_user uid amb creds e (h, raised) =
-    record { sets = amb; has = h; inherits = within_self amb; root = λ o. absurd (differ o); raised = λ _. raised }
+pub ready_user : (uid amb i : ℕ) (creds : Creds) → eqb uid 0 ≡ false → Has uid i i i creds × IsWithin amb creds.ambient
+    → IsReady uid amb i creds
+ready_user uid amb i creds e (h, raised) = record { sets = i; has = h; root = λ o. absurd (differ o); raised = λ _. raised }
+  where
+    differ : eqb uid 0 ≡ true → ⊥
+    differ o = cc
+
+-- ---- what was kept is given up
+-- while it is given up: the bounding set still has a set that is to stay
+pub record GivesUp (uid amb left : ℕ) (creds : Creds) : Type 0 where
+  pub uids : creds.uids ≡ all_of uid
+  pub gids : AreOne creds.gids
+  pub stays : IsWithin left creds.bounding
+  pub bounding : IsWithin creds.bounding all
+  pub raised : IsWithin amb creds.ambient
+
+pub gives_up : (uid amb i left : ℕ) (creds : Creds) → eqb uid 0 ≡ false → IsWithin left i → IsReady uid amb i creds
+    → GivesUp uid amb left creds
+gives_up uid amb i left creds user own r = record {
+  uids = r.has.uids;
+  gids = r.has.gids;
+  stays = within_through left i creds.bounding own r.has.inheritable_bounding;
+  bounding = r.has.bounding;
+  raised = r.raised user;
+}
+
+-- a set without a capability stays when that is taken away
+without_single : (a b k : ℕ) → IsWithin a b → has a k ≡ false → IsWithin a (minus b (single k))
+without_single a b k own lacks = record { each = λ number h. has_minus b (single k) number ∙ by number h (eqb number k) refl }
+  where
+    by : (number : ℕ) → has a number ≡ true → (c : Bool) → eqb number k ≡ c → (has b number && not (has (single k) number)) ≡ true
+    by number h false e = and_from (has b number) (not (has (single k) number)) (own.each number h) (ap not (has_single k number ∙ e))
+    by number h true e =
+        let same : number ≡ k = eqb-true number k e in
+        let none' : has a number ≡ false = ap (has a) same ∙ lacks in
+        cc
+
+pub drops_kept : (uid amb left cap : ℕ) (creds now : Creds) → has left cap ≡ false → GivesUp uid amb left creds
+    → after_drop_bounding creds cap ≡ Ok now → GivesUp uid amb left now
+drops_kept uid amb left cap creds now lacks g is =
+    by_if (GivesUp uid amb left) (nat_lt 40 cap) 22 _ now is λ is.
+    by_if (GivesUp uid amb left) (not (has creds.effective 8)) 1 (Ok (record creds { bounding = minus creds.bounding (single cap) })) now is
+    λ is.
+    subst (GivesUp uid amb left) (ok_is (record creds { bounding = minus creds.bounding (single cap) }) now is) (record {
+      uids = g.uids;
+      gids = g.gids;
+      stays = without_single left creds.bounding cap g.stays lacks;
+      bounding = minus_within creds.bounding (single cap) all g.bounding;
+      raised = g.raised;
+    })
+
+-- the last capset leaves the ambient set
+pub set_ambient : (uid amb left : ℕ) (creds now : Creds) → eqb uid 0 ≡ false → IsWithin amb left → GivesUp uid amb left creds
+    → after_capset creds amb amb left ≡ Ok now → IsReady uid amb left now
+set_ambient uid amb left creds now user own g is =
+    by_unless (IsReady uid amb left) (may_capset creds amb amb left) 1 (with_sets creds amb amb left) now is λ may.
+    record {
+      sets = amb;
+      has = record {
+        uids = g.uids;
+        gids = g.gids;
+        permitted = refl;
+        effective = refl;
+        inheritable = refl;
+        ambient_inheritable =
+            cut_within_right creds.ambient (cut amb left) left (cut_within_right amb left left (within_self left));
+        ambient_permitted = cut_within_right creds.ambient (cut amb left) amb (cut_within_left amb left amb (within_self amb));
+        inheritable_bounding = g.stays;
+        bounding = g.bounding;
+      };
+      root = λ o. absurd (differ o);
+      raised = λ _. within_cut amb creds.ambient (cut amb left) g.raised (within_cut amb amb left (within_self amb) own);
+    }
   where
     differ : eqb uid 0 ≡ true → ⊥
     differ o = cc
@@ -311,7 +380,7 @@ either_same : (b : Bool) (x y z : ℕ) → x ≡ z → y ≡ z → cond b x y �
 either_same true x y z e f = e
 either_same false x y z e f = f
 
-module _ (uid i : ℕ) (file : FileCreds) (nosuid : Bool) (creds : Creds) (r : IsReady uid i creds) (privileged : is_privileged file ≡ false) where
+module _ (uid amb i kept : ℕ) (file : FileCreds) (nosuid : Bool) (creds : Creds) (r : IsReady uid amb i creds) (spares : IsWithin i (union amb kept)) (privileged : is_privileged file ≡ false) where
   h : Bool
   h = honours creds nosuid
 
@@ -357,8 +426,12 @@ module _ (uid i : ℕ) (file : FileCreds) (nosuid : Bool) (creds : Creds) (r : I
   ambient_p : IsWithin creds.ambient creds.permitted
   ambient_p = subst (IsWithin creds.ambient) (sym r.has.permitted) r.has.ambient_permitted
 
-  inheritable_p : IsWithin creds.inheritable creds.permitted
-  inheritable_p = subst (λ n. IsWithin n creds.permitted) (sym r.has.inheritable) (subst (IsWithin i) (sym r.has.permitted) r.inherits)
+  inheritable_p : eqb uid 0 ≡ true → IsWithin creds.inheritable creds.permitted
+  inheritable_p e = subst (λ n. IsWithin n creds.permitted) (sym r.has.inheritable) (subst (IsWithin i) (sym (r.has.permitted ∙ r.root e)) (within_through i creds.bounding all r.has.inheritable_bounding r.has.bounding))
+
+  -- a user has the ambient set, and so all that is inheritable but what was kept
+  inheritable_a : eqb uid 0 ≡ false → IsWithin creds.inheritable (union creds.ambient kept)
+  inheritable_a e = subst (λ n. IsWithin n (union creds.ambient kept)) (sym r.has.inheritable) (within_through i (union amb kept) (union creds.ambient kept) spares (union_within amb kept (union creds.ambient kept) (within_union_left amb creds.ambient kept (r.raised e)) (within_union_right kept creds.ambient kept (within_self kept))))
 
   inheritable_b : IsWithin creds.inheritable creds.bounding
   inheritable_b = subst (λ n. IsWithin n creds.bounding) (sym r.has.inheritable) r.has.inheritable_bounding
@@ -369,7 +442,7 @@ module _ (uid i : ℕ) (file : FileCreds) (nosuid : Bool) (creds : Creds) (r : I
   record Sets : Type 0 where
     pub full : exec_effective creds file nosuid ≡ exec_permitted creds file nosuid
     pub ambient : IsWithin creds.ambient (exec_permitted creds file nosuid)
-    pub inheritable : IsWithin creds.inheritable (exec_permitted creds file nosuid)
+    pub inheritable : IsWithin creds.inheritable (union (exec_permitted creds file nosuid) kept)
     pub root : eqb uid 0 ≡ true → IsWithin creds.bounding (exec_permitted creds file nosuid)
 
   sets_root : eqb uid 0 ≡ true → Sets
@@ -383,9 +456,10 @@ module _ (uid i : ℕ) (file : FileCreds) (nosuid : Bool) (creds : Creds) (r : I
         ambient = subst (IsWithin creds.ambient) (sym own)
             (within_cond creds.no_new_privs creds.ambient gained creds.permitted
             (within_union_left creds.ambient creds.inheritable creds.bounding ambient_i) ambient_p);
-        inheritable = subst (IsWithin creds.inheritable) (sym own)
+        inheritable = within_union_left creds.inheritable (exec_permitted creds file nosuid) kept
+            (subst (IsWithin creds.inheritable) (sym own)
             (within_cond creds.no_new_privs creds.inheritable gained creds.permitted
-            (within_union_left creds.inheritable creds.inheritable creds.bounding (within_self creds.inheritable)) inheritable_p);
+            (within_union_left creds.inheritable creds.inheritable creds.bounding (within_self creds.inheritable)) (inheritable_p e)));
         root = λ _. subst (IsWithin creds.bounding) (sym own)
             (within_cond creds.no_new_privs creds.bounding gained creds.permitted
             (within_union_right creds.bounding creds.inheritable creds.bounding (within_self creds.bounding))
@@ -402,8 +476,7 @@ module _ (uid i : ℕ) (file : FileCreds) (nosuid : Bool) (creds : Creds) (r : I
         full = effective_is ∙ either_same (eqb uid 0 || (honours creds nosuid && file.effective))
             (exec_permitted creds file nosuid) creds.ambient (exec_permitted creds file nosuid) refl (sym own);
         ambient = subst (IsWithin creds.ambient) (sym own) (within_self creds.ambient);
-        inheritable = subst (IsWithin creds.inheritable) (sym own)
-            (subst (λ n. IsWithin n creds.ambient) (sym r.has.inheritable) (r.raised e));
+        inheritable = subst (λ n. IsWithin creds.inheritable (union n kept)) (sym own) (inheritable_a e);
         root = λ o. absurd (differ o);
       }
     where
@@ -414,7 +487,7 @@ module _ (uid i : ℕ) (file : FileCreds) (nosuid : Bool) (creds : Creds) (r : I
   sets_are true e = sets_root e
   sets_are false e = sets_user e
 
-  launched_creds : IsLaunchedCreds done
+  launched_creds : IsLaunchedCreds kept done
   launched_creds =
       let s : Sets = sets_are (eqb uid 0) refl in
       let P : ℕ → ℕ → Type 0 = IsWithin in
@@ -427,11 +500,11 @@ module _ (uid i : ℕ) (file : FileCreds) (nosuid : Bool) (creds : Creds) (r : I
         ambient_inheritable = subst (λ n. IsWithin n creds.inheritable) (sym ambient_is) ambient_i;
         ambient_permitted = subst (λ n. IsWithin n (exec_permitted creds file nosuid)) (sym ambient_is) s.ambient;
         inheritable_bounding = inheritable_b;
-        inheritable_effective = subst (IsWithin creds.inheritable) (sym s.full) s.inheritable;
+        inheritable_effective = subst (λ n. IsWithin creds.inheritable (union n kept)) (sym s.full) s.inheritable;
         root = λ zero'. subst (IsWithin creds.bounding) (sym s.full)
             (s.root (ap (λ n. eqb n 0) (sym (ap (λ (ids : Ids). ids.effective) uids_are) ∙ zero')));
       }
 
-  pub executed : (now : Creds) → after_exec creds file nosuid ≡ Ok now → IsLaunchedCreds now
-  executed now is = by_if IsLaunchedCreds (is_refused creds file nosuid) 1 (Ok (exec_done creds file nosuid)) now is
-      λ is. subst IsLaunchedCreds (ok_is (exec_done creds file nosuid) now is) launched_creds
+  pub executed : (now : Creds) → after_exec creds file nosuid ≡ Ok now → IsLaunchedCreds kept now
+  executed now is = by_if (IsLaunchedCreds kept) (is_refused creds file nosuid) 1 (Ok (exec_done creds file nosuid)) now is
+      λ is. subst (IsLaunchedCreds kept) (ok_is (exec_done creds file nosuid) now is) launched_creds

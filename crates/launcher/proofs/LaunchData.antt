@@ -30,3 +30,15 @@ fits table whole arch name one small = record {
   args = All-from_recursion (λ arg. arg < 2 ^ 64) (one ∷ 0 ∷ 0 ∷ 0 ∷ 0 ∷ 0 ∷ [])
       (small, (omega arith, (omega arith, (omega arith, (omega arith, (omega arith, tt))))));
 }
+
+-- the same of two words
+pub fits_two : (table : calls.Table) → IsWhole table → HasWordArchs table → (name : List ℕ) (one two : ℕ) → one < 2 ^ 64 → two < 2 ^ 64
+    → IsCallData (record { nr = number_of table.calls name; arch = table.arch; ip = 0; args = one ∷ two ∷ 0 ∷ 0 ∷ 0 ∷ 0 ∷ [] })
+fits_two table whole arch name one two small small' = record {
+  nr = number_small table.calls name whole.sound.calls.in_range;
+  arch = arch 0;
+  ip = omega arith;
+  count = refl;
+  args = All-from_recursion (λ arg. arg < 2 ^ 64) (one ∷ two ∷ 0 ∷ 0 ∷ 0 ∷ 0 ∷ [])
+      (small, (small', (omega arith, (omega arith, (omega arith, (omega arith, tt))))));
+}

@@ -1,15 +1,18 @@
 -- A launch, part by part.
 use Rattle.std.proofs.Common.{◌≡◌, ℕ, Bool, true, false, cond, codes, List, [], ◌∷◌, ◌++◌, Ok, Err, refl, ap, ◌∙◌, sym, subst, length}
 use Rattle.std.proofs.Common.{arith, eqb, Result}
-use Rattle.std.specs.Prelude.{not, map, filter, ◌<◌, ◌^◌, ◌%◌, ◌&&◌}
+use Rattle.std.specs.Prelude.{not, map, filter, ◌<◌, ◌^◌, ◌%◌, ◌&&◌, ◌||◌}
 use Rattle.std.specs.List.{AllByRecursion}
-use Rattle.std.proofs.lemmas.Bool.{eqb-true}
+use Rattle.std.proofs.lemmas.Bool.{and_parts, eqb-true, not-true}
 use Rattle.std.proofs.lemmas.Bool.Decides.{nat_tests}
 use Rattle.exec_settings.specs.abs_path.Paths.{Path}
+use Rattle.kernel_laws.specs.bpf_code.declared.machine.CallData.{CallData}
 use Rattle.kernel_laws.specs.bpf_code.declared.machine.Insn.{Insn}
-use Rattle.exec_settings.specs.cap_sets.Sets.{has, none, all, single, union, IsWithin}
+use Rattle.kernel_laws.specs.bpf_code.declared.decision.Decision.TheVariants as decision
+use Rattle.kernel_laws.specs.bpf_code.Stack.{decision_on}
+use Rattle.exec_settings.specs.cap_sets.Sets.{has, none, all, single, union, cut, minus, IsWithin}
 use Rattle.exec_settings.proofs.OfCapSets.Members.{within_self, within_through, none_within, union_within, single_within, within_union_left}
-use Rattle.exec_settings.proofs.OfCapSets.Members.{within_union_right, has_single}
+use Rattle.exec_settings.proofs.OfCapSets.Members.{within_union_right, cut_within_left, has_single, has_cut, has_minus, has_union}
 use Rattle.kernel_laws.specs.call_table.Table as calls
 use Rattle.exec_settings.specs.site_table.Table.{Site, row_at}
 use Rattle.exec_settings.specs.site_table.declared.row.Row.{Row}
@@ -35,8 +38,9 @@ use Rattle.kernel_laws.specs.kernel_model.kern_files.Executing.{marks_of, execut
 use Rattle.launcher.specs.Launch.{Wanted, LaunchStep, Launched, PrivilegedProgram, makes, first_call, prctl_step, capset_step, launch_step}
 use Rattle.launcher.specs.Launch.{launch_steps, launch_from, mount_steps, with_unshare, is_privileged_row, group_steps, drop_steps}
 use Rattle.launcher.specs.Launch.{inherit_steps, user_steps, raise_steps, left_steps, privilege_steps, memory_steps, identity_steps, filter_steps}
-use Rattle.launcher.specs.Launch.{program_steps, set_keepcaps, capbset_drop, set_no_new_privs, cap_ambient, ambient_raise, set_mdwe, set_mode_filter}
-use Rattle.kernel_laws.specs.Launched.{launch_of}
+use Rattle.launcher.specs.Launch.{program_steps, give_up_steps, given_up_steps, last_steps, number_of, held, held_if, with_held, set_keepcaps, capbset_drop, set_no_new_privs, cap_ambient, ambient_raise, set_mdwe, set_mode_filter}
+use Rattle.kernel_laws.specs.Kinds.{no_words}
+use Rattle.kernel_laws.specs.Launched.{Launch, launch_of, passes}
 use Rattle.exec_settings.specs.site_table.Kinds.{is_exe}
 use Rattle.kernel_laws.specs.kern_mounts.Mounts.{Mounts as MountList, first_mounts, plain as plain_mount}
 use Rattle.kernel_laws.specs.kern_mounts.Split.{Table}
@@ -45,15 +49,15 @@ use Rattle.kernel_laws.specs.kernel_model.Runs.{IsDone}
 use Rattle.kernel_laws.specs.kernel_model.World.{World, has_mdwe, start_world, of_number}
 use Rattle.kernel_laws.specs.kernel_model.declared.reply.Reply.{Reply}
 use Rattle.kernel_laws.specs.kernel_model.Step.{step, applied}
-use Rattle.launcher.specs.Launches.{HasLaunchCalls, AreRead, IsLaunchedCreds, Leaves, LaunchLeaves}
+use Rattle.launcher.specs.Launches.{HasLaunchCalls, AreRead, IsLaunchedCreds, KeepsForUser, Leaves, LaunchLeaves}
 use Rattle.mount_plan.specs.Host.{host_of as site_host}
 use Rattle.launcher.proofs.HostRoot.{BeginsAtHostRoot, begins_at_host}
-use Rattle.launcher.proofs.Leading.{Leads, launched_leads, leads_parts, leads_map, append_assoc, append_none, append_parts}
+use Rattle.launcher.proofs.Leading.{Leads, launched_leads, leads_parts, leads_map, append_assoc, append_none, append_parts, clash}
 use Rattle.launcher.proofs.MakingPlan.{plan_mounted}
-use Rattle.launcher.proofs.RaisedAll.{counted_small, filter_keeps, all_raised}
-use Rattle.launcher.proofs.Solo.{ones_number, ones_length, At, solo, only, weaker, makes_creds, makes_creds_here, own_host, makes_push, does, creds_done, own_table}
-use Rattle.launcher.proofs.LaunchCreds.{Has, starts, set_groups, set_gids, drops, set_all, keeps_caps, set_uid, Raised, raises, set_ambient}
-use Rattle.launcher.proofs.LaunchCreds.{IsReady, no_new_privs, refuses_memory, ready_root, ready_user, executed}
+use Rattle.launcher.proofs.RaisedAll.{counted_small, filter_keeps, filter_passes, all_raised}
+use Rattle.launcher.proofs.Solo.{ones_number, ones_length, At, solo, only, weaker, passed, makes_creds, makes_creds_here, own_host, makes_push, does, creds_done, own_table}
+use Rattle.launcher.proofs.LaunchCreds.{Has, starts, set_groups, set_gids, drops, set_all, keeps_caps, set_uid, Raised, raises, set_left}
+use Rattle.launcher.proofs.LaunchCreds.{IsReady, GivesUp, no_new_privs, refuses_memory, ready_root, ready_user, gives_up, drops_kept, set_ambient, executed}
 use Rattle.launcher.proofs.LaunchCalls.{launch_calls}
 use Rattle.kernel_laws.specs.linux_numbers.Errnos.{eacces, einval}
 
@@ -139,14 +143,14 @@ module _ (table : calls.Table) (site : Site) (calls' : HasLaunchCalls table.call
         let more = filtered Q programs (own ++ next.code ∷ []) (launch_step world (makes table.calls (codes "seccomp") set_mode_filter 0 0 (Code bytes))).1 last next.at l.1 in
         record { codes' = next.code ∷ more.codes'; read = (next.read, more.read); at = subst (λ (s : List (List Insn)). Here Q s plan last) (append_assoc own (next.code ∷ []) more.codes') more.at }
 
-    nothing_new : (b : Bool) (uid i : ℕ) (own : List (List Insn)) (world last : World) → Here (IsReady uid i) own plan world
-        → Leads world (if_so b (prctl_step table.calls set_no_new_privs 1 0)) last → Here (IsReady uid i) own plan last
-    nothing_new true uid i own world last at l =
-        subst (Here (IsReady uid i) own plan) l.1
-        (makes_creds table site (IsReady uid i) (IsReady uid i) (codes "prctl") 38 1 0 Nothing (rule.Known known.Prctl) (d.Prctl 38 1 0 0 0)
+    nothing_new : (b : Bool) (uid amb i : ℕ) (own : List (List Insn)) (world last : World) → Here (IsReady uid amb i) own plan world
+        → Leads world (if_so b (prctl_step table.calls set_no_new_privs 1 0)) last → Here (IsReady uid amb i) own plan last
+    nothing_new true uid amb i own world last at l =
+        subst (Here (IsReady uid amb i) own plan) l.1
+        (makes_creds table site (IsReady uid amb i) (IsReady uid amb i) (codes "prctl") 38 1 0 Nothing (rule.Known known.Prctl) (d.Prctl 38 1 0 0 0)
         (λ c. Ok (after_set_no_new_privs c)) calls'.prctl refl (λ host creds stack mounts owns. refl)
-        (λ c now h is. no_new_privs uid i c now h is) own plan world at l.0)
-    nothing_new false uid i own world last at l = subst (Here (IsReady uid i) own plan) l at
+        (λ c now h is. no_new_privs uid amb i c now h is) own plan world at l.0)
+    nothing_new false uid amb i own world last at l = subst (Here (IsReady uid amb i) own plan) l at
 
     -- the mark that refuses memory, by whether the host has it
     abbrev marked : Bool → Creds → Result Creds ℕ
@@ -156,18 +160,122 @@ module _ (table : calls.Table) (site : Site) (calls' : HasLaunchCalls table.call
     mark_set true c = refl
     mark_set false c = refl
 
-    mark_ready : (mdwe : Bool) (uid i : ℕ) (c now : Creds) → IsReady uid i c → marked mdwe c ≡ Ok now → IsReady uid i now
-    mark_ready true uid i c now h is = refuses_memory uid i c now h is
-    mark_ready false uid i c now h is = cc
+    mark_ready : (mdwe : Bool) (uid amb i : ℕ) (c now : Creds) → IsReady uid amb i c → marked mdwe c ≡ Ok now → IsReady uid amb i now
+    mark_ready true uid amb i c now h is = refuses_memory uid amb i c now h is
+    mark_ready false uid amb i c now h is = cc
 
-    no_memory : (b : Bool) (uid i : ℕ) (own : List (List Insn)) (world last : World) → Here (IsReady uid i) own plan world
-        → Leads world (if_so b (prctl_step table.calls set_mdwe 1 0)) last → Here (IsReady uid i) own plan last
-    no_memory true uid i own world last at l =
-        subst (Here (IsReady uid i) own plan) l.1
-        (makes_creds_here table site (IsReady uid i) (IsReady uid i) (codes "prctl") 65 1 0 Nothing (rule.Known known.Prctl)
+    no_memory : (b : Bool) (uid amb i : ℕ) (own : List (List Insn)) (world last : World) → Here (IsReady uid amb i) own plan world
+        → Leads world (if_so b (prctl_step table.calls set_mdwe 1 0)) last → Here (IsReady uid amb i) own plan last
+    no_memory true uid amb i own world last at l =
+        subst (Here (IsReady uid amb i) own plan) l.1
+        (makes_creds_here table site (IsReady uid amb i) (IsReady uid amb i) (codes "prctl") 65 1 0 Nothing (rule.Known known.Prctl)
         (d.Prctl 65 1 0 0 0) (marked (has_mdwe site)) calls'.prctl refl (λ creds stack mounts owns. mark_set (has_mdwe site) creds)
-        (λ c now h is. mark_ready (has_mdwe site) uid i c now h is) own plan world at l.0)
-    no_memory false uid i own world last at l = subst (Here (IsReady uid i) own plan) l at
+        (λ c now h is. mark_ready (has_mdwe site) uid amb i c now h is) own plan world at l.0)
+    no_memory false uid amb i own world last at l = subst (Here (IsReady uid amb i) own plan) l at
+
+  -- ---- what was kept is given up, behind the filters
+  -- the data of capset(2), as filters see it
+  abbrev pub capset_data : CallData
+  capset_data = record { nr = number_of table.calls (codes "capset"); arch = table.arch; ip = 0; args = 0 ∷ 0 ∷ 0 ∷ 0 ∷ 0 ∷ 0 ∷ [] }
+
+  module _ (stack : List (List Insn)) (plan : Table) (uid amb left : ℕ) where
+    abbrev Giving : World → Type 0
+    Giving = Here (GivesUp uid amb left) stack plan
+
+    abbrev IsGiven : ℕ → Type 0
+    IsGiven cap = (cap < 2 ^ 32) × (has left cap ≡ false)
+
+    given_all : (caps : List ℕ) (world last : World) → AllByRecursion IsGiven caps → Giving world
+        → Leads world (map (λ cap. prctl_step table.calls capbset_drop cap 0) caps) last → Giving last
+    given_all [] world last each at l = subst Giving l at
+    given_all (cap ∷ caps) world last each at l =
+        let small : cap < 2 ^ 32 = each.0.0 in
+        let same : cap ≡ cap % 2 ^ 32 = omega arith in
+        let lacks : has left (cap % 2 ^ 32) ≡ false = subst (λ n. has left n ≡ false) same each.0.1 in
+        let next = makes_creds table site (GivesUp uid amb left) (GivesUp uid amb left) (codes "prctl") 24 cap 0 Nothing (rule.Known known.Prctl) (d.Prctl 24 (cap % 2 ^ 32) 0 0 0) (λ c. after_drop_bounding c (cap % 2 ^ 32)) calls'.prctl refl (λ host creds stack mounts owns. refl)
+        (λ c now h is. drops_kept uid amb left (cap % 2 ^ 32) c now lacks h is) stack plan world at l.0 in
+        given_all caps (launch_step world (prctl_step table.calls capbset_drop cap 0)).1 last each.1 next l.1
+
+    -- capset(2), which is done, was let through
+    pub record GivenUp (last : World) : Type 0 where
+      pub at : Here (IsReady uid amb left) stack plan last
+      pub passes : decision_on stack capset_data ≡ decision.Pass
+
+    given_up : (i : ℕ) (caps : List ℕ) (world last : World) → eqb uid 0 ≡ false → IsWithin left i → IsWithin amb left
+        → AllByRecursion IsGiven caps → Here (IsReady uid amb i) stack plan world
+        → Leads world (map (λ cap. prctl_step table.calls capbset_drop cap 0) caps ++ capset_step table.calls amb amb left ∷ []) last
+        → GivenUp last
+    given_up i caps world last user below own each at l =
+        let parts = leads_parts world (map (λ cap. prctl_step table.calls capbset_drop cap 0) caps) (capset_step table.calls amb amb left ∷ []) last l in
+        let giving : Giving parts.mid = given_all caps world parts.mid each (weaker table site (IsReady uid amb i) (GivesUp uid amb left) stack plan world (λ c h. gives_up uid amb i left c user below h) at) parts.before in
+        let done = makes_creds table site (GivesUp uid amb left) (IsReady uid amb left) (codes "capset") 0 0 0 (Sets amb amb left) (rule.Known known.Capset) (d.Capset amb amb left) (λ c. after_capset c amb amb left) calls'.capset refl (λ host creds stack mounts owns. refl)
+        (λ c now h is. set_ambient uid amb left c now user own h is) stack plan parts.mid giving parts.after.0 in
+        let call : Call = first_call table.calls (codes "capset") (0 ∷ 0 ∷ 0 ∷ 0 ∷ 0 ∷ 0 ∷ []) (Sets amb amb left) in
+        let world' : World = solo table site giving.creds stack giving.namespace giving.tables in
+        let there : IsDone (step world' call).0 = subst (λ (v : World). IsDone (step v call).0) giving.is parts.after.0 in
+        record {
+          at = subst (Here (IsReady uid amb left) stack plan) parts.after.1 done;
+          passes = passed table site world' call (only table site giving.creds stack giving.namespace) (decision_on stack capset_data) there;
+        }
+
+  -- the inheritable set behind that
+  abbrev pub left_over : Wanted → ℕ
+  left_over wanted = cond wanted.keeps_capabilities (union wanted.ambient (cut held wanted.bounding)) wanted.ambient
+
+  pub record LeftOver (wanted : Wanted) (stack : List (List Insn)) (plan : Table) (last : World) : Type 0 where
+    pub at : Here (IsReady wanted.uid wanted.ambient (left_over wanted)) stack plan last
+    pub passes : wanted.keeps_capabilities ≡ true → decision_on stack capset_data ≡ decision.Pass
+
+  module _ (stack : List (List Insn)) (plan : Table) (wanted : Wanted) (keeps : KeepsForUser wanted) where
+    abbrev own : ℕ
+    own = union wanted.ambient (cut held wanted.bounding)
+
+    -- what the bounding set lacks is not left over
+    lacking : wanted.keeps_capabilities ≡ true → (cap : ℕ) → has (minus held wanted.bounding) cap ≡ true → has own cap ≡ false
+    lacking on cap h =
+        let lacks : has wanted.bounding cap ≡ false = not-true (has wanted.bounding cap) (and_parts (has held cap) (not (has wanted.bounding cap)) (sym (has_minus held wanted.bounding cap) ∙ h)).1 in
+        has_union wanted.ambient (cut held wanted.bounding) cap
+        ∙ ap (λ b. has wanted.ambient cap || b) (has_cut held wanted.bounding cap ∙ ap (λ b. has held cap && b) lacks ∙ and_off (has held cap))
+        ∙ or_off (has wanted.ambient cap) refl lacks
+      where
+        and_off : (b : Bool) → (b && false) ≡ false
+        and_off true = refl
+        and_off false = refl
+
+        or_off : (b : Bool) → has wanted.ambient cap ≡ b → has wanted.bounding cap ≡ false → (b || false) ≡ false
+        or_off false e lacks = refl
+        or_off true e lacks = let there : has wanted.bounding cap ≡ true = (keeps.ambient on).each cap e in cc
+
+    given_caps : wanted.keeps_capabilities ≡ true → AllByRecursion (λ cap. (cap < 2 ^ 32) × (has own cap ≡ false)) (filter (has (minus held wanted.bounding)) (count_from 0 41))
+    given_caps on = filter_passes (λ n. n < 2 ^ 32) (λ cap. (cap < 2 ^ 32) × (has own cap ≡ false)) (has (minus held wanted.bounding)) (λ cap small h. (small, lacking on cap h))
+        (count_from 0 41) (counted_small 0 41 (omega arith))
+
+    own_below : IsWithin own (union wanted.ambient held)
+    own_below = union_within wanted.ambient (cut held wanted.bounding) (union wanted.ambient held)
+        (within_union_left wanted.ambient wanted.ambient held (within_self wanted.ambient))
+        (within_union_right (cut held wanted.bounding) wanted.ambient held (cut_within_left held wanted.bounding held (within_self held)))
+
+    abbrev After : Bool → World → Type 0
+    After b last = Here (IsReady wanted.uid wanted.ambient (cond b own wanted.ambient)) stack plan last
+        × (b ≡ true → decision_on stack capset_data ≡ decision.Pass)
+
+    leaves_by : (b : Bool) → wanted.keeps_capabilities ≡ b → (world last : World)
+        → Here (IsReady wanted.uid wanted.ambient (with_held b wanted.ambient)) stack plan world
+        → Leads world (cond b (given_up_steps table.calls (minus held wanted.bounding)
+        ++ capset_step table.calls wanted.ambient wanted.ambient own ∷ []) []) last
+        → After b last
+    leaves_by true on world last at l =
+        let g = given_up stack plan wanted.uid wanted.ambient own (union wanted.ambient held) (filter (has (minus held wanted.bounding)) (count_from 0 41)) world last (keeps.user on) own_below
+        (within_union_left wanted.ambient wanted.ambient (cut held wanted.bounding) (within_self wanted.ambient)) (given_caps on) at l in
+        (g.at, λ e. g.passes)
+    leaves_by false off world last at l =
+        (subst (Here (IsReady wanted.uid wanted.ambient wanted.ambient) stack plan) l at, λ e. absurd (clash false e refl))
+
+    pub left_behind : (world last : World) → Here (IsReady wanted.uid wanted.ambient (with_held wanted.keeps_capabilities wanted.ambient)) stack plan world
+        → Leads world (give_up_steps table.calls wanted) last → LeftOver wanted stack plan last
+    left_behind world last at l =
+        let done = leaves_by wanted.keeps_capabilities refl world last at l in
+        record { at = done.0; passes = done.1 }
 
   -- ---- the program
   record Executes (creds : Creds) (effect : Effect) : Type 0 where
@@ -195,11 +303,11 @@ module _ (table : calls.Table) (site : Site) (calls' : HasLaunchCalls table.call
   executes creds stack namespace tables flags empty_directory unmarked done = absurd done
   executes creds stack namespace tables flags (nothing errno) unmarked done = absurd done
 
-  executed_here : (uid i : ℕ) (program : Path) (stack : List (List Insn)) (plan : Table) (world last : World)
-      → is_privileged_row (finds (row_at site.rows) plan program) ≡ false
-      → Here (IsReady uid i) stack plan world → Leads world (makes table.calls (codes "execve") 0 0 0 (OnePath program) ∷ []) last
-      → Here IsLaunchedCreds stack plan last
-  executed_here uid i program stack plan world last unmarked at l =
+  executed_here : (uid amb i kept : ℕ) (program : Path) (stack : List (List Insn)) (plan : Table) (world last : World)
+      → is_privileged_row (finds (row_at site.rows) plan program) ≡ false → IsWithin i (union amb kept)
+      → Here (IsReady uid amb i) stack plan world → Leads world (makes table.calls (codes "execve") 0 0 0 (OnePath program) ∷ []) last
+      → Here (IsLaunchedCreds kept) stack plan last
+  executed_here uid amb i kept program stack plan world last unmarked spares at l =
       let own : World = solo table site at.creds stack at.namespace at.tables in
       let call : Call = first_call table.calls (codes "execve") (0 ∷ 0 ∷ 0 ∷ 0 ∷ 0 ∷ 0 ∷ []) (OnePath program) in
       let done : IsDone (step own call).0 = subst (λ (v : World). IsDone (step v call).0) at.is l.0 in
@@ -214,62 +322,64 @@ module _ (table : calls.Table) (site : Site) (calls' : HasLaunchCalls table.call
         creds = found.0;
         namespace = at.namespace;
         tables = at.tables;
-        as_asked = executed uid i e.file e.nosuid at.creds at.as_asked e.plain found.0 found.1;
+        as_asked = executed uid amb i kept e.file e.nosuid at.creds at.as_asked spares e.plain found.0 found.1;
         is = sym l.1 ∙ ap (λ (v : World). (step v call).1) at.is ∙ ap (λ (out : Reply × World). out.1) whole ∙ found.2;
         own = at.own;
       }
 
   -- ---- from the first capset to the last
-  module _ (plan : Table) (uid amb : ℕ) (small : uid < no_id) where
+  module _ (plan : Table) (uid amb i : ℕ) (small : uid < no_id) (own : IsWithin amb i) where
     low : uid % 2 ^ 32 ≡ uid
     low = omega arith
-
-    caps : List ℕ
-    caps = filter (has amb) (count_from 0 41)
 
     caps_small : AllByRecursion (λ n. n < 2 ^ 32) (filter (has amb) (count_from 0 41))
     caps_small = filter_keeps (λ n. n < 2 ^ 32) (has amb) (count_from 0 41) (counted_small 0 41 (omega arith))
 
-    user_ready : (b : Bool) → eqb uid 0 ≡ b → (world one two last : World) → Here (Has 0 all all amb) [] plan world
+    user_ready : (b : Bool) → eqb uid 0 ≡ b → (world one two last : World) → Here (Has 0 all all i) [] plan world
         → Leads world (cond b [] (prctl_step table.calls set_keepcaps 1 0 ∷ makes table.calls
         (codes "setresuid") uid uid uid Nothing ∷ [])) one
         → Leads one (map (λ cap. prctl_step table.calls cap_ambient ambient_raise cap) (filter (has amb) (count_from 0 41))) two
-        → Leads two (cond b [] (capset_step table.calls amb amb amb ∷ [])) last
-        → Here (IsReady uid amb) [] plan last
+        → Leads two (cond b [] (capset_step table.calls i i i ∷ [])) last
+        → Here (IsReady uid amb i) [] plan last
     user_ready true is world one two last at l m n =
         let zero' : 0 ≡ uid = sym (eqb-true uid 0 is) in
-        let before : Here (Has 0 all all amb) [] plan one = subst (Here (Has 0 all all amb) [] plan) l at in
-        let raised = raised_all [] plan 0 all all amb none (filter (has amb) (count_from 0 41)) one two caps_small (weaker table site (Has 0 all all amb) (λ c. Has 0 all all amb c × IsWithin none c.ambient) [] plan one (λ c h. (h, none_within c.ambient)) before) m in
-        subst (Here (IsReady uid amb) [] plan) n
-        (weaker table site (λ c. Has 0 all all amb c × IsWithin none c.ambient × AllByRecursion (λ cap. has c.ambient cap ≡ true)
-        (filter (has amb) (count_from 0 41))) (IsReady uid amb) [] plan two
-        (λ c h. ready_root uid amb c is (subst (λ (u : ℕ). Has u all all amb c) zero' h.0)) raised)
+        let before : Here (Has 0 all all i) [] plan one = subst (Here (Has 0 all all i) [] plan) l at in
+        let raised = raised_all [] plan 0 all all i none (filter (has amb) (count_from 0 41)) one two caps_small (weaker table site (Has 0 all all i) (λ c. Has 0 all all i c × IsWithin none c.ambient) [] plan one (λ c h. (h, none_within c.ambient)) before) m in
+        subst (Here (IsReady uid amb i) [] plan) n
+        (weaker table site (λ c. Has 0 all all i c × IsWithin none c.ambient × AllByRecursion (λ cap. has c.ambient cap ≡ true)
+        (filter (has amb) (count_from 0 41))) (IsReady uid amb i) [] plan two
+        (λ c h. ready_root uid amb i c is (subst (λ (u : ℕ). Has u all all i c) zero' h.0)) raised)
     user_ready false is world one two last at l m n =
         let other : eqb (uid % 2 ^ 32) 0 ≡ false = ap (λ u. eqb u 0) low ∙ is in
         let taken : eqb (uid % 2 ^ 32) no_id ≡ false = grind (arith, nat_tests) in
-        let kept = makes_creds table site (Has 0 all all amb) (λ c. Has 0 all all amb c × (c.keepcaps ≡ true)) (codes "prctl") 8 1 0 Nothing (rule.Known known.Prctl) (d.Prctl 8 1 0 0 0) (λ c. Ok (after_set_keepcaps c true)) calls'.prctl refl (λ host creds stack mounts owns. refl)
-        (λ c now h is'. keeps_caps 0 all all amb c now h is') [] plan world at l.0 in
+        let kept = makes_creds table site (Has 0 all all i) (λ c. Has 0 all all i c × (c.keepcaps ≡ true)) (codes "prctl") 8 1 0 Nothing (rule.Known known.Prctl) (d.Prctl 8 1 0 0 0) (λ c. Ok (after_set_keepcaps c true)) calls'.prctl refl (λ host creds stack mounts owns. refl)
+        (λ c now h is'. keeps_caps 0 all all i c now h is') [] plan world at l.0 in
         let next : World = (launch_step world (prctl_step table.calls set_keepcaps 1 0)).1 in
         let u : ℕ = uid % 2 ^ 32 in
-        let set = makes_creds table site (λ c. Has 0 all all amb c × (c.keepcaps ≡ true)) (Has u all none amb) (codes "setresuid") uid uid uid Nothing (rule.Known known.Setresuid) (d.Setresuid u u u) (λ c. after_setresuid c u u u) calls'.setresuid refl (λ host creds stack mounts owns. refl)
-        (λ c now h is'. set_uid u all all amb taken other c now h is') [] plan next kept l.1.0 in
+        let set = makes_creds table site (λ c. Has 0 all all i c × (c.keepcaps ≡ true)) (Has u all none i) (codes "setresuid") uid uid uid Nothing (rule.Known known.Setresuid) (d.Setresuid u u u) (λ c. after_setresuid c u u u) calls'.setresuid refl (λ host creds stack mounts owns. refl)
+        (λ c now h is'. set_uid u all all i taken other c now h is') [] plan next kept l.1.0 in
         let there : World = (launch_step next (makes table.calls (codes "setresuid") uid uid uid Nothing)).1 in
-        let before : Here (Has u all none amb) [] plan one = subst (Here (Has u all none amb) [] plan) l.1.1 set in
-        let raised = raised_all [] plan u all none amb none (filter (has amb) (count_from 0 41)) one two caps_small (weaker table site (Has u all none amb) (λ c. Has u all none amb c × IsWithin none c.ambient) [] plan one (λ c h. (h, none_within c.ambient)) before) m in
-        let held = weaker table site (λ c. Has u all none amb c × IsWithin none c.ambient × AllByRecursion (λ cap. has c.ambient cap ≡ true) (filter (has amb) (count_from 0 41))) (λ c. Has u all none amb c × IsWithin amb c.ambient) [] plan two
-        (λ c h. (h.0, all_raised amb c (within_through amb c.bounding all (h.0).inheritable_bounding (h.0).bounding) h.2)) raised in
-        let done = makes_creds table site (λ c. Has u all none amb c × IsWithin amb c.ambient) (λ c. Has u amb amb amb c × IsWithin amb c.ambient) (codes "capset") 0 0 0 (Sets amb amb amb) (rule.Known known.Capset) (d.Capset amb amb amb) (λ c. after_capset c amb amb amb) calls'.capset refl (λ host creds stack mounts owns. refl)
-        (λ c now h is'. set_ambient u all none amb c now h is') [] plan two held n.0 in
-        let end : World = (launch_step two (capset_step table.calls amb amb amb)).1 in
-        subst (Here (IsReady uid amb) [] plan) n.1
-        (weaker table site (λ c. Has u amb amb amb c × IsWithin amb c.ambient) (IsReady uid amb) [] plan end
-        (λ c h. ready_user uid amb c is (subst (λ (v : ℕ). Has v amb amb amb c) low h.0, h.1)) done)
+        let before : Here (Has u all none i) [] plan one = subst (Here (Has u all none i) [] plan) l.1.1 set in
+        let raised = raised_all [] plan u all none i none (filter (has amb) (count_from 0 41)) one two caps_small (weaker table site (Has u all none i) (λ c. Has u all none i c × IsWithin none c.ambient) [] plan one (λ c h. (h, none_within c.ambient)) before) m in
+        let held' = weaker table site (λ c. Has u all none i c × IsWithin none c.ambient × AllByRecursion (λ cap. has c.ambient cap ≡ true) (filter (has amb) (count_from 0 41))) (λ c. Has u all none i c × IsWithin amb c.ambient) [] plan two
+        (λ c h. (h.0, all_raised amb c (within_through amb i all own (within_through i c.bounding all (h.0).inheritable_bounding (h.0).bounding)) h.2)) raised in
+        let done = makes_creds table site (λ c. Has u all none i c × IsWithin amb c.ambient) (λ c. Has u i i i c × IsWithin amb c.ambient) (codes "capset") 0 0 0 (Sets i i i) (rule.Known known.Capset) (d.Capset i i i) (λ c. after_capset c i i i) calls'.capset refl (λ host creds stack mounts owns. refl)
+        (λ c now h is'. set_left u all none i amb c now h own is') [] plan two held' n.0 in
+        let end : World = (launch_step two (capset_step table.calls i i i)).1 in
+        subst (Here (IsReady uid amb i) [] plan) n.1
+        (weaker table site (λ c. Has u i i i c × IsWithin amb c.ambient) (IsReady uid amb i) [] plan end
+        (λ c h. ready_user uid amb i c is (subst (λ (v : ℕ). Has v i i i c) low h.0, h.1)) done)
+
+  ambient_held : (b : Bool) (set : ℕ) → IsWithin set (with_held b set)
+  ambient_held true set = within_union_left set set held (within_self set)
+  ambient_held false set = within_self set
 
   pub ready_at : (wanted : Wanted) (plan : Table) (last : World) → BeginsAtHostRoot plan → wanted.uid < no_id
       → Leads (start_world table site) (with_unshare table.calls (mount_steps plan) ++ identity_steps table.calls wanted) last
-      → Here (IsReady wanted.uid wanted.ambient) [] plan last
+      → Here (IsReady wanted.uid wanted.ambient (with_held wanted.keeps_capabilities wanted.ambient)) [] plan last
   ready_at wanted plan last begins small l =
       let lines = table.calls in
+      let inherited : ℕ = with_held wanted.keeps_capabilities wanted.ambient in
       let start : Here (Has 0 all all none) [] mounts.start (start_world table site) = record { creds = creds.start; namespace = 1; tables = first_mounts ∷ []; as_asked = starts; is = refl; own = refl } in
       let own = leads_parts (start_world table site) (with_unshare lines (mount_steps plan)) (identity_steps lines wanted) last l in
       let memory = leads_parts own.mid (group_steps lines wanted ++ drop_steps lines wanted ++ inherit_steps lines wanted ++ user_steps lines wanted ++ raise_steps lines wanted ++ left_steps lines wanted ++ privilege_steps lines wanted) (memory_steps lines wanted) last own.after in
@@ -283,52 +393,85 @@ module _ (table : calls.Table) (site : Site) (calls' : HasLaunchCalls table.call
       let grouped = groups_set [] plan wanted.groups own.mid planned drop.before.0 in
       let gids = gids_set [] plan wanted.gid (launch_step own.mid (makes lines (codes "setgroups") 0 0 0 (Ids wanted.groups))).1 grouped drop.before.1.0 in
       let done_groups : Here (Has 0 all all none) [] plan drop.mid = subst (Here (Has 0 all all none) [] plan) drop.before.1.1 gids in
-      let dropped' = leads_map (Here (Has 0 all all none) [] plan) (λ cap. prctl_step lines capbset_drop cap 0) (filter (λ cap. not (has wanted.bounding cap)) (count_from 0 41)) drop.mid inherit.mid (λ cap' world at done. dropped [] plan cap' world at done) done_groups drop.after in
-      let set = all_set [] plan wanted.ambient inherit.mid dropped' inherit.after.0 in
-      let done_set : Here (Has 0 all all wanted.ambient) [] plan user.mid = subst (Here (Has 0 all all wanted.ambient) [] plan) inherit.after.1 set in
-      let ready = user_ready plan wanted.uid wanted.ambient small (eqb wanted.uid 0) refl user.mid raise.mid left'.mid privs.mid done_set user.after raise.after left'.after in
-      let new = nothing_new [] plan wanted.no_new_privs wanted.uid wanted.ambient [] privs.mid memory.mid ready privs.after in
-      no_memory [] plan wanted.mdwe wanted.uid wanted.ambient [] memory.mid last new memory.after
+      let dropped' = leads_map (Here (Has 0 all all none) [] plan) (λ cap. prctl_step lines capbset_drop cap 0) (filter (λ cap. not (has (with_held wanted.keeps_capabilities wanted.bounding) cap)) (count_from 0 41)) drop.mid inherit.mid (λ cap' world at done. dropped [] plan cap' world at done) done_groups drop.after in
+      let set = all_set [] plan inherited inherit.mid dropped' inherit.after.0 in
+      let done_set : Here (Has 0 all all inherited) [] plan user.mid = subst (Here (Has 0 all all inherited) [] plan) inherit.after.1 set in
+      let ready = user_ready plan wanted.uid wanted.ambient inherited small (ambient_held wanted.keeps_capabilities wanted.ambient) (eqb wanted.uid 0) refl user.mid raise.mid left'.mid privs.mid done_set user.after raise.after left'.after in
+      let new = nothing_new [] plan wanted.no_new_privs wanted.uid wanted.ambient inherited [] privs.mid memory.mid ready privs.after in
+      no_memory [] plan wanted.mdwe wanted.uid wanted.ambient inherited [] memory.mid last new memory.after
 
   -- what the steps before the program leave, and the steps of the program
   pub record BeforeProgram (wanted : Wanted) (plan : Table) (last : World) : Type 0 where
     pub mid : World
-    pub filters : Filtered [] plan (IsReady wanted.uid wanted.ambient) wanted.programs [] mid
+    pub stack : List (List Insn)
+    pub read : AreRead wanted.programs stack
+    pub left : LeftOver wanted stack plan mid
     pub runs : Leads mid (program_steps table.calls wanted.program) last
 
-  pub before_program : (wanted : Wanted) (plan : Table) (last : World) → BeginsAtHostRoot plan → wanted.uid < no_id
+  pub before_program : (wanted : Wanted) (plan : Table) (last : World) → BeginsAtHostRoot plan → wanted.uid < no_id → KeepsForUser wanted
       → Leads (start_world table site) (launch_steps table.calls wanted plan) last → BeforeProgram wanted plan last
-  before_program wanted plan last begins small l =
+  before_program wanted plan last begins small keeps l =
       let lines = table.calls in
       let mounting = with_unshare lines (mount_steps plan) in
-      let joined : launch_steps lines wanted plan ≡ ((mounting ++ identity_steps lines wanted) ++ filter_steps lines wanted.programs) ++ program_steps lines wanted.program =
-      sym (append_parts mounting (identity_steps lines wanted) (filter_steps lines wanted.programs) (program_steps lines wanted.program)) in
+      let ready' : Creds → Type 0 = IsReady wanted.uid wanted.ambient (with_held wanted.keeps_capabilities wanted.ambient) in
+      let joined : launch_steps lines wanted plan ≡ ((mounting ++ identity_steps lines wanted) ++ filter_steps lines wanted.programs) ++ last_steps lines wanted =
+      sym (append_parts mounting (identity_steps lines wanted) (filter_steps lines wanted.programs) (last_steps lines wanted)) in
       let l' = subst (λ (steps : List LaunchStep). Leads (start_world table site) steps last) joined l in
-      let exec = leads_parts (start_world table site) ((mounting ++ identity_steps lines wanted) ++ filter_steps lines wanted.programs) (program_steps lines wanted.program) last l' in
-      let push = leads_parts (start_world table site) (mounting ++ identity_steps lines wanted) (filter_steps lines wanted.programs) exec.mid exec.before in
+      let rest = leads_parts (start_world table site) ((mounting ++ identity_steps lines wanted) ++ filter_steps lines wanted.programs) (last_steps lines wanted) last l' in
+      let push = leads_parts (start_world table site) (mounting ++ identity_steps lines wanted) (filter_steps lines wanted.programs) rest.mid rest.before in
       let ready = ready_at wanted plan push.mid begins small push.before in
-      record { mid = exec.mid; filters = filtered [] plan (IsReady wanted.uid wanted.ambient) wanted.programs [] push.mid exec.mid ready push.after; runs = exec.after }
+      let filters = filtered [] plan ready' wanted.programs [] push.mid rest.mid ready push.after in
+      let exec = leads_parts rest.mid (give_up_steps lines wanted) (program_steps lines wanted.program) last rest.after in
+      record {
+        mid = exec.mid;
+        stack = filters.codes';
+        read = filters.read;
+        left = left_behind filters.codes' plan wanted keeps rest.mid exec.mid filters.at exec.before;
+        runs = exec.after;
+      }
 
-  launched_at : (wanted : Wanted) (plan : Table) (last : World) → BeginsAtHostRoot plan → wanted.uid < no_id
+  -- what is left over is ambient, but for what was kept
+  spares_kept : (wanted : Wanted) → IsWithin (left_over wanted) (union wanted.ambient (held_if wanted.keeps_capabilities))
+  spares_kept wanted = by wanted.keeps_capabilities
+    where
+      by : (b : Bool) → IsWithin (cond b (union wanted.ambient (cut held wanted.bounding)) wanted.ambient) (union wanted.ambient (held_if b))
+      by true = union_within wanted.ambient (cut held wanted.bounding) (union wanted.ambient held)
+          (within_union_left wanted.ambient wanted.ambient held (within_self wanted.ambient))
+          (within_union_right (cut held wanted.bounding) wanted.ambient held (cut_within_left held wanted.bounding held (within_self held)))
+      by false = within_union_left wanted.ambient wanted.ambient none (within_self wanted.ambient)
+
+  -- what the whole launch leaves
+  record AtEnd (wanted : Wanted) (plan : Table) (last : World) : Type 0 where
+    stack : List (List Insn)
+    read : AreRead wanted.programs stack
+    at : Here (IsLaunchedCreds (held_if wanted.keeps_capabilities)) stack plan last
+    passes : wanted.keeps_capabilities ≡ true → decision_on stack capset_data ≡ decision.Pass
+
+  launched_at : (wanted : Wanted) (plan : Table) (last : World) → BeginsAtHostRoot plan → wanted.uid < no_id → KeepsForUser wanted
       → is_privileged_row (finds (row_at site.rows) plan wanted.program) ≡ false
-      → Leads (start_world table site) (launch_steps table.calls wanted plan) last
-      → Filtered [] plan IsLaunchedCreds wanted.programs [] last
-  launched_at wanted plan last begins small unmarked l =
-      let before = before_program wanted plan last begins small l in
-      let filters = before.filters in
-      record { codes' = filters.codes'; read = filters.read; at = executed_here wanted.uid wanted.ambient wanted.program filters.codes' plan before.mid last unmarked filters.at before.runs }
+      → Leads (start_world table site) (launch_steps table.calls wanted plan) last → AtEnd wanted plan last
+  launched_at wanted plan last begins small keeps unmarked l =
+      let before = before_program wanted plan last begins small keeps l in
+      record {
+        stack = before.stack;
+        read = before.read;
+        at = executed_here wanted.uid wanted.ambient (left_over wanted) (held_if wanted.keeps_capabilities) wanted.program before.stack plan
+            before.mid last unmarked (spares_kept wanted) before.left.at before.runs;
+        passes = before.left.passes;
+      }
 
 leaves : (table : calls.Table) (site : Site) (calls' : HasLaunchCalls table.calls) (wanted : Wanted) (plan : Table) (last : World)
-    → Filtered table site calls' [] plan IsLaunchedCreds wanted.programs [] last → Leaves table site wanted plan last
+    → AtEnd table site calls' wanted plan last → Leaves table site wanted plan last
 leaves table site calls' wanted plan last f =
     let at = f.at in
-    let same = own_table table site at.creds f.codes' at.namespace at.tables plan at.own in
+    let same = own_table table site at.creds f.stack at.namespace at.tables plan at.own in
+    let own : Launch = record { calls = table; site = site; creds = at.creds; stack = f.stack; table = plan } in
+    let shown : launch_of last ≡ own = ap launch_of at.is ∙ ap (λ (t : Table). record { calls = table; site = site; creds = at.creds; stack = f.stack; table = t }) same in
     record {
       creds = at.creds;
-      stack = f.codes';
+      stack = f.stack;
       namespace = at.namespace;
-      is = ap launch_of at.is ∙ ap (λ (t : Table). record { calls = table; site = site; creds = at.creds; stack = f.codes'; table = t })
-          same;
+      is = shown;
       alone = ap (λ (v : World). v.processes) at.is;
       own = ap (λ (v : World). of_number v.tables at.namespace) at.is ∙ at.own;
       home = ap (λ (v : World). of_number v.owners at.namespace) at.is
@@ -337,11 +480,12 @@ leaves table site calls' wanted plan last f =
           ∙ sym (ap (λ (v : World). length v.tables) at.is);
       no_users = ap (λ (v : World). v.users) at.is;
       as_launched = at.as_asked;
+      capset_passes = λ on. subst (λ (l : Launch). passes l 0 (number_of table.calls (codes "capset")) no_words) (sym shown) (f.passes on);
       read = f.read;
     }
 
 pub launch_leaves : LaunchLeaves
-launch_leaves table site wanted plan last steps whole can small e =
+launch_leaves table site wanted plan last steps whole can small keeps e =
     by (is_privileged_row (finds (row_at site.rows) plan wanted.program)) refl e
   where
     by : (b : Bool) → is_privileged_row (finds (row_at site.rows) plan wanted.program) ≡ b
@@ -352,4 +496,4 @@ launch_leaves table site wanted plan last steps whole can small e =
     by false is e =
         let calls' = launch_calls table whole in
         let l = launched_leads (start_world table site) (launch_steps table.calls wanted plan) 0 last steps e in
-        (leaves table site calls' wanted plan last (launched_at table site calls' wanted plan last (begins_at_host (site_host site) plan can) small is l.0), l.1 ∙ omega arith)
+        (leaves table site calls' wanted plan last (launched_at table site calls' wanted plan last (begins_at_host (site_host site) plan can) small keeps is l.0), l.1 ∙ omega arith)

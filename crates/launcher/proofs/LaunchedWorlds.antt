@@ -16,6 +16,8 @@ use Rattle.kernel_laws.specs.call_table.declared.listed.CallLine.{CallLine}
 use Rattle.kernel_laws.specs.call_table.Lookups.{numbered}
 use Rattle.kernel_laws.specs.call_table.Table as calls
 use Rattle.exec_settings.specs.call_rules.Action.{word_of}
+use Rattle.kernel_laws.specs.call_table.declared.call_names.rule.CallRule.TheVariants as known
+use Rattle.kernel_laws.specs.call_table.Facts.{AreOf, IsWhole}
 use Rattle.exec_settings.specs.call_rules.declared.actions.Action.{Action}
 use Rattle.exec_settings.specs.call_rules.declared.actions.Action.TheVariants as action
 use Rattle.kernel_laws.specs.linux_numbers.Limits.{max_errno}
@@ -42,8 +44,18 @@ use Rattle.exec_settings.specs.filter_settings.declared.filter_rules.settings.Fi
 use Rattle.exec_settings.specs.filter_settings.filter_rules.Wanted.{named_action, unnamed_action, other_action, wanted_action}
 use Rattle.kernel_laws.specs.FirstChoice.{Means}
 use Rattle.launcher.proofs.TwoAbis.{once_in, of_abi_in, one_cap_in, range_in, archs_differ}
-use Rattle.launcher.specs.Launch.{Wanted}
-use Rattle.kernel_laws.specs.Launched.{Launch, IsLaunched, first_of, process_or}
+use Rattle.launcher.specs.Launch.{Wanted, held_if, number_of}
+use Rattle.launcher.proofs.LaunchCalls.{launch_calls}
+use Rattle.launcher.proofs.Leading.{clash}
+use Rattle.kernel_laws.specs.Kinds.{no_words}
+use Rattle.kernel_laws.specs.Launched.{Launch, IsLaunched, first_of, process_or, is_pass, lets, lets_line, lets_rule, lets_words, passes}
+use Rattle.kernel_laws.specs.declared.question_types.kind.CallKind.TheVariants.{SetsCaps}
+use Rattle.kernel_laws.specs.kernel_model.declared.kernel_calls.rule.Rule.{Rule}
+use Rattle.kernel_laws.specs.kernel_model.declared.kernel_calls.rule.Rule.TheVariants.{Known}
+use Rattle.kernel_laws.specs.kernel_model.kernel_calls.Rules.{rule_at}
+use Rattle.kernel_laws.proofs.Filters.{among_all, any_found, found_all, found_number, has_rule}
+use Rattle.exec_settings.specs.cap_sets.Sets.{none, union, IsWithin}
+use Rattle.exec_settings.proofs.OfCapSets.Members.{none_within, union_within, within_self, within_through}
 use Rattle.kernel_laws.specs.kern_mounts.Mounts.{Mounts as MountList, plain as plain_mount, ArePlain as ArePlainMounts}
 use Rattle.kernel_laws.proofs.OfKernMounts.Leaving.{ascending_is_ordered}
 use Rattle.kernel_laws.proofs.OfKernMounts.Plain.{are_plain}
@@ -205,6 +217,48 @@ module _ (settings : FilterSettings) (table : calls.Table) (a : AreRefusing sett
   read_means (bytes ∷ programs) [] read each = absurd read
   read_means (bytes ∷ programs) (code ∷ stack) read each = (each.0 code read.0, read_means programs stack read.1 each.1)
 
+-- a call of capset(2) passes, so one with the words that are chosen does
+caps_let : (launch : Launch) (nr : ℕ) → AreOf 0 launch.calls.calls → rule_at launch.calls.calls nr ≡ Some (Known known.Capset)
+    → passes launch 0 nr no_words → lets launch SetsCaps ≡ true
+unfolding lets
+caps_let launch nr native at through =
+    let rule : Rule = Known known.Capset in
+    let h = has_rule launch.calls.calls nr rule at in
+    let yes : lets_words launch 0 nr (Some no_words) ≡ true = ap is_pass through in
+    let one : lets_line launch SetsCaps h.line ≡ true =
+    ap (lets_rule launch SetsCaps h.line.abi h.line.number) h.is
+    ∙ ap (λ n. lets_rule launch SetsCaps h.line.abi n (Some rule)) (found_number launch.calls.calls nr h.line h.found)
+    ∙ ap (λ n. lets_rule launch SetsCaps n nr (Some rule)) (found_all (λ line. line.abi ≡ 0) launch.calls.calls nr h.line native h.found)
+    ∙ ap (λ b. lets_words launch 0 nr (cond b (Some no_words) (Some no_words))) yes ∙ yes in
+    among_all (lets_line launch SetsCaps) launch.calls 0
+    (any_found (lets_line launch SetsCaps) launch.calls.calls nr h.line h.found one)
+
+-- nothing was kept
+within_alone : (one other : ℕ) → IsWithin one (union other none) → IsWithin one other
+within_alone one other own = within_through one (union other none) other own (union_within other none other (within_self other) (none_within other))
+
+-- what is inheritable is effective, unless capset(2) passes
+inherits_effective : (table : calls.Table) (site : Site) (wanted : Wanted) (plan : Table) (last : World) → IsWhole table
+    → (l : Leaves table site wanted plan last)
+    → lets (record { calls = table; site = site; creds = l.creds; stack = l.stack; table = plan }) SetsCaps ≡ false
+    → IsWithin l.creds.inheritable l.creds.effective
+inherits_effective table site wanted plan last whole l stops = by wanted.keeps_capabilities refl
+  where
+    own : Launch
+    own = record { calls = table; site = site; creds = l.creds; stack = l.stack; table = plan }
+
+    nr : ℕ
+    nr = number_of table.calls (codes "capset")
+
+    through : wanted.keeps_capabilities ≡ true → passes own 0 nr no_words
+    through on = subst (λ (launch : Launch). passes launch 0 nr no_words) l.is (l.capset_passes on)
+
+    by : (b : Bool) → wanted.keeps_capabilities ≡ b → IsWithin l.creds.inheritable l.creds.effective
+    by true on = absurd (clash (lets own SetsCaps)
+        (caps_let own nr (of_abi_in table whole.sound 0) (launch_calls table whole).capset (through on)) stops)
+    by false off = within_alone l.creds.inheritable l.creds.effective
+        (subst (λ b. IsWithin l.creds.inheritable (union l.creds.effective (held_if b))) off l.as_launched.inheritable_effective)
+
 first_of_alone : (table : calls.Table) (site : Site) (wanted : Wanted) (plan : Table) (last : World)
     (l : Leaves table site wanted plan last) → first_of last
     ≡ record { creds = l.creds; stack = l.stack; namespace = l.namespace; user = 1; alive = true }
@@ -215,8 +269,8 @@ begins [] b = absurd b
 begins (first ∷ rest) b = b.0
 
 pub launched_is_world : LaunchedIsWorld
-launched_is_world settings table site wanted plan last steps whole arch refusing can small meant e =
-    let l : Leaves table site wanted plan last = (launch_leaves table site wanted plan last steps whole can small e).0 in
+launched_is_world settings table site wanted plan last steps whole arch refusing can small keeps meant e =
+    let l : Leaves table site wanted plan last = (launch_leaves table site wanted plan last steps whole can small keeps e).0 in
     let launch' : Launch = record { calls = table; site = site; creds = l.creds; stack = l.stack; table = plan } in
     let means = read_means settings table refusing wanted.programs l.stack l.read meant in
     let plain = meant_plain settings table refusing l.stack means in
@@ -235,7 +289,7 @@ launched_is_world settings table site wanted plan last steps whole arch refusing
       ambient_inheritable = l.as_launched.ambient_inheritable;
       ambient_permitted = l.as_launched.ambient_permitted;
       inheritable_bounding = l.as_launched.inheritable_bounding;
-      inheritable_effective = l.as_launched.inheritable_effective;
+      inheritable_effective = inherits_effective table site wanted plan last whole l;
       root = l.as_launched.root;
       rooted = begins plan can.begins_at_root;
       ordered = ascending_is_ordered plan can.places_ascend;

@@ -1,7 +1,8 @@
 -- How a launch ends does not rest on which programs the filters are.
 use Rattle.std.proofs.Common.{◌≡◌, ℕ, suc, Bool, true, false, cond, codes, List, [], ◌∷◌, ◌++◌, Option, Some, ◌⊎◌, inl, inr, refl, ap, ◌∙◌}
 use Rattle.std.proofs.Common.{sym, subst, length, arith}
-use Rattle.std.specs.Prelude.{nat_le, ◌+◌, ◌<◌, ◌≤◌, ◌^◌, ◌||◌, not}
+use Rattle.std.specs.Prelude.{nat_le, map, filter, ◌+◌, ◌<◌, ◌≤◌, ◌^◌, ◌%◌, ◌||◌, not}
+use Rattle.std.specs.List.{AllByRecursion}
 use Rattle.std.proofs.lemmas.Bool.Decides.{nat_tests}
 use Rattle.std.proofs.lemmas.List.Sums.{sum_by-append, sum_by-cons}
 use Rattle.exec_settings.specs.abs_path.Paths.{Path}
@@ -12,22 +13,24 @@ use Rattle.kernel_laws.specs.bpf_code.declared.decision.Decision.TheVariants as 
 use Rattle.kernel_laws.specs.bpf_code.Meaning.{IsCallData}
 use Rattle.kernel_laws.specs.bpf_code.ProgramOf.{program_of}
 use Rattle.kernel_laws.specs.bpf_code.Stack.{answer_of, decision_by, deciding, decision_on, room_of}
-use Rattle.exec_settings.specs.cap_sets.Sets.{has}
+use Rattle.exec_settings.specs.cap_sets.Sets.{has, union, cut, minus}
 use Rattle.kernel_laws.specs.call_table.Facts.{IsWhole}
 use Rattle.kernel_laws.specs.call_table.Table as calls
 use Rattle.exec_settings.specs.site_table.Table.{Site, row_at}
 use Rattle.kernel_laws.specs.kern_creds.declared.creds.Creds.{Creds}
 use Rattle.kernel_laws.specs.kern_mounts.Finds.{finds}
 use Rattle.kernel_laws.specs.kernel_model.declared.kernel_calls.call.Call.{Call}
-use Rattle.kernel_laws.specs.kernel_model.declared.kernel_calls.payload.Payload.TheVariants.{OnePath, Code}
+use Rattle.kernel_laws.specs.kernel_model.declared.kernel_calls.payload.Payload.{Payload}
+use Rattle.kernel_laws.specs.kernel_model.declared.kernel_calls.payload.Payload.TheVariants.{Nothing, OnePath, Sets, Code}
 use Rattle.kernel_laws.specs.kernel_model.declared.kernel_calls.rule.Rule.{Rule}
 use Rattle.kernel_laws.specs.kernel_model.kernel_calls.Operation as d
-use Rattle.kernel_laws.specs.kernel_model.kernel_calls.Operation.{Asked, Does, asked_of, asked_by}
+use Rattle.kernel_laws.specs.kernel_model.kernel_calls.Operation.{Operation, Asked, Does, asked_of, asked_by}
 use Rattle.kernel_laws.specs.kernel_model.Effects as f
 use Rattle.kernel_laws.specs.kernel_model.Effects.{Effect, push_effect}
-use Rattle.launcher.specs.Launch.{LaunchStep, LaunchOutcome, Launched, StepRefused, StepKilled, PrivilegedProgram, first_call, number_of}
+use Rattle.launcher.specs.Launch.{Wanted, LaunchStep, Makes, Mounts, LaunchOutcome, StepRefused, StepKilled, PrivilegedProgram, first_call, number_of}
 use Rattle.launcher.specs.Launch.{launch_step, launch_steps, launch_on, launch_from, is_privileged_row, mount_steps, with_unshare}
-use Rattle.launcher.specs.Launch.{identity_steps, filter_steps, program_steps}
+use Rattle.launcher.specs.Launch.{identity_steps, filter_steps, program_steps, last_steps, give_up_steps, given_up_steps, prctl_step, capset_step}
+use Rattle.launcher.specs.Launch.{capbset_drop, held}
 use Rattle.kernel_laws.specs.kern_mounts.Mounts.{Mounts as MountList}
 use Rattle.kernel_laws.specs.kern_mounts.Split.{Table}
 use Rattle.kernel_laws.specs.kernel_model.Runs.{IsDone}
@@ -39,13 +42,15 @@ use Rattle.launcher.specs.Alike.{HasWordArchs, AnswerAlike, above}
 use Rattle.launcher.specs.Launches.{HasLaunchCalls, AreRead}
 use Rattle.launcher.specs.LaunchesAlike.{EndAlike, LaunchesAlike}
 use Rattle.launcher.proofs.Solo.{solo, only}
-use Rattle.launcher.proofs.LaunchData.{fits}
+use Rattle.launcher.proofs.LaunchData.{fits, fits_two}
 use Rattle.launcher.proofs.LaunchCalls.{launch_calls}
 use Rattle.launcher.proofs.Leading.{Leads, append_assoc, append_none, append_split}
 use Rattle.launcher.proofs.LaunchWorld.{ready_at}
+use Rattle.launcher.proofs.RaisedAll.{counted_small, filter_keeps}
+use Rattle.kernel_laws.specs.Questions.{count_from}
 use Rattle.launcher.proofs.HostRoot.{begins_at_host}
 use Rattle.mount_plan.specs.Host.{host_of as site_host}
-use Rattle.launcher.proofs.Alike.{own_alike, own_step, lifted, step_above, same_answers, FullInOne}
+use Rattle.launcher.proofs.Alike.{own_alike, own_step, lifted, step_above, calls_kept, same_answers, FullInOne}
 use Rattle.kernel_laws.specs.linux_numbers.Errnos.{eacces, enomem}
 use Rattle.kernel_laws.specs.linux_numbers.Limits.{max_insns_per_path}
 use Rattle.kernel_laws.specs.linux_numbers.Capabilities.{cap_sys_admin}
@@ -100,6 +105,115 @@ pushed_alike (x ∷ one) (y ∷ other) code own alike same = (alike.0, pushed_al
 module _ (table : calls.Table) (site : Site) (whole : IsWhole table) (arch : HasWordArchs table) where
   calls' : HasLaunchCalls table.calls
   calls' = launch_calls table whole
+
+  -- ---- steps that push no program
+  -- a call that filters can look at, and that is no seccomp(2)
+  pub record IsOther (call : Call) : Type 0 where
+    pub fit : IsCallData (record { nr = call.nr; arch = calls.arch_of table call.abi; ip = 0; args = call.args })
+    pub other : (op flags : ℕ) (bytes : List ℕ) → asked_of table call ≡ Does (d.Seccomp op flags bytes) → ⊥
+
+  abbrev pub IsOtherStep : LaunchStep → Type 0
+  IsOtherStep (Makes call) = IsOther call
+  IsOtherStep (Mounts entry) = ⊥
+
+  others_alike : (one other : List (List Insn)) (steps : List LaunchStep) (base : World) (count : ℕ) → AnswerAlike one other
+      → base.calls ≡ table → AllByRecursion IsOtherStep steps
+      → EndAlike one other (launch_from (above one base) steps count) (launch_from (above other base) steps count)
+  others_alike one other [] base count alike here all' = (refl, base, refl, refl)
+  others_alike one other (Mounts entry ∷ steps) base count alike here all' = absurd all'.0
+  others_alike one other (Makes call ∷ steps) base count alike here all' =
+      by (own_alike one other base call alike fit) (λ next same. others_alike one other steps next (count + 1) alike same all'.1)
+    where
+      fit : IsCallData (record { nr = call.nr; arch = calls.arch_of base.calls call.abi; ip = 0; args = call.args })
+      fit = subst (λ (t : calls.Table). IsCallData (record { nr = call.nr; arch = calls.arch_of t call.abi; ip = 0; args = call.args }))
+          (sym here) all'.0.fit
+
+      E : Reply × World → Reply × World → Type 0
+      E x y = EndAlike one other (launch_on x.0 (count + 1) (launch_from x.1 steps (count + 1)))
+          (launch_on y.0 (count + 1) (launch_from y.1 steps (count + 1)))
+
+      More : Type 0
+      More = (next : World) → next.calls ≡ table
+          → EndAlike one other (launch_from (above one next) steps (count + 1)) (launch_from (above other next) steps (count + 1))
+
+      ends : (out : Reply × World) → (out.1).calls ≡ table → More → E (lifted one out) (lifted other out)
+      ends out kept more = by_reply out.0
+        where
+          by_reply : (r : Reply) → EndAlike one other (launch_on r (count + 1) (launch_from (above one out.1) steps (count + 1)))
+              (launch_on r (count + 1) (launch_from (above other out.1) steps (count + 1)))
+          by_reply (w.Done value) = more out.1 kept
+          by_reply (w.Refused errno) = (refl, refl)
+          by_reply w.Killed = refl
+
+      by : (own_step one base call ≡ own_step other base call) ⊎ FullInOne base.calls call
+          (own_step one base call).0 (own_step other base call).0 → More
+          → E (step (above one base) call) (step (above other base) call)
+      by (inr full) more = absurd
+          (all'.0.other full.op full.flags full.bytes (sym (ap (λ (t : calls.Table). asked_of t call) here) ∙ full.asks))
+      by (inl same) more =
+          subst (λ (x : Reply × World). E x (step (above other base) call)) (sym (step_above one base call))
+          (subst (λ (y : Reply × World). E (lifted one (own_step one base call)) y)
+          (sym (step_above other base call ∙ ap (lifted other) (sym same)))
+          (ends (own_step one base call) (calls_kept one base call ∙ here) more))
+
+  -- the last steps of a launch are such steps
+  is_other : (name : List ℕ) (args : List ℕ) (payload : Payload) (operation : Operation)
+      → IsCallData (record { nr = number_of table.calls name; arch = table.arch; ip = 0; args = args })
+      → asked_of table (first_call table.calls name args payload) ≡ Does operation
+      → ((op flags : ℕ) (bytes : List ℕ) → ◌≡◌ {A = Asked} (Does operation) (Does (d.Seccomp op flags bytes)) → ⊥)
+      → IsOther (first_call table.calls name args payload)
+  is_other name args payload operation looked asks differs =
+      record { fit = looked; other = λ op flags bytes e. differs op flags bytes (sym asks ∙ e) }
+
+  other_exec : (program : Path) → AllByRecursion IsOtherStep (program_steps table.calls program)
+  other_exec program =
+      let call : Call = first_call table.calls (codes "execve") (0 ∷ 0 ∷ 0 ∷ 0 ∷ 0 ∷ 0 ∷ []) (OnePath program) in (
+        is_other (codes "execve") (0 ∷ 0 ∷ 0 ∷ 0 ∷ 0 ∷ 0 ∷ []) (OnePath program) (d.Execve program)
+            (fits table whole arch (codes "execve") 0 (omega arith)) (ap (λ (o : Option Rule). asked_by o call) calls'.execve)
+            (λ op flags bytes e. cc),
+        tt,
+      )
+
+  other_capset : (p e i : ℕ) → IsOtherStep (capset_step table.calls p e i)
+  other_capset p e i =
+      let call : Call = first_call table.calls (codes "capset") (0 ∷ 0 ∷ 0 ∷ 0 ∷ 0 ∷ 0 ∷ []) (Sets p e i) in
+      is_other (codes "capset") (0 ∷ 0 ∷ 0 ∷ 0 ∷ 0 ∷ 0 ∷ []) (Sets p e i) (d.Capset p e i)
+      (fits table whole arch (codes "capset") 0 (omega arith)) (ap (λ (o : Option Rule). asked_by o call) calls'.capset)
+      (λ op flags bytes e. cc)
+
+  other_drop : (cap : ℕ) → cap < 2 ^ 32 → IsOtherStep (prctl_step table.calls capbset_drop cap 0)
+  other_drop cap small =
+      let call : Call = first_call table.calls (codes "prctl") (24 ∷ cap ∷ 0 ∷ 0 ∷ 0 ∷ 0 ∷ []) Nothing in
+      is_other (codes "prctl") (24 ∷ cap ∷ 0 ∷ 0 ∷ 0 ∷ 0 ∷ []) Nothing (d.Prctl 24 (cap % 2 ^ 32) 0 0 0)
+      (fits_two table whole arch (codes "prctl") 24 cap (omega arith) (omega arith))
+      (ap (λ (o : Option Rule). asked_by o call) calls'.prctl) (λ op flags bytes e. cc)
+
+  other_drops : (caps : List ℕ) → AllByRecursion (λ cap. cap < 2 ^ 32) caps
+      → AllByRecursion IsOtherStep (map (λ cap. prctl_step table.calls capbset_drop cap 0) caps)
+  other_drops [] small = tt
+  other_drops (cap ∷ caps) small = (other_drop cap small.0, other_drops caps small.1)
+
+  both_other : (first then : List LaunchStep) → AllByRecursion IsOtherStep first → AllByRecursion IsOtherStep then
+      → AllByRecursion IsOtherStep (first ++ then)
+  both_other [] then one other = other
+  both_other (step' ∷ first) then one other = (one.0, both_other first then one.1 other)
+
+  pub last_other : (wanted : Wanted) → AllByRecursion IsOtherStep (last_steps table.calls wanted)
+  last_other wanted = both_other (give_up_steps table.calls wanted) (program_steps table.calls wanted.program)
+      (by wanted.keeps_capabilities) (other_exec wanted.program)
+    where
+      last : ℕ
+      last = union wanted.ambient (cut held wanted.bounding)
+
+      by : (b : Bool) → AllByRecursion IsOtherStep (cond b (given_up_steps table.calls (minus held wanted.bounding)
+          ++ capset_step table.calls wanted.ambient wanted.ambient last ∷ []) [])
+      by false = tt
+      by true = both_other (given_up_steps table.calls (minus held wanted.bounding))
+          (capset_step table.calls wanted.ambient wanted.ambient last ∷ [])
+          (other_drops (filter (has (minus held wanted.bounding)) (count_from 0 41))
+          (filter_keeps (λ cap. cap < 2 ^ 32) (has (minus held wanted.bounding)) (count_from 0 41)
+          (counted_small 0 41 (omega arith))))
+          (other_capset wanted.ambient wanted.ambient last, tt)
 
   module _ (creds : Creds) (namespace : ℕ) (tables : List MountList) where
     abbrev with_stack : List (List Insn) → World
@@ -159,66 +273,34 @@ module _ (table : calls.Table) (site : Site) (whole : IsWhole table) (arch : Has
           (decided (with_stack other) (call_of bytes') (only table site creds other namespace) c)) same
           (decided_both (decision_on one input))
 
-    -- the program is executed
-    exec_alike : (program : Path) (one other : List (List Insn)) (count : ℕ) → AnswerAlike one other
-        → EndAlike one other (launch_from (with_stack one) (program_steps table.calls program) count)
-        (launch_from (with_stack other) (program_steps table.calls program) count)
-    exec_alike program one other count alike =
-        let base : World = with_stack [] in
-        let call : Call = first_call table.calls (codes "execve") (0 ∷ 0 ∷ 0 ∷ 0 ∷ 0 ∷ 0 ∷ []) (OnePath program) in
-        let asks : asked_of table call ≡ Does (d.Execve program) = ap (λ (o : Option Rule). asked_by o call) calls'.execve in
-        let whole' : (stack : List (List Insn)) → above stack base ≡ with_stack stack = λ stack. ap (λ (s : List (List Insn)). with_stack s) (append_none stack) in
-        let stepped : (stack : List (List Insn)) → step (with_stack stack) call ≡ lifted stack (own_step stack base call) = λ stack. ap (λ (v : World). step v call) (sym (whole' stack)) ∙ step_above stack base call in
-        by call asks (own_step one base call) refl
-        (own_alike one other base call alike (fits table whole arch (codes "execve") 0 (omega arith))) (stepped one) (stepped other)
-      where
-        E : Reply × World → Reply × World → Type 0
-        E x y = EndAlike one other (launch_on x.0 (count + 1) (Launched x.1 (count + 1)))
-            (launch_on y.0 (count + 1) (Launched y.1 (count + 1)))
-
-        ends : (out : Reply × World) → E (lifted one out) (lifted other out)
-        ends out = by_reply out.0
-          where
-            by_reply : (r : Reply) → EndAlike one other (launch_on r (count + 1) (Launched (above one out.1) (count + 1)))
-                (launch_on r (count + 1) (Launched (above other out.1) (count + 1)))
-            by_reply (w.Done value) = (refl, out.1, refl, refl)
-            by_reply (w.Refused errno) = (refl, refl)
-            by_reply w.Killed = refl
-
-        other_operation : (op flags : ℕ) (bytes : List ℕ)
-            → ◌≡◌ {A = Asked} (Does (d.Execve program)) (Does (d.Seccomp op flags bytes)) → ⊥
-        other_operation op flags bytes e = cc
-
-        by : (call : Call) → asked_of table call ≡ Does (d.Execve program) → (out : Reply × World) → own_step one (with_stack []) call ≡ out
-            → (own_step one (with_stack []) call ≡ own_step other (with_stack []) call) ⊎ FullInOne table call
-            (own_step one (with_stack []) call).0 (own_step other (with_stack []) call).0
-            → step (with_stack one) call ≡ lifted one (own_step one (with_stack []) call)
-            → step (with_stack other) call ≡ lifted other (own_step other (with_stack []) call)
-            → E (step (with_stack one) call) (step (with_stack other) call)
-        by call asks out is (inr full) first second = absurd (other_operation full.op full.flags full.bytes (sym asks ∙ full.asks))
-        by call asks out is (inl same) first second =
-            subst (λ (x : Reply × World). E x (step (with_stack other) call)) (sym first)
-            (subst (λ (y : Reply × World). E (lifted one (own_step one (with_stack []) call)) y)
-            (sym (second ∙ ap (lifted other) (sym same))) (ends (own_step one (with_stack []) call)))
+    -- with the filters in force
+    last_alike : (steps : List LaunchStep) (one other : List (List Insn)) (count : ℕ) → AllByRecursion IsOtherStep steps → AnswerAlike one other
+        → EndAlike one other (launch_from (with_stack one) steps count) (launch_from (with_stack other) steps count)
+    last_alike steps one other count all' alike =
+        let whole' : (stack : List (List Insn)) → with_stack stack ≡ above stack (with_stack []) = λ stack. ap (λ (s : List (List Insn)). with_stack s) (sym (append_none stack)) in
+        same_ends one other (launch_from (with_stack one) steps count) (launch_from (above one (with_stack [])) steps count)
+        (launch_from (with_stack other) steps count) (launch_from (above other (with_stack [])) steps count)
+        (ap (λ (v : World). launch_from v steps count) (whole' one)) (ap (λ (v : World). launch_from v steps count) (whole' other))
+        (others_alike one other steps (with_stack []) count alike refl all')
 
     -- the filters
-    filters_alike : (program : Path) (programs programs' : List (List ℕ)) (codes' own' one other : List (List Insn)) (count : ℕ)
+    filters_alike : (last : List LaunchStep) → AllByRecursion IsOtherStep last → (programs programs' : List (List ℕ)) (codes' own' one other : List (List Insn)) (count : ℕ)
         → AreRead programs codes' → AreRead programs' own' → AnswerAlike codes' own' → AnswerAlike one other
         → room_of one + room_of codes' ≤ max_insns_per_path → room_of other + room_of own' ≤ max_insns_per_path
         → EndAlike (one ++ codes') (other ++ own')
-        (launch_from (with_stack one) (filter_steps table.calls programs ++ program_steps table.calls program) count)
-        (launch_from (with_stack other) (filter_steps table.calls programs' ++ program_steps table.calls program) count)
-    filters_alike program [] [] [] [] one other count read read' same alike room room' =
-        same_end one (one ++ []) other (other ++ []) (launch_from (with_stack one) (program_steps table.calls program) count)
-        (launch_from (with_stack other) (program_steps table.calls program) count) (sym (append_none one)) (sym (append_none other))
-        (exec_alike program one other count alike)
-    filters_alike program [] (bytes ∷ programs') [] (own ∷ own') one other count read read' same alike room room' = absurd same
-    filters_alike program (bytes ∷ programs) [] (code ∷ codes') [] one other count read read' same alike room room' = absurd same
-    filters_alike program [] programs' (code ∷ codes') own' one other count read read' same alike room room' = absurd read
-    filters_alike program programs [] codes' (own ∷ own') one other count read read' same alike room room' = absurd read'
-    filters_alike program (bytes ∷ programs) programs' [] own' one other count read read' same alike room room' = absurd read
-    filters_alike program programs (bytes ∷ programs') codes' [] one other count read read' same alike room room' = absurd read'
-    filters_alike program (bytes ∷ programs) (bytes' ∷ programs') (code ∷ codes')
+        (launch_from (with_stack one) (filter_steps table.calls programs ++ last) count)
+        (launch_from (with_stack other) (filter_steps table.calls programs' ++ last) count)
+    filters_alike last ends [] [] [] [] one other count read read' same alike room room' =
+        same_end one (one ++ []) other (other ++ []) (launch_from (with_stack one) (last) count)
+        (launch_from (with_stack other) (last) count) (sym (append_none one)) (sym (append_none other))
+        (last_alike last one other count ends alike)
+    filters_alike last ends [] (bytes ∷ programs') [] (own ∷ own') one other count read read' same alike room room' = absurd same
+    filters_alike last ends (bytes ∷ programs) [] (code ∷ codes') [] one other count read read' same alike room room' = absurd same
+    filters_alike last ends [] programs' (code ∷ codes') own' one other count read read' same alike room room' = absurd read
+    filters_alike last ends programs [] codes' (own ∷ own') one other count read read' same alike room room' = absurd read'
+    filters_alike last ends (bytes ∷ programs) programs' [] own' one other count read read' same alike room room' = absurd read
+    filters_alike last ends programs (bytes ∷ programs') codes' [] one other count read read' same alike room room' = absurd read'
+    filters_alike last ends (bytes ∷ programs) (bytes' ∷ programs') (code ∷ codes')
         (own ∷ own') one other count read read' same alike room room' =
         let F : List Insn → ℕ = λ code. length code + 4 in
         let a = sum_by-cons F code codes' in
@@ -229,27 +311,27 @@ module _ (table : calls.Table) (site : Site) (whole : IsWhole table) (arch : Has
         let e' = sum_by-cons F own [] in
         let fit : room_of one + length code ≤ max_insns_per_path = omega arith in
         let fit' : room_of other + length own ≤ max_insns_per_path = omega arith in
-        let more = filters_alike program programs programs' codes' own' (one ++ code ∷ []) (other ++ own ∷ []) (count + 1) read.1 read'.1 same.1 (pushed_alike one other code own alike same.0) (omega arith) (omega arith) in
+        let more = filters_alike last ends programs programs' codes' own' (one ++ code ∷ []) (other ++ own ∷ []) (count + 1) read.1 read'.1 same.1 (pushed_alike one other code own alike same.0) (omega arith) (omega arith) in
         by (step (with_stack one) (call_of bytes)) (step (with_stack other) (call_of bytes'))
         (steps_alike one other bytes bytes' code own read.0 read'.0 fit fit' alike)
         (same_end ((one ++ code ∷ []) ++ codes') (one ++ code ∷ codes') ((other ++ own ∷ []) ++ own') (other ++ own ∷ own')
-        (launch_from (with_stack (one ++ code ∷ [])) (filter_steps table.calls programs ++ program_steps table.calls program) (count + 1))
-        (launch_from (with_stack (other ++ own ∷ [])) (filter_steps table.calls programs' ++ program_steps table.calls program) (count + 1))
+        (launch_from (with_stack (one ++ code ∷ [])) (filter_steps table.calls programs ++ last) (count + 1))
+        (launch_from (with_stack (other ++ own ∷ [])) (filter_steps table.calls programs' ++ last) (count + 1))
         (append_assoc one (code ∷ []) codes') (append_assoc other (own ∷ []) own') more)
       where
         rest : World → List LaunchStep → LaunchOutcome
-        rest world steps = launch_from world (steps ++ program_steps table.calls program) (count + 1)
+        rest world steps = launch_from world (steps ++ last) (count + 1)
 
         by : (x y : Reply × World) → StepsAlike (one ++ code ∷ []) (other ++ own ∷ []) x y
             → EndAlike (one ++ code ∷ codes') (other ++ own ∷ own')
-            (launch_from (with_stack (one ++ code ∷ [])) (filter_steps table.calls programs ++ program_steps table.calls program)
+            (launch_from (with_stack (one ++ code ∷ [])) (filter_steps table.calls programs ++ last)
             (count + 1)) (launch_from (with_stack (other ++ own ∷ []))
-            (filter_steps table.calls programs' ++ program_steps table.calls program) (count + 1))
+            (filter_steps table.calls programs' ++ last) (count + 1))
             → EndAlike (one ++ code ∷ codes') (other ++ own ∷ own')
             (launch_on x.0 (count + 1)
-            (launch_from x.1 (filter_steps table.calls programs ++ program_steps table.calls program) (count + 1)))
+            (launch_from x.1 (filter_steps table.calls programs ++ last) (count + 1)))
             (launch_on y.0 (count + 1)
-            (launch_from y.1 (filter_steps table.calls programs' ++ program_steps table.calls program) (count + 1)))
+            (launch_from y.1 (filter_steps table.calls programs' ++ last) (count + 1)))
         by x y (refused errno u v) more = (refl, refl)
         by x y (killed u v) more = refl
         by x y pushes more = more
@@ -265,7 +347,7 @@ launches_alike table site wanted plan programs one other whole arch can small fi
     before = with_unshare table.calls (mount_steps plan) ++ identity_steps table.calls wanted
 
     after : List (List ℕ) → List LaunchStep
-    after programs = filter_steps table.calls programs ++ program_steps table.calls wanted.program
+    after programs = filter_steps table.calls programs ++ last_steps table.calls wanted
 
     from_start : List (List ℕ) → LaunchOutcome
     from_start programs = launch_from (start_world table site) (before ++ after programs) 0
@@ -288,14 +370,15 @@ launches_alike table site wanted plan programs one other whole arch can small fi
         let r' : 0 + room_of other ≤ max_insns_per_path = let h = second.room in omega arith in
         same_ends one other (from_start wanted.programs) (there wanted.programs) (from_start programs) (there programs)
         (reached wanted.programs) (reached programs)
-        (filters_alike table site whole arch ready.creds ready.namespace ready.tables wanted.program wanted.programs programs one other []
+        (filters_alike table site whole arch ready.creds ready.namespace ready.tables (last_steps table.calls wanted)
+        (last_other table site whole arch wanted) wanted.programs programs one other []
         [] (0 + length before) first.read second.read alike tt (empty_room one r) (empty_room other r'))
 
     joined : (programs : List (List ℕ)) → launch_from (start_world table site)
         (launch_steps table.calls (record wanted { programs = programs }) plan) 0 ≡ from_start programs
     joined programs = ap (λ (steps : List LaunchStep). launch_from (start_world table site) steps 0)
         (append_split (with_unshare table.calls (mount_steps plan)) (identity_steps table.calls wanted)
-        (filter_steps table.calls programs) (program_steps table.calls wanted.program))
+        (filter_steps table.calls programs) (last_steps table.calls wanted))
 
     by : (b : Bool) → EndAlike one other
         (cond b (PrivilegedProgram wanted.program) (launch_from (start_world table site) (launch_steps table.calls wanted plan) 0))

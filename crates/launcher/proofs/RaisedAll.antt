@@ -4,11 +4,15 @@ use Rattle.std.specs.Prelude.{filter, nat_le, ◌+◌, ◌<◌, ◌≤◌, ◌^�
 use Rattle.std.specs.List.{AllByRecursion, list_any}
 use Rattle.std.proofs.lemmas.Bool.{eqb-true}
 use Rattle.std.proofs.lemmas.Bool.Decides.{nat_tests}
-use Rattle.exec_settings.specs.cap_sets.Sets.{has, all, IsWithin}
-use Rattle.exec_settings.proofs.OfCapSets.Members.{has_all}
+use Rattle.exec_settings.specs.cap_sets.Sets.{has, all, none, union, IsWithin}
+use Rattle.exec_settings.proofs.OfCapSets.Members.{has_all, has_none, has_union, same_sets}
 use Rattle.kernel_laws.specs.kern_creds.declared.creds.Creds.{Creds}
 use Rattle.kernel_laws.specs.Questions.{count_from}
 use Rattle.launcher.proofs.Leading.{clash}
+
+-- nothing adds nothing
+pub none_union : (set : ℕ) → union none set ≡ set
+none_union set = same_sets (union none set) set (λ k. has_union none set k ∙ ap (λ b. b || has set k) (has_none k))
 
 pub counted_small : (from count : ℕ) → from + count ≤ 2 ^ 32 → AllByRecursion (λ n. n < 2 ^ 32) (count_from from count)
 counted_small from zero le = tt
@@ -21,6 +25,16 @@ filter_keeps P p (x ∷ xs) all' = by (p x) (filter_keeps P p xs all'.1)
     by : (b : Bool) → AllByRecursion P (filter p xs) → AllByRecursion P (cond b (x ∷ filter p xs) (filter p xs))
     by true more = (all'.0, more)
     by false more = more
+
+-- what passes the test has what all have, and passes
+pub filter_passes : (P Q : ℕ → Type 0) (p : ℕ → Bool) → ((x : ℕ) → P x → p x ≡ true → Q x) → (xs : List ℕ) → AllByRecursion P xs
+    → AllByRecursion Q (filter p xs)
+filter_passes P Q p to [] all' = tt
+filter_passes P Q p to (x ∷ xs) all' = by (p x) refl (filter_passes P Q p to xs all'.1)
+  where
+    by : (b : Bool) → p x ≡ b → AllByRecursion Q (filter p xs) → AllByRecursion Q (cond b (x ∷ filter p xs) (filter p xs))
+    by true e more = (to x all'.0 e, more)
+    by false e more = more
 
 counts : (k from count : ℕ) → from ≤ k → k < from + count → list_any (λ n. eqb n k) (count_from from count) ≡ true
 counts k from zero le lt = absurd (omega arith)

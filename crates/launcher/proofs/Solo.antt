@@ -118,6 +118,12 @@ module _ (table : calls.Table) (site : Site) where
   let_through world call process (decision.Errno errno) done = absurd done
   let_through world call process decision.Kill done = absurd done
 
+  pub passed : (world : World) (call : Call) (process : Process) (decision' : Decision) → IsDone (decided world call process decision').0
+      → decision' ≡ decision.Pass
+  passed world call process decision.Pass done = refl
+  passed world call process (decision.Errno errno) done = absurd done
+  passed world call process decision.Kill done = absurd done
+
   module _ (creds : Creds) (stack : List (List Insn)) (namespace : ℕ) (tables : List MountList) where
     abbrev world : World
     world = solo creds stack namespace tables

@@ -23,6 +23,7 @@ use Rattle.launcher.specs.Answers.{LaunchesTo, codes_of, given_bytes, wanted_of}
 use Rattle.launcher.specs.Conditions.{CanBeLaunched}
 use Rattle.launcher.specs.LaunchedWorlds.{IsMeant}
 use Rattle.launcher.specs.Launches.{AreRead}
+use Rattle.launcher.proofs.Conditions.{keeps_for_user}
 use Rattle.launcher.proofs.LaunchedWorlds.{launched_is_world}
 use Rattle.launcher.proofs.Matching.{means}
 use Rattle.launcher.proofs.TwoAbis.{filters_there}
@@ -49,6 +50,6 @@ unit_launched unit table site settings plan service whole arch can fit are l =
     let wanted = recursion_from_All (HasWantedRules own table) settings.filters.items filters.do_as_wanted in
     let each = means own table settings.filters.items (codes_of service.filters) wanted (filters_there own table settings.filters.items filters.exactly_those_on) (they_match settings.filters.items service.filters l.filters) in
     launched_is_world own table site (wanted_of settings (given_bytes service.filters)) plan service.world service.steps whole arch
-    filters.refuse_by_numbers can fit.uid
+    filters.refuse_by_numbers can fit.uid (keeps_for_user settings (given_bytes service.filters) fit)
     (meant own table (given_bytes service.filters) (codes_of service.filters)
     (they_are_read settings.filters.items service.filters l.filters) each) l.ends

@@ -26,6 +26,7 @@ wanted_of settings programs = record {
   groups = settings.groups;
   bounding = settings.bounding;
   ambient = settings.ambient;
+  keeps_capabilities = settings.keeps_capabilities;
   no_new_privs = settings.no_new_privs;
   mdwe = settings.mdwe;
   programs = programs;

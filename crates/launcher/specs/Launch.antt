@@ -3,8 +3,8 @@
 use Rattle.std.specs.Prelude.{ℕ, ◌+◌, ◌==◌, ◌&&◌, ◌||◌, not, Bool, false, codes, List, [], ◌∷◌, ◌++◌, map, filter, if◌then◌else◌}
 use Rattle.std.specs.Option.{option_map_or}
 use Rattle.exec_settings.specs.abs_path.Paths.{Path}
-use Rattle.exec_settings.specs.cap_sets.Sets.{has, all}
-use Rattle.kernel_laws.specs.linux_numbers.Capabilities.{cap_last_cap}
+use Rattle.exec_settings.specs.cap_sets.Sets.{has, none, all, single, union, cut, minus}
+use Rattle.kernel_laws.specs.linux_numbers.Capabilities.{cap_last_cap, cap_setpcap, cap_sys_admin}
 use Rattle.kernel_laws.specs.call_table.declared.listed.CallLine.{CallLine}
 use Rattle.kernel_laws.specs.call_table.Table as calls
 use Rattle.kernel_laws.specs.call_table.Lookups.{named}
@@ -35,6 +35,7 @@ pub record Wanted : Type 0 where
   pub groups : List ℕ
   pub bounding : ℕ
   pub ambient : ℕ
+  pub keeps_capabilities : Bool
   pub no_new_privs : Bool
   pub mdwe : Bool
   pub programs : List (List ℕ)
@@ -111,14 +112,30 @@ group_steps lines wanted =
     makes lines (codes "setgroups") 0 0 0 (Ids wanted.groups) ∷
     makes lines (codes "setresgid") wanted.gid wanted.gid wanted.gid Nothing ∷ []
 
--- each capability that is not in the bounding set is dropped from it, ascending
-abbrev pub drop_steps : List CallLine → Wanted → List LaunchStep
-drop_steps lines wanted = map (λ cap. prctl_step lines capbset_drop cap 0)
-    (filter (λ cap. not (has wanted.bounding cap)) (count_from 0 (cap_last_cap + 1)))
+-- what a launch can keep until the filters are installed. Without no_new_privs, seccomp(2) needs CAP_SYS_ADMIN. PR_CAPBSET_DROP, which gives
+-- the two up again, needs CAP_SETPCAP (keep_seccomp_privileges of systemd 257)
+abbrev pub held : ℕ
+held = union (single cap_setpcap) (single cap_sys_admin)
 
--- the ambient set becomes inheritable, with all else that the first process has
+abbrev pub held_if : Bool → ℕ
+held_if keeps = if keeps then held else none
+
+-- the set, with what is kept
+abbrev pub with_held : Bool → ℕ → ℕ
+with_held keeps set = if keeps then union set held else set
+
+-- each capability outside a set is dropped from the bounding set, ascending
+abbrev pub outside_steps : List CallLine → ℕ → List LaunchStep
+outside_steps lines set =
+    map (λ cap. prctl_step lines capbset_drop cap 0) (filter (λ cap. not (has set cap)) (count_from 0 (cap_last_cap + 1)))
+
+-- what is neither in the bounding set nor kept is dropped from it
+abbrev pub drop_steps : List CallLine → Wanted → List LaunchStep
+drop_steps lines wanted = outside_steps lines (with_held wanted.keeps_capabilities wanted.bounding)
+
+-- the ambient set and what is kept become inheritable, with all else that the first process has
 abbrev pub inherit_steps : List CallLine → Wanted → List LaunchStep
-inherit_steps lines wanted = capset_step lines all all wanted.ambient ∷ []
+inherit_steps lines wanted = capset_step lines all all (with_held wanted.keeps_capabilities wanted.ambient) ∷ []
 
 abbrev pub if_user : ℕ → List LaunchStep → List LaunchStep
 if_user uid steps = if uid == 0 then [] else steps
@@ -133,9 +150,13 @@ abbrev pub raise_steps : List CallLine → Wanted → List LaunchStep
 raise_steps lines wanted = map (λ cap. prctl_step lines cap_ambient ambient_raise cap)
     (filter (has wanted.ambient) (count_from 0 (cap_last_cap + 1)))
 
--- another user keeps the ambient set alone
+-- another user has this set and no more
+abbrev pub left_by : List CallLine → ℕ → ℕ → List LaunchStep
+left_by lines uid set = if_user uid (capset_step lines set set set ∷ [])
+
+-- it has the ambient set and what is kept
 abbrev pub left_steps : List CallLine → Wanted → List LaunchStep
-left_steps lines wanted = if_user wanted.uid (capset_step lines wanted.ambient wanted.ambient wanted.ambient ∷ [])
+left_steps lines wanted = left_by lines wanted.uid (with_held wanted.keeps_capabilities wanted.ambient)
 
 abbrev pub privilege_steps : List CallLine → Wanted → List LaunchStep
 privilege_steps lines wanted = if_so wanted.no_new_privs (prctl_step lines set_no_new_privs 1 0)
@@ -147,8 +168,25 @@ memory_steps lines wanted = if_so wanted.mdwe (prctl_step lines set_mdwe refuse_
 abbrev pub filter_steps : List CallLine → List (List ℕ) → List LaunchStep
 filter_steps lines programs = map (λ bytes. makes lines (codes "seccomp") set_mode_filter 0 0 (Code bytes)) programs
 
+-- each capability of a set is dropped from the bounding set, ascending
+abbrev pub given_up_steps : List CallLine → ℕ → List LaunchStep
+given_up_steps lines set = map (λ cap. prctl_step lines capbset_drop cap 0) (filter (has set) (count_from 0 (cap_last_cap + 1)))
+
+-- with the filters in force, what was kept is given up: what the bounding set lacks of it is dropped from that. Then the ambient set alone is
+-- permitted and effective, and what of it is in the bounding set stays inheritable
+abbrev pub give_up_steps : List CallLine → Wanted → List LaunchStep
+give_up_steps lines wanted =
+    if wanted.keeps_capabilities
+    then given_up_steps lines (minus held wanted.bounding)
+    ++ capset_step lines wanted.ambient wanted.ambient (union wanted.ambient (cut held wanted.bounding)) ∷ []
+    else []
+
 abbrev pub program_steps : List CallLine → Path → List LaunchStep
 program_steps lines program = makes lines (codes "execve") 0 0 0 (OnePath program) ∷ []
+
+-- with the filters in force: what was kept is given up, and the program runs
+abbrev pub last_steps : List CallLine → Wanted → List LaunchStep
+last_steps lines wanted = give_up_steps lines wanted ++ program_steps lines wanted.program
 
 -- what the service is made before its filters: the groups and gids, the bounding set, the ambient set made inheritable, the
 -- uids, the ambient set, no_new_privs, the mark that refuses memory
@@ -157,9 +195,9 @@ identity_steps lines wanted =
     group_steps lines wanted ++ drop_steps lines wanted ++ inherit_steps lines wanted ++ user_steps lines wanted
     ++ raise_steps lines wanted ++ left_steps lines wanted ++ privilege_steps lines wanted ++ memory_steps lines wanted
 
--- then the filters, and the program
+-- then the filters, and the last steps
 abbrev pub call_steps : List CallLine → Wanted → List LaunchStep
-call_steps lines wanted = identity_steps lines wanted ++ filter_steps lines wanted.programs ++ program_steps lines wanted.program
+call_steps lines wanted = identity_steps lines wanted ++ filter_steps lines wanted.programs ++ last_steps lines wanted
 
 -- the mounts in a namespace of their own, and then the calls
 abbrev pub launch_steps : List CallLine → Wanted → Table → List LaunchStep

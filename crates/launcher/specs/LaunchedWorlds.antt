@@ -17,6 +17,7 @@ use Rattle.mount_plan.specs.Host.{host_of}
 use Rattle.exec_settings.specs.site_table.Table.{Site}
 use Rattle.launcher.specs.Alike.{HasWordArchs}
 use Rattle.launcher.specs.Launch.{Wanted, Launched, launch}
+use Rattle.launcher.specs.Launches.{KeepsForUser}
 
 -- bytes of a program that decides as a filter of the settings
 abbrev pub IsMeant : FilterSettings → calls.Table → List ℕ → Type 0
@@ -26,5 +27,5 @@ abbrev pub LaunchedIsWorld : Type 0
 LaunchedIsWorld = (settings : FilterSettings) (table : calls.Table) (site : Site) (wanted : Wanted) (plan : Table) (last : World)
     (steps : ℕ)
     → IsWhole table → HasWordArchs table → AreRefusing settings → CanBeMounted (host_of site) plan
-    → wanted.uid < no_id → AllByRecursion (IsMeant settings table) wanted.programs
+    → wanted.uid < no_id → KeepsForUser wanted → AllByRecursion (IsMeant settings table) wanted.programs
     → launch table site wanted plan ≡ Launched last steps → IsLaunchedWorld last

@@ -2,9 +2,10 @@
 
 ghost use Rattle.std.specs.Prelude.{◌≡◌, [], ◌++◌, IfOk, OnOk};
 ghost use Rattle.launcher.specs.Answers.{wanted_of};
-ghost use Rattle.launcher.specs.Launch.{group_steps, drop_steps, inherit_steps, user_steps, raise_steps, left_steps, privilege_steps, memory_steps, identity_steps};
+ghost use Rattle.launcher.specs.Launch.{group_steps, outside_steps, drop_steps, inherit_steps, user_steps, raise_steps, left_steps, privilege_steps, memory_steps, identity_steps};
 
 use crate::calls::{CallSteps, capset, first_call, prctl};
+use crate::kept::{CAPBSET_DROP, with_held};
 use exec_settings::{CapSet, Settings};
 use kernel_laws::linux_numbers::capabilities::CAP_LAST_CAP;
 use kernel_laws::{CallTable, IdList, Payload};
@@ -12,9 +13,6 @@ use std::alloc::{AllocError, Global};
 
 /// PR_SET_KEEPCAPS, prctl(2).
 const SET_KEEPCAPS: u64 = 8;
-
-/// PR_CAPBSET_DROP, prctl(2).
-const CAPBSET_DROP: u64 = 24;
 
 /// PR_SET_NO_NEW_PRIVS, prctl(2).
 const SET_NO_NEW_PRIVS: u64 = 38;
@@ -46,7 +44,18 @@ fn group_steps(
     steps.push(first_call(table, "setresgid", gid, gid, gid, Payload::Nothing))
 }
 
-// Each capability that is not in the set is dropped from the bounding set, ascending.
+// Each capability outside a set is dropped from the bounding set, ascending.
+fn outside_steps(steps: &mut CallSteps, table: &CallTable, set: CapSet) -> Result<(), AllocError>
+    ensures { OnOk result (steps.new ≡ steps.old ++ outside_steps table.now.calls set) }
+{
+    for cap in 0..CAP_LAST_CAP + 1 {
+        let call = prctl(table, CAPBSET_DROP, u64::from(cap), 0);
+        steps.push_if(!set.contains(cap), call)?;
+    }
+    Ok(())
+}
+
+// What is neither in the bounding set nor kept is dropped from it.
 fn drop_steps(
     steps: &mut CallSteps,
     table: &CallTable,
@@ -54,14 +63,11 @@ fn drop_steps(
 ) -> Result<(), AllocError>
     ensures { OnOk result (steps.new ≡ steps.old ++ drop_steps table.now.calls (wanted_of settings.now [])) }
 {
-    for cap in 0..CAP_LAST_CAP + 1 {
-        let call = prctl(table, CAPBSET_DROP, u64::from(cap), 0);
-        steps.push_if(!settings.bounding.contains(cap), call)?;
-    }
-    Ok(())
+    let bounding = with_held(settings.keeps_capabilities, settings.bounding);
+    outside_steps(steps, table, bounding)
 }
 
-// The ambient set becomes inheritable, with all else that the first process has.
+// The ambient set and what is kept become inheritable, with all else that the first process has.
 fn inherit_steps(
     steps: &mut CallSteps,
     table: &CallTable,
@@ -70,7 +76,8 @@ fn inherit_steps(
     ensures { OnOk result (steps.new ≡ steps.old ++ inherit_steps table.now.calls (wanted_of settings.now [])) }
 {
     let all = CapSet::full();
-    steps.push(capset(table, all, all, settings.ambient))
+    let inheritable = with_held(settings.keeps_capabilities, settings.ambient);
+    steps.push(capset(table, all, all, inheritable))
 }
 
 // Another user than root keeps its permitted set while setresuid(2) takes all three uids.
@@ -104,7 +111,7 @@ fn raise_steps(
     Ok(())
 }
 
-// Another user than root keeps the ambient set alone.
+// Another user than root has the ambient set, what is kept, and no more.
 fn left_steps(
     steps: &mut CallSteps,
     table: &CallTable,
@@ -115,8 +122,8 @@ fn left_steps(
     if settings.uid == 0 {
         return Ok(());
     }
-    let ambient = settings.ambient;
-    steps.push(capset(table, ambient, ambient, ambient))
+    let left = with_held(settings.keeps_capabilities, settings.ambient);
+    steps.push(capset(table, left, left, left))
 }
 
 // no_new_privs, where it is in effect.

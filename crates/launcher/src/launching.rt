@@ -42,8 +42,8 @@ fn make_steps(
 }
 
 /// Starts a service in the modelled kernel, step by step (systemd.exec(5)). It makes the mounts in a namespace of their own,
-/// and sets the groups, the uids, the capabilities and no_new_privs. Then it installs the filters as programs and executes the
-/// service's program.
+/// and sets the groups, the uids, the capabilities and no_new_privs. Then it installs the filters as programs, gives up the
+/// capabilities that it kept for this, and executes the service's program.
 ///
 /// The kernel's step makes each call, with the table's number. `PrivilegedProgram` is returned before all steps, exactly if the
 /// program's path finds an executable file with a set-id bit or capabilities on the plan. `Refused` and `Killed` name the first

@@ -10,6 +10,7 @@ mod calls;
 mod error;
 mod filters;
 mod identity;
+mod kept;
 mod launched;
 mod launching;
 pub mod laws;
@@ -20,7 +21,7 @@ mod steps;
 
 pub use error::LaunchError;
 pub use exec_settings::{
-    Filter, Mentions, NameError, Resolved, Settings, SettingsError, SiteError, SiteTable, Text,
+    Filter, Mentioned, NameError, Resolved, Settings, SettingsError, SiteError, SiteTable, Text,
     UnitError, UnitFile, UnitFiles, UnitName, UnitText, Version, is_read, read_site, read_unit,
     settings,
 };

@@ -1,13 +1,14 @@
 //! Makes all calls of a launch in their order: first the calls that set ids and capabilities, then the calls that install the
-//! filters, then execve(2) of the program.
+//! filters. The last calls give up what was kept for the filters, and execute the program.
 
-ghost use Rattle.std.specs.Prelude.{◌≡◌, ◌++◌, IfOk, OnOk};
+ghost use Rattle.std.specs.Prelude.{◌≡◌, [], ◌++◌, IfOk, OnOk};
 ghost use Rattle.launcher.specs.Answers.{given_bytes, wanted_of};
-ghost use Rattle.launcher.specs.Launch.{call_steps, filter_steps};
+ghost use Rattle.launcher.specs.Launch.{call_steps, filter_steps, last_steps};
 
 use crate::calls::{CallSteps, first_call};
 use crate::filters::{FilterProgram, FilterPrograms};
 use crate::identity::identity_steps;
+use crate::kept::give_up_steps;
 use exec_settings::Settings;
 use kernel_laws::{Bytes, CallTable, Payload};
 use std::alloc::{AllocError, Global};
@@ -31,6 +32,20 @@ fn filter_steps(
     Ok(())
 }
 
+// What was kept is given up, and the program runs.
+fn last_steps(
+    alloc: Global,
+    steps: &mut CallSteps,
+    table: &CallTable,
+    settings: &Settings,
+) -> Result<(), AllocError>
+    ensures { OnOk result (steps.new ≡ steps.old ++ last_steps table.now.calls (wanted_of settings.now [])) }
+{
+    give_up_steps(steps, table, settings)?;
+    let program = Payload::OnePath(settings.program.copy(alloc)?);
+    steps.push(first_call(table, "execve", 0, 0, 0, program))
+}
+
 /// The calls of a launch by these programs.
 pub fn call_steps(
     alloc: Global,
@@ -42,7 +57,6 @@ pub fn call_steps(
 {
     let mut steps = identity_steps(alloc, table, settings)?;
     filter_steps(alloc, &mut steps, table, filters.list())?;
-    let program = Payload::OnePath(settings.program.copy(alloc)?);
-    steps.push(first_call(table, "execve", 0, 0, 0, program))?;
+    last_steps(alloc, &mut steps, table, settings)?;
     Ok(steps)
 }

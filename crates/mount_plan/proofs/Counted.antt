@@ -24,7 +24,7 @@ placed_length path (first ∷ paths) = by (is_before path first) (is_before firs
     by false true h = omega arith
     by false false h = omega arith
 
-with_placed_length : (sorted paths : List Path) → length (with_placed sorted paths) ≤ length sorted + length paths
+pub with_placed_length : (sorted paths : List Path) → length (with_placed sorted paths) ≤ length sorted + length paths
 with_placed_length sorted [] = omega arith
 with_placed_length sorted (path ∷ paths) = let more = with_placed_length (placed path sorted) paths in let one = placed_length path sorted in omega arith
 
@@ -75,7 +75,7 @@ table_length : (kept : List Mention) (is_dir : Path → Bool) (places : List Pat
 table_length kept is_dir [] = refl
 table_length kept is_dir (place ∷ places) = let rest = table_length kept is_dir places in omega arith
 
-paths_length : (mentions : List Mention) → length (paths_of mentions) ≡ length mentions
+pub paths_length : (mentions : List Mention) → length (paths_of mentions) ≡ length mentions
 paths_length [] = refl
 paths_length (mention ∷ mentions) = let rest = paths_length mentions in omega arith
 

@@ -17,9 +17,10 @@ use Rattle.kern_mounts.specs.Entry.{leads_to, entry_of}
 use Rattle.kern_mounts.proofs.Entries.{entry_is, entry_leads, has_entry, last_is_longest}
 use Rattle.mount_plan.specs.Plan.{what_of, flags_of, step_at}
 use Rattle.mount_plan.specs.AsView.{shown_by, Agrees}
+use Rattle.mount_plan.specs.Planned.{base_view}
 
 -- a mount shows below its place the object of the place, followed by the rest
-shown_behind : (object : Object) (is_dir : Bool) (place path : Path)
+pub shown_behind : (object : Object) (is_dir : Bool) (place path : Path)
     → shown_by (what_of object is_dir) place path ≡ object_behind object (rest_of place path)
 shown_behind (on_host source) is_dir place path = refl
 shown_behind empty is_dir place path = refl
@@ -33,7 +34,7 @@ flags_behind hidden rest read_only no_exec = refl
 
 -- an entry with the view of its own place has the view of a path at which the same mentions decide
 agrees_below : (kept : List Mention) (is_dir : Path → Bool) (place path : Path) → HasNoneBetween kept place path
-    → Agrees kept path (step_at kept is_dir place)
+    → Agrees (base_view kept path) path (step_at kept is_dir place)
 agrees_below kept is_dir place path h = record {
   origin = shown_behind (object_at kept place) (is_dir place) place path ∙ sym (same_object kept place path h);
   flags = sym (ap (λ object. flags_of object (is_read_only kept path) (is_no_exec kept path)) (same_object kept place path h)
@@ -69,7 +70,7 @@ each_own kept is_dir (place ∷ places) = (refl, each_own kept is_dir places)
 pub record EntryOf (kept : List Mention) (is_dir : Path → Bool) (table : List MountStep) (path : Path) : Type 0 where
   pub step : MountStep
   pub belongs : entry_of table path ≡ Some step
-  pub agrees : Agrees kept path step
+  pub agrees : Agrees (base_view kept path) path step
   pub own : step_at kept is_dir step.place ≡ step
   pub leads : is_prefix step.place path ≡ true
 
@@ -88,7 +89,7 @@ finds_entry kept is_dir places root up has path =
     record {
       step = step;
       belongs = found.1;
-      agrees = subst (Agrees kept path) own
+      agrees = subst (Agrees (base_view kept path) path) own
           (agrees_below kept is_dir step.place path (none_between kept places step.place path has over leads));
       own = own;
       leads = leads;

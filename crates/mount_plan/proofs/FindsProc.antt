@@ -32,20 +32,20 @@ use Rattle.mount_plan.specs.Plan.{what_of, hides_dir, hides_dir_at, step_at, tab
 use Rattle.mount_plan.proofs.PlanLaws.{AreNormal, LeaveTheRoot, root_on_host, table_entry}
 
 -- the path is found as a directory of the host or an empty one, or it is the place of a hidden directory
-abbrev ShowsDirectory : Host → Path → What → Path → Type 0
+abbrev pub ShowsDirectory : Host → Path → What → Path → Type 0
 ShowsDirectory row_at path (what.Host source) place = row_at (source ++ rest_of place path) ≡ Some true
 ShowsDirectory row_at path what.Empty place = place ≡ path
 ShowsDirectory row_at path (what.Hidden is_dir) place = (place ≡ path) × (is_dir ≡ true)
 
 abbrev BindsDirectory : Host → Kind → Type 0
-BindsDirectory row_at (Bind source read_only) = row_at source ≡ Some true
+BindsDirectory row_at (Bind source read_only recursive) = row_at source ≡ Some true
 BindsDirectory row_at _ = Unit {0}
 
 -- a bind that is kept over a directory binds a directory
 binds_directory : (row_at : Host) (put : Bool) (path : Path) (kind : Kind) (optional : Bool) →
     is_kept (fate_of (source_row row_at kind) (beneath.Row true) put (record { path = path; kind = kind; optional = optional })) ≡ true
     → BindsDirectory row_at kind
-binds_directory row_at put path (Bind source read_only) optional h = by (row_at source) optional refl h
+binds_directory row_at put path (Bind source read_only recursive) optional h = by (row_at source) optional refl h
   where
     by : (o : Option Bool) (b : Bool) → row_at source ≡ o → is_kept (bind_fate o (beneath.Row true) b) ≡ true → row_at source ≡ Some true
     by None true e h = absurd (false≢true h)
@@ -54,7 +54,7 @@ binds_directory row_at put path (Bind source read_only) optional h = by (row_at 
     by (Some false) b e h = absurd (false≢true h)
 binds_directory row_at put path _ optional h = tt
 
-above_proc : (path : Path) → is_prefix path proc ≡ true → (path ≡ []) ⊎ (path ≡ proc)
+pub above_proc : (path : Path) → is_prefix path proc ≡ true → (path ≡ []) ⊎ (path ≡ proc)
 above_proc [] h = inl refl
 above_proc (part ∷ []) h = inr (ap (λ x. x ∷ []) (same_part part (codes "proc") (and_parts _ _ h).0))
 above_proc (part ∷ next ∷ path) h = absurd (false≢true (and_parts _ _ h).1)
@@ -87,8 +87,8 @@ shows_by : (row_at : Host) (kind : Kind) (front : Path) (is_dir : Bool) → fron
     → BindsDirectory row_at kind →
     ShowsDirectory row_at proc (what_of (object_by kind front proc) is_dir) proc
 shows_by row_at Hide front is_dir same says dir binds = (refl, dir)
-shows_by row_at (Tmp read_only) front is_dir same says dir binds = refl
-shows_by row_at (Bind source read_only) front is_dir same says dir binds =
+shows_by row_at (Tmp read_only no_exec) front is_dir same says dir binds = refl
+shows_by row_at (Bind source read_only recursive) front is_dir same says dir binds =
     ap (λ (p : Path). row_at ((source ++ rest_of p proc) ++ [])) same ∙ ap row_at (append-nil (source ++ []) ∙ append-nil source) ∙ binds
 shows_by row_at _ front is_dir same says dir binds = absurd (false≢true says)
 
@@ -118,7 +118,7 @@ at_proc row_at mentions kept free row keeps = by (origin_of kept proc) refl
         ]
 
 -- the object that the entry shows is found
-shown_found : (row_at : Host) (table : List MountStep) (path : Path) (step : MountStep) → entry_of table path ≡ Some step
+pub shown_found : (row_at : Host) (table : List MountStep) (path : Path) (step : MountStep) → entry_of table path ≡ Some step
     → ShowsDirectory row_at path step.what step.place →
     IsDirectory (finds row_at table path) ⊎ IsHiddenDirectory table path
 shown_found row_at table path step e shows = by step.what refl shows

@@ -1,8 +1,8 @@
 -- The steps of the code together keep the mentions that the rules keep.
-use Rattle.std.proofs.Common.{◌≡◌, ℕ, ◌+◌, ◌<◌, Bool, true, List, [], ◌∷◌, ◌++◌, map, filter, length, get_or, drop}
-use Rattle.std.proofs.Common.{Some, None, Result, Ok, Err, refl, sym, ap, ◌∙◌, Bor}
-use Rattle.std.specs.Prelude.{◌||◌, not}
-use Rattle.std.specs.List.{list_any, filter_map, enumerate_from}
+use Rattle.std.proofs.Common.{◌≡◌, ℕ, ◌+◌, ◌<◌, Bool, true, false, cond, List, [], ◌∷◌, ◌++◌, map, filter, find, length, get_or, drop}
+use Rattle.std.proofs.Common.{Option, Some, None, option_map, Result, Ok, Err, refl, sym, ap, ◌∙◌, Bor}
+use Rattle.std.specs.Prelude.{◌&&◌, ◌||◌, not}
+use Rattle.std.specs.List.{list_all, list_any, filter_map, enumerate_from}
 use Rattle.std.proofs.lemmas.Bool.{and_parts}
 use Rattle.std.proofs.lemmas.List.{drop_more}
 use Rattle.std.proofs.lemmas.List.Elements.{filter_map-append}
@@ -27,6 +27,28 @@ use Rattle.mount_plan.specs.Answers.{first_of, Refuses, AddsKept, Keeps}
 pub any_lent : {X : Type 0} (test : X → Bool) (xs : List (Bor X)) → list_any (λ x. test x.now) xs ≡ list_any test (map (λ x. x.now) xs)
 any_lent test [] = refl
 any_lent test (x ∷ xs) = ap (λ b. test x.now || b) (any_lent test xs)
+
+pub all_lent : {X : Type 0} (test : X → Bool) (xs : List (Bor X)) → list_all (λ x. test x.now) xs ≡ list_all test (map (λ x. x.now) xs)
+all_lent test [] = refl
+all_lent test (x ∷ xs) = ap (λ b. test x.now && b) (all_lent test xs)
+
+find_lent : {X : Type 0} (test : X → Bool) (xs : List (Bor X))
+    → option_map (λ x. x.now) (find (λ x. test x.now) xs) ≡ find test (map (λ x. x.now) xs)
+find_lent test [] = refl
+find_lent test (x ∷ xs) = by (test x.now) (find_lent test xs)
+  where
+    by : (b : Bool) → option_map (λ x. x.now) (find (λ x. test x.now) xs) ≡ find test (map (λ x. x.now) xs)
+        → option_map (λ x. x.now) (cond b (Some x) (find (λ x. test x.now) xs)) ≡ cond b (Some x.now) (find test (map (λ x. x.now) xs))
+    by true more = refl
+    by false more = more
+
+pub found_lent : {X : Type 0} (test : X → Bool) (xs : List (Bor X)) (r : Option (Bor X))
+    → option_map (λ x. x) r ≡ find (λ x. test x.now) xs → option_map (λ x. x.now) r ≡ find test (map (λ x. x.now) xs)
+found_lent {X = X} test xs r e = ap (option_map (λ x. x.now)) (itself r ∙ e) ∙ find_lent test xs
+  where
+    itself : (r : Option (Bor X)) → r ≡ option_map (λ x. x) r
+    itself None = refl
+    itself (Some x) = refl
 
 -- the longest mention above a path leads to it
 pub above_leads : (kept : List Mention) (path : Path) (one : ℕ × Mention) → longest is_origin (above path kept) ≡ Some one
@@ -134,3 +156,8 @@ from_goes row_at mentions old new path paths h = ap (λ r. goes_on r (λ more. k
 pub drop_item : (paths : List Path) (i : ℕ) (path : Path) → i < length paths → path ≡ get_or paths i path
     → drop i paths ≡ path ∷ drop (i + 1) paths
 drop_item paths i path lt e = drop_more paths i path lt ∙ ap (λ p. p ∷ drop (i + 1) paths) (sym e)
+
+pub drop_lent : {X : Type 0} (xs : List (Bor X)) (i : ℕ) (x : Bor X) → i < length xs → x ≡ get_or xs i x
+    → map (λ x. x.now) (drop i xs) ≡ x.now ∷ map (λ x. x.now) (drop (i + 1) xs)
+drop_lent {X = X} xs i x lt e = ap (map (λ x. x.now)) (drop_more xs i x lt)
+    ∙ ap (λ (first : Bor X). first.now ∷ map (λ x. x.now) (drop (i + 1) xs)) (sym e)

@@ -9,3 +9,16 @@ pub mod Planned
 pub mod Worked
 pub mod Resting
 pub mod PlanIsBlind
+pub mod EntriesMade
+pub mod EntriesTable
+pub mod EntriesAsView
+pub mod EntriesFound
+pub mod EntriesProc
+pub mod EntriesForm
+pub mod EntriesShort
+pub mod EntriesBest
+pub mod EntriesBeneath
+pub mod EntriesSeen
+pub mod EntriesBlind
+pub mod EntriesPlan
+pub mod BothPlans

@@ -1,6 +1,6 @@
 -- The parts of a host that a plan does not show do not change it.
 use Rattle.std.proofs.Common.{◌≡◌, ◌∙◌, ℕ, Bool, true, false, List, [], ◌∷◌, ◌++◌, Some, refl, ap, sym, subst}
-use Rattle.std.specs.Prelude.{◌&&◌, not, map, option_and_then}
+use Rattle.std.specs.Prelude.{◌&&◌, not, map, option_and_then, Ok}
 use Rattle.std.specs.Str.{bytes_eq}
 use Rattle.std.specs.List.{AllByRecursion, enumerate_from}
 use Rattle.path_settings.specs.abs_path.Paths.{Path, is_normal}
@@ -10,9 +10,9 @@ use Rattle.path_settings.proofs.OfAbsPath.Prefixes.{prefix-append}
 use Rattle.path_settings.specs.declared.mentions.Mention.{Mention}
 use Rattle.path_settings.specs.Mentions.{is_origin}
 use Rattle.path_settings.specs.view_map.Asked.{place_of, beneath_place, beneath_places, asked_of}
-use Rattle.path_settings.specs.view_map.Kept.{Host}
+use Rattle.path_settings.specs.view_map.Kept.{Host, kept_of}
 use Rattle.path_settings.specs.view_map.Object.{Object, on_host, empty, hidden, object_from, object_at, object_behind}
-use Rattle.path_settings.specs.view_map.Resting.{AreSame}
+use Rattle.path_settings.specs.view_map.Resting.{AreSame, AreSameSources}
 use Rattle.path_settings.specs.view_map.View.{above, leading_to, longest, origin_of}
 use Rattle.path_settings.proofs.Carries.{object_carries}
 use Rattle.path_settings.proofs.Deciding.{origin_is}
@@ -27,11 +27,11 @@ use Rattle.kern_mounts.specs.declared.step.MountStep.{MountStep}
 use Rattle.mount_plan.specs.AsView.{shown_by}
 use Rattle.mount_plan.specs.Plan.{table_of, places_of}
 use Rattle.mount_plan.proofs.PlanLaws.{table_finds}
-use Rattle.mount_plan.specs.Resting.{AgreeButBelow, ShowsNothingOf, PlanIsBlind}
+use Rattle.mount_plan.specs.Resting.{AgreeButBelow, ShowsNothingOf}
 use Rattle.mount_plan.proofs.Resting.{plan_rests}
 
 -- a path that leads strictly to another leads to the folder of that path
-below_last : (one path : Path) (part : List ℕ) → is_below (path ++ part ∷ []) one ≡ is_prefix one path
+pub below_last : (one path : Path) (part : List ℕ) → is_below (path ++ part ∷ []) one ≡ is_prefix one path
 below_last [] [] part = refl
 below_last [] (own ∷ path) part = refl
 below_last (own ∷ []) [] part = by (bytes_eq own part)
@@ -51,19 +51,19 @@ below_last (own ∷ one) (other ∷ path) part = by (bytes_eq own other) (below_
     by true more = more
     by false more = refl
 
-rest_last : (path : Path) (part : List ℕ) → rest_of path (path ++ part ∷ []) ≡ part ∷ []
+pub rest_last : (path : Path) (part : List ℕ) → rest_of path (path ++ part ∷ []) ≡ part ∷ []
 rest_last [] part = refl
 rest_last (own ∷ path) part = rest_last path part
 
-root_not_below : (one : Path) → is_below [] one ≡ false
+pub root_not_below : (one : Path) → is_below [] one ≡ false
 root_not_below [] = refl
 root_not_below (part ∷ one) = refl
 
-data LastOf : Path → Type 0 where
+pub data LastOf : Path → Type 0 where
   no_part : LastOf []
   a_part : (front : Path) (part : List ℕ) → LastOf (front ++ part ∷ [])
 
-last_part : (path : Path) → LastOf path
+pub last_part : (path : Path) → LastOf path
 last_part [] = no_part
 last_part (part ∷ path) = by path (last_part path)
   where
@@ -71,10 +71,10 @@ last_part (part ∷ path) = by path (last_part path)
     by _ no_part = a_part [] part
     by _ (a_part front own) = a_part (part ∷ front) own
 
-empty_differs : (own : Path) → empty ≡ on_host own → ⊥
+pub empty_differs : (own : Path) → empty ≡ on_host own → ⊥
 empty_differs own e = cc
 
-hidden_differs : (own : Path) → hidden ≡ on_host own → ⊥
+pub hidden_differs : (own : Path) → hidden ≡ on_host own → ⊥
 hidden_differs own e = cc
 
 abbrev IsOutside : Path → Path → Type 0
@@ -140,8 +140,11 @@ same_there : (folder : Path) (row_at other : Host) → AgreeButBelow folder row_
 same_there folder row_at other agree [] out = tt
 same_there folder row_at other agree (path ∷ paths) out = (agree path out.0, same_there folder row_at other agree paths out.1)
 
-pub plan_is_blind : PlanIsBlind
-plan_is_blind folder row_at other mentions kept normal e sources agree nothing =
+pub base_is_blind : (folder : Path) (row_at other : Host) (mentions kept : List Mention)
+    → AllByRecursion (λ mention. is_normal mention.path ≡ true) mentions → kept_of row_at mentions ≡ Ok kept
+    → AreSameSources row_at other mentions → AgreeButBelow folder row_at other → ShowsNothingOf (table_of row_at kept) folder
+    → (kept_of other mentions ≡ Ok kept) × (table_of other kept ≡ table_of row_at kept)
+base_is_blind folder row_at other mentions kept normal e sources agree nothing =
     let own : AllByRecursion (λ mention. is_normal mention.path ≡ true) kept = kept_is (λ mention. is_normal mention.path ≡ true) row_at mentions kept normal e in
     let outside = places_outside folder row_at kept own nothing in
     let asked : AllByRecursion (IsOutside folder) (asked_of row_at mentions) = subst (AllByRecursion (IsOutside folder)) (sym (asks_beneath row_at mentions kept e)) (outside (in_byte_order (map (λ mention. mention.path) mentions))) in (

@@ -21,6 +21,8 @@ use Rattle.kern_mounts.specs.Launch.{BeginsAtRoot, HasShortPlace, IsNotNoSuid, I
 use Rattle.mount_plan.specs.Plan.{what_of, flags_of, step_at, hides_dir_at, places_of, table_of}
 use Rattle.mount_plan.specs.AsView.{FindsAsView}
 use Rattle.mount_plan.specs.Form.{HasPlacesOf}
+use Rattle.mount_plan.specs.Planned.{base_view}
+use Rattle.path_settings.specs.declared.mentioned.Mentioned.TheVariants.{Base}
 use Rattle.mount_plan.proofs.FindsAsView.{EntryOf, finds_entry, places_again}
 
 abbrev pub paths_of : List Mention → List Path
@@ -49,7 +51,7 @@ table_entry row_at kept normal path =
     finds_entry kept (hides_dir_at row_at kept) (places_of kept) (starts_at_root row_at kept)
     (in_byte_order_ascending ([] ∷ paths_of kept)) (kept_places kept normal) path
 
-pub table_finds : (row_at : Host) (kept : List Mention) → AreNormal kept → FindsAsView kept (table_of row_at kept)
+pub table_finds : (row_at : Host) (kept : List Mention) → AreNormal kept → FindsAsView (base_view kept) (table_of row_at kept)
 table_finds row_at kept normal path = let entry = table_entry row_at kept normal path in (entry.step, entry.belongs, entry.agrees)
 
 pub table_ascends : (row_at : Host) (kept : List Mention) → AreAscending (map (λ step. step.place) (table_of row_at kept))
@@ -88,7 +90,7 @@ begins_at_root row_at kept free =
 
 -- each place is the root or the path of a mention
 pub places_mentioned : (row_at : Host) (mentions kept : List Mention) → kept_of row_at mentions ≡ Ok kept
-    → HasPlacesOf mentions (table_of row_at kept)
+    → HasPlacesOf (Base mentions) (table_of row_at kept)
 places_mentioned row_at mentions kept e =
     let IsOne : Path → Type 0 = λ place. (place ≡ []) ⊎ Contains (paths_of mentions) place in
     all_mapped (step_at kept (hides_dir_at row_at kept)) (λ step. IsOne step.place) (places_of kept)

@@ -37,7 +37,7 @@ has_bytes : (rest : Path) → (rest ≡ [] → ⊥) → 0 < length (tail_of rest
 has_bytes [] h = absurd (h refl)
 has_bytes (part ∷ rest) h = omega arith
 
-above_shorter : (one path : Path) → is_below path one ≡ true → length (tail_of one) < length (tail_of path)
+pub above_shorter : (one path : Path) → is_below path one ≡ true → length (tail_of one) < length (tail_of path)
 above_shorter one path over =
     let both = and_parts (is_prefix one path) (not (is_same one path)) over in
     let more = has_bytes (rest_of one path) (λ none. false≢true (sym (ap not (subst (λ (p : Path). is_same one p ≡ true)
@@ -45,7 +45,7 @@ above_shorter one path over =
     let text = ap length (text_then_rest one path both.0) ∙ length-append (tail_of one) (tail_of (rest_of one path)) in
     omega arith
 
-not_longer : (a b : ℕ) → b < a → nat_le a b ≡ true → ⊥
+pub not_longer : (a b : ℕ) → b < a → nat_le a b ≡ true → ⊥
 not_longer a b h g = absurd (false≢true (sym (above_false a b h) ∙ g))
   where
     above_false : (a b : ℕ) → b < a → nat_le a b ≡ false
@@ -119,8 +119,8 @@ flag_beside source beneath.Empty put mention flag h = inl (by mention.kind put f
     by : (kind : Kind) (put : Bool) → is_origin kind ≡ false → is_kept (seen_fate source beneath.Empty put mention.optional kind) ≡ true
         → put ≡ true
     by Hide put flag h = absurd (false≢true (sym flag))
-    by (Tmp read_only) put flag h = absurd (false≢true (sym flag))
-    by (Bind at read_only) put flag h = absurd (false≢true (sym flag))
+    by (Tmp read_only no_exec) put flag h = absurd (false≢true (sym flag))
+    by (Bind at read_only recursive) put flag h = absurd (false≢true (sym flag))
     by _ true flag h = refl
     by _ false flag h = absurd (false≢true h)
 flag_beside source beneath.NoRow put mention flag h = inl (by mention.kind put mention.optional flag h)
@@ -128,8 +128,8 @@ flag_beside source beneath.NoRow put mention flag h = inl (by mention.kind put m
     by : (kind : Kind) (put optional : Bool) → is_origin kind ≡ false → is_kept (seen_fate source beneath.NoRow put optional kind) ≡ true
         → put ≡ true
     by Hide put optional flag h = absurd (false≢true (sym flag))
-    by (Tmp read_only) put optional flag h = absurd (false≢true (sym flag))
-    by (Bind at read_only) put optional flag h = absurd (false≢true (sym flag))
+    by (Tmp read_only no_exec) put optional flag h = absurd (false≢true (sym flag))
+    by (Bind at read_only recursive) put optional flag h = absurd (false≢true (sym flag))
     by _ true optional flag h = refl
     by _ false true flag h = absurd (false≢true h)
     by _ false false flag h = absurd (false≢true h)
@@ -164,8 +164,8 @@ put_is_kept row_at here mentions more e put =
   where
     says : (kind : Kind) → (is_tmp kind || is_bind kind) ≡ true → is_origin kind ≡ true
     says Hide h = refl
-    says (Tmp read_only) h = refl
-    says (Bind source read_only) h = refl
+    says (Tmp read_only no_exec) h = refl
+    says (Bind source read_only recursive) h = refl
     says _ h = h
 
 none_among : (path : Path) (kept : List Mention) → AllByRecursion (IsElsewhere path) kept
@@ -190,11 +190,11 @@ row_beneath row_at source is_dir e = by (row_at source) refl e
     by (Some own) found e = let same : own ≡ is_dir = cc in found ∙ ap Some same
 
 -- a bind above a kept path has a row there
-bound_row : (row_at : Host) (mentions kept : List Mention) (mention : Mention) (one : ℕ × Mention) (source : Path) (read_only : Bool)
+bound_row : (row_at : Host) (mentions kept : List Mention) (mention : Mention) (one : ℕ × Mention) (source : Path) (read_only recursive : Bool)
     → KeepsByRules row_at mentions kept → Contains kept mention →
-    origin_of kept mention.path ≡ Some one → is_below mention.path one.1.path ≡ true → one.1.kind ≡ Bind source read_only
+    origin_of kept mention.path ≡ Some one → is_below mention.path one.1.path ≡ true → one.1.kind ≡ Bind source read_only recursive
     → (is_dir : Bool) × (row_at (source ++ rest_of one.1.path mention.path) ≡ Some is_dir)
-bound_row row_at mentions kept mention one source read_only keeps among e over kind =
+bound_row row_at mentions kept mention one source read_only recursive keeps among e over kind =
     let path : Path = mention.path in
     let none = none_at_path kept path one e over in
     let flag = false_from_ne_true (is_origin mention.kind) (λ says. false≢true (sym (All-contains (IsElsewhere path) kept mention (All-from_recursion (IsElsewhere path) kept none) among says) ∙ same_itself path)) in
@@ -213,12 +213,12 @@ bound_row row_at mentions kept mention one source read_only keeps among e over k
       )
     ]
 
-short_path : (path : Path) → is_path path ≡ true → length (tail_of path) ≤ 512
+pub short_path : (path : Path) → is_path path ≡ true → length (tail_of path) ≤ 512
 short_path path h =
     let short = leb-true (length (text_of path)) 512 (and_parts (is_normal path) (nat_le (length (text_of path)) 512) h).1 in
     omega (arith, tail_in_text path, short)
 
-rest_of_itself : (path : Path) → rest_of path path ≡ []
+pub rest_of_itself : (path : Path) → rest_of path path ≡ []
 rest_of_itself [] = refl
 rest_of_itself (part ∷ path) = rest_of_itself path
 
@@ -239,8 +239,8 @@ short_at row_at mentions kept mention rows keeps whole among = by (origin_of kep
     from : (one : ℕ × Mention) → origin_of kept mention.path ≡ Some one → is_whole one.1 ≡ true → is_prefix one.1.path mention.path ≡ true
         → (kind : Kind) → one.1.kind ≡ kind → HasShortHost (object_by kind one.1.path mention.path)
     from one e all leads Hide k = tt
-    from one e all leads (Tmp read_only) k = tt
-    from one e all leads (Bind source read_only) k = elim_same (is_same one.1.path mention.path) refl
+    from one e all leads (Tmp read_only no_exec) k = tt
+    from one e all leads (Bind source read_only recursive) k = elim_same (is_same one.1.path mention.path) refl
       where
         elim_same : (b : Bool) → is_same one.1.path mention.path ≡ b → length (tail_of (source ++ rest_of one.1.path mention.path)) ≤ 512
         elim_same true same =
@@ -249,7 +249,7 @@ short_at row_at mentions kept mention rows keeps whole among = by (origin_of kep
             (short_path source (ap has_whole_source (sym k) ∙ (and_parts (is_path one.1.path) (has_whole_source one.1.kind) all).1))
         elim_same false apart =
             let over : is_below mention.path one.1.path ≡ true = and_from (is_prefix one.1.path mention.path) (not (is_same one.1.path mention.path)) leads (ap not apart) in
-            let row = bound_row row_at mentions kept mention one source read_only keeps among e over k in
+            let row = bound_row row_at mentions kept mention one source read_only recursive keeps among e over k in
             rows (source ++ rest_of one.1.path mention.path) row.0 row.1
     from one e all leads _ k = own_short
 

@@ -48,7 +48,7 @@ abbrev planned : List Mention → Result (List MountStep) Refusal
 planned mentions = table_if (kept_of site mentions)
 
 -- a hidden folder, and a bind of an object below it
-hidden_and_bound : planned (says srv Hide ∷ says data_path (Bind srv_a false) ∷ [])
+hidden_and_bound : planned (says srv Hide ∷ says data_path (Bind srv_a false true) ∷ [])
     ≡ Ok (step [] (what.Host []) no_flags ∷ step data_path (what.Host srv_a) no_flags ∷ step srv (what.Hidden true) no_flags ∷ [])
 hidden_and_bound = refl
 
@@ -64,7 +64,7 @@ not_reopened : planned (says srv_a Rw ∷ says srv Hide ∷ []) ≡ Ok
 not_reopened = refl
 
 -- a hidden file; a hidden object below an empty file system is a directory
-hidden_kinds : planned (says srv_log Hide ∷ says srv_a (Tmp true) ∷ says (codes "srv" ∷ codes "a" ∷ codes "x" ∷ []) Hide ∷ [])
+hidden_kinds : planned (says srv_log Hide ∷ says srv_a (Tmp true false) ∷ says (codes "srv" ∷ codes "a" ∷ codes "x" ∷ []) Hide ∷ [])
     ≡ Ok (step [] (what.Host []) no_flags ∷ step srv_a what.Empty (record no_flags { read_only = true })
     ∷ step (codes "srv" ∷ codes "a" ∷ codes "x" ∷ []) (what.Hidden true) no_flags ∷ step srv_log (what.Hidden false) no_flags ∷ [])
 hidden_kinds = refl
@@ -74,5 +74,5 @@ missing_path : planned (says tmp_x Ro ∷ says (codes "none" ∷ []) Ro ∷ []) 
 missing_path = refl
 
 -- an empty file system does not cover a file
-over_a_file : planned (says srv_log (Tmp false) ∷ []) ≡ Err (wrong_kind srv_log)
+over_a_file : planned (says srv_log (Tmp false false) ∷ []) ≡ Err (wrong_kind srv_log)
 over_a_file = refl

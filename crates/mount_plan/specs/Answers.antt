@@ -6,7 +6,12 @@ use Rattle.path_settings.specs.view_map.Kept.{Refusal, missing, wrong_kind, Host
 use Rattle.kern_mounts.specs.declared.step.MountStep.{MountStep}
 use Rattle.mount_plan.specs.declared.error.PlanError.{PlanError}
 use Rattle.mount_plan.specs.declared.error.PlanError.TheVariants.{Missing, Kind, Memory}
+use Rattle.path_settings.specs.declared.mentioned.Mentioned.{Mentioned}
+use Rattle.path_settings.specs.declared.systemd.entries.MountEntry.{MountEntry}
+use Rattle.path_settings.specs.systemd.Made.{made_of}
 use Rattle.mount_plan.specs.Plan.{table_of}
+use Rattle.mount_plan.specs.Planned.{planned}
+use Rattle.mount_plan.specs.systemd.Table as systemd
 
 abbrev pub first_of : List Refusal → Option Refusal
 first_of [] = None
@@ -34,8 +39,23 @@ Keeps found (Err (Missing path)) = found ≡ Err (missing path)
 Keeps found (Err (Kind path)) = found ≡ Err (wrong_kind path)
 
 -- the answer is the table of the kept mentions, or the first refusal
-abbrev pub Plans : Host → List Mention → Result (List MountStep) PlanError → Type 0
-Plans row_at mentions (Ok table) = (kept : List Mention) × (kept_of row_at mentions ≡ Ok kept) × (table ≡ table_of row_at kept)
-Plans row_at mentions (Err Memory) = ⊤
-Plans row_at mentions (Err (Missing path)) = kept_of row_at mentions ≡ Err (missing path)
-Plans row_at mentions (Err (Kind path)) = kept_of row_at mentions ≡ Err (wrong_kind path)
+abbrev pub PlansBase : Host → List Mention → Result (List MountStep) PlanError → Type 0
+PlansBase row_at mentions (Ok table) = (kept : List Mention) × (kept_of row_at mentions ≡ Ok kept) × (table ≡ table_of row_at kept)
+PlansBase row_at mentions (Err Memory) = ⊤
+PlansBase row_at mentions (Err (Missing path)) = kept_of row_at mentions ≡ Err (missing path)
+PlansBase row_at mentions (Err (Kind path)) = kept_of row_at mentions ≡ Err (wrong_kind path)
+
+-- the answer is the table of the made entries, or the first refusal
+abbrev pub Tables : Host → List MountEntry → Result (Vec MountStep Global) PlanError → Type 0
+Tables row_at entries (Ok table) =
+    (made : List MountEntry) × (made_of row_at entries ≡ Ok made) × (table.items ≡ systemd.table_of row_at entries)
+Tables row_at entries (Err Memory) = ⊤
+Tables row_at entries (Err (Missing path)) = made_of row_at entries ≡ Err (missing path)
+Tables row_at entries (Err (Kind path)) = made_of row_at entries ≡ Err (wrong_kind path)
+
+-- the answer is the plan, or the first refusal, by the rules that read the mentions
+abbrev pub Plans : Host → Mentioned → Result (List MountStep) PlanError → Type 0
+Plans row_at mentioned (Ok table) = planned row_at mentioned ≡ Ok table
+Plans row_at mentioned (Err Memory) = ⊤
+Plans row_at mentioned (Err (Missing path)) = planned row_at mentioned ≡ Err (missing path)
+Plans row_at mentioned (Err (Kind path)) = planned row_at mentioned ≡ Err (wrong_kind path)

@@ -2,9 +2,8 @@
 use Rattle.std.specs.Prelude.{◌≡◌, ◌++◌, List, Some}
 use Rattle.path_settings.specs.abs_path.Paths.{Path}
 use Rattle.path_settings.specs.abs_path.Prefix.{rest_of}
-use Rattle.path_settings.specs.declared.mentions.Mention.{Mention}
-use Rattle.path_settings.specs.view_map.View.{is_read_only, is_no_exec}
-use Rattle.path_settings.specs.view_map.Object.{Object, on_host, empty, hidden, object_at}
+use Rattle.path_settings.specs.Sight.{Sight}
+use Rattle.path_settings.specs.view_map.Object.{Object, on_host, empty, hidden}
 use Rattle.kern_mounts.specs.declared.step.What.{What}
 use Rattle.kern_mounts.specs.declared.step.What.TheVariants as what
 use Rattle.kern_mounts.specs.declared.step.MountStep.{MountStep}
@@ -18,10 +17,10 @@ shown_by what.Empty place path = empty
 shown_by (what.Hidden is_dir) place path = hidden
 
 -- the entry has the view's object at the path, and the view's flags unless the object is hidden
-pub record Agrees (kept : List Mention) (path : Path) (step : MountStep) : Type 0 where
-  pub origin : shown_by step.what step.place path ≡ object_at kept path
-  pub flags : step.flags ≡ flags_of (object_at kept path) (is_read_only kept path) (is_no_exec kept path)
+pub record Agrees (sight : Sight) (path : Path) (step : MountStep) : Type 0 where
+  pub origin : shown_by step.what step.place path ≡ sight.object
+  pub flags : step.flags ≡ flags_of sight.object sight.read_only sight.no_exec
 
 -- each path belongs to such an entry
-abbrev pub FindsAsView : List Mention → List MountStep → Type 0
-FindsAsView kept table = (path : Path) → (step : MountStep) × (entry_of table path ≡ Some step) × Agrees kept path step
+abbrev pub FindsAsView : (Path → Sight) → List MountStep → Type 0
+FindsAsView view table = (path : Path) → (step : MountStep) × (entry_of table path ≡ Some step) × Agrees (view path) path step

@@ -1,6 +1,8 @@
 pub mod Host
 pub mod Plan
 pub mod AsView
+pub mod systemd
+pub mod Planned
 pub mod Form
 pub mod Here
 pub mod Short

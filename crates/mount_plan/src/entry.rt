@@ -15,7 +15,8 @@ use path_settings::{Kind, Mention};
 use site_table::SiteTable;
 use std::alloc::{AllocError, Global};
 
-fn hides_dir(beneath: Beneath) -> bool
+/// Returns whether a hidden object is a directory, by what is beneath it.
+pub(crate) fn hides_dir(beneath: Beneath) -> bool
     ensures { result ≡ hides_dir beneath }
 {
     match beneath {

@@ -18,7 +18,8 @@ use path_settings::{Kind, Mention};
 use site_table::SiteTable;
 use std::alloc::{AllocError, Global};
 
-fn beneath_row(row: Option<bool>) -> Beneath
+/// Returns what a row, if there is one, is beneath a mention.
+pub(crate) fn beneath_row(row: Option<bool>) -> Beneath
     ensures { result ≡ beneath_row row }
 {
     match row {

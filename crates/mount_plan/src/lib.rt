@@ -12,11 +12,13 @@ mod kept;
 pub mod laws;
 mod places;
 mod planning;
+mod systemd;
 
 pub use error::PlanError;
 pub use kern_mounts::{Flags, MountStep, What};
 use path_settings::ItemList;
-pub use path_settings::{Kind, Mention, MentionError, Mentions};
+pub use path_settings::systemd::{MountEntries, MountEntry, MountMode};
+pub use path_settings::{Kind, Mention, MentionError, Mentioned, Mentions};
 pub use planning::plan;
 
 /// The mounts of a plan in their order, the first at `/`. Contracts see them as a list.

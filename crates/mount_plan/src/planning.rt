@@ -2,25 +2,28 @@
 
 ghost use Rattle.std.specs.Prelude.{◌≡◌, true, IfOk, IsTrue};
 ghost use Rattle.std.specs.List.{list_all};
-ghost use Rattle.path_settings.specs.Short.{AreShort};
+ghost use Rattle.path_settings.specs.Mentioned as mentioned;
 ghost use Rattle.path_settings.specs.Mentions.{leaves_the_root, is_whole};
-ghost use Rattle.path_settings.specs.view_map.Kept.{kept_of, KeepsByRules};
+ghost use Rattle.path_settings.specs.view_map.Kept.{kept_of};
 ghost use Rattle.kern_mounts.specs.Launch.{CanBeMounted};
 ghost use Rattle.mount_plan.specs.Host.{host_of};
 ghost use Rattle.mount_plan.specs.Plan.{places_of, table_of};
 ghost use Rattle.mount_plan.specs.AsView.{FindsAsView};
 ghost use Rattle.mount_plan.specs.Form.{HasPlacesOf};
 ghost use Rattle.mount_plan.specs.Short.{HaveShortHosts};
-ghost use Rattle.mount_plan.specs.Answers.{Keeps, Plans};
+ghost use Rattle.mount_plan.specs.Answers.{Keeps, PlansBase, Plans};
+ghost use Rattle.mount_plan.specs.Planned.{views, AreKeptByRules};
+ghost use Rattle.site_table.specs.Table.{IsSite};
 
 use crate::MountSteps;
 use crate::entry::steps_at;
 use crate::error::PlanError;
 use crate::kept::kept_at_all;
 use crate::places::put_paths;
+use crate::systemd::plan_entries;
 use abs_path::AbsPath;
 use kern_mounts::MountStep;
-use path_settings::{Mention, Mentions};
+use path_settings::{Mention, Mentioned};
 use site_table::SiteTable;
 use std::alloc::{AllocError, Global};
 
@@ -44,11 +47,11 @@ fn table_of(alloc: Global, site: &SiteTable, kept: &[Mention]) -> Result<Vec<Mou
     steps_at(alloc, site, kept, &places)
 }
 
-// Makes the plan for mentions in a slice, by the rules.
+// Makes the plan for mentions in a slice, by the rules of the base profile.
 fn plan_of(alloc: Global, site: &SiteTable, mentions: &[Mention]) -> Result<MountSteps, PlanError>
     requires root_is_the_hosts { leaves_the_root mentions.now ≡ true }
     requires whole { list_all is_whole mentions.now ≡ true }
-    ensures { Plans (host_of site.now) mentions.now result }
+    ensures { PlansBase (host_of site.now) mentions.now result }
 {
     // A borrow of the rows says what holds of each site: their paths are short.
     let _rows = site.rows();
@@ -57,28 +60,33 @@ fn plan_of(alloc: Global, site: &SiteTable, mentions: &[Mention]) -> Result<Moun
     Ok(MountSteps::new(steps))
 }
 
-/// Makes the mounts that give a service with these mentions its view of the site.
+/// Makes the mounts that give a service with these mentions its view of the site, by the rules that read them.
 ///
-/// The first mount is `/` on the host with its flags. One mount follows for each other path that has a kept mention, in
-/// byte order. The object at the root is the host's: no mention may hide it, empty it or bind over it
+/// The first mount is `/` on the host with its flags. One mount follows for each other path that has a kept mention, or a
+/// made entry, in byte order. The object at the root is the host's: no mention may hide it, empty it or bind over it
 /// (`Mentions::leaves_the_root`).
 ///
 /// `Missing` and `Kind` name the first path in byte order at which the rules refuse a mention, or the source of a bind
 /// there that is no row. `Memory` is possible for any mentions.
-pub fn plan(alloc: Global, mentions: &Mentions, site: &SiteTable) -> Result<MountSteps, PlanError>
-    requires root_is_the_hosts { IsTrue (leaves_the_root mentions.now) }
+pub fn plan(alloc: Global, mentions: &Mentioned, site: &SiteTable) -> Result<MountSteps, PlanError>
+    requires root_is_the_hosts { IsTrue (mentioned.leaves_the_root mentions.now) }
 
-    // The kept mentions decide. The rules keep just these if they are asked with the kept mentions themselves.
+    // In the base profile the kept mentions decide. The rules keep just these if they are asked with the kept mentions.
     ensures table_or_first_refusal { Plans (host_of site.now) mentions.now result }
-    ensures keeps_by_rules { IfOk
-        (kept_of (host_of site.now) mentions.now) (KeepsByRules (host_of site.now) mentions.now) }
+    ensures keeps_by_rules { AreKeptByRules (host_of site.now) mentions.now }
     ensures finds_as_view { IfOk result (λ table.
-        IfOk (kept_of (host_of site.now) mentions.now) (λ kept. FindsAsView kept table)) }
+        IfOk (views (host_of site.now) mentions.now) (λ view. FindsAsView view table)) }
 
     // A launch can mount the plan if its paths are short. The law `plans_have_a_form` holds for paths of any length.
     ensures places_are_mentioned { IfOk result (HasPlacesOf mentions.now) }
-    ensures can_be_mounted { AreShort mentions.now → IfOk result (CanBeMounted (host_of site.now)) }
+    ensures can_be_mounted { mentioned.AreShort mentions.now → IfOk result (CanBeMounted (host_of site.now)) }
 {
     let _rows = site.rows();
-    plan_of(alloc, site, mentions.list())
+    match mentions {
+        Mentioned::Base(list) => plan_of(alloc, site, list.list()),
+        Mentioned::Systemd(entries) => {
+            let steps = plan_entries(alloc, site, entries.list())?;
+            Ok(MountSteps::new(steps))
+        }
+    }
 }

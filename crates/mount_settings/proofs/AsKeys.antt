@@ -25,7 +25,6 @@ use Rattle.path_settings.specs.FolderWords.{folder_of, mentions_of_word, one_men
 use Rattle.path_settings.proofs.ReadFolders.{of_words}
 use Rattle.path_settings.specs.Short.{is_short, is_short_path}
 use Rattle.path_settings.proofs.ReadMentions.{mention_short}
-use Rattle.mount_settings.specs.declared.written.WrittenPath.{WrittenPath}
 use Rattle.mount_settings.specs.Assigned.{Assigned, is_key}
 use Rattle.dropin_merge.specs.unit_values.Words.{split}
 use Rattle.mount_settings.specs.Written.{gives, is_reset_by, mentions_in_word, of_its_key, paths_in, word_paths, written}

@@ -60,7 +60,7 @@ control_groups_few true = lit≤ tt
 four : (q r s t : List Mention) → length (joined (q ∷ r ∷ s ∷ t ∷ [])) ≡ length q + (length r + (length s + length t))
 four q r s t = omega (arith, length-append q (r ++ (s ++ (t ++ []))), length-append r (s ++ (t ++ [])), length-append s (t ++ []), length-append t [])
 
-pub filter_few : (p : Mention → Bool) (xs : List Mention) → length (filter p xs) ≤ length xs
+pub filter_few : {X : Type 0} (p : X → Bool) (xs : List X) → length (filter p xs) ≤ length xs
 filter_few p [] = lit≤ tt
 filter_few p (x ∷ xs) =
     let h = filter_few p xs in

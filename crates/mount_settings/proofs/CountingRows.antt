@@ -1,11 +1,10 @@
--- The number of mentions by the table of a version of systemd.
-use Rattle.std.proofs.Common.{◌≡◌, ℕ, ◌+◌, ◌≤◌, Bool, true, false, Option, Some, None, List, [], ◌∷◌, ◌++◌, length, lit≤, arith, ap, map, refl}
+-- The number of entries that a version of systemd is asked to mount.
+use Rattle.std.proofs.Common.{◌≡◌, ℕ, ◌+◌, ◌≤◌, Bool, true, false, List, [], ◌∷◌, ◌++◌, length, lit≤, arith, ap, map, refl, ◌∙◌}
 use Rattle.std.proofs.Common.{length-append}
 use Rattle.std.proofs.lemmas.List.{length-map}
 use Rattle.std.specs.Prelude.{◌&&◌, cond, not, filter, flat_map, if◌then◌else◌}
 use Rattle.std.proofs.lemmas.List.Concat.{flat_map-append}
-use Rattle.path_settings.specs.declared.mentions.Mention.{Mention}
-use Rattle.dropin_merge.specs.declared.resolved.Resolved.{Resolved}
+use Rattle.path_settings.specs.systemd.Written.{entry_of}
 use Rattle.dropin_merge.specs.unit_names.declared.version.Version.{Version}
 use Rattle.dropin_merge.specs.unit_names.declared.version.Version.TheVariants.{V252, V257}
 use Rattle.site_table.specs.Table.{Site}
@@ -19,29 +18,27 @@ use Rattle.mount_settings.specs.declared.protections.Protections.{Protections}
 use Rattle.mount_settings.specs.declared.protections.Switches.{Switches}
 use Rattle.mount_settings.specs.declared.systemd.keys.FurtherKeys.{FurtherKeys}
 use Rattle.mount_settings.specs.declared.systemd.rows.RowsOn.{RowsOn}
-use Rattle.mount_settings.specs.Effects.{brings, stands}
 use Rattle.path_settings.specs.Keys.{is_implied}
-use Rattle.mount_settings.specs.Settings.{as_written, protections_of, mentions_by, mentions_in}
-use Rattle.mount_settings.specs.systemd.Keys.{unit_keys}
+use Rattle.mount_settings.specs.Settings.{as_written, entries_by, mentions_of}
 use Rattle.mount_settings.specs.systemd.OwnMounts.{has_own_mounts}
 use Rattle.mount_settings.specs.systemd.Words.{is_private}
-use Rattle.mount_settings.specs.systemd.Rows.{Row, by_row, table, rows_on, is_newer, reads_files, is_full, is_strict, hides_homes, reads_homes}
-use Rattle.mount_settings.specs.systemd.Rows.{empties_homes, system_rows, home_rows, kernel_rows, group_rows, further_rows}
+use Rattle.mount_settings.specs.systemd.Rows.{Row, asks_for, by_row, table, rows_on, disconnects_tmp, is_newer, reads_files, is_full, is_strict, hides_homes, reads_homes}
+use Rattle.mount_settings.specs.systemd.Rows.{empties_homes, system_rows, home_rows, tmp_rows, kernel_rows, group_rows, further_rows}
 use Rattle.mount_settings.specs.systemd.Folders.{brought_folders, folders, is_there, placed_folder}
-use Rattle.mount_settings.specs.systemd.Mentions.{brought, by_table, implied_of, is_effective, effective}
+use Rattle.mount_settings.specs.systemd.Mentions.{brought, by_table, implied_of, stands}
 use Rattle.mount_settings.proofs.Counting.{filter_few, counted}
 
--- the number of mentions if each row were on
+-- the number of entries if each row were on
 abbrev most : List Row → ℕ
 most [] = 0
-most (row ∷ rows) = length (brings row.1 row.2) + most rows
+most (row ∷ rows) = length (asks_for row.1 row.2) + most rows
 
 rows_few : (rows : List Row) → length (flat_map by_row rows) ≤ most rows
 rows_few [] = lit≤ tt
 rows_few (row ∷ rows) =
     let rest = rows_few rows in
-    let both = length-append (brings row.1 row.2) (flat_map by_row rows) in
-    elim row.0 as (λ on. length ((if on then brings row.1 row.2 else []) ++ flat_map by_row rows) ≤ length (brings row.1 row.2) + most rows)
+    let both = length-append (asks_for row.1 row.2) (flat_map by_row rows) in
+    elim row.0 as (λ on. length ((if on then asks_for row.1 row.2 else []) ++ flat_map by_row rows) ≤ length (asks_for row.1 row.2) + most rows)
     [ true ↦ omega (arith, rest, both) | false ↦ omega (arith, rest) ]
 
 -- the values of ProtectSystem= exclude one another
@@ -76,6 +73,16 @@ home_few V257 HomeYes on = lit≤ tt
 home_few V257 HomeReadOnly on = lit≤ tt
 home_few V257 Tmpfs on = lit≤ tt
 
+-- the folders for temporary files are disconnected or not
+tmp_few : (is_on apart : Bool) (on : RowsOn) → length (flat_map by_row (tmp_rows (record on {
+  temporary = is_on && not apart;
+  disconnected = is_on && apart;
+}))) ≤ 2
+tmp_few false false on = lit≤ tt
+tmp_few false true on = lit≤ tt
+tmp_few true false on = lit≤ tt
+tmp_few true true on = lit≤ tt
+
 -- the values of ProtectControlGroups= exclude one another
 group_few : (is_on is_left : Bool) (on : RowsOn) → length (flat_map by_row (group_rows (record on {
   groups_read = is_on && not is_left;
@@ -86,19 +93,8 @@ group_few false true on = lit≤ tt
 group_few true false on = lit≤ tt
 group_few true true on = lit≤ tt
 
-parts_of : (a b c d e : List Row) → length (flat_map by_row (a ++ (b ++ (c ++ (d ++ e))))) ≡ length (flat_map by_row a) +
-    (length (flat_map by_row b) + (length (flat_map by_row c) + (length (flat_map by_row d) + length (flat_map by_row e))))
-parts_of a b c d e = omega (
-  arith,
-  ap length (flat_map-append by_row a (b ++ (c ++ (d ++ e)))),
-  ap length (flat_map-append by_row b (c ++ (d ++ e))),
-  ap length (flat_map-append by_row c (d ++ e)),
-  ap length (flat_map-append by_row d e),
-  length-append (flat_map by_row a) (flat_map by_row (b ++ (c ++ (d ++ e)))),
-  length-append (flat_map by_row b) (flat_map by_row (c ++ (d ++ e))),
-  length-append (flat_map by_row c) (flat_map by_row (d ++ e)),
-  length-append (flat_map by_row d) (flat_map by_row e),
-)
+two_lists : (a b : List Row) → length (flat_map by_row (a ++ b)) ≡ length (flat_map by_row a) + length (flat_map by_row b)
+two_lists a b = ap length (flat_map-append by_row a b) ∙ length-append (flat_map by_row a) (flat_map by_row b)
 
 -- each path is a written one or a folder
 two_parts : (paths : List WrittenPath) → length (as_written paths) + length (folders paths) ≡ length paths
@@ -117,12 +113,17 @@ module _ (version : Version) (switches : Switches) (protections : Protections) (
   table_few =
       let system : length (flat_map by_row (system_rows on)) ≤ 8 = system_few version protections.protect_system on in
       let home : length (flat_map by_row (home_rows on)) ≤ 3 = home_few version protections.protect_home on in
-      let kernel : length (flat_map by_row (kernel_rows on)) ≤ 39 = rows_few (kernel_rows on) in
+      let tmp : length (flat_map by_row (tmp_rows on)) ≤ 2 = tmp_few protections.private_tmp (disconnects_tmp version keys) on in
+      let kernel : length (flat_map by_row (kernel_rows on)) ≤ 36 = rows_few (kernel_rows on) in
       let groups : length (flat_map by_row (group_rows on)) ≤ 1 =
       group_few protections.protect_control_groups (is_private keys.control_groups) on in
-      let further : length (flat_map by_row (further_rows on)) ≤ 7 = rows_few (further_rows on) in
-      let whole = parts_of (system_rows on) (home_rows on) (kernel_rows on) (group_rows on) (further_rows on) in
-      omega (arith, system, home, kernel, groups, further, whole)
+      let further : length (flat_map by_row (further_rows on)) ≤ 8 = rows_few (further_rows on) in
+      let a = two_lists (system_rows on) (home_rows on ++ (tmp_rows on ++ (kernel_rows on ++ (group_rows on ++ further_rows on)))) in
+      let b = two_lists (home_rows on) (tmp_rows on ++ (kernel_rows on ++ (group_rows on ++ further_rows on))) in
+      let c = two_lists (tmp_rows on) (kernel_rows on ++ (group_rows on ++ further_rows on)) in
+      let d = two_lists (kernel_rows on) (group_rows on ++ further_rows on) in
+      let e = two_lists (group_rows on) (further_rows on) in
+      omega (arith, system, home, tmp, kernel, groups, further, a, b, c, d, e)
 
   implied_few : (site : Site) (paths : List WrittenPath)
       → length (implied_of version site switches protections keys paths) ≤ length (folders paths) + 58
@@ -132,29 +133,31 @@ module _ (version : Version) (switches : Switches) (protections : Protections) (
       let kept = filter_few (stands site) (by_table version switches protections keys) in
       let shown = filter_few (is_there site) (map (placed_folder site switches keys) (folders paths)) in
       let each = length-map (folders paths) (placed_folder site switches keys) in
-      let both = length-append (filter (stands site) (by_table version switches protections keys)) (brought_folders site switches keys paths) in
+      let same = length-map (brought_folders site switches keys paths) entry_of in
+      let both = length-append (filter (stands site) (by_table version switches protections keys))
+      (map entry_of (brought_folders site switches keys paths)) in
       elim (has_own_mounts version switches protections keys paths) as
       (λ own. length (cond own (brought version site switches protections keys paths) []) ≤ length (folders paths) + 58)
-      [ true ↦ omega (arith, few, kept, shown, each, both) | false ↦ omega arith ]
+      [ true ↦ omega (arith, few, kept, shown, each, same, both) | false ↦ omega arith ]
 
-  -- there are at most 58 mentions more than written paths
+  -- there are at most 58 entries more than written paths
   pub counted_by : (site : Site) (paths : List WrittenPath)
-      → length (mentions_by version site switches protections keys paths) ≤ length paths + 58
-  unfolding mentions_by
-  counted_by site paths =
-      let written = effective version site protections keys (as_written paths) in
-      omega (
-        arith,
-        length-append written (implied_of version site switches protections keys paths),
-        filter_few (is_effective version site protections keys) (as_written paths),
-        implied_few site paths,
-        two_parts paths,
-      )
+      → length (entries_by version site switches protections keys paths) ≤ length paths + 58
+  unfolding entries_by
+  counted_by site paths = omega (
+    arith,
+    length-append (map entry_of (as_written paths)) (implied_of version site switches protections keys paths),
+    length-map (as_written paths) entry_of,
+    implied_few site paths,
+    two_parts paths,
+  )
 
--- at most 128 written and at most 58 implied mentions are at most 192
-pub few_mentions : (systemd : Option Version) (unit : Resolved) (site : Site) (switches : Switches) (paths : List WrittenPath)
-    → length paths ≤ 128 → length (mentions_in systemd unit site switches paths) ≤ 192
-few_mentions None unit site switches paths few =
-    let most = counted site switches (protections_of unit switches) paths in omega (arith, few, most)
-few_mentions (Some version) unit site switches paths few =
-    let most = counted_by version switches (protections_of unit switches) (unit_keys unit) site paths in omega (arith, few, most)
+  -- at most 128 written and at most 58 implied entries are at most 192
+  pub few_by : (site : Site) (paths : List WrittenPath) → length paths ≤ 128
+      → length (entries_by version site switches protections keys paths) ≤ 192
+  few_by site paths few = let most = counted_by site paths in omega (arith, few, most)
+
+-- the same in the base profile
+pub few_base : (site : Site) (switches : Switches) (protections : Protections) (paths : List WrittenPath) → length paths ≤ 128
+    → length (mentions_of site switches protections paths) ≤ 192
+few_base site switches protections paths few = let most = counted site switches protections paths in omega (arith, few, most)

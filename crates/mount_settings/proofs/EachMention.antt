@@ -70,7 +70,7 @@ of_picked p q (x ∷ xs) all =
       | false ↦ rest
     ]
 
-pub of_two : (q : Mention → Bool) (xs ys : List Mention) → list_all q xs ≡ true → list_all q ys ≡ true → list_all q (xs ++ ys) ≡ true
+pub of_two : {X : Type 0} (q : X → Bool) (xs ys : List X) → list_all q xs ≡ true → list_all q ys ≡ true → list_all q (xs ++ ys) ≡ true
 of_two q xs ys one other = list_all-append q xs ys ∙ ap (λ v. v && list_all q ys) one ∙ other
 
 of_four : (q : Mention → Bool) (one two three four : List Mention) → list_all q one ≡ true → list_all q two ≡ true

@@ -1,56 +1,47 @@
 -- Sites that agree on some rows give a unit the same mentions.
-use Rattle.std.proofs.Common.{◌≡◌, ◌∙◌, Bool, true, false, cond, List, [], ◌∷◌, ◌++◌, Option, Some, None, map, refl, ap, sym}
+use Rattle.std.proofs.Common.{◌≡◌, ◌∙◌, Bool, true, false, cond, List, [], ◌∷◌, ◌++◌, Option, Some, None, map, refl, ap}
 use Rattle.std.specs.Prelude.{◌&&◌, not, filter, flat_map}
 use Rattle.std.specs.List.{AllByRecursion, cons_option}
 use Rattle.path_settings.specs.abs_path.Paths.{Path}
 use Rattle.path_settings.specs.declared.mentions.Kind.{Kind}
 use Rattle.path_settings.specs.declared.mentions.Kind.TheVariants.{Ro, Rw, Exec, NoExec, Hide, Tmp, Bind}
+use Rattle.path_settings.specs.declared.mentioned.Mentioned.TheVariants.{Base, Systemd}
 use Rattle.path_settings.specs.declared.mentions.Mention.{Mention}
-use Rattle.path_settings.specs.Keys.{is_implied}
+use Rattle.path_settings.specs.declared.systemd.entries.MountEntry.{MountEntry}
+use Rattle.path_settings.specs.systemd.Written.{entry_of}
 use Rattle.dropin_merge.specs.declared.resolved.Resolved.{Resolved}
 use Rattle.dropin_merge.specs.unit_names.declared.version.Version.{Version}
 use Rattle.site_table.specs.Table.{Site}
 use Rattle.mount_settings.specs.declared.written.WrittenPath.{WrittenPath}
-use Rattle.mount_settings.specs.declared.protections.Protections.{Protections}
 use Rattle.mount_settings.specs.declared.protections.Switches.{Switches}
 use Rattle.mount_settings.specs.declared.systemd.keys.FurtherKeys.{FurtherKeys}
-use Rattle.mount_settings.specs.Effects.{has_row, stands}
+use Rattle.mount_settings.specs.Effects.{has_row}
+use Rattle.mount_settings.specs.Effects as mentions
 use Rattle.mount_settings.specs.Implied.{asked, implied}
-use Rattle.mount_settings.specs.Settings.{as_written, deciding_in, mentions_by, mentions_in, mentions_of, protections_of}
+use Rattle.mount_settings.specs.Settings.{as_written, deciding_in, entries_by, mentions_in, mentions_of, protections_of}
 use Rattle.mount_settings.specs.systemd.Folders.{asked_at, asked_folder, asked_folders, brought_folders, chosen_path, folders, from_path, is_there}
 use Rattle.mount_settings.specs.systemd.Folders.{placed_folder, private_path, shown_path}
 use Rattle.mount_settings.specs.systemd.Keys.{unit_keys}
-use Rattle.mount_settings.specs.systemd.Mentions.{asked_of, brought, by_table, effective, implied_of, is_effective, is_vain_of}
+use Rattle.mount_settings.specs.systemd.Mentions.{by_table, implied_of, stands}
 use Rattle.mount_settings.specs.systemd.OwnMounts.{has_own_mounts}
 
 -- tests that agree on each element keep the same elements
-filter_agrees : (p q : Mention → Bool) (mentions : List Mention) → AllByRecursion (λ mention. p mention ≡ q mention) mentions
-    → filter p mentions ≡ filter q mentions
+filter_agrees : {X : Type 0} (p q : X → Bool) (xs : List X) → AllByRecursion (λ x. p x ≡ q x) xs → filter p xs ≡ filter q xs
 filter_agrees p q [] same = refl
-filter_agrees p q (mention ∷ mentions) same = ap (λ b. cond b (mention ∷ filter p mentions) (filter p mentions)) same.0
-    ∙ ap (λ (rest : List Mention). cond (q mention) (mention ∷ rest) rest) (filter_agrees p q mentions same.1)
+filter_agrees {X = X} p q (x ∷ xs) same = ap (λ b. cond b (x ∷ filter p xs) (filter p xs)) same.0
+    ∙ ap (λ (rest : List X). cond (q x) (x ∷ rest) rest) (filter_agrees p q xs same.1)
 
-both_all : (p : Mention → Type 0) (xs ys : List Mention) → AllByRecursion p (xs ++ ys) → AllByRecursion p xs × AllByRecursion p ys
+both_all : {X : Type 0} (p : X → Type 0) (xs ys : List X) → AllByRecursion p (xs ++ ys) → AllByRecursion p xs × AllByRecursion p ys
 both_all p [] ys all = (tt, all)
 both_all p (x ∷ xs) ys all = let rest = both_all p xs ys all.1 in ((all.0, rest.0), rest.1)
 
--- a test that asks only about some elements
-left_agree : (asks p q : Mention → Bool) (mentions : List Mention)
-    → AllByRecursion (λ mention. p mention ≡ q mention) (filter asks mentions)
-    → AllByRecursion (λ mention. not (asks mention && p mention) ≡ not (asks mention && q mention)) mentions
-left_agree asks p q [] same = tt
-left_agree asks p q (mention ∷ mentions) same =
-    (elim (asks mention) as (λ b. AllByRecursion (λ one. p one ≡ q one) (cond b (mention ∷ filter asks mentions) (filter asks mentions))
-    → (not (b && p mention) ≡ not (b && q mention))
-    × AllByRecursion (λ one. not (asks one && p one) ≡ not (asks one && q one)) mentions) [
-      | true ↦ λ all. (ap not all.0, left_agree asks p q mentions all.1)
-      | false ↦ λ all. (refl, left_agree asks p q mentions all)
-    ]) same
-
 module _ (site other : Site) where
-  -- both sites have a row at the path of a mention, or neither has one
-  abbrev pub SameRow : Mention → Type 0
-  SameRow mention = stands other mention ≡ stands site mention
+  -- both sites have a row at a path, or neither has one
+  abbrev pub SameAt : Path → Type 0
+  SameAt path = has_row other path ≡ has_row site path
+
+  abbrev SameRow : Mention → Type 0
+  SameRow mention = SameAt mention.path
 
   -- ---- folders
   module _ (switches : Switches) (keys : FurtherKeys) where
@@ -80,8 +71,8 @@ module _ (site other : Site) where
     shown_row source path Exec optional from own = own
     shown_row source path NoExec optional from own = own
     shown_row source path Hide optional from own = own
-    shown_row source path (Tmp read_only) optional from own = own
-    shown_row source path (Bind old read_only) optional from own = from
+    shown_row source path (Tmp read_only no_exec) optional from own = own
+    shown_row source path (Bind old read_only recursive) optional from own = from
 
     asked_rows : (mention : Mention) (paths : List Path) → AllByRecursion SameRow (map (asked_at mention) paths)
         → AllByRecursion (λ path. has_row other path ≡ has_row site path) paths
@@ -112,34 +103,37 @@ module _ (site other : Site) where
         (placed_folder site switches keys path ∷ more) more) rest
 
   -- ---- all mentions
+  paths_agree : {X : Type 0} (at : X → Path) (xs : List X) → AllByRecursion SameAt (map at xs)
+      → AllByRecursion (λ x. has_row other (at x) ≡ has_row site (at x)) xs
+  paths_agree at [] same = tt
+  paths_agree at (x ∷ xs) same = (same.0, paths_agree at xs same.1)
+
   module _ (unit : Resolved) (switches : Switches) (paths : List WrittenPath) where
-    by_base : AllByRecursion SameRow (deciding_in None unit switches paths)
+    by_base : AllByRecursion SameAt (deciding_in None unit switches paths)
         → mentions_in None unit other switches paths ≡ mentions_in None unit site switches paths
     unfolding mentions_of implied
     by_base same =
         let wanted = asked switches (protections_of unit switches) paths in
-        ap (λ (more : List Mention). as_written paths ++ more) (filter_agrees (stands other) (stands site) wanted same)
+        ap (λ (more : List Mention). Base (as_written paths ++ more))
+        (filter_agrees (mentions.stands other) (mentions.stands site) wanted (paths_agree (λ mention. mention.path) wanted same))
 
-    by_version : (version : Version) → AllByRecursion SameRow (deciding_in (Some version) unit switches paths)
+    by_version : (version : Version) → AllByRecursion SameAt (deciding_in (Some version) unit switches paths)
         → mentions_in (Some version) unit other switches paths ≡ mentions_in (Some version) unit site switches paths
-    unfolding mentions_by implied_of
+    unfolding entries_by implied_of
     by_version version same =
         let protections = protections_of unit switches in
         let keys = unit_keys unit in
-        let vain = is_vain_of version protections keys in
         let own = has_own_mounts version switches protections keys paths in
         let table = by_table version switches protections keys in
-        let parts = both_all SameRow (filter vain (as_written paths)) (asked_of version switches protections keys paths) same in
-        let wanted = both_all SameRow table (asked_folders switches keys paths) parts.1 in
-        ap (λ (kept : List Mention). kept ++ cond own (brought version other switches protections keys paths) [])
-        (filter_agrees (is_effective version other protections keys) (is_effective version site protections keys) (as_written paths)
-        (left_agree vain (stands other) (stands site) (as_written paths) parts.0))
-        ∙ ap (λ (more : List Mention). effective version site protections keys (as_written paths)
-        ++ cond own (more ++ brought_folders other switches keys paths) []) (filter_agrees (stands other) (stands site) table wanted.0)
-        ∙ ap (λ (more : List Mention). effective version site protections keys (as_written paths)
-        ++ cond own (filter (stands site) table ++ more) []) (folders_same switches keys (folders paths) wanted.1)
+        let written : List MountEntry = map entry_of (as_written paths) in
+        let parts = both_all SameAt (map (λ one. one.path) table) (map (λ mention. mention.path) (asked_folders switches keys paths)) same in
+        ap (λ (more : List MountEntry). Systemd (written ++ cond own (more ++ map entry_of (brought_folders other switches keys paths)) []))
+        (filter_agrees (stands other) (stands site) table (paths_agree (λ one. one.path) table parts.0))
+        ∙ ap (λ (more : List Mention). Systemd (written ++ cond own (filter (stands site) table ++ map entry_of more) []))
+        (folders_same switches keys (folders paths)
+        (paths_agree (λ mention. mention.path) (asked_folders switches keys paths) parts.1))
 
-    pub same_for_sites : (systemd : Option Version) → AllByRecursion SameRow (deciding_in systemd unit switches paths)
+    pub same_for_sites : (systemd : Option Version) → AllByRecursion SameAt (deciding_in systemd unit switches paths)
         → mentions_in systemd unit other switches paths ≡ mentions_in systemd unit site switches paths
     same_for_sites None same = by_base same
     same_for_sites (Some version) same = by_version version same

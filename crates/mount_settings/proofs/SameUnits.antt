@@ -1,9 +1,8 @@
 -- Units whose keys have the same values have the same protections, the same mentions and the same notes.
-use Rattle.std.proofs.Common.{◌≡◌, ℕ, Bool, true, false, Option, Some, None, List, [], ◌∷◌, ◌++◌, refl, sym, ap, ◌∙◌}
+use Rattle.std.proofs.Common.{◌≡◌, ℕ, Bool, true, false, Option, Some, None, List, [], ◌∷◌, ◌++◌, refl, ap, ◌∙◌}
 use Rattle.std.specs.Prelude.{codes, length, ◌==◌, not}
 use Rattle.std.specs.List.{AllByRecursion, list_all}
 use Rattle.std.specs.Str.{bytes_eq}
-use Rattle.path_settings.specs.declared.mentions.Mention.{Mention}
 use Rattle.dropin_merge.specs.declared.resolved.Resolved.{Resolved}
 use Rattle.dropin_merge.specs.unit_names.declared.version.Version.{Version}
 use Rattle.dropin_merge.specs.unit_names.declared.version.Version.TheVariants.{V252, V257}
@@ -12,24 +11,24 @@ use Rattle.dropin_merge.specs.unit_values.Flags.{flag_value, unit_flag}
 use Rattle.dropin_merge.specs.unit_values.Lasting.{last_read, last_text, unread_notes, unit_last, unit_last_notes, unit_last_text}
 use Rattle.dropin_merge.specs.unit_values.Values.{values_of, notes_of}
 use Rattle.site_table.specs.Table.{Site}
+use Rattle.path_settings.specs.declared.mentioned.Mentioned.TheVariants.{Base, Systemd}
 use Rattle.mount_settings.specs.declared.written.WrittenPath.{WrittenPath}
 use Rattle.mount_settings.specs.declared.protections.HomeProtection.TheVariants as home
 use Rattle.mount_settings.specs.declared.protections.SystemProtection.TheVariants as system
-use Rattle.mount_settings.specs.declared.protections.Protections.{Protections}
 use Rattle.mount_settings.specs.declared.protections.Switches.{Switches}
-use Rattle.mount_settings.specs.declared.systemd.keys.FurtherKeys.{FurtherKeys}
 use Rattle.mount_settings.specs.declared.systemd.words.ControlGroups.TheVariants as groups
 use Rattle.mount_settings.specs.declared.systemd.words.PrivateMounts.TheVariants as mounts
 use Rattle.mount_settings.specs.Home.{home_value}
 use Rattle.mount_settings.specs.Implied.{implied}
 use Rattle.mount_settings.specs.Protections.{unit_protections, protection_notes, in_effect}
-use Rattle.mount_settings.specs.Settings.{mentions_of, mentions_by, mentions_in, all_mentions, protections_of}
+use Rattle.mount_settings.specs.Settings.{mentions_of, entries_by, mentions_in, nothing_in, all_mentions, protections_of}
 use Rattle.mount_settings.specs.System.{system_value}
 use Rattle.mount_settings.specs.Tmp.{tmp_value, tmp_by, tmp_notes_by, unit_tmp, unit_tmp_notes}
-use Rattle.mount_settings.specs.systemd.Keys.{flag_groups, groups_by, groups_notes_by, is_given, unit_groups, unit_groups_notes, unit_keys, no_keys}
+use Rattle.mount_settings.specs.systemd.Keys.{flag_groups, groups_by, groups_notes_by, is_given, unit_groups, unit_groups_notes, unit_keys}
 use Rattle.mount_settings.specs.systemd.Mentions.{implied_of}
 use Rattle.mount_settings.proofs.EachMention.{both}
-use Rattle.mount_settings.specs.systemd.Words.{groups_value, is_on, mounts_value, network_value, preserve_value, proc_value, subset_value}
+use Rattle.mount_settings.specs.declared.systemd.words.OwnTmp.TheVariants as tmp
+use Rattle.mount_settings.specs.systemd.Words.{groups_value, is_on, mounts_value, network_value, preserve_value, proc_value, subset_value, own_tmp_value}
 
 -- the keys whose values that cannot be read are noted, and then all keys that decide about mounts
 abbrev pub noted_keys : List (List ℕ)
@@ -126,6 +125,7 @@ module _ (unit other : Resolved) (systemd : other.systemd ≡ unit.systemd) (sam
       let o = given (codes "SetCredentialEncrypted") credentials.1.1.1.1.0 in
       let p = flag (codes "ProtectHostname") credentials.1.1.1.1.1.0 in
       let q = same_groups in
+      let s = last own_tmp_value tmp.No (codes "PrivateTmp") same.1.1.0 in
       let r = ap (λ value. value.is_kept)
       (last preserve_value (record { is_kept = false }) (codes "RuntimeDirectoryPreserve") credentials.1.1.1.1.1.1.0) in
       cc
@@ -133,10 +133,11 @@ module _ (unit other : Resolved) (systemd : other.systemd ≡ unit.systemd) (sam
   mentions_same : (version : Option Version) (site : Site) (switches : Switches) (paths : List WrittenPath)
       → mentions_in version other site switches paths ≡ mentions_in version unit site switches paths
   mentions_same None site switches paths =
-      ap (λ said. mentions_of site switches (in_effect switches.dynamic_user said) paths) same_unit_protections
+      ap (λ said. Base (mentions_of site switches (in_effect switches.dynamic_user said) paths)) same_unit_protections
   mentions_same (Some version) site switches paths =
-      ap (λ said. mentions_by version site switches (in_effect switches.dynamic_user said) (unit_keys other) paths) same_unit_protections
-      ∙ ap (λ keys. mentions_by version site switches (protections_of unit switches) keys paths) same_unit_keys
+      ap (λ said. Systemd (entries_by version site switches (in_effect switches.dynamic_user said) (unit_keys other) paths))
+      same_unit_protections
+      ∙ ap (λ keys. Systemd (entries_by version site switches (protections_of unit switches) keys paths)) same_unit_keys
 
   pub same_mentions : (site : Site) (switches : Switches) (paths : List WrittenPath)
       → all_mentions other site switches paths ≡ all_mentions unit site switches paths
@@ -180,8 +181,9 @@ silent unit = record unit { files = [] }
 abbrev pub unswitched : Switches
 unswitched = record { private_devices = false; protect_kernel_modules = false; protect_kernel_logs = false; dynamic_user = false }
 
-none_mentioned : (version : Option Version) (unit : Resolved) (site : Site) → mentions_in version (record unit { files = []; systemd = version }) site unswitched [] ≡ []
-unfolding mentions_of implied mentions_by implied_of unit_protections unit_keys unit_last unit_last_text service_assignments
+none_mentioned : (version : Option Version) (unit : Resolved) (site : Site)
+    → mentions_in version (record unit { files = []; systemd = version }) site unswitched [] ≡ nothing_in version
+unfolding mentions_of implied entries_by implied_of unit_protections unit_keys unit_last unit_last_text service_assignments
 none_mentioned None unit site = refl
 none_mentioned (Some V252) unit site = refl
 none_mentioned (Some V257) unit site = refl
@@ -198,7 +200,7 @@ module _ (unit : Resolved) (valueless : AllByRecursion (λ key. values_of unit k
   unfolding service_assignments
   as_silent = valueless
 
-  pub mentions_nothing : (site : Site) → all_mentions unit site unswitched [] ≡ []
+  pub mentions_nothing : (site : Site) → all_mentions unit site unswitched [] ≡ nothing_in unit.systemd
   mentions_nothing site = same_mentions (silent unit) unit refl as_silent site unswitched [] ∙ none_mentioned unit.systemd unit site
 
   pub notes_nothing : AllByRecursion (λ key. notes_of unit key ≡ []) noted_keys → protection_notes unit ≡ []

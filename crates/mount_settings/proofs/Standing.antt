@@ -12,8 +12,6 @@ use Rattle.path_settings.specs.declared.mentions.Mention.{Mention}
 use Rattle.mount_settings.specs.declared.written.WrittenPath.{WrittenPath}
 use Rattle.mount_settings.specs.Assigned.{is_key}
 use Rattle.mount_settings.specs.Written.{of_key}
-use Rattle.mount_settings.specs.declared.effects.Effect.{Effect}
-use Rattle.mount_settings.specs.Effects.{mention_at, brings}
 use Rattle.mount_settings.specs.Implied.{joined}
 
 -- one more part of the result
@@ -26,7 +24,7 @@ part_more g adds xs i x old now next lt is before step =
     ∙ append_assoc old (g (take i xs)) (g (x ∷ []))
     ∙ ap (λ ys. old ++ ys) (sym (ap g (take_item xs i x lt is) ∙ adds (take i xs) (x ∷ [])))
 
-pub brought_adds : {X : Type 0} (p : Mention → Bool) (f : X → Option Mention) (xs ys : List X)
+pub brought_adds : {X Y : Type 0} (p : Y → Bool) (f : X → Option Y) (xs ys : List X)
     → filter p (filter_map f (xs ++ ys)) ≡ filter p (filter_map f xs) ++ filter p (filter_map f ys)
 brought_adds p f xs ys = ap (filter p) (filter_map-append f xs ys) ∙ filter-append p (filter_map f xs) (filter_map f ys)
 
@@ -56,25 +54,25 @@ pub three_joined : (q r s t : List Mention) → q ++ (r ++ (s ++ t)) ≡ (q ++ (
 three_joined q r s t = ap (λ xs. q ++ xs) (sym (append_assoc r s t)) ∙ sym (append_assoc q (r ++ s) t)
 
 -- a list of 192 has no room left
-pub no_room : (list rest left all : List Mention) (mention : Mention) → length list ≡ 192 → rest ≡ mention ∷ left → list ++ rest ≡ all
+pub no_room : {X : Type 0} (list rest left all : List X) (mention : X) → length list ≡ 192 → rest ≡ mention ∷ left → list ++ rest ≡ all
     → length all ≤ 192 → ⊥
 no_room list rest left all mention full first whole few = omega
     (arith, full, few, length-append list rest, ap length first, ap length whole)
 
-texts_add : (p : Mention → Bool) (effect : Effect) (xs ys : List (Bor (List ℕ)))
-    → filter p (brings effect (map (λ text. text.now) (xs ++ ys)))
-    ≡ filter p (brings effect (map (λ text. text.now) xs)) ++ filter p (brings effect (map (λ text. text.now) ys))
-texts_add p effect xs ys =
-    ap (λ texts. filter p (brings effect texts)) (map-append (λ (text : Bor (List ℕ)). text.now) xs ys)
-    ∙ brought_adds p (mention_at effect) (map (λ text. text.now) xs) (map (λ text. text.now) ys)
+texts_add : {Y : Type 0} (p : Y → Bool) (f : List ℕ → Option Y) (xs ys : List (Bor (List ℕ)))
+    → filter p (filter_map f (map (λ text. text.now) (xs ++ ys)))
+    ≡ filter p (filter_map f (map (λ text. text.now) xs)) ++ filter p (filter_map f (map (λ text. text.now) ys))
+texts_add p f xs ys =
+    ap (λ texts. filter p (filter_map f texts)) (map-append (λ (text : Bor (List ℕ)). text.now) xs ys)
+    ∙ brought_adds p f (map (λ text. text.now) xs) (map (λ text. text.now) ys)
 
 -- one more text
-pub text_more : (p : Mention → Bool) (effect : Effect) (xs : List (Bor (List ℕ))) (i : ℕ) (d : Bor (List ℕ)) (old now next : List Mention)
-    → i < length xs → now ≡ old ++ filter p (brings effect (map (λ text. text.now) (take i xs)))
-    → next ≡ now ++ filter p (cons_option (mention_at effect (get_or xs i d).now) [])
-    → next ≡ old ++ filter p (brings effect (map (λ text. text.now) (take (i + 1) xs)))
-text_more p effect xs i d old now next lt before step =
-    part_more (λ (texts : List (Bor (List ℕ))). filter p (brings effect (map (λ text. text.now) texts))) (texts_add p effect) xs i
+pub text_more : {Y : Type 0} (p : Y → Bool) (f : List ℕ → Option Y) (xs : List (Bor (List ℕ))) (i : ℕ) (d : Bor (List ℕ))
+    (old now next : List Y) → i < length xs → now ≡ old ++ filter p (filter_map f (map (λ text. text.now) (take i xs)))
+    → next ≡ now ++ filter p (cons_option (f (get_or xs i d).now) [])
+    → next ≡ old ++ filter p (filter_map f (map (λ text. text.now) (take (i + 1) xs)))
+text_more p f xs i d old now next lt before step =
+    part_more (λ (texts : List (Bor (List ℕ))). filter p (filter_map f (map (λ text. text.now) texts))) (texts_add p f) xs i
     (get_or xs i d) old now next lt
     (get_or_default xs i d (get_or xs i d) lt) before step
 

@@ -1,7 +1,12 @@
 -- All mentions of a unit's settings, in their order.
-use Rattle.std.specs.Prelude.{not, List, ◌++◌, map, filter, Option, Some, None}
+use Rattle.std.specs.Prelude.{not, List, [], ◌++◌, map, filter, Option, Some, None}
+use Rattle.path_settings.specs.abs_path.Paths.{Path}
+use Rattle.path_settings.specs.declared.mentioned.Mentioned.{Mentioned}
+use Rattle.path_settings.specs.declared.mentioned.Mentioned.TheVariants.{Base, Systemd}
 use Rattle.path_settings.specs.declared.mentions.Mention.{Mention}
+use Rattle.path_settings.specs.declared.systemd.entries.MountEntry.{MountEntry}
 use Rattle.path_settings.specs.Keys.{is_implied}
+use Rattle.path_settings.specs.systemd.Written.{entry_of}
 use Rattle.dropin_merge.specs.declared.resolved.Resolved.{Resolved}
 use Rattle.dropin_merge.specs.unit_names.declared.version.Version.{Version}
 use Rattle.site_table.specs.Table.{Site}
@@ -12,7 +17,7 @@ use Rattle.mount_settings.specs.Protections.{unit_protections, in_effect}
 use Rattle.mount_settings.specs.declared.systemd.keys.FurtherKeys.{FurtherKeys}
 use Rattle.mount_settings.specs.Implied.{asked, implied}
 use Rattle.mount_settings.specs.systemd.Keys.{unit_keys}
-use Rattle.mount_settings.specs.systemd.Mentions.{asked_of, implied_of, effective, is_vain_of}
+use Rattle.mount_settings.specs.systemd.Mentions.{asked_of, implied_of}
 
 -- folders are implied; all other paths are in written order
 abbrev pub as_written : List WrittenPath → List Mention
@@ -27,28 +32,28 @@ abbrev pub protections_of : Resolved → Switches → Protections
 protections_of unit switches = in_effect switches.dynamic_user (unit_protections unit)
 
 -- the same by the rules of a version of systemd
-unfoldable pub mentions_by : Version → Site → Switches → Protections → FurtherKeys → List WrittenPath → List Mention
-mentions_by version site switches protections keys paths =
-    effective version site protections keys (as_written paths) ++ implied_of version site switches protections keys paths
+unfoldable pub entries_by : Version → Site → Switches → Protections → FurtherKeys → List WrittenPath → List MountEntry
+entries_by version site switches protections keys paths =
+    map entry_of (as_written paths) ++ implied_of version site switches protections keys paths
 
 -- all mentions of a unit with these switches and written paths, by the rules of the systemd that reads the unit
-abbrev pub mentions_in : Option Version → Resolved → Site → Switches → List WrittenPath → List Mention
-mentions_in None unit site switches paths = mentions_of site switches (protections_of unit switches) paths
+abbrev pub mentions_in : Option Version → Resolved → Site → Switches → List WrittenPath → Mentioned
+mentions_in None unit site switches paths = Base (mentions_of site switches (protections_of unit switches) paths)
 mentions_in (Some version) unit site switches paths =
-    mentions_by version site switches (protections_of unit switches) (unit_keys unit) paths
+    Systemd (entries_by version site switches (protections_of unit switches) (unit_keys unit) paths)
 
-abbrev pub all_mentions : Resolved → Site → Switches → List WrittenPath → List Mention
+abbrev pub all_mentions : Resolved → Site → Switches → List WrittenPath → Mentioned
 all_mentions unit site switches paths = mentions_in unit.systemd unit site switches paths
 
--- the mentions that the site decides about: a row at their path adds or drops them
-abbrev pub deciding_by : Version → Switches → Protections → FurtherKeys → List WrittenPath → List Mention
-deciding_by version switches protections keys paths =
-    filter (is_vain_of version protections keys) (as_written paths) ++ asked_of version switches protections keys paths
+-- nothing is mentioned, by any rules
+abbrev pub nothing_in : Option Version → Mentioned
+nothing_in None = Base []
+nothing_in (Some version) = Systemd []
 
-abbrev pub deciding_in : Option Version → Resolved → Switches → List WrittenPath → List Mention
-deciding_in None unit switches paths = asked switches (protections_of unit switches) paths
-deciding_in (Some version) unit switches paths =
-    deciding_by version switches (protections_of unit switches) (unit_keys unit) paths
+-- the paths at which the rows of the site decide about the implied mentions
+abbrev pub deciding_in : Option Version → Resolved → Switches → List WrittenPath → List Path
+deciding_in None unit switches paths = map (λ mention. mention.path) (asked switches (protections_of unit switches) paths)
+deciding_in (Some version) unit switches paths = asked_of version switches (protections_of unit switches) (unit_keys unit) paths
 
-abbrev pub deciding : Resolved → Switches → List WrittenPath → List Mention
+abbrev pub deciding : Resolved → Switches → List WrittenPath → List Path
 deciding unit switches paths = deciding_in unit.systemd unit switches paths

@@ -28,10 +28,14 @@ fn kind_at(alloc: Global, effect: Effect, path: &AbsPath) -> Result<Kind, AllocE
         Effect::Writable => Kind::Rw,
         Effect::NotExecutable => Kind::NoExec,
         Effect::Hidden => Kind::Hide,
-        Effect::Empty { read_only } => Kind::Tmp { read_only },
+        Effect::Empty { read_only } => Kind::Tmp {
+            read_only,
+            no_exec: false,
+        },
         Effect::Shown => Kind::Bind {
             source: path.copy(alloc)?,
             read_only: false,
+            recursive: true,
         },
     })
 }

@@ -19,10 +19,9 @@ ghost use Rattle.mount_settings.specs.Effects.{stands};
 ghost use Rattle.mount_settings.specs.Implied.{implied};
 ghost use Rattle.mount_settings.specs.Written.{of_key, unit_written};
 ghost use Rattle.mount_settings.specs.OneKey.{values_named, values_to, listed_by};
-ghost use Rattle.mount_settings.specs.Settings.{mentions_by, mentions_of};
+ghost use Rattle.mount_settings.specs.Settings.{entries_by, mentions_of};
 ghost use Rattle.mount_settings.specs.declared.systemd.keys.FurtherKeys.{FurtherKeys};
-ghost use Rattle.mount_settings.specs.systemd.Folders.{is_there};
-ghost use Rattle.mount_settings.specs.systemd.Mentions.{implied_of};
+ghost use Rattle.mount_settings.specs.systemd.Mentions.{implied_of, shows_row};
 
 /// No other key changes what a key says. The values of a key are the values that the unit assigns to its names. In the
 /// base profile it has one name, and `values_of_key` gives the same values. The written paths of a key are the paths of
@@ -42,11 +41,11 @@ pub fn implied_mentions()
     ensures at_most_31_more { (site : Site) (switches : Switches) (protections : Protections) (paths : List WrittenPath) → length (mentions_of site switches protections paths) ≤ length paths + 31 }
 {}
 
-/// An implied mention is optional too if a known version of systemd reads the unit. It shows an object that is a row of the
-/// site: for a folder the object of another path, else the object at its own path. There are at most 58 mentions more
+/// An implied entry is optional too if a known version of systemd reads the unit. It shows an object that is a row of the
+/// site: for a folder the object of another path, else the object at its own path. There are at most 58 entries more
 /// than written paths.
 pub fn implied_by_a_version()
-    ensures optional { (version : Version) (site : Site) (switches : Switches) (protections : Protections) (keys : FurtherKeys) (unit : Resolved) → list_all (λ mention. mention.optional) (implied_of version site switches protections keys (unit_written unit)) ≡ true }
-    ensures have_rows { (version : Version) (site : Site) (switches : Switches) (protections : Protections) (keys : FurtherKeys) (paths : List WrittenPath) → list_all (is_there site) (implied_of version site switches protections keys paths) ≡ true }
-    ensures at_most_58_more { (version : Version) (site : Site) (switches : Switches) (protections : Protections) (keys : FurtherKeys) (paths : List WrittenPath) → length (mentions_by version site switches protections keys paths) ≤ length paths + 58 }
+    ensures optional { (version : Version) (site : Site) (switches : Switches) (protections : Protections) (keys : FurtherKeys) (unit : Resolved) → list_all (λ one. one.optional) (implied_of version site switches protections keys (unit_written unit)) ≡ true }
+    ensures have_rows { (version : Version) (site : Site) (switches : Switches) (protections : Protections) (keys : FurtherKeys) (paths : List WrittenPath) → list_all (shows_row site) (implied_of version site switches protections keys paths) ≡ true }
+    ensures at_most_58_more { (version : Version) (site : Site) (switches : Switches) (protections : Protections) (keys : FurtherKeys) (paths : List WrittenPath) → length (entries_by version site switches protections keys paths) ≤ length paths + 58 }
 {}

@@ -24,7 +24,7 @@ mod written;
 pub use assigned::written_paths;
 pub use dropin_merge::{ExpandError, NameError, UnitName, Version, expand};
 pub use error::MountSettingsError;
-pub use path_settings::{Mentions, PathKey};
+pub use path_settings::{Mentioned, Mentions, PathKey};
 pub use protections::{HomeProtection, Protections, Switches, SystemProtection};
 pub use roots::mentions_root;
 pub use settings::{MountSettings, mount_settings};

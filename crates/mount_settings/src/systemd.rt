@@ -1,10 +1,10 @@
-//! Collects the mentions of a unit that a known version of systemd reads.
+//! Collects what a unit asks a known version of systemd to mount.
 //!
 //! - `words` and `keys`: what further keys say about the mounts.
-//! - `rows`: the paths that each protection changes.
+//! - `rows`: what each protection mounts, and where.
 //! - `folders`: the folders of the service.
 //! - `own_mounts`: whether the service has mounts of its own.
-//! - `mentions`: all mentions.
+//! - `mentions`: all entries.
 
 mod folders;
 mod keys;
@@ -14,4 +14,4 @@ mod rows;
 mod words;
 
 pub(crate) use keys::{further_keys, read_groups};
-pub(crate) use mentions::mentions_by;
+pub(crate) use mentions::entries_by;

@@ -2,7 +2,7 @@
 use exec_settings::{
     SiteTable, Switches, identity_of_unit, mount_settings, settings, written_paths,
 };
-use mount_plan::{Mentions, plan};
+use mount_plan::{Mentioned, plan};
 use row_tools::{Inputs, Texts, said};
 use std::alloc::{AllocError, Global};
 
@@ -46,7 +46,7 @@ fn of_plan(alloc: Global, inputs: &Inputs) -> Result<String, AllocError> {
     }
 }
 
-fn planned(alloc: Global, mentions: &Mentions, site: &SiteTable) -> Result<String, AllocError> {
+fn planned(alloc: Global, mentions: &Mentioned, site: &SiteTable) -> Result<String, AllocError> {
     if !mentions.leaves_the_root() {
         return said(alloc, "does not leave the root");
     }

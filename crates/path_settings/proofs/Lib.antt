@@ -10,4 +10,6 @@ pub mod KeptLaws
 pub mod BelowHidden
 pub mod ViewMapWorked
 pub mod Resting
+pub mod SystemdLaws
+pub mod SystemdWorked
 pub mod OfAbsPath

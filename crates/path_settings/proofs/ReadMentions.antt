@@ -11,14 +11,14 @@ use Rattle.path_settings.specs.declared.keys.PathKey.TheVariants.{ReadWritePaths
 use Rattle.path_settings.specs.declared.keys.PathKey.TheVariants.{BindPaths, BindReadOnlyPaths, TemporaryFileSystem, StateDirectory}
 use Rattle.path_settings.specs.declared.keys.PathKey.TheVariants.{RuntimeDirectory, CacheDirectory, LogsDirectory, ConfigurationDirectory}
 use Rattle.path_settings.specs.declared.mentions.Kind.{Kind}
-use Rattle.path_settings.specs.declared.mentions.Kind.TheVariants.{Ro, Rw, Exec, NoExec, Hide, Tmp, Bind}
+use Rattle.path_settings.specs.declared.mentions.Kind.TheVariants.{Ro, Rw, Exec, NoExec, Hide, Bind}
 use Rattle.path_settings.specs.declared.mentions.Mention.{Mention}
 use Rattle.path_settings.specs.Short.{is_short_path, has_short_source, is_short}
 use Rattle.path_settings.specs.SettingPaths.{unless_fault, setting_path}
 use Rattle.path_settings.specs.Marks.{is_marked, without}
 use Rattle.path_settings.specs.Lists.{path_mention}
 use Rattle.path_settings.specs.Binds.{bind_pieces, ends_of, bind_between, bind_mention}
-use Rattle.path_settings.specs.Temporary.{is_colon, asks_read_only, temporary_mention}
+use Rattle.path_settings.specs.Temporary.{is_colon, tmp_with, temporary_mention}
 use Rattle.path_settings.specs.Folders.{is_relative, text_below, folder_mention}
 use Rattle.path_settings.specs.Keys.{is_implied, mention_of}
 
@@ -44,17 +44,17 @@ mapped P text f mention h e = by (setting_path text) refl e
     by (Some path) read e = let same : f path ≡ mention = cc in subst P same (h path (setting_is_short text path read))
 
 -- the same for a bind between two paths that can be read
-bound : (P : Mention → Type 0) (read_only optional : Bool) (ends : List ℕ × List ℕ) (mention : Mention) →
+bound : (P : Mention → Type 0) (read_only optional : Bool) (ends : List ℕ × List ℕ × Bool) (mention : Mention) →
     ((source place : Path) → is_short_path source ≡ true → is_short_path place ≡ true
-    → P (record { path = place; kind = Bind source read_only; optional = optional })) →
+    → P (record { path = place; kind = Bind source read_only ends.2; optional = optional })) →
     bind_between read_only optional ends ≡ Some mention → P mention
 bound P read_only optional ends mention h e = by (setting_path ends.0) refl e
   where
     by : (o : Option Path) → setting_path ends.0 ≡ o →
-        option_and_then (λ source. option_map (λ place. record { path = place; kind = Bind source read_only; optional = optional })
+        option_and_then (λ source. option_map (λ place. record { path = place; kind = Bind source read_only ends.2; optional = optional })
         (setting_path ends.1)) o ≡ Some mention → P mention
     by None read e = cc
-    by (Some source) read e = mapped P ends.1 (λ place. record { path = place; kind = Bind source read_only; optional = optional })
+    by (Some source) read e = mapped P ends.1 (λ place. record { path = place; kind = Bind source read_only ends.2; optional = optional })
         mention (λ place short. h source place (setting_is_short ends.0 source read) short) e
 
 path_short : (kind : Kind) (word : List ℕ) (mention : Mention) → has_short_source kind ≡ true → path_mention kind word ≡ Some mention
@@ -66,7 +66,7 @@ path_short kind word mention source e =
 bind_short : (read_only : Bool) (word : List ℕ) (mention : Mention) → bind_mention read_only word ≡ Some mention → is_short mention ≡ true
 bind_short read_only word mention e = by (ends_of (bind_pieces (without (codes "-") word))) e
   where
-    by : (o : Option (List ℕ × List ℕ)) → option_and_then (bind_between read_only (is_marked word)) o ≡ Some mention
+    by : (o : Option (List ℕ × List ℕ × Bool)) → option_and_then (bind_between read_only (is_marked word)) o ≡ Some mention
         → is_short mention ≡ true
     by None e = cc
     by (Some ends) e = bound (λ mention. is_short mention ≡ true) read_only (is_marked word) ends mention
@@ -75,7 +75,7 @@ bind_short read_only word mention e = by (ends_of (bind_pieces (without (codes "
 temporary_short : (word : List ℕ) (mention : Mention) → temporary_mention word ≡ Some mention → is_short mention ≡ true
 temporary_short word mention e =
     mapped (λ mention. is_short mention ≡ true) (before_first is_colon word)
-    (λ path. record { path = path; kind = Tmp (asks_read_only (after_first is_colon word)); optional = false }) mention
+    (λ path. record { path = path; kind = tmp_with (after_first is_colon word); optional = false }) mention
     (λ path short. and_from _ _ short refl) e
 
 folder_is : (P : Mention → Type 0) (folder name : List ℕ) (mention : Mention)

@@ -75,27 +75,27 @@ not_below : seen_at (says a Ro ∷ says a Hide ∷ []) beside ≡ seen None fals
 not_below = refl
 
 -- an empty file system and a bind say whether they are read-only, and on a tie the first origin counts
-two_empty : seen_at (says a (Tmp false) ∷ says a (Tmp true) ∷ []) a_b ≡ seen (Some 0) true false
+two_empty : seen_at (says a (Tmp false false) ∷ says a (Tmp true false) ∷ []) a_b ≡ seen (Some 0) true false
 two_empty = refl
 
-bound : seen_at (says a (Bind beside true) ∷ says a_b Rw ∷ []) a_b ≡ seen (Some 0) false false
+bound : seen_at (says a (Bind beside true true) ∷ says a_b Rw ∷ []) a_b ≡ seen (Some 0) false false
 bound = refl
 
 -- a bind gives its source, followed by the rest
-bound_object : object_at (says a (Bind beside true) ∷ []) a_b_c ≡ on_host (codes "a-b" ∷ codes "b" ∷ codes "c" ∷ [])
+bound_object : object_at (says a (Bind beside true true) ∷ []) a_b_c ≡ on_host (codes "a-b" ∷ codes "b" ∷ codes "c" ∷ [])
 bound_object = refl
 
 -- ---- kept mentions
 
 -- a hidden mention beats the others at its path, and nothing is kept below it
-hidden_above : kept_of row_at (says a_b Rw ∷ says a (Tmp false) ∷ says a (Bind beside false) ∷ says a Hide ∷ []) ≡ Ok (says a Hide ∷ [])
+hidden_above : kept_of row_at (says a_b Rw ∷ says a (Tmp false false) ∷ says a (Bind beside false true) ∷ says a Hide ∷ []) ≡ Ok (says a Hide ∷ [])
 hidden_above = refl
 
 -- an empty file system beats a bind, and the last bind the earlier ones
-empty_beats : kept_of row_at (says a (Bind beside false) ∷ says a (Tmp true) ∷ []) ≡ Ok (says a (Tmp true) ∷ [])
+empty_beats : kept_of row_at (says a (Bind beside false true) ∷ says a (Tmp true false) ∷ []) ≡ Ok (says a (Tmp true false) ∷ [])
 empty_beats = refl
 
-last_bind : kept_of row_at (says a (Bind beside false) ∷ says a (Bind a_b true) ∷ []) ≡ Ok (says a (Bind a_b true) ∷ [])
+last_bind : kept_of row_at (says a (Bind beside false true) ∷ says a (Bind a_b true true) ∷ []) ≡ Ok (says a (Bind a_b true true) ∷ [])
 last_bind = refl
 
 -- paths are in byte order: `-` is less than `/`
@@ -104,33 +104,33 @@ in_order : kept_of row_at (says a_b_c Ro ∷ says beside Ro ∷ says a Ro ∷ sa
 in_order = refl
 
 -- the source of a bind must exist, and be of the same kind as the object that it covers
-no_source : kept_of row_at (says a (Bind none false) ∷ says none Ro ∷ []) ≡ Err (missing none)
+no_source : kept_of row_at (says a (Bind none false true) ∷ says none Ro ∷ []) ≡ Err (missing none)
 no_source = refl
 
-no_source_before_no_row : kept_of (λ path. cond (is_same path a) (Some true) None) (says none Ro ∷ says none (Bind file false) ∷ [])
+no_source_before_no_row : kept_of (λ path. cond (is_same path a) (Some true) None) (says none Ro ∷ says none (Bind file false true) ∷ [])
     ≡ Err (missing file)
 no_source_before_no_row = refl
 
-optional_source : kept_of row_at (may_say a (Bind none false) ∷ says a Ro ∷ []) ≡ Ok (says a Ro ∷ [])
+optional_source : kept_of row_at (may_say a (Bind none false true) ∷ says a Ro ∷ []) ≡ Ok (says a Ro ∷ [])
 optional_source = refl
 
-other_kind : kept_of row_at (may_say a (Bind file false) ∷ []) ≡ Err (wrong_kind a)
+other_kind : kept_of row_at (may_say a (Bind file false true) ∷ []) ≡ Err (wrong_kind a)
 other_kind = refl
 
-empty_over_a_file : kept_of row_at (says file (Tmp false) ∷ []) ≡ Err (wrong_kind file)
+empty_over_a_file : kept_of row_at (says file (Tmp false false) ∷ []) ≡ Err (wrong_kind file)
 empty_over_a_file = refl
 
 -- a mention that covers nothing may put an object of any kind
-put_at_no_row : kept_of row_at (says none (Bind file false) ∷ says none NoExec ∷ [])
-    ≡ Ok (says none (Bind file false) ∷ says none NoExec ∷ [])
+put_at_no_row : kept_of row_at (says none (Bind file false true) ∷ says none NoExec ∷ [])
+    ≡ Ok (says none (Bind file false true) ∷ says none NoExec ∷ [])
 put_at_no_row = refl
 
 -- below an empty file system flags are dropped, unless something is put at their path; a hidden mention there is kept
-below_empty : kept_of row_at (says a (Tmp true) ∷ says a_b Rw ∷ says a_b_c (Bind file false) ∷ says a_b_c Ro ∷ [])
-    ≡ Ok (says a (Tmp true) ∷ says a_b_c (Bind file false) ∷ says a_b_c Ro ∷ [])
+below_empty : kept_of row_at (says a (Tmp true false) ∷ says a_b Rw ∷ says a_b_c (Bind file false true) ∷ says a_b_c Ro ∷ [])
+    ≡ Ok (says a (Tmp true false) ∷ says a_b_c (Bind file false true) ∷ says a_b_c Ro ∷ [])
 below_empty = refl
 
-hidden_below_empty : kept_of row_at (says a (Tmp true) ∷ says a_b Hide ∷ []) ≡ Ok (says a (Tmp true) ∷ says a_b Hide ∷ [])
+hidden_below_empty : kept_of row_at (says a (Tmp true false) ∷ says a_b Hide ∷ []) ≡ Ok (says a (Tmp true false) ∷ says a_b Hide ∷ [])
 hidden_below_empty = refl
 
 -- a path that does not exist is refused, and skipped if it is optional
@@ -145,7 +145,7 @@ optional_row = refl
 
 -- below a bind the row of the source counts
 behind_a_bind : kept_of (λ path. cond (is_same path a_b) None (Some true))
-    (says beside (Bind a false) ∷ says (codes "a-b" ∷ codes "b" ∷ []) Ro ∷ []) ≡ Err (missing (codes "a-b" ∷ codes "b" ∷ []))
+    (says beside (Bind a false true) ∷ says (codes "a-b" ∷ codes "b" ∷ []) Ro ∷ []) ≡ Err (missing (codes "a-b" ∷ codes "b" ∷ []))
 behind_a_bind = refl
 
 -- the refusal names the first path in byte order

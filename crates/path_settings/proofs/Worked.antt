@@ -48,13 +48,13 @@ hidden : mention_of InaccessiblePaths (codes "/") ≡ at [] Hide false
 hidden = refl
 
 -- binds
-source_alone : mention_of BindPaths (codes "/srv/a") ≡ at srv_a (Bind srv_a false) false
+source_alone : mention_of BindPaths (codes "/srv/a") ≡ at srv_a (Bind srv_a false true) false
 source_alone = refl
 
-with_place : mention_of BindReadOnlyPaths (codes "-/srv/a:/srv") ≡ at srv (Bind srv_a true) true
+with_place : mention_of BindReadOnlyPaths (codes "-/srv/a:/srv") ≡ at srv (Bind srv_a true true) true
 with_place = refl
 
-with_option : mention_of BindPaths (codes "/srv/a:/srv:norbind") ≡ at srv (Bind srv_a false) false
+with_option : mention_of BindPaths (codes "/srv/a:/srv:norbind") ≡ at srv (Bind srv_a false false) false
 with_option = refl
 
 unknown_option : mention_of BindPaths (codes "/srv/a:/srv:ro") ≡ None
@@ -73,10 +73,10 @@ no_plus : mention_of BindPaths (codes "+/srv/a") ≡ None
 no_plus = refl
 
 -- empty file systems
-writable : mention_of TemporaryFileSystem (codes "/srv:mode=0700,rox") ≡ at srv (Tmp false) false
+writable : mention_of TemporaryFileSystem (codes "/srv:mode=0700,rox") ≡ at srv (Tmp false false) false
 writable = refl
 
-read_only : mention_of TemporaryFileSystem (codes "/srv:mode=0700,ro") ≡ at srv (Tmp true) false
+read_only : mention_of TemporaryFileSystem (codes "/srv:mode=0700,ro") ≡ at srv (Tmp true false) false
 read_only = refl
 
 no_dash : mention_of TemporaryFileSystem (codes "-/srv") ≡ None
@@ -97,7 +97,7 @@ climbing = refl
 
 -- folders as a version of systemd reads them: with a link, and in systemd 257 with a mark
 abbrev of_folder : Path → Path → Bool → Mention
-of_folder source path read_only = record { path = path; kind = Bind source read_only; optional = true }
+of_folder source path read_only = record { path = path; kind = Bind source read_only true; optional = true }
 
 abbrev state_of : List ℕ → Path
 state_of name = codes "var" ∷ codes "lib" ∷ name ∷ []

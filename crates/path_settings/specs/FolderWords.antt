@@ -1,6 +1,6 @@
 -- systemd.exec(5), StateDirectory= and the other folder keys, as systemd 252 and 257 read them: `NAME[:LINK]`, and in systemd 257
 -- `NAME[:[LINK][:ro]]`. The folder NAME, below the folder of the key, is shown at its own path and at the path of LINK.
-use Rattle.std.specs.Prelude.{ℕ, ◌||◌, Bool, true, false, cond, codes, List, [], ◌∷◌, Option, Some, None, option_and_then, if◌then◌else◌}
+use Rattle.std.specs.Prelude.{ℕ, Bool, true, false, codes, List, [], ◌∷◌, Option, Some, None, option_and_then, if◌then◌else◌}
 use Rattle.std.specs.Option.{option_map, option_map_or}
 use Rattle.std.specs.Str.{bytes_eq}
 use Rattle.abs_path.specs.Paths.{Path}
@@ -61,7 +61,7 @@ abbrev pub public_path : List ℕ → List ℕ → Option Path
 public_path folder name = option_and_then (unless_private folder) (path_below folder name)
 
 abbrev pub shown_at : Bool → Path → Path → Mention
-shown_at read_only source path = record { path = path; kind = Bind source read_only; optional = true }
+shown_at read_only source path = record { path = path; kind = Bind source read_only true; optional = true }
 
 abbrev pub with_link : List ℕ → List ℕ → Bool → Path → Option (List Mention)
 with_link folder [] read_only path = Some (shown_at read_only path path ∷ [])

@@ -1,5 +1,5 @@
 -- The keys that name paths (systemd.exec(5), Sandboxing), and the mention that each of their words makes.
-use Rattle.std.specs.Prelude.{ℕ, Bool, true, false, cond, codes, find, List, [], ◌∷◌, ◌++◌, Option, Some, None}
+use Rattle.std.specs.Prelude.{ℕ, Bool, true, false, cond, codes, find, List, [], ◌∷◌, Option, Some, None}
 use Rattle.std.specs.List.{cons_option, list_any}
 use Rattle.std.specs.Str.{bytes_eq}
 use Rattle.path_settings.specs.declared.dialect.Dialect.{Dialect}

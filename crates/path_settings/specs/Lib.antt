@@ -1,4 +1,5 @@
 pub mod Mentions
+pub mod Mentioned
 pub mod Short
 pub mod SettingPaths
 pub mod Marks
@@ -9,4 +10,6 @@ pub mod Folders
 pub mod Keys
 pub mod FolderWords
 pub mod view_map
+pub mod Sight
+pub mod systemd
 pub mod abs_path

@@ -11,23 +11,23 @@ hides Hide = true
 hides _ = false
 
 abbrev pub is_tmp : Kind → Bool
-is_tmp (Tmp read_only) = true
+is_tmp (Tmp read_only no_exec) = true
 is_tmp _ = false
 
 abbrev pub is_bind : Kind → Bool
-is_bind (Bind source read_only) = true
+is_bind (Bind source read_only recursive) = true
 is_bind _ = false
 
 -- the path of the object that a bind shows
 abbrev pub source_of : Kind → Option Path
-source_of (Bind source read_only) = Some source
+source_of (Bind source read_only recursive) = Some source
 source_of _ = None
 
 -- the mention says which object is at the path: nothing that is visible, an empty file system, or the object of another path
 abbrev pub is_origin : Kind → Bool
 is_origin Hide = true
-is_origin (Tmp read_only) = true
-is_origin (Bind source read_only) = true
+is_origin (Tmp read_only no_exec) = true
+is_origin (Bind source read_only recursive) = true
 is_origin _ = false
 
 -- no mention says which object is at the root
@@ -39,7 +39,7 @@ abbrev pub is_path : Path → Bool
 is_path path = is_normal path && nat_le (length (text_of path)) 512
 
 abbrev pub has_whole_source : Kind → Bool
-has_whole_source (Bind source read_only) = is_path source
+has_whole_source (Bind source read_only recursive) = is_path source
 has_whole_source _ = true
 
 -- the path of a mention, and the source of a bind, is a path as it is kept

@@ -10,7 +10,7 @@ abbrev pub is_short_path : Path → Bool
 is_short_path path = nat_le (length (text_of path)) 250
 
 abbrev pub has_short_source : Kind → Bool
-has_short_source (Bind source read_only) = is_short_path source
+has_short_source (Bind source read_only recursive) = is_short_path source
 has_short_source _ = true
 
 -- the path and the source of a bind have at most 250 bytes

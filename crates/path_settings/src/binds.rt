@@ -2,7 +2,7 @@
 
 ghost use Rattle.std.specs.Prelude.{◌≡◌, IfOk, map};
 ghost use Rattle.std.specs.Option.{option_map};
-ghost use Rattle.path_settings.specs.Binds.{bind_pieces, is_bind_option, ends_of, bind_between, bind_mention};
+ghost use Rattle.path_settings.specs.Binds.{bind_pieces, bind_option, ends_of, bind_between, bind_mention};
 
 use crate::marks::{is_marked, without};
 use crate::mentions::{Kind, Mention};
@@ -16,21 +16,28 @@ pub(crate) fn pieces(alloc: Global, text: &str) -> Result<Vec<&str>, AllocError>
     text.split(':').collect(alloc)
 }
 
-// Returns whether the option is `rbind` or `norbind`. Either is allowed, and changes nothing here.
-fn is_bind_option(option: &str) -> bool
-    ensures { result ≡ is_bind_option option.now }
+// Returns whether the option takes the mounts below the source along: `rbind` does, and `norbind` does not.
+fn bind_option(option: &str) -> Option<bool>
+    ensures { result ≡ bind_option option.now }
 {
-    option == "rbind" || option == "norbind"
+    match option {
+        "rbind" => Some(true),
+        "norbind" => Some(false),
+        _ => None,
+    }
 }
 
-// Returns the texts of the source and of the destination, which is the source if none is written.
-fn ends<'a>(pieces: &[&'a str]) -> Option<(&'a str, &'a str)>
-    ensures { option_map (λ ends. (ends.0.now, ends.1.now)) result ≡ ends_of (map (λ piece. piece.now) pieces.now) }
+// Returns the texts of the source and of the destination, which is the source if none is written, and the option.
+fn ends<'a>(pieces: &[&'a str]) -> Option<(&'a str, &'a str, bool)>
+    ensures { option_map (λ ends. (ends.0.now, ends.1.now, ends.2)) result ≡ ends_of (map (λ piece. piece.now) pieces.now) }
 {
     match pieces {
-        [source] => Some((*source, *source)),
-        [source, place] => Some((*source, *place)),
-        [source, place, option] if is_bind_option(*option) => Some((*source, *place)),
+        [source] => Some((*source, *source, true)),
+        [source, place] => Some((*source, *place, true)),
+        [source, place, option] => {
+            let recursive = bind_option(*option)?;
+            Some((*source, *place, recursive))
+        }
         _ => None,
     }
 }
@@ -41,8 +48,9 @@ fn bind_between(
     optional: bool,
     source: &str,
     place: &str,
+    recursive: bool,
 ) -> Result<Option<Mention>, AllocError>
-    ensures { IfOk result (λ mention. mention ≡ bind_between read_only optional (source.now, place.now)) }
+    ensures { IfOk result (λ mention. mention ≡ bind_between read_only optional (source.now, place.now, recursive)) }
 {
     let Some(source) = read_setting_path(alloc, source)? else {
         return Ok(None);
@@ -52,7 +60,11 @@ fn bind_between(
     };
     Ok(Some(Mention {
         path,
-        kind: Kind::Bind { source, read_only },
+        kind: Kind::Bind {
+            source,
+            read_only,
+            recursive,
+        },
         optional,
     }))
 }
@@ -64,7 +76,9 @@ pub fn read_bind(alloc: Global, read_only: bool, word: &str) -> Result<Option<Me
 {
     let pieces = pieces(alloc, without("-", word))?;
     match ends(&pieces) {
-        Some((source, place)) => bind_between(alloc, read_only, is_marked(word), source, place),
+        Some((source, place, recursive)) => {
+            bind_between(alloc, read_only, is_marked(word), source, place, recursive)
+        }
         None => Ok(None),
     }
 }

@@ -106,7 +106,11 @@ fn shown_at(
     let source = source.copy(alloc)?;
     Ok(Mention {
         path,
-        kind: Kind::Bind { source, read_only },
+        kind: Kind::Bind {
+            source,
+            read_only,
+            recursive: true,
+        },
         optional: true,
     })
 }

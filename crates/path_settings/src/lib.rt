@@ -4,7 +4,8 @@
 //! `BindPaths=`, `TemporaryFileSystem=` and `StateDirectory=` (systemd.exec(5)); [`ALL_PATH_KEYS`] lists them all.
 //!
 //! - [`laws`]: laws of the keys and of the mentions that are read.
-//! - [`view_map`]: what a service finds at a path.
+//! - [`view_map`]: what a service finds at a path, by the rules of the base profile.
+//! - [`systemd`]: what systemd 252 and 257 mount at a path.
 #![tactic(auto)]
 
 mod binds;
@@ -16,8 +17,10 @@ mod keys;
 pub mod laws;
 mod lists;
 mod marks;
+mod mentioned;
 mod mentions;
 mod paths;
+pub mod systemd;
 mod temporary;
 pub mod view_map;
 
@@ -28,6 +31,7 @@ pub use folder_words::read_mentions;
 pub use folders::read_folder;
 pub use keys::{ALL_PATH_KEYS, PathKey, read_mention};
 pub use lists::read_path;
+pub use mentioned::Mentioned;
 pub use mentions::{Kind, Mention, Mentions};
 pub use paths::read_setting_path;
 pub use temporary::read_temporary;

@@ -27,10 +27,17 @@ pub enum Kind {
     NoExec,
     /// The service sees nothing at the path.
     Hide,
-    /// An empty file system is at the path.
-    Tmp { read_only: bool },
-    /// The object at another path of the host is also at this path.
-    Bind { source: AbsPath, read_only: bool },
+    /// An empty file system is at the path. The base profile does not look at `no_exec`.
+    Tmp {
+        read_only: bool,
+        no_exec: bool,
+    },
+    /// The object at another path of the host is also at this path. The base profile does not look at `recursive`.
+    Bind {
+        source: AbsPath,
+        read_only: bool,
+        recursive: bool,
+    },
 }
 
 /// The effect of a setting at one path.
@@ -91,12 +98,18 @@ impl Kind {
             Kind::Exec => Kind::Exec,
             Kind::NoExec => Kind::NoExec,
             Kind::Hide => Kind::Hide,
-            Kind::Tmp { read_only } => Kind::Tmp {
+            Kind::Tmp { read_only, no_exec } => Kind::Tmp {
                 read_only: *read_only,
+                no_exec: *no_exec,
             },
-            Kind::Bind { source, read_only } => Kind::Bind {
+            Kind::Bind {
+                source,
+                read_only,
+                recursive,
+            } => Kind::Bind {
                 source: source.copy(alloc)?,
                 read_only: *read_only,
+                recursive: *recursive,
             },
         })
     }

@@ -13,4 +13,5 @@ mod seen;
 
 pub use longest::{origin_above, origin_at};
 pub use rules::{Beneath, Fate, fate_of};
+pub(crate) use rules::{bind_fate, tmp_fate, unless_optional};
 pub use seen::{Seen, view, view_of};

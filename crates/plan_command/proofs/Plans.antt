@@ -2,8 +2,9 @@
 use Rattle.std.proofs.Common.{◌≡◌, ◌≢◌, ◌∙◌, ℕ, List, [], ◌∷◌, Some, None, Result, Ok, Err, Vec, Global, refl, sym, ap, subst}
 use Rattle.std.specs.Prelude.{IfOk}
 use Rattle.std.specs.declared.alloc.AllocError.{AllocError}
-use Rattle.mount_plan.specs.path_settings.declared.mentions.Mention.{Mention}
-use Rattle.mount_plan.specs.path_settings.view_map.Kept.{Host, KeepsByRules, kept_of}
+use Rattle.mount_plan.specs.path_settings.declared.mentioned.Mentioned.{Mentioned}
+use Rattle.mount_plan.specs.path_settings.view_map.Kept.{Host}
+use Rattle.mount_plan.specs.Planned.{AreKeptByRules, views}
 use Rattle.mount_plan.specs.kern_mounts.Launch.{CanBeMounted}
 use Rattle.mount_plan.specs.kern_mounts.declared.step.MountStep.{MountStep}
 use Rattle.mount_plan.specs.Answers.{Plans}
@@ -15,20 +16,18 @@ use Rattle.unit_inputs.specs.command_answers.CommandErrors.{Prepares, first_refu
 use Rattle.plan_command.specs.Planned.{IsPlan, path_refusals}
 use Rattle.plan_command.specs.Refusals.{error_line, plan_line}
 
-module _ (unit : List ℕ) (row_at : Host) (mentions : List Mention) where
+module _ (unit : List ℕ) (row_at : Host) (mentions : Mentioned) where
   -- a table is the plan
   pub plan_is : (table : List MountStep) → Plans row_at mentions (Ok table)
-      → IfOk (kept_of row_at mentions) (KeepsByRules row_at mentions) → IfOk (kept_of row_at mentions) (λ kept. FindsAsView kept table)
+      → AreKeptByRules row_at mentions → IfOk (views row_at mentions) (λ view. FindsAsView view table)
       → HasPlacesOf mentions table → CanBeMounted row_at table
       → Prepares (IsPlan row_at mentions) (path_refusals unit row_at mentions) (Ok table)
-  plan_is table (kept, is, made) keeps finds places can = (
+  plan_is table is keeps finds places can = (
     ap (λ found. first_refusal (refusal_in (or_line (plan_line unit) found) ∷ [])) is,
     record {
-      kept = kept;
-      keeps = is;
-      keeps_by_rules = subst (λ found. IfOk found (KeepsByRules row_at mentions)) is keeps;
-      table_of_the_kept = made;
-      finds_as_view = subst (λ found. IfOk found (λ kept. FindsAsView kept table)) is finds;
+      is_planned = is;
+      keeps_by_rules = keeps;
+      finds_as_view = finds;
       places_are_mentioned = places;
       can_be_mounted = can;
     },

@@ -5,7 +5,7 @@ use Rattle.unit_inputs.specs.host_io.Files.{Files}
 use Rattle.mount_plan.specs.kern_mounts.declared.step.MountStep.{MountStep}
 use Rattle.mount_plan.specs.Host.{host_of}
 use Rattle.unit_inputs.specs.exec_settings.Mounts.{unit_mentions}
-use Rattle.mount_plan.specs.path_settings.declared.mentions.Mention.{Mention}
+use Rattle.mount_plan.specs.path_settings.declared.mentioned.Mentioned.{Mentioned}
 use Rattle.unit_inputs.specs.command_answers.ExitStatuses.{is_answer}
 use Rattle.unit_inputs.specs.command_answers.Laws.{AcceptsFiles, GoTogether, IsAdmitted, laws_over}
 use Rattle.unit_inputs.specs.command_answers.CommandErrors.{Prepares, first_refusal}
@@ -44,7 +44,7 @@ pub stops_before_paths : (P : SettledUnit → Type 0) (told : Option Files) (uni
 stops_before_paths P told unit stop said = stop_is_admitted (plan_laws unit) status_of mounts_text P told stop
     (refused_before P told unit stop said)
 
-module _ (told : Option Files) (unit : List ℕ) (one : SettledUnit) (mentions : List Mention) (site : Site) where
+module _ (told : Option Files) (unit : List ℕ) (one : SettledUnit) (mentions : Mentioned) (site : Site) where
   -- with the inputs the paths of the settings are those that the unit mentions
   pub refused_as : (files : Files) → mentions ≡ unit_mentions (inputs_view one.inputs).unit (inputs_view one.inputs).site
       → site ≡ (inputs_view one.inputs).site → (first_refusal (unit_refusals files unit) ≡ None) ×

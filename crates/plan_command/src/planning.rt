@@ -2,12 +2,11 @@
 ghost use Rattle.std.specs.Prelude.{IsErrOf, IsTrue};
 ghost use Rattle.unit_inputs.specs.command_answers.CommandErrors.{Prepares};
 ghost use Rattle.mount_plan.specs.Host.{host_of};
-ghost use Rattle.mount_plan.specs.path_settings.Mentions.{leaves_the_root};
-ghost use Rattle.mount_plan.specs.path_settings.Short.{AreShort};
+ghost use Rattle.mount_plan.specs.path_settings.Mentioned.{leaves_the_root, AreShort};
 ghost use Rattle.plan_command.specs.Planned.{IsPlan, path_refusals};
 
 use crate::refusals::plan_line;
-use mount_plan::{Mentions, MountSteps, PlanError, plan};
+use mount_plan::{Mentioned, MountSteps, PlanError, plan};
 use std::alloc::Global;
 use unit_inputs::SiteTable;
 use unit_inputs::command_answers::{CommandError, refuse};
@@ -17,7 +16,7 @@ use unit_inputs::command_answers::{CommandError, refuse};
 pub fn plan_mounts(
     alloc: Global,
     unit: &str,
-    mentions: &Mentions,
+    mentions: &Mentioned,
     site: &SiteTable,
 ) -> Result<MountSteps, CommandError>
     requires root_is_the_hosts { IsTrue (leaves_the_root mentions.now) }

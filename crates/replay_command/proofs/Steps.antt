@@ -10,7 +10,7 @@ use Rattle.asked_service.specs.kernel_model.kernel_calls.Calls.{IsCall}
 use Rattle.asked_service.specs.kernel_model.declared.kernel_calls.call.Call.{Call}
 use Rattle.asked_service.specs.mount_plan.Host.{host_of}
 use Rattle.asked_service.specs.exec_settings.Mounts.{unit_mentions}
-use Rattle.asked_service.specs.path_settings.declared.mentions.Mention.{Mention}
+use Rattle.asked_service.specs.path_settings.declared.mentioned.Mentioned.{Mentioned}
 use Rattle.asked_service.specs.unit_inputs.command_answers.CommandErrors.{IsAnswer, Prepares, first_refusal}
 use Rattle.asked_service.specs.unit_inputs.declared.command_answers.error.CommandError.{CommandError}
 use Rattle.asked_service.proofs.OfUnitInputs.Refusing.{behind_none, passes, stops, stops_as, stops_before}
@@ -98,7 +98,7 @@ stops_at_settings P (Some files) unit path inputs script stop read is said =
 
 -- the unit is settled, and what it says of paths comes next
 module _ (told : Option Files) (unit path : List ℕ) (inputs : UnitInputs) (script : List Call) (one : SettledUnit)
-    (mentions : List Mention) (site : Site)
+    (mentions : Mentioned) (site : Site)
     (same : one.inputs ≡ inputs) (settled : AreSettled (inputs_view inputs) one.settings.value)
     (are : mentions ≡ unit_mentions (inputs_view inputs).unit (inputs_view inputs).site) (lies : site ≡ (inputs_view one.inputs).site)
     (none : first_refusal (refusals_of unit (inputs_view inputs)) ≡ None) where
@@ -148,7 +148,7 @@ module _ (told : Option Files) (unit path : List ℕ) (inputs : UnitInputs) (scr
     )
 
 -- what is prepared can be started
-pub can_start : (inputs : UnitInputs) (one : SettledUnit) (script lent : List Call) (mentions : List Mention) (site : Site)
+pub can_start : (inputs : UnitInputs) (one : SettledUnit) (script lent : List Call) (mentions : Mentioned) (site : Site)
     (table : List MountStep) → one.inputs ≡ inputs → AreSettled (inputs_view inputs) one.settings.value
     → site ≡ (inputs_view one.inputs).site
     → IsPlan (host_of site) mentions table → lent ≡ script → All IsCall lent

@@ -35,6 +35,7 @@ are_plain n settings own = record {
     groups = (let few : length settings.groups ≡ 0 = ap length own.groups in omega (arith, few));
     ambient = subst (λ set. IsWithin set settings.bounding) (sym own.ambient) (none_within settings.bounding);
     bounding = subst (λ set. IsWithin set all) (sym own.bounding) (within_self all);
+    keeps = own.keeps;
     memory = own.memory;
   };
 }
@@ -69,7 +70,7 @@ module _ (n : ℕ) (unit : Resolved) (table : calls.Table) (site : Site) (says :
       never table site is.settings is.plan
       (law table site is.settings is.plan whole is.fits.can_be_mounted (are_plain n is.settings own)
       (subst (ShowsProgram site is.plan) (sym own.launches)
-      (shows site is.plan (found n unit site is.is_plan.0 is.plan says has_rows is.is_plan.1 is.is_plan.2))))
+      (shows site is.plan (found n unit site is.plan says has_rows is.is_plan))))
       why is.refused
 
   pub never_refused : IsWhole table → SettingsAreNotRefused → SettingsAreTheSamples → PathsAreNotRefused → ProgramsAreFound

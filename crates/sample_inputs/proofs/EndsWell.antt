@@ -1,10 +1,10 @@
 -- A launch without filters of a program that its plan shows ends well, so no answer of its settings is a refusal.
-use Rattle.std.proofs.Common.{◌≡◌, ℕ, false, cond, List, [], ◌++◌, Err, ap, ◌∙◌, sym, subst, length, arith}
+use Rattle.std.proofs.Common.{◌≡◌, ℕ, false, cond, List, [], ◌∷◌, ◌++◌, Err, ap, ◌∙◌, sym, subst, length, arith}
 use Rattle.std.specs.Prelude.{◌&&◌, ◌+◌}
 use Rattle.launcher.specs.abs_path.Paths.{Path}
 use Rattle.launcher.specs.call_table.Facts.{IsWhole}
 use Rattle.launcher.specs.call_table.Table as calls
-use Rattle.launcher.specs.cap_sets.Sets.{all}
+use Rattle.launcher.specs.cap_sets.Sets.{all, union, cut, minus}
 use Rattle.launcher.specs.exec_settings.declared.service.Settings.{Settings}
 use Rattle.launcher.specs.filter_settings.declared.filter_rules.installed.Filter.{Filter}
 use Rattle.launcher.specs.kern_mounts.Finds.{finds}
@@ -13,7 +13,8 @@ use Rattle.launcher.specs.kern_mounts.Split.{Table}
 use Rattle.launcher.specs.kernel_model.World.{World, start_world}
 use Rattle.launcher.specs.Answers.{EndsAs, EndsWithAll, launch_with, wanted_of}
 use Rattle.launcher.specs.Launch.{Wanted, LaunchStep, LaunchOutcome, Launched, StepRefused, StepKilled, PrivilegedProgram, launch, launch_from}
-use Rattle.launcher.specs.Launch.{launch_steps, mount_steps, with_unshare, identity_steps, filter_steps, program_steps, is_privileged_row}
+use Rattle.launcher.specs.Launch.{launch_steps, mount_steps, with_unshare, identity_steps, filter_steps, program_steps, last_steps}
+use Rattle.launcher.specs.Launch.{given_up_steps, capset_step, held, with_held, is_privileged_row}
 use Rattle.launcher.specs.Matching.{AreMatching}
 use Rattle.launcher.proofs.HostRoot.{begins_at_host}
 use Rattle.launcher.proofs.LaunchCalls.{launch_calls}
@@ -37,14 +38,16 @@ from_nothing : (count : ℕ) → 0 + count ≡ count
 from_nothing count = omega arith
 
 -- the steps of a launch without filters
-unfiltered : (lines : _) (wanted : Wanted) (plan : Table) → wanted.programs ≡ []
+unfiltered : (lines : _) (wanted : Wanted) (plan : Table) → wanted.programs ≡ [] → wanted.keeps_capabilities ≡ false
     → launch_steps lines wanted plan ≡ (with_unshare lines (mount_steps plan) ++ identity_steps lines wanted) ++ program_steps lines
     wanted.program
-unfiltered lines wanted plan none' =
+unfiltered lines wanted plan none' off =
     let mounting = with_unshare lines (mount_steps plan) in
     let identity = identity_steps lines wanted in
     let program = program_steps lines wanted.program in
-    ap (λ (programs : List (List ℕ)). mounting ++ ((identity ++ filter_steps lines programs) ++ program)) none'
+    ap (λ (programs : List (List ℕ)). mounting ++ ((identity ++ filter_steps lines programs) ++ last_steps lines wanted)) none'
+    ∙ ap (λ keeps. mounting ++ ((identity ++ []) ++ (cond keeps (given_up_steps lines (minus held wanted.bounding)
+    ++ capset_step lines wanted.ambient wanted.ambient (union wanted.ambient (cut held wanted.bounding)) ∷ []) [] ++ program))) off
     ∙ sym (append_parts mounting identity [] program)
     ∙ ap (λ (steps : List LaunchStep). steps ++ program) (append_none (mounting ++ identity))
 
@@ -61,9 +64,9 @@ module _ (table : calls.Table) (site : Site) (wanted : Wanted) (plan : Table) (w
       (goes_mounts table site calls' (Root table site calls' wanted plan plain) plan begins (starts, ambient))
       (goes_identity table site calls' wanted plan plain) in
       let ready = ready_at table site calls' wanted plan before.last begins plain.uid before.leads in
-      let after = runs_program table site calls' (IsReady wanted.uid wanted.ambient) plan wanted.program before.last shows ready in
+      let after = runs_program table site calls' (IsReady wanted.uid wanted.ambient (with_held wanted.keeps_capabilities wanted.ambient)) plan wanted.program before.last shows ready in
       let leads = leads_append start before.last after.0 (mounting ++ identity_steps lines wanted) (program_steps lines wanted.program) before.leads after.1 in
-      (after.0, subst (λ (steps : List LaunchStep). Leads start steps after.0) (sym (unfiltered lines wanted plan plain.programs)) leads)
+      (after.0, subst (λ (steps : List LaunchStep). Leads start steps after.0) (sym (unfiltered lines wanted plan plain.programs plain.keeps)) leads)
 
   unprivileged : is_privileged_row (finds (row_at site.rows) plan wanted.program) ≡ false
   unprivileged =

@@ -1,7 +1,7 @@
 -- The steps of a launch without filters, part by part: each is done.
 use Rattle.std.proofs.Common.{◌≡◌, ℕ, zero, suc, Bool, true, false, cond, codes, List, [], ◌∷◌, ◌++◌, Ok, refl, ap, ◌∙◌, sym, subst, arith}
 use Rattle.std.proofs.Common.{eqb}
-use Rattle.std.specs.Prelude.{filter, not, ◌||◌, ◌+◌, ◌<◌, ◌≤◌, ◌^◌, ◌%◌}
+use Rattle.std.specs.Prelude.{filter, map, not, ◌||◌, ◌+◌, ◌<◌, ◌≤◌, ◌^◌, ◌%◌}
 use Rattle.std.specs.List.{AllByRecursion}
 use Rattle.std.proofs.lemmas.Bool.{not-true}
 use Rattle.std.proofs.lemmas.Bool.Decides.{nat_tests}
@@ -25,7 +25,7 @@ use Rattle.launcher.specs.kernel_model.World.{World}
 use Rattle.launcher.specs.Launch.{Wanted, makes, prctl_step, capset_step, group_steps, drop_steps, inherit_steps, user_steps, raise_steps}
 use Rattle.launcher.specs.Launch.{left_steps, privilege_steps, memory_steps, identity_steps, set_keepcaps, capbset_drop, set_no_new_privs, cap_ambient}
 use Rattle.launcher.specs.Launch.{set_mdwe, refuse_exec_gain}
-use Rattle.launcher.specs.Launch.{ambient_raise}
+use Rattle.launcher.specs.Launch.{ambient_raise, left_by, with_held}
 use Rattle.launcher.specs.Launches.{HasLaunchCalls}
 use Rattle.launcher.proofs.LaunchCreds.{Has, set_groups, set_gids, drops, set_all, keeps_caps, set_uid}
 use Rattle.launcher.proofs.Leading.{clash}
@@ -116,9 +116,11 @@ module _ (table : calls.Table) (site : Site) (calls' : HasLaunchCalls table.call
 
   goes_drops : (world : World) → Here Root world → Goes (Here Root) world (drop_steps table.calls wanted)
   goes_drops world at =
-      goes_each (Here Root) IsDropped (λ cap. prctl_step table.calls capbset_drop cap 0)
+      let P : Bool → Type 0 = λ keeps. Goes (Here Root) world (map (λ cap. prctl_step table.calls capbset_drop cap 0) (filter (λ cap. not (has (with_held keeps wanted.bounding) cap)) (count_from 0 41))) in
+      subst P (sym plain.keeps)
+      (goes_each (Here Root) IsDropped (λ cap. prctl_step table.calls capbset_drop cap 0)
       (filter (λ cap. not (has wanted.bounding cap)) (count_from 0 41))
-      (chosen (λ n. n < 41) (λ cap. not (has wanted.bounding cap)) (count_from 0 41) (counted_below 0 41 (omega arith))) goes_drop world at
+      (chosen (λ n. n < 41) (λ cap. not (has wanted.bounding cap)) (count_from 0 41) (counted_below 0 41 (omega arith))) goes_drop world at)
 
   inherits : (creds : Creds) → Root creds → after_capset creds all all wanted.ambient ≡ Ok (with_sets creds all all wanted.ambient)
   inherits creds own =
@@ -128,10 +130,12 @@ module _ (table : calls.Table) (site : Site) (calls' : HasLaunchCalls table.call
 
   goes_inherit : (world : World) → Here Root world → Goes (Here Ready) world (inherit_steps table.calls wanted)
   goes_inherit world at =
-      goes_creds table site Root Ready (codes "capset") 0 0 0 (Sets all all wanted.ambient) (rule.Known known.Capset)
+      let P : Bool → Type 0 = λ keeps. Goes (Here Ready) world (capset_step table.calls all all (with_held keeps wanted.ambient) ∷ []) in
+      subst P (sym plain.keeps)
+      (goes_creds table site Root Ready (codes "capset") 0 0 0 (Sets all all wanted.ambient) (rule.Known known.Capset)
       (d.Capset all all wanted.ambient) (λ c. after_capset c all all wanted.ambient)
       (λ c. with_sets c all all wanted.ambient) calls'.capset refl (λ host process mounts owns. refl)
-      inherits (λ c own. set_all 0 all all wanted.ambient c (with_sets c all all wanted.ambient) own.0 (inherits c own)) plan world at
+      inherits (λ c own. set_all 0 all all wanted.ambient c (with_sets c all all wanted.ambient) own.0 (inherits c own)) plan world at)
 
   goes_user : (b : Bool) → eqb wanted.uid 0 ≡ b → (world : World) → Here Ready world
       → Goes (Here Kept) world (cond b []
@@ -201,6 +205,11 @@ module _ (table : calls.Table) (site : Site) (calls' : HasLaunchCalls table.call
       (λ c. with_sets c wanted.ambient wanted.ambient wanted.ambient) calls'.capset refl (λ host process mounts owns. refl)
       leaves (λ c own. tt) plan world at
 
+  goes_leaving : (world : World) → Here Kept world → Goes (Here Any) world (left_steps table.calls wanted)
+  goes_leaving world at =
+      let P : Bool → Type 0 = λ keeps. Goes (Here Any) world (left_by table.calls wanted.uid (with_held keeps wanted.ambient)) in
+      subst P (sym plain.keeps) (goes_left (eqb wanted.uid 0) world at)
+
   goes_privileges : (b : Bool) (world : World) → Here Any world
       → Goes (Here Any) world (if_so b (prctl_step table.calls set_no_new_privs 1 0))
   goes_privileges true world at =
@@ -234,6 +243,6 @@ module _ (table : calls.Table) (site : Site) (calls' : HasLaunchCalls table.call
       goes_inherit)
       (goes_user (eqb wanted.uid 0) refl))
       goes_raises)
-      (goes_left (eqb wanted.uid 0)))
+      goes_leaving)
       (goes_privileges wanted.no_new_privs))
       goes_memory

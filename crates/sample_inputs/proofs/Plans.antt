@@ -10,6 +10,7 @@ use Rattle.launcher.specs.exec_settings.Mounts.{unit_mentions}
 use Rattle.launcher.specs.abs_path.Prefix.{is_same}
 use Rattle.launcher.specs.path_settings.declared.mentions.Kind.{Kind}
 use Rattle.launcher.specs.path_settings.declared.mentions.Kind.TheVariants.{Ro, Rw, Exec, NoExec, Hide, Tmp, Bind}
+use Rattle.launcher.specs.path_settings.declared.mentioned.Mentioned.TheVariants.{Base}
 use Rattle.launcher.specs.path_settings.declared.mentions.Mention.{Mention}
 use Rattle.launcher.specs.path_settings.Mentions.{is_bind, source_of}
 use Rattle.launcher.specs.site_table.Kinds.{is_dir}
@@ -19,6 +20,7 @@ use Rattle.launcher.specs.kern_mounts.Finds.{found_at, row_or_nothing}
 use Rattle.launcher.specs.kern_mounts.declared.step.MountStep.{MountStep}
 use Rattle.launcher.specs.mount_plan.Host.{host_of}
 use Rattle.launcher.specs.mount_plan.Plan.{places_of, table_of}
+use Rattle.launcher.specs.mount_plan.Planned.{planned, unless_refused}
 use Rattle.launcher.specs.path_settings.view_map.Asked.{asked_of, beneath_places}
 use Rattle.launcher.specs.path_settings.view_map.Kept.{Host, Refusal, kept_of}
 use Rattle.launcher.specs.path_settings.view_map.Resting.{AreSame, AreSameSources}
@@ -81,8 +83,8 @@ sourceless row_at other m h = no_binds row_at other (sample_mentions m)
     by_kind Exec e = refl
     by_kind NoExec e = refl
     by_kind Hide e = refl
-    by_kind (Tmp read_only) e = refl
-    by_kind (Bind source read_only) e = cc
+    by_kind (Tmp read_only no_exec) e = refl
+    by_kind (Bind source read_only recursive) e = cc
 
     no_binds : (row_at other : Host) (mentions : List Mention) → list_all (λ mention. not (is_bind mention.kind)) mentions ≡ true
         → AreSameSources row_at other mentions
@@ -131,24 +133,29 @@ module _ (site : Site) (has : HasSampleRows site) where
   finds_here m h = subst (FindsItsProgram site) (sym (same_table m h))
       (of_whole (table_of (all_dirs root) (kept_mentions m)) (starts_whole root m h) (finds_whole root m h))
 
-  module _ (n : ℕ) (unit : Resolved) (says : SaysSample n unit) where
-    keeps_of : kept_of (host_of site) (unit_mentions unit site) ≡ Ok (kept_mentions (n % 4))
-    keeps_of =
-        ap (λ one. kept_of (host_of site) (unit_mentions one site)) (unit_is n unit says)
-        ∙ ap (kept_of (host_of site)) (mentioned unit site (n % 4) (turn_below n))
-        ∙ keeps_here (n % 4) (turn_below n)
+  -- the plan of the four
+  plans_here : (m : ℕ) → m < 4
+      → planned (host_of site) (Base (sample_mentions m)) ≡ Ok (table_of (host_of site) (kept_mentions m))
+  unfolding planned
+  plans_here m h = ap (unless_refused (table_of (host_of site))) (keeps_here m h)
 
-    finds_of : (kept : List Mention) (table : List MountStep) → kept_of (host_of site) (unit_mentions unit site) ≡ Ok kept
-        → table ≡ table_of (host_of site) kept → FindsItsProgram site table
-    finds_of kept table are is =
-        let same : kept_mentions (n % 4) ≡ kept = same_kept _ _ _ keeps_of are in
-        subst (FindsItsProgram site) (sym (is ∙ ap (table_of (host_of site)) (sym same))) (finds_here (n % 4) (turn_below n))
+  module _ (n : ℕ) (unit : Resolved) (says : SaysSample n unit) where
+    plans_of : planned (host_of site) (unit_mentions unit site) ≡ Ok (table_of (host_of site) (kept_mentions (n % 4)))
+    plans_of =
+        ap (λ one. planned (host_of site) (unit_mentions one site)) (unit_is n unit says)
+        ∙ ap (planned (host_of site)) (mentioned unit site (n % 4) (turn_below n))
+        ∙ plans_here (n % 4) (turn_below n)
+
+    finds_of : (table : List MountStep) → planned (host_of site) (unit_mentions unit site) ≡ Ok table → FindsItsProgram site table
+    finds_of table are =
+        subst (FindsItsProgram site) (same_table_of _ _ _ plans_of are) (finds_here (n % 4) (turn_below n))
       where
-        same_kept : (one other : List Mention) (answer : Result (List Mention) Refusal) → answer ≡ Ok one → answer ≡ Ok other → one ≡ other
-        same_kept one other answer e f = cc
+        same_table_of : (one other : List MountStep) (answer : Result (List MountStep) Refusal) → answer ≡ Ok one → answer ≡ Ok other
+            → one ≡ other
+        same_table_of one other answer e f = cc
 
 pub paths_are_not_refused : PathsAreNotRefused
-paths_are_not_refused n unit site says has = (kept_mentions (n % 4), keeps_of site has n unit says)
+paths_are_not_refused n unit site says has = (table_of (host_of site) (kept_mentions (n % 4)), plans_of site has n unit says)
 
 pub programs_are_found : ProgramsAreFound
-programs_are_found n unit site kept table says has are is = finds_of site has n unit says kept table are is
+programs_are_found n unit site table says has are = finds_of site has n unit says table are

@@ -46,6 +46,7 @@ use Rattle.launcher.specs.mount_settings.Implied.{implied}
 use Rattle.launcher.specs.mount_settings.Protections.{unit_protections}
 use Rattle.launcher.specs.mount_settings.Settings.{mentions_of}
 use Rattle.launcher.specs.mount_settings.Written.{unit_written}
+use Rattle.launcher.specs.path_settings.declared.mentioned.Mentioned.TheVariants.{Base}
 use Rattle.launcher.specs.site_table.Table.{Site}
 use Rattle.launcher.specs.text_forms.Booleans.{bool_value, is_one_of}
 use Rattle.launcher.specs.text_forms.Words.{words_of, words_in, text_only, closed_only, mark_of, open_after, escape_of, symbols_of}
@@ -116,10 +117,10 @@ unfolding paths_refusal unit_written service_assignments digits words_of words_i
     symbols_of is_utf8 chars encode
 paths_pass unit m h = below_four (λ m. paths_refusal (unit_by unit m) ≡ None) refl refl refl refl m h
 
-pub mentioned : (unit : Resolved) (site : Site) (m : ℕ) → m < 4 → unit_mentions (unit_by unit m) site ≡ sample_mentions m
+pub mentioned : (unit : Resolved) (site : Site) (m : ℕ) → m < 4 → unit_mentions (unit_by unit m) site ≡ Base (sample_mentions m)
 unfolding unit_mentions mentions_of implied unit_switches is_dynamic unit_protections unit_written unit_last service_assignments digits
     words_of words_in text_only closed_only mark_of open_after escape_of symbols_of is_utf8 chars encode
-mentioned unit site m h = below_four (λ m. unit_mentions (unit_by unit m) site ≡ sample_mentions m) refl refl refl refl m h
+mentioned unit site m h = below_four (λ m. unit_mentions (unit_by unit m) site ≡ Base (sample_mentions m)) refl refl refl refl m h
 
 bounded : (unit : Resolved) (m : ℕ) → m < 4 → bounding_of (unit_by unit m) ≡ all
 unfolding unit_caps unit_listed service_assignments
@@ -195,6 +196,7 @@ module _ (unit : Resolved) (table : Table) (site : Site) (made : Settings) (m : 
     bounding = its_bounding;
     ambient = are.ambient ∙ no_ambient unit m h;
     filters = its_filters;
+    keeps = are.keeps_for_the_filters;
     new_privileges = its_privileges;
     memory = are.refuses_memory ∙ ap marks_memory (unfiltered unit table m h);
     mentions = are.mentions_written_and_implied ∙ mentioned unit (site_by site) m h;
@@ -210,9 +212,10 @@ of_its_turn n m made same are = record {
   bounding = are.bounding;
   ambient = are.ambient;
   filters = are.filters;
+  keeps = are.keeps;
   new_privileges = are.new_privileges ∙ ap (λ half. half == 0) (sym (same_half n m same));
   memory = are.memory;
-  mentions = are.mentions ∙ sym (same_mentions n m same);
+  mentions = are.mentions ∙ ap Base (sym (same_mentions n m same));
 }
 
 pub are_the_samples : SettingsAreTheSamples

@@ -13,6 +13,7 @@ use Rattle.launcher.specs.kern_mounts.declared.step.What.TheVariants as what
 use Rattle.launcher.specs.kern_mounts.Finds.{row, row_or_nothing, found_by, found_at}
 use Rattle.launcher.specs.mount_plan.AsView.{Agrees, shown_by}
 use Rattle.launcher.specs.mount_plan.Plan.{flags_of}
+use Rattle.launcher.specs.mount_plan.Planned.{base_view}
 use Rattle.launcher.specs.path_settings.Mentions.{is_origin}
 use Rattle.launcher.specs.path_settings.declared.mentions.Mention.{Mention}
 use Rattle.launcher.specs.site_table.declared.row.Row.{Row}
@@ -35,7 +36,7 @@ pub shown_by_the_view : ShownByTheView
 shown_by_the_view site kept plan path place program as_view at runs there is =
     let entry = as_view path in
     let step : MountStep = entry.0 in
-    let agrees : Agrees kept path step = entry.2 in
+    let agrees : Agrees (base_view kept path) path step = entry.2 in
     record {
       program = program;
       found = ap (found_at (row_at site.rows) path) entry.1 ∙ host_shown (row_at site.rows) step.what step.place path place program

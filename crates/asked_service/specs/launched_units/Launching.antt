@@ -15,25 +15,26 @@ use Rattle.judge.specs.mount_plan.Form.{HasPlacesOf}
 use Rattle.judge.specs.mount_plan.Host.{host_of}
 use Rattle.judge.specs.mount_plan.declared.error.PlanError.{PlanError}
 use Rattle.judge.specs.mount_plan.declared.error.PlanError.TheVariants as plan
-use Rattle.judge.specs.path_settings.declared.mentions.Mention.{Mention}
+use Rattle.judge.specs.mount_plan.Planned.{AreKeptByRules, planned, views}
+use Rattle.judge.specs.path_settings.declared.mentioned.Mentioned.{Mentioned}
 use Rattle.judge.specs.site_table.Table.{Site}
 use Rattle.asked_service.specs.unit_launch.Launching.{IsLaunched, IsRefused}
 use Rattle.asked_service.specs.declared.unit_launch.refusal.LaunchRefusal.{LaunchRefusal}
-use Rattle.judge.specs.path_settings.view_map.Kept.{Host, KeepsByRules, kept_of, missing, wrong_kind}
+use Rattle.judge.specs.path_settings.view_map.Kept.{Host, missing, wrong_kind}
 use Rattle.asked_service.specs.declared.launched_units.refusal.UnitRefusal.{UnitRefusal}
 use Rattle.asked_service.specs.declared.launched_units.refusal.UnitRefusal.TheVariants.{Settings as InSettings, Plan, Launch, Memory}
 
 -- the first path at which the mentions of a unit are refused
-abbrev pub RefusesPath : Host → List Mention → PlanError → Type 0
-RefusesPath row_at mentions (plan.Missing path) = kept_of row_at mentions ≡ Err (missing path)
-RefusesPath row_at mentions (plan.Kind path) = kept_of row_at mentions ≡ Err (wrong_kind path)
+abbrev pub RefusesPath : Host → Mentioned → PlanError → Type 0
+RefusesPath row_at mentions (plan.Missing path) = planned row_at mentions ≡ Err (missing path)
+RefusesPath row_at mentions (plan.Kind path) = planned row_at mentions ≡ Err (wrong_kind path)
 RefusesPath row_at mentions plan.Memory = ⊥
 
--- the plan shows what the mentions say. The rules keep the kept mentions. Each path belongs to an entry that has what the view by these
--- has there. The places are the root and paths of the mentions, and a launch can take the plan
-pub record FitsMentions (row_at : Host) (mentions : List Mention) (plan : List MountStep) : Type 0 where
-  pub keeps_by_rules : IfOk (kept_of row_at mentions) (KeepsByRules row_at mentions)
-  pub finds_as_view : IfOk (kept_of row_at mentions) (λ kept. FindsAsView kept plan)
+-- the plan shows what the mentions say, by the rules that read them. Each path belongs to an entry that has what the view has there. The
+-- places are the root and paths of the mentions, and a launch can take the plan
+pub record FitsMentions (row_at : Host) (mentions : Mentioned) (plan : List MountStep) : Type 0 where
+  pub keeps_by_rules : AreKeptByRules row_at mentions
+  pub finds_as_view : IfOk (views row_at mentions) (λ view. FindsAsView view plan)
   pub places_are_mentioned : HasPlacesOf mentions plan
   pub can_be_mounted : CanBeMounted row_at plan
 
@@ -78,7 +79,7 @@ Settles unit table site (Err (Launch refusal)) = ⊥
 Settles unit table site (Err Memory) = ⊤
 
 -- the plan of some mentions, which a launch can take, or the first path that is refused
-abbrev pub LaysOut : Host → List Mention → Result (List MountStep) UnitRefusal → Type 0
+abbrev pub LaysOut : Host → Mentioned → Result (List MountStep) UnitRefusal → Type 0
 LaysOut row_at mentions (Ok plan) = Plans row_at mentions (Ok plan) × FitsMentions row_at mentions plan
 LaysOut row_at mentions (Err (InSettings error)) = ⊥
 LaysOut row_at mentions (Err (Plan error)) = RefusesPath row_at mentions error

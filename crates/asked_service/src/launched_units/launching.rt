@@ -2,13 +2,12 @@
 
 ghost use Rattle.std.specs.Prelude.{IsTrue};
 ghost use Rattle.judge.specs.mount_plan.Host.{host_of};
-ghost use Rattle.judge.specs.path_settings.Mentions.{leaves_the_root};
-ghost use Rattle.judge.specs.path_settings.Short.{AreShort};
+ghost use Rattle.judge.specs.path_settings.Mentioned.{leaves_the_root, AreShort};
 ghost use Rattle.asked_service.specs.launched_units.Launching.{Launches, LaysOut, Settles};
 
 use crate::launched_units::refusal::UnitRefusal;
 use crate::unit_launch::{UnitLaunch, launch_unit};
-use judge::{Launched, Mentions, MountSteps, PlanError, Settings, SettingsError, plan, settings};
+use judge::{Launched, Mentioned, MountSteps, PlanError, Settings, SettingsError, plan, settings};
 use report_text::{CallTable, Resolved, SiteTable};
 use std::alloc::Global;
 
@@ -29,7 +28,7 @@ fn settle(
 }
 
 // The mounts for these mentions.
-fn lay_out(alloc: Global, mentions: &Mentions, site: &SiteTable) -> Result<MountSteps, UnitRefusal>
+fn lay_out(alloc: Global, mentions: &Mentioned, site: &SiteTable) -> Result<MountSteps, UnitRefusal>
     requires root_is_the_hosts { IsTrue (leaves_the_root mentions.now) }
     requires paths_are_short { AreShort mentions.now }
     ensures { LaysOut (host_of site.now) mentions.now result }

@@ -3,6 +3,8 @@ use Rattle.std.specs.Prelude.{◌≡◌, ◌≢◌, ⊤, ℕ, Bool, true, false,
 use Rattle.std.specs.List.{All}
 use Rattle.asked_service.specs.call_table.Table as calls
 use Rattle.asked_service.specs.dropin_merge.declared.resolved.Resolved.{Resolved}
+use Rattle.asked_service.specs.exec_settings.Settings.{unit_keeps}
+use Rattle.asked_service.specs.unit_names.Versions.{is_257}
 use Rattle.asked_service.specs.kernel_model.declared.kernel_calls.call.Call.{Call}
 use Rattle.asked_service.specs.kernel_model.Runs.{replies}
 use Rattle.asked_service.specs.kernel_model.declared.reply.Reply.{Reply}
@@ -57,10 +59,17 @@ pub record IsDerived (unit : Resolved) (table : calls.Table) (site : Site) (scri
   pub opened : IsLaunchedUnit (open_unit unit table) table site service
   pub least : IsLeast (tried_with unit table site script (replies service.world script)) names
 
--- none of the names is in `@default`, and each list that is derived is this one
+-- with both lists systemd keeps capabilities until the filters of the unit are installed, or with neither
+abbrev pub KeepAlike : Resolved → calls.Table → List ℕ → List ℕ → Type 0
+KeepAlike unit table names others =
+    (uid : ℕ) → unit_keeps (extended unit table names) table uid ≡ unit_keeps (extended unit table others) table uid
+
+-- none of the names is in `@default`, and each list that is derived is this one. In systemd 257 whether it keeps capabilities rests on the
+-- list, and so does no_new_privs. So there each list is this one that keeps alike
 pub record IsOnlyOne (unit : Resolved) (table : calls.Table) (site : Site) (script : List Call) (names : List ℕ) : Type 0 where
   pub beside_default : All (IsBesideDefault table) names
-  pub only : (others : List ℕ) → IsDerived unit table site script others → others ≡ names
+  pub only : (others : List ℕ) → IsDerived unit table site script others
+      → (is_257 unit.systemd ≡ true → KeepAlike unit table names others) → others ≡ names
 
 -- what is derived: nothing where the script asks to push a program, and where the unit that allows every call is not launched
 abbrev pub Derives : Resolved → calls.Table → Site → List Call → Result Derived DeriveError → Type 0

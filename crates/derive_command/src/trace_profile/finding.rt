@@ -92,7 +92,8 @@ fn calls_fit(script: &[Call])
 /// it has if every call of the table is allowed. Without any of them the unit is not launched, or some reply differs.
 ///
 /// No other list has these properties, and none of its names is in `@default`. This holds for each table that was read from a
-/// file, which has at most 1 MiB, and for any other with plain names.
+/// file, which has at most 1 MiB, and for any other with plain names. With systemd 257 the list decides about no_new_privs too:
+/// then another list has them only if one of the two names capget(2), capset(2) and prctl(2), and the other not all of them.
 ///
 /// Returns `Seccomp` with the first call of the script that asks to push a program, before all else. Returns `Settings`, `Plan`
 /// or `Launch` exactly if the unit that allows every call is refused for that reason, the first of them in this order. Memory

@@ -27,9 +27,9 @@ fn last_mention<'m>(table: &CallTable, mentions: &'m [Mention], name: &str) -> O
         .find(|mention| covers(table, mention.name.as_str(), name))
 }
 
-// Returns the word that puts the name on the list.
-fn listed_by<'m>(table: &CallTable, mentions: &'m [Mention], name: &str) -> Option<&'m Mention>
-    ensures { option_copied result ≡ listed_by table.now mentions.now name.now }
+/// Returns the word that puts the name on the list.
+pub fn listed_by<'m>(table: &CallTable, mentions: &'m [Mention], name: &str) -> Option<&'m Mention>
+    ensures last_word_that_adds { option_copied result ≡ listed_by table.now mentions.now name.now }
 {
     last_mention(table, mentions, name).filter(|mention| mention.adds)
 }

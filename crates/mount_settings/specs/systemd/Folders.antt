@@ -58,7 +58,7 @@ chosen_path site own None = own
 chosen_path site own (Some private) = cond (stands_for site private own) private own
 
 abbrev pub from_source : Path → Kind → Kind
-from_source source (Bind own read_only) = Bind source read_only
+from_source source (Bind own read_only recursive) = Bind source read_only recursive
 from_source source kind = kind
 
 abbrev pub from_path : Path → Mention → Mention

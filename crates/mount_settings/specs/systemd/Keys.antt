@@ -1,5 +1,5 @@
 -- Further keys of a unit that decide about its mounts (systemd.exec(5)). The last value that can be read decides.
-use Rattle.std.specs.Prelude.{ℕ, ◌==◌, ◌||◌, not, Bool, true, false, codes, List, Option, Some, None, length, cond}
+use Rattle.std.specs.Prelude.{ℕ, ◌==◌, ◌||◌, not, Bool, true, false, codes, List, Option, Some, None, length}
 use Rattle.dropin_merge.specs.declared.resolved.Resolved.{Resolved}
 use Rattle.dropin_merge.specs.declared.unit_values.value.FileNote.{FileNote}
 use Rattle.dropin_merge.specs.unit_names.declared.version.Version.{Version}
@@ -10,7 +10,8 @@ use Rattle.mount_settings.specs.declared.systemd.keys.FurtherKeys.{FurtherKeys}
 use Rattle.mount_settings.specs.declared.systemd.words.ControlGroups.{ControlGroups}
 use Rattle.mount_settings.specs.declared.systemd.words.ControlGroups.TheVariants as groups
 use Rattle.mount_settings.specs.declared.systemd.words.PrivateMounts.TheVariants as mounts
-use Rattle.mount_settings.specs.systemd.Words.{proc_value, subset_value, network_value, mounts_value, groups_value, preserve_value}
+use Rattle.mount_settings.specs.declared.systemd.words.OwnTmp.TheVariants as tmp
+use Rattle.mount_settings.specs.systemd.Words.{proc_value, subset_value, network_value, mounts_value, groups_value, preserve_value, own_tmp_value}
 
 -- the key is given: its last value is not empty
 abbrev pub is_given : Resolved → List ℕ → Bool
@@ -64,6 +65,7 @@ unit_keys unit = record {
   protect_hostname = unit_flag unit (codes "ProtectHostname");
   control_groups = unit_groups unit;
   keeps_runtime = (unit_last preserve_value (record { is_kept = false }) unit (codes "RuntimeDirectoryPreserve")).is_kept;
+  own_tmp = unit_last own_tmp_value tmp.No unit (codes "PrivateTmp");
 }
 
 -- the values of these keys if the unit gives none
@@ -82,4 +84,5 @@ no_keys = record {
   protect_hostname = false;
   control_groups = groups.No;
   keeps_runtime = false;
+  own_tmp = tmp.No;
 }

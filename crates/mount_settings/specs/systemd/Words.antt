@@ -11,6 +11,8 @@ use Rattle.mount_settings.specs.declared.systemd.words.PrivateMounts.{PrivateMou
 use Rattle.mount_settings.specs.declared.systemd.words.PrivateMounts.TheVariants as mounts
 use Rattle.mount_settings.specs.declared.systemd.words.ControlGroups.{ControlGroups}
 use Rattle.mount_settings.specs.declared.systemd.words.ControlGroups.TheVariants as groups
+use Rattle.mount_settings.specs.declared.systemd.words.OwnTmp.{OwnTmp}
+use Rattle.mount_settings.specs.declared.systemd.words.OwnTmp.TheVariants as tmp
 use Rattle.mount_settings.specs.Choices.{beside, choice}
 
 -- ProtectProc=: some processes are invisible; an empty value means the default, by which all are visible
@@ -79,3 +81,12 @@ is_private groups.No = false
 is_private groups.Yes = false
 is_private groups.Private = true
 is_private groups.Strict = false
+
+-- PrivateTmp=: a boolean, or `disconnected`, which systemd 252 does not know
+abbrev pub own_tmp_value : List ℕ → Option OwnTmp
+own_tmp_value text = choice tmp.No tmp.Yes ((codes "disconnected", tmp.Disconnected) ∷ []) text
+
+abbrev pub is_plain_tmp : OwnTmp → Bool
+is_plain_tmp tmp.No = false
+is_plain_tmp tmp.Yes = true
+is_plain_tmp tmp.Disconnected = false

@@ -106,9 +106,11 @@ fn from_source(alloc: Global, source: AbsPath, kind: &Kind) -> Result<Kind, Allo
         Kind::Bind {
             source: _,
             read_only,
+            recursive,
         } => Ok(Kind::Bind {
             source,
             read_only: *read_only,
+            recursive: *recursive,
         }),
         other => other.copy(alloc),
     }

@@ -4,7 +4,7 @@ ghost use Rattle.dropin_merge.specs.unit_values.Flags.{unit_flag, unit_flag_note
 ghost use Rattle.mount_settings.specs.systemd.Keys.{flag_groups, is_given, has_credentials, has_own_network, unit_groups, unit_groups_notes, unit_keys};
 
 use crate::systemd::words::{
-    ControlGroups, NetworkPath, Preserve, PrivateMounts, ProcSubset, ProtectProc,
+    ControlGroups, NetworkPath, OwnTmp, Preserve, PrivateMounts, ProcSubset, ProtectProc,
 };
 use dropin_merge::unit_values::{Said, flag_of_key, last_of_key, last_text_of_key};
 use dropin_merge::{Resolved, Version};
@@ -39,6 +39,8 @@ pub(crate) struct FurtherKeys {
     pub(crate) control_groups: ControlGroups,
     /// RuntimeDirectoryPreserve= keeps folders.
     pub(crate) keeps_runtime: bool,
+    /// PrivateTmp=
+    pub(crate) own_tmp: OwnTmp,
 }
 
 fn flag(alloc: Global, unit: &Resolved, key: &str) -> Result<bool, AllocError>
@@ -113,8 +115,8 @@ pub(crate) fn read_groups(alloc: Global, unit: &Resolved) -> Result<Said<Control
     }
 }
 
-/// Reads further keys of a unit. It makes no notes: ProtectHostname= and ProtectControlGroups= get theirs with the keys
-/// that protect, and the other keys are noted as keys that are not judged.
+/// Reads further keys of a unit. It makes no notes: ProtectHostname=, ProtectControlGroups= and PrivateTmp= get theirs with
+/// the keys that protect, and the other keys are noted as keys that are not judged.
 #[tactic(auto, unfolding(crate::specs::systemd::Keys::unit_keys))]
 pub(crate) fn further_keys(alloc: Global, unit: &Resolved) -> Result<FurtherKeys, AllocError>
     ensures { IfOk result (λ keys. keys ≡ unit_keys unit.now) }
@@ -142,5 +144,6 @@ pub(crate) fn further_keys(alloc: Global, unit: &Resolved) -> Result<FurtherKeys
         keeps_runtime: last_of_key(alloc, unit, "RuntimeDirectoryPreserve", gone)?
             .what
             .is_kept,
+        own_tmp: last_of_key(alloc, unit, "PrivateTmp", OwnTmp::No)?.what,
     })
 }

@@ -1,22 +1,54 @@
-//! Collects all mentions of a unit that a known version of systemd reads (systemd.exec(5), Sandboxing).
-ghost use Rattle.std.specs.Prelude.{◌≡◌, ◌++◌, IfOk, OnOk};
-ghost use Rattle.mount_settings.specs.Settings.{mentions_by};
-ghost use Rattle.mount_settings.specs.systemd.Mentions.{brought, implied_of, is_ro, is_vain, is_vain_of, is_effective, effective};
+//! Collects all entries that a unit asks a known version of systemd to mount (systemd.exec(5), Sandboxing).
+ghost use Rattle.std.specs.Prelude.{◌≡◌, ◌++◌, map, IfOk, OnOk};
+ghost use Rattle.path_settings.specs.systemd.Written.{entry_of};
+ghost use Rattle.mount_settings.specs.Settings.{as_written, entries_by};
+ghost use Rattle.mount_settings.specs.systemd.Folders.{brought_folders};
+ghost use Rattle.mount_settings.specs.systemd.Mentions.{brought, implied_of};
 
-use crate::effects::has_row;
 use crate::protections::{Protections, Switches};
 use crate::settings::written_mentions;
 use crate::systemd::folders::bring_folders;
 use crate::systemd::keys::FurtherKeys;
 use crate::systemd::own_mounts::has_own_mounts;
-use crate::systemd::rows::{bring_table, leaves_devices, leaves_sysfs};
+use crate::systemd::rows::bring_table;
 use crate::written::WrittenPath;
 use dropin_merge::Version;
-use path_settings::{Kind, Mention};
+use path_settings::Mention;
+use path_settings::systemd::{MountEntry, entry_of};
 use site_table::SiteTable;
 use std::alloc::{AllocError, Global};
 
-// Adds the mentions of the table and of the folder keys.
+// Adds the entries that these mentions ask for.
+fn add_entries(
+    alloc: Global,
+    mentions: &[Mention],
+    entries: &mut Vec<MountEntry>,
+) -> Result<(), AllocError>
+    ensures { OnOk result (entries.new.items ≡ entries.old.items ++ map entry_of mentions.now) }
+{
+    for mention in mentions {
+        entries.push(entry_of(alloc, mention)?)?;
+    }
+    Ok(())
+}
+
+// Adds the entries of the folders that the site has.
+fn add_folders(
+    alloc: Global,
+    site: &SiteTable,
+    switches: Switches,
+    keys: FurtherKeys,
+    paths: &[WrittenPath],
+    entries: &mut Vec<MountEntry>,
+) -> Result<(), AllocError>
+    ensures { OnOk result (entries.new.items ≡ entries.old.items ++ map entry_of (brought_folders site.now switches keys paths.now)) }
+{
+    let mut folders = Vec::new(alloc);
+    bring_folders(alloc, site, switches, keys, paths, &mut folders)?;
+    add_entries(alloc, &folders, entries)
+}
+
+// Adds the entries of the table and of the folder keys.
 fn bring_all(
     alloc: Global,
     site: &SiteTable,
@@ -25,15 +57,15 @@ fn bring_all(
     protections: Protections,
     keys: FurtherKeys,
     paths: &[WrittenPath],
-    mentions: &mut Vec<Mention>,
+    entries: &mut Vec<MountEntry>,
 ) -> Result<(), AllocError>
-    ensures { OnOk result (mentions.new.items ≡ mentions.old.items ++ brought version site.now switches protections keys paths.now) }
+    ensures { OnOk result (entries.new.items ≡ entries.old.items ++ brought version site.now switches protections keys paths.now) }
 {
-    bring_table(alloc, site, version, switches, protections, keys, mentions)?;
-    bring_folders(alloc, site, switches, keys, paths, mentions)
+    bring_table(alloc, site, version, switches, protections, keys, entries)?;
+    add_folders(alloc, site, switches, keys, paths, entries)
 }
 
-// Adds the implied mentions, if the service has mounts of its own.
+// Adds the implied entries, if the service has mounts of its own.
 #[tactic(auto, unfolding(crate::specs::systemd::Mentions::implied_of))]
 fn bring_implied(
     alloc: Global,
@@ -43,9 +75,9 @@ fn bring_implied(
     protections: Protections,
     keys: FurtherKeys,
     paths: &[WrittenPath],
-    mentions: &mut Vec<Mention>,
+    entries: &mut Vec<MountEntry>,
 ) -> Result<(), AllocError>
-    ensures { OnOk result (mentions.new.items ≡ mentions.old.items ++ implied_of version site.now switches protections keys paths.now) }
+    ensures { OnOk result (entries.new.items ≡ entries.old.items ++ implied_of version site.now switches protections keys paths.now) }
 {
     if has_own_mounts(version, switches, protections, keys, paths) {
         bring_all(
@@ -56,45 +88,26 @@ fn bring_implied(
             protections,
             keys,
             paths,
-            mentions,
+            entries,
         )
     } else {
         Ok(())
     }
 }
 
-fn is_ro(kind: &Kind) -> bool
-    ensures { result ≡ is_ro kind.now }
+// Returns the entries that the written paths ask for, without the folders.
+fn written_entries(alloc: Global, paths: &[WrittenPath]) -> Result<Vec<MountEntry>, AllocError>
+    ensures { IfOk result (λ entries. entries.items ≡ map entry_of (as_written paths.now)) }
 {
-    matches!(kind, Kind::Ro)
+    let mentions = written_mentions(alloc, paths)?;
+    let mut entries = Vec::new(alloc);
+    add_entries(alloc, &mentions, &mut entries)?;
+    Ok(entries)
 }
 
-// Returns whether a mention would make /dev or /sys read-only although systemd leaves it as it is.
-fn is_vain(devices: bool, sysfs: bool, mention: &Mention) -> bool
-    ensures { result ≡ is_vain devices sysfs mention.now }
-{
-    let path = mention.path.text();
-    is_ro(&mention.kind) && (devices && path == "/dev" || sysfs && path == "/sys")
-}
-
-fn is_effective(
-    site: &SiteTable,
-    version: Version,
-    protections: Protections,
-    keys: FurtherKeys,
-    mention: &Mention,
-) -> bool
-    ensures { result ≡ is_effective version site.now protections keys mention.now }
-{
-    let devices = leaves_devices(version, protections, keys);
-    let sysfs = leaves_sysfs(version, protections, keys);
-    !(is_vain(devices, sysfs, mention) && has_row(site, &mention.path))
-}
-
-/// Returns the written and the implied mentions. It leaves out mentions that would make /dev or /sys read-only although
-/// systemd leaves it as it is.
-#[tactic(auto, unfolding(crate::specs::Settings::mentions_by))]
-pub(crate) fn mentions_by(
+/// Returns the entries that a unit asks for: the written ones, and after them the implied ones.
+#[tactic(auto, unfolding(crate::specs::Settings::entries_by))]
+pub(crate) fn entries_by(
     alloc: Global,
     site: &SiteTable,
     version: Version,
@@ -102,11 +115,10 @@ pub(crate) fn mentions_by(
     protections: Protections,
     keys: FurtherKeys,
     paths: &[WrittenPath],
-) -> Result<Vec<Mention>, AllocError>
-    ensures { IfOk result (λ mentions. mentions.items ≡ mentions_by version site.now switches protections keys paths.now) }
+) -> Result<Vec<MountEntry>, AllocError>
+    ensures { IfOk result (λ entries. entries.items ≡ entries_by version site.now switches protections keys paths.now) }
 {
-    let mut mentions = written_mentions(alloc, paths)?;
-    mentions.retain(|mention| is_effective(site, version, protections, keys, mention));
+    let mut entries = written_entries(alloc, paths)?;
     bring_implied(
         alloc,
         site,
@@ -115,7 +127,7 @@ pub(crate) fn mentions_by(
         protections,
         keys,
         paths,
-        &mut mentions,
+        &mut entries,
     )?;
-    Ok(mentions)
+    Ok(entries)
 }

@@ -1,14 +1,15 @@
 //! Lists the paths that each protection changes in systemd 252 and 257 (systemd.exec(5), Sandboxing).
-ghost use Rattle.std.specs.Prelude.{◌≡◌, ◌++◌, ◌&&◌, ◌||◌, filter, flat_map, OnOk};
-ghost use Rattle.mount_settings.specs.Effects.{stands};
-ghost use Rattle.mount_settings.specs.systemd.Rows.{is_newer, reads_files, is_full, is_strict, hides_homes, reads_homes, empties_homes, has_api, has_own_sysfs, leaves_devices, leaves_sysfs, rows_on, table, by_row};
+ghost use Rattle.std.specs.Prelude.{◌≡◌, ◌++◌, [], ◌&&◌, ◌||◌, map, filter, flat_map, OnOk};
+ghost use Rattle.std.specs.List.{cons_option};
+ghost use Rattle.mount_settings.specs.systemd.Mentions.{stands};
+ghost use Rattle.mount_settings.specs.systemd.Rows.{is_newer, reads_files, is_full, is_strict, hides_homes, reads_homes, empties_homes, has_api, has_own_sysfs, disconnects_tmp, rows_on, table, entry_at, asks_for, by_row, by_lent};
 
-use crate::effects::Effect;
+use crate::effects::has_row;
 use crate::protections::{HomeProtection, Protections, Switches, SystemProtection};
 use crate::systemd::keys::FurtherKeys;
-use crate::table::bring_groups;
 use dropin_merge::Version;
-use path_settings::Mention;
+use path_settings::read_setting_path;
+use path_settings::systemd::{MountEntry, MountMode};
 use site_table::SiteTable;
 use std::alloc::{AllocError, Global};
 
@@ -59,7 +60,12 @@ const VARIABLES: &[&str] = &[
 
 const MEMORY: &[&str] = &["/proc/kallsyms", "/proc/kcore"];
 
-const TRACES: &[&str] = &["/sys/fs/bpf", "/sys/kernel/debug", "/sys/kernel/tracing"];
+const KERNEL_OBJECTS: &[&str] = &[
+    "/sys",
+    "/sys/fs/bpf",
+    "/sys/kernel/debug",
+    "/sys/kernel/tracing",
+];
 
 const LEFT_BY_TUNABLES: &[&str] = &["/sys/fs/cgroup", "/sys/fs/selinux"];
 
@@ -71,17 +77,15 @@ const LOGS: &[&str] = &["/proc/kmsg", "/dev/kmsg"];
 
 const GROUPS: &[&str] = &["/sys/fs/cgroup"];
 
-const API: &[&str] = &["/proc", "/dev", "/run"];
+const PROCESSES: &[&str] = &["/proc"];
+
+const RUN: &[&str] = &["/run"];
 
 const SYSFS: &[&str] = &["/sys"];
 
 const HOSTNAME: &[&str] = &["/proc/sys/kernel/hostname", "/proc/sys/kernel/domainname"];
 
 const CREDENTIALS: &[&str] = &["/run/credentials"];
-
-const BARE: Effect = Effect::Empty { read_only: true };
-
-const FRESH: Effect = Effect::Empty { read_only: false };
 
 /// Returns whether the version is 257.
 pub(crate) fn is_newer(version: Version) -> bool
@@ -145,18 +149,11 @@ fn has_own_sysfs(version: Version, keys: FurtherKeys) -> bool
     is_newer(version) && keys.own_network
 }
 
-/// Returns whether systemd leaves its mount of /dev as it is, whichever key would make it read-only.
-pub(crate) fn leaves_devices(version: Version, protections: Protections, keys: FurtherKeys) -> bool
-    ensures { result ≡ leaves_devices version protections keys }
+// Returns whether the folders for temporary files are on a file system of their own.
+fn disconnects_tmp(version: Version, keys: FurtherKeys) -> bool
+    ensures { result ≡ disconnects_tmp version keys }
 {
-    is_newer(version) && has_api(version, protections, keys)
-}
-
-/// Returns whether systemd leaves its mount of /sys as it is, whichever key would make it read-only.
-pub(crate) fn leaves_sysfs(version: Version, protections: Protections, keys: FurtherKeys) -> bool
-    ensures { result ≡ leaves_sysfs version protections keys }
-{
-    leaves_devices(version, protections, keys) && !has_own_sysfs(version, keys)
+    is_newer(version) && !keys.own_tmp.is_plain()
 }
 
 // Says which rows of the table are on.
@@ -171,15 +168,16 @@ pub(crate) struct RowsOn {
     homes_fresh: bool,
     homes_empty: bool,
     temporary: bool,
+    disconnected: bool,
     devices: bool,
     tunables: bool,
-    kernel_objects: bool,
     modules: bool,
     merged_modules: bool,
     logs: bool,
     groups_read: bool,
     groups_left: bool,
     api: bool,
+    is_left: bool,
     sysfs: bool,
     hostname: bool,
     credentials: bool,
@@ -189,12 +187,6 @@ fn both(one: bool, other: bool) -> bool
     ensures { result ≡ one && other }
 {
     one && other
-}
-
-fn either(one: bool, other: bool) -> bool
-    ensures { result ≡ one || other }
-{
-    one || other
 }
 
 // Returns which rows are on.
@@ -212,7 +204,7 @@ fn rows_on(
     let tunables = protections.protect_kernel_tunables;
     let modules = switches.protect_kernel_modules;
     let frees_groups = keys.control_groups.is_private();
-    let api = has_api(version, protections, keys);
+    let apart = disconnects_tmp(version, keys);
     RowsOn {
         files: reads_files(system),
         merged: both(is_older, reads_files(system)),
@@ -222,64 +214,139 @@ fn rows_on(
         homes_read: reads_homes(home),
         homes_fresh: both(is_older, empties_homes(home)),
         homes_empty: both(is_newer(version), empties_homes(home)),
-        temporary: protections.private_tmp,
+        temporary: both(protections.private_tmp, !apart),
+        disconnected: both(protections.private_tmp, apart),
         devices: switches.private_devices,
         tunables,
-        kernel_objects: both(tunables, !leaves_sysfs(version, protections, keys)),
         modules,
         merged_modules: both(is_older, modules),
         logs: switches.protect_kernel_logs,
         groups_read: both(protections.protect_control_groups, !frees_groups),
         groups_left: frees_groups,
-        api,
-        sysfs: either(api, has_own_sysfs(version, keys)),
+        api: has_api(version, protections, keys),
+        is_left: is_newer(version),
+        sysfs: has_own_sysfs(version, keys),
         hostname: keys.protect_hostname,
         credentials: !keys.credentials,
     }
 }
 
-// Adds the mentions of the rows that are on.
+// Adds the entry of a mode at a path, if the text is a path and the site has a row for it.
+fn bring_one(
+    alloc: Global,
+    site: &SiteTable,
+    mode: &MountMode,
+    text: &str,
+    entries: &mut Vec<MountEntry>,
+) -> Result<(), AllocError>
+    ensures { OnOk result (entries.new.items ≡ entries.old.items ++ filter (stands site.now) (cons_option (entry_at mode.now text.now) [])) }
+{
+    let Some(path) = read_setting_path(alloc, text)? else {
+        return Ok(());
+    };
+    if has_row(site, &path) {
+        let mode = mode.copy(alloc)?;
+        entries.push(MountEntry {
+            path,
+            mode,
+            optional: true,
+        })?;
+    }
+    Ok(())
+}
+
+// Adds the entries of a mode at these paths, if the site has rows for them.
+fn bring(
+    alloc: Global,
+    site: &SiteTable,
+    mode: &MountMode,
+    texts: &[&str],
+    entries: &mut Vec<MountEntry>,
+) -> Result<(), AllocError>
+    ensures { OnOk result (entries.new.items ≡ entries.old.items ++ filter (stands site.now) (asks_for mode.now (map (λ text. text.now) texts.now))) }
+{
+    for text in texts {
+        bring_one(alloc, site, mode, text, entries)?;
+    }
+    Ok(())
+}
+
+// Adds the entries of each row that is on.
+fn bring_each(
+    alloc: Global,
+    site: &SiteTable,
+    rows: &[(bool, MountMode, &[&str])],
+    entries: &mut Vec<MountEntry>,
+) -> Result<(), AllocError>
+    ensures { OnOk result (entries.new.items ≡ entries.old.items ++ filter (stands site.now) (flat_map by_lent rows.now)) }
+{
+    for row in rows {
+        if row.0 {
+            bring(alloc, site, &row.1, row.2, entries)?;
+        }
+    }
+    Ok(())
+}
+
+// Adds the entries of the rows that are on.
 fn bring_rows(
     alloc: Global,
     site: &SiteTable,
     on: RowsOn,
-    mentions: &mut Vec<Mention>,
+    entries: &mut Vec<MountEntry>,
 ) -> Result<(), AllocError>
-    ensures { OnOk result (mentions.new.items ≡ mentions.old.items ++ filter (stands site.now) (flat_map by_row (table on))) }
+    ensures { OnOk result (entries.new.items ≡ entries.old.items ++ filter (stands site.now) (flat_map by_row (table on))) }
 {
+    let is_left = on.is_left;
     let rows = [
-        (on.files, Effect::ReadOnly, FILES),
-        (on.merged, Effect::ReadOnly, MERGED),
-        (on.configuration, Effect::ReadOnly, CONFIGURATION),
-        (on.all, Effect::ReadOnly, ROOT),
-        (on.all, Effect::Writable, LEFT_BY_STRICT),
-        (on.homes_hidden, Effect::Hidden, HOMES),
-        (on.homes_read, Effect::ReadOnly, HOMES),
-        (on.homes_fresh, FRESH, HOMES),
-        (on.homes_empty, BARE, HOMES),
-        (on.temporary, FRESH, TEMPORARY),
-        (on.devices, BARE, DEVICES),
-        (on.devices, Effect::NotExecutable, DEVICES),
-        (on.devices, Effect::Shown, DEVICES_LEFT),
-        (on.tunables, Effect::ReadOnly, VARIABLES),
-        (on.tunables, Effect::Hidden, MEMORY),
-        (on.kernel_objects, Effect::ReadOnly, SYSFS),
-        (on.tunables, Effect::ReadOnly, TRACES),
-        (on.tunables, Effect::Writable, LEFT_BY_TUNABLES),
-        (on.modules, Effect::Hidden, MODULES),
-        (on.merged_modules, Effect::Hidden, MERGED_MODULES),
-        (on.logs, Effect::Hidden, LOGS),
-        (on.groups_read, Effect::ReadOnly, GROUPS),
-        (on.groups_left, Effect::Writable, GROUPS),
-        (on.api, Effect::Writable, API),
-        (on.sysfs, Effect::Writable, SYSFS),
-        (on.hostname, Effect::ReadOnly, HOSTNAME),
-        (on.credentials, Effect::Hidden, CREDENTIALS),
+        (on.files, MountMode::ReadOnly, FILES),
+        (on.merged, MountMode::ReadOnly, MERGED),
+        (on.configuration, MountMode::ReadOnly, CONFIGURATION),
+        (on.all, MountMode::ReadOnly, ROOT),
+        (on.all, MountMode::ReadWriteImplicit, LEFT_BY_STRICT),
+        (on.homes_hidden, MountMode::Hidden, HOMES),
+        (on.homes_read, MountMode::ReadOnly, HOMES),
+        (
+            on.homes_fresh,
+            MountMode::Tmpfs {
+                read_only: false,
+                no_exec: false,
+            },
+            HOMES,
+        ),
+        (
+            on.homes_empty,
+            MountMode::Tmpfs {
+                read_only: true,
+                no_exec: false,
+            },
+            HOMES,
+        ),
+        (on.temporary, MountMode::PrivateTmp, TEMPORARY),
+        (on.disconnected, MountMode::DisconnectedTmp, TEMPORARY),
+        (on.devices, MountMode::PrivateDevices, DEVICES),
+        (on.devices, MountMode::Node, DEVICES_LEFT),
+        (on.tunables, MountMode::ReadOnly, VARIABLES),
+        (on.tunables, MountMode::Hidden, MEMORY),
+        (on.tunables, MountMode::ReadOnly, KERNEL_OBJECTS),
+        (on.tunables, MountMode::ReadWriteImplicit, LEFT_BY_TUNABLES),
+        (on.modules, MountMode::Hidden, MODULES),
+        (on.merged_modules, MountMode::Hidden, MERGED_MODULES),
+        (on.logs, MountMode::Hidden, LOGS),
+        (on.groups_read, MountMode::ReadOnly, GROUPS),
+        (on.groups_left, MountMode::ReadWriteImplicit, GROUPS),
+        (on.api, MountMode::Procfs, PROCESSES),
+        (on.api, MountMode::Devices { is_left }, DEVICES),
+        (on.api, MountMode::Sysfs { is_left }, SYSFS),
+        (on.api, MountMode::Run { is_left }, RUN),
+        (on.sysfs, MountMode::PrivateSysfs, SYSFS),
+        (on.hostname, MountMode::ReadOnly, HOSTNAME),
+        (on.credentials, MountMode::Hidden, CREDENTIALS),
     ];
-    bring_groups(alloc, site, &rows, mentions)
+    bring_each(alloc, site, &rows, entries)
 }
 
-/// Adds the mentions of the protections of a unit.
+/// Adds the entries of the protections of a unit.
 pub(crate) fn bring_table(
     alloc: Global,
     site: &SiteTable,
@@ -287,10 +354,10 @@ pub(crate) fn bring_table(
     switches: Switches,
     protections: Protections,
     keys: FurtherKeys,
-    mentions: &mut Vec<Mention>,
+    entries: &mut Vec<MountEntry>,
 ) -> Result<(), AllocError>
-    ensures { OnOk result (mentions.new.items ≡ mentions.old.items ++ filter (stands site.now) (flat_map by_row (table (rows_on version switches protections keys)))) }
+    ensures { OnOk result (entries.new.items ≡ entries.old.items ++ filter (stands site.now) (flat_map by_row (table (rows_on version switches protections keys)))) }
 {
     let on = rows_on(version, switches, protections, keys);
-    bring_rows(alloc, site, on, mentions)
+    bring_rows(alloc, site, on, entries)
 }

@@ -1,6 +1,6 @@
 //! Reads values of further keys that decide about the mounts of a service (systemd.exec(5)).
 ghost use Rattle.std.specs.Prelude.{◌≡◌};
-ghost use Rattle.mount_settings.specs.systemd.Words.{proc_value, subset_value, network_value, preserve_value, mounts_value, groups_value, is_yes, is_unset, is_on, is_private};
+ghost use Rattle.mount_settings.specs.systemd.Words.{proc_value, subset_value, network_value, preserve_value, mounts_value, groups_value, own_tmp_value, is_yes, is_unset, is_on, is_private, is_plain_tmp};
 
 use crate::choices::{beside, read_choice};
 use dropin_merge::unit_values::KeyValue;
@@ -145,5 +145,30 @@ impl ControlGroups {
         ensures { result ≡ is_private self }
     {
         matches!(self, ControlGroups::Private)
+    }
+}
+
+/// PrivateTmp=. systemd 252 does not know `disconnected`.
+#[derive(Clone, Copy)]
+pub(crate) enum OwnTmp {
+    No,
+    Yes,
+    Disconnected,
+}
+
+impl KeyValue for OwnTmp {
+    ghost reads = { own_tmp_value };
+
+    fn read(text: &str) -> Option<OwnTmp> {
+        let words = [("disconnected", OwnTmp::Disconnected)];
+        read_choice(text, OwnTmp::No, OwnTmp::Yes, &words)
+    }
+}
+
+impl OwnTmp {
+    pub(crate) fn is_plain(self) -> bool
+        ensures { result ≡ is_plain_tmp self }
+    {
+        matches!(self, OwnTmp::Yes)
     }
 }

@@ -31,14 +31,15 @@ pub enum Fate {
     WrongKind,
 }
 
-fn unless_optional(optional: bool, refusal: Fate) -> Fate
+/// Returns the refusal, unless the mention is optional: then it is dropped.
+pub(crate) fn unless_optional(optional: bool, refusal: Fate) -> Fate
     ensures { result ≡ unless_optional optional refusal }
 {
     if optional { Fate::Dropped } else { refusal }
 }
 
-// Returns the fate of a bind. Its source must be a row of the same kind as the row that it covers.
-fn bind_fate(source: Option<bool>, beneath: Beneath, optional: bool) -> Fate
+/// Returns the fate of a bind. Its source must be a row of the same kind as the row that it covers.
+pub(crate) fn bind_fate(source: Option<bool>, beneath: Beneath, optional: bool) -> Fate
     ensures { result ≡ bind_fate source beneath optional }
 {
     let Some(source_is_dir) = source else {
@@ -50,8 +51,8 @@ fn bind_fate(source: Option<bool>, beneath: Beneath, optional: bool) -> Fate
     }
 }
 
-// Returns the fate of an empty file system, which must not cover a file.
-fn tmp_fate(beneath: Beneath) -> Fate
+/// Returns the fate of an empty file system, which must not cover a file.
+pub(crate) fn tmp_fate(beneath: Beneath) -> Fate
     ensures { result ≡ tmp_fate beneath }
 {
     match beneath {

@@ -22,7 +22,7 @@ fn says_read_only(kind: &Kind) -> bool
 {
     match kind {
         Kind::Ro => true,
-        Kind::Tmp { read_only } | Kind::Bind { read_only, .. } => *read_only,
+        Kind::Tmp { read_only, .. } | Kind::Bind { read_only, .. } => *read_only,
         _ => false,
     }
 }
@@ -32,7 +32,7 @@ fn says_read_write(kind: &Kind) -> bool
 {
     match kind {
         Kind::Rw => true,
-        Kind::Tmp { read_only } | Kind::Bind { read_only, .. } => !*read_only,
+        Kind::Tmp { read_only, .. } | Kind::Bind { read_only, .. } => !*read_only,
         _ => false,
     }
 }

@@ -30,14 +30,16 @@ pub record ShowsProgram (site : Site) (plan : Table) (path : Path) : Type 0 wher
   pub plain : is_privileged (marks_of program) ≡ false
   pub runs : (flags_at plan path).no_exec ≡ false
 
--- no filter, an id that setresuid(2) does not take for none, no more groups than setgroups(2) takes, an ambient set within the bounding
--- one, whose capabilities are the known ones, capabilities(7), and no mark that refuses memory, which not every host has, prctl(2)
+-- no filter and nothing that is kept for filters, an id that setresuid(2) does not take for none, no more groups than setgroups(2) takes,
+-- an ambient set within the bounding one, whose capabilities are the known ones, capabilities(7), and no mark that refuses memory, which
+-- not every host has, prctl(2)
 pub record IsPlain (wanted : Wanted) : Type 0 where
   pub programs : wanted.programs ≡ []
   pub uid : wanted.uid < no_id
   pub groups : length wanted.groups ≤ ngroups_max
   pub ambient : IsWithin wanted.ambient wanted.bounding
   pub bounding : IsWithin wanted.bounding all
+  pub keeps : wanted.keeps_capabilities ≡ false
   pub memory : wanted.mdwe ≡ false
 
 -- every step of such a launch is done

@@ -8,16 +8,14 @@ use Rattle.launcher.specs.kern_mounts.Table.{no_flags}
 use Rattle.launcher.specs.kern_mounts.declared.step.MountStep.{MountStep}
 use Rattle.launcher.specs.kern_mounts.declared.step.What.TheVariants.{Host}
 use Rattle.launcher.specs.mount_plan.Host.{host_of}
-use Rattle.launcher.specs.mount_plan.Plan.{table_of}
-use Rattle.launcher.specs.path_settings.declared.mentions.Mention.{Mention}
+use Rattle.launcher.specs.mount_plan.Planned.{planned}
 use Rattle.launcher.specs.site_table.Table.{Site, row_at}
-use Rattle.launcher.specs.path_settings.view_map.Kept.{kept_of}
 use Rattle.sample_inputs.specs.Facts.{HasSampleRows, SaysSample, plain_exe, program}
 
 -- no path that the unit mentions is refused at a site that has the rows of a sample
 abbrev pub PathsAreNotRefused : Type 0
 PathsAreNotRefused = (n : ℕ) (unit : Resolved) (site : Site) → SaysSample n unit → HasSampleRows site
-    → (kept : List Mention) × (kept_of (host_of site) (unit_mentions unit site) ≡ Ok kept)
+    → (table : List MountStep) × (planned (host_of site) (unit_mentions unit site) ≡ Ok table)
 
 -- the host from its root on, which says nothing of how it may be used
 abbrev pub whole_host : MountStep
@@ -29,8 +27,7 @@ pub record FindsItsProgram (site : Site) (table : List MountStep) : Type 0 where
   pub entry : entry_of table program ≡ Some whole_host
   pub found : finds (row_at site.rows) table program ≡ row (plain_exe program)
 
--- a sample finds its program on the table of the kept mentions, which is the plan
+-- a sample finds its program on its plan
 abbrev pub ProgramsAreFound : Type 0
-ProgramsAreFound = (n : ℕ) (unit : Resolved) (site : Site) (kept : List Mention) (table : List MountStep) → SaysSample n unit
-    → HasSampleRows site
-    → kept_of (host_of site) (unit_mentions unit site) ≡ Ok kept → table ≡ table_of (host_of site) kept → FindsItsProgram site table
+ProgramsAreFound = (n : ℕ) (unit : Resolved) (site : Site) (table : List MountStep) → SaysSample n unit → HasSampleRows site
+    → planned (host_of site) (unit_mentions unit site) ≡ Ok table → FindsItsProgram site table

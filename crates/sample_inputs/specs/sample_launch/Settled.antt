@@ -1,5 +1,5 @@
--- The settings of a sample (systemd.exec(5)): a user of its own, all capabilities in the bounding set and none ambient, no filter, and
--- the mentions of its unit.
+-- The settings of a sample (systemd.exec(5)): a user of its own, all capabilities in the bounding set and none ambient, no filter and
+-- nothing that is kept for filters, and the mentions of its unit.
 use Rattle.std.specs.Prelude.{◌≡◌, ℕ, ◌%◌, ◌==◌, false, [], None}
 use Rattle.launcher.specs.call_table.Table.{Table}
 use Rattle.launcher.specs.cap_sets.Sets.{all, none}
@@ -7,6 +7,7 @@ use Rattle.launcher.specs.dropin_merge.declared.resolved.Resolved.{Resolved}
 use Rattle.launcher.specs.exec_settings.AreSettings.{AreSettings}
 use Rattle.launcher.specs.exec_settings.Refusals.{refusal_of}
 use Rattle.launcher.specs.exec_settings.declared.service.Settings.{Settings}
+use Rattle.launcher.specs.path_settings.declared.mentioned.Mentioned.TheVariants.{Base}
 use Rattle.launcher.specs.site_table.Table.{Site}
 use Rattle.sample_inputs.specs.Facts.{HasSampleRows, SaysSample, program}
 use Rattle.sample_inputs.specs.sample_launch.Mentions.{sample_mentions}
@@ -19,9 +20,10 @@ pub record AreSampleSettings (n : ℕ) (made : Settings) : Type 0 where
   pub bounding : made.bounding ≡ all
   pub ambient : made.ambient ≡ none
   pub filters : made.filters.items ≡ []
+  pub keeps : made.keeps_capabilities ≡ false
   pub new_privileges : made.no_new_privs ≡ (n % 2 == 0)
   pub memory : made.mdwe ≡ false
-  pub mentions : made.mentions ≡ sample_mentions n
+  pub mentions : made.mentions ≡ Base (sample_mentions n)
 
 -- nothing refuses a unit that says a sample, at a site that has its rows, whatever the table of calls
 abbrev pub SettingsAreNotRefused : Type 0

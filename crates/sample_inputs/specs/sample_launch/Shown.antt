@@ -8,6 +8,7 @@ use Rattle.launcher.specs.kernel_model.kern_files.Executing.{marks_of}
 use Rattle.launcher.specs.kern_mounts.Split.{Table}
 use Rattle.launcher.specs.mount_plan.AsView.{FindsAsView}
 use Rattle.launcher.specs.mount_plan.Host.{host_of}
+use Rattle.launcher.specs.mount_plan.Planned.{base_view}
 use Rattle.launcher.specs.path_settings.declared.mentions.Mention.{Mention}
 use Rattle.launcher.specs.site_table.declared.row.Row.{Row}
 use Rattle.launcher.specs.site_table.Kinds.{is_exe}
@@ -25,7 +26,7 @@ pub record IsPlainProgram (program : Row) : Type 0 where
 -- the view has the host's file of this place at the path, and leaves it executable
 abbrev pub ShownByTheView : Type 0
 ShownByTheView = (site : Site) (kept : List Mention) (plan : Table) (path place : Path) (program : Row)
-    → FindsAsView kept plan → object_at kept path ≡ on_host place → is_no_exec kept path ≡ false
+    → FindsAsView (base_view kept) plan → object_at kept path ≡ on_host place → is_no_exec kept path ≡ false
     → row_at site.rows place ≡ Some program → IsPlainProgram program → ShowsProgram site plan path
 
 -- no mention is at the path, nor at one that leads to it
@@ -35,5 +36,5 @@ AreElsewhere path mentions = AllByRecursion (λ mention. is_prefix mention.path 
 -- then the host's own file is there
 abbrev pub ShownBesideMentions : Type 0
 ShownBesideMentions = (site : Site) (mentions kept : List Mention) (plan : Table) (path : Path) (program : Row)
-    → KeepsByRules (host_of site) mentions kept → FindsAsView kept plan → AreElsewhere path mentions
+    → KeepsByRules (host_of site) mentions kept → FindsAsView (base_view kept) plan → AreElsewhere path mentions
     → row_at site.rows path ≡ Some program → IsPlainProgram program → ShowsProgram site plan path

@@ -1,9 +1,8 @@
 use Rattle.std.proofs.Common.{ap, ◌∙◌, ◌++◌}
 use Rattle.std.specs.Prelude.{◌==◌, not}
-use Rattle.cred_settings.specs.NewPrivileges.{is_in_effect_in}
 use Rattle.exec_settings.proofs.Noted.{in_order, key_by_key}
 use Rattle.exec_settings.proofs.Reasons.{command_first, handed_on, identity_next, missing_next, no_reason, paths_last}
-use Rattle.exec_settings.proofs.Whole.{ambient_is, bounding_is, new_privileges_are}
+use Rattle.exec_settings.proofs.Whole.{ambient_is, bounding_is, filtered_is, keeps_is, new_privileges_are}
 use Rattle.exec_settings.proofs.reading.settings.Goals as goal
 
 pub returns-in_err-launched-clause-refuses_first : goal.returns-in_err-launched-clause-refuses_first
@@ -41,19 +40,19 @@ returns-clause-settles c =
     let table = c.args.calls.now in
     let bounded = bounding_is unit table _ _ _ c.in_ok-own.ensures.bounding c.in_ok-made.ensures.taken c.minus-bounding.ensures.minus in
     let ambient = ambient_is unit table _ _ _ c.in_ok-own.ensures.ambient bounded c.ambient_within-ambient.ensures.cut_to_the_bounding_set in
+    let named = c.in_ok-made.ensures.as_wanted.exactly_those_on in
+    let some = ap not c.is_empty-has_filter.ensures ∙ ap (λ n. not (n == 0)) c.in_ok-made.made.filters.ok.0 in
+    let filtered = filtered_is unit table c.in_ok-made.made.filters.items _ _ _ _ named some c.in_ok-made.ensures.marks c.in_ok-counts.ensures.one_of_three c.any_of_three-is_filtered.ensures.one_is_true in
+    let keeps = keeps_is unit table _ _ _ _ filtered c.in_ok-made.ensures.gives_up c.keeps_capabilities-keeps.ensures.by_the_version in
     record {
       launches_the_first_command = c.in_ok-launched.ensures.program;
       runs_as = c.in_ok-own.ensures.ids;
       bounding_without_what_is_taken = bounded;
       ambient = ambient;
+      keeps_for_the_filters = keeps;
       new_privileges =
-          new_privileges_are unit table c.in_ok-made.made.filters.items _ _ _ _ _ _
-          c.in_ok-made.ensures.as_wanted.exactly_those_on c.in_ok-own.ensures.sets
-          (ap not c.is_empty-has_filter.ensures ∙ ap (λ n. not (n == 0)) c.in_ok-made.made.filters.ok.0) c.in_ok-counts.ensures.one_of_three
-          ambient
-          (c.no_new_privs.ensures.set_or_implied
-          ∙ ap (λ is. is_in_effect_in unit.systemd c.in_ok-own.own.sets_no_new_privs (not c.is_empty-has_filter.result) is
-          c.in_ok-own.own.identity.uid c.ambient_within-ambient.result) c.either-is_filtered.ensures.one_of_two);
+          new_privileges_are unit table c.in_ok-made.made.filters.items _ _ _ _ _ _ _ named c.in_ok-own.ensures.sets some filtered ambient
+          keeps c.no_new_privs.ensures.set_or_implied;
       refuses_memory = c.in_ok-made.ensures.marks;
       filters_as_wanted = c.in_ok-made.ensures.as_wanted;
       mentions_written_and_implied = c.in_ok-mentions.ensures.mentions;

@@ -1,4 +1,4 @@
-use Rattle.mount_plan.proofs.Planned.{plans_have_form}
+use Rattle.mount_plan.proofs.BothPlans.{plans_have_form}
 use Rattle.mount_plan.proofs.laws.plans_have_a_form.Goals as goal
 
 pub returns : goal.returns

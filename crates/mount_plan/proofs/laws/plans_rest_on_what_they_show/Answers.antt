@@ -1,4 +1,4 @@
-use Rattle.mount_plan.proofs.PlanIsBlind.{plan_is_blind}
+use Rattle.mount_plan.proofs.BothPlans.{plan_is_blind}
 use Rattle.mount_plan.proofs.Resting.{plan_rests}
 use Rattle.mount_plan.proofs.laws.plans_rest_on_what_they_show.Goals as goal
 

@@ -1,7 +1,13 @@
-use Rattle.std.proofs.Common.{refl, arith}
-use Rattle.derive_command.specs.trace_profile.Searching.{tried_of}
-use Rattle.derive_command.proofs.Kept.{kept_more}
+use Rattle.std.proofs.Common.{ℕ, List, [], refl, sym, subst, arith}
+use Rattle.derive_command.specs.trace_profile.Searching.{AreKept, tried_of}
+use Rattle.derive_command.proofs.Kept.{kept_more, kept_none}
 use Rattle.derive_command.proofs.trace_profile.searching.Trial.keep_needed.Goals as goal
+
+pub loop-name-init : goal.loop-name-init
+loop-name-init c =
+    subst (λ (kept : List ℕ). AreKept (tried_of c.args.self.now) c.args.names.now [] kept)
+    (sym (c.in_ok-kept.ensures.items_if_clones_equal (λ x y same. same)))
+    (kept_none (tried_of c.args.self.now) c.args.names.now c.requires.serving)
 
 pub loop-name-preserved : goal.loop-name-preserved
 loop-name-preserved c =
