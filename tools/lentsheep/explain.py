@@ -191,6 +191,9 @@ def _of_no_path(path: str, unit: str, files: Sequence[UnitFile], folder: Folder)
     lines = lines_with(files, *PATH_KEYS)
     found = [it for it in lines if path in _paths_of(it.value)] or [it for it in lines if "%" in it.value]
     place = f"{found[-1].place}: {found[-1].text}" if found else unit
+    if path in folder.site.rows:
+        covered = f"a mount above {path} covers it and has nothing there"
+        return [f"{place}: {covered}, and systemd would not start the service either (226/NAMESPACE); write -{path}"]
     if folder.root and os.path.lexists(folder.root.rstrip("/") + path):
         return [f"{place}: {path} is there, and the site has no row of it: make the site anew (--fresh)"]
     made = next((f"{key}={path[len(top):]}" for top, key in MADE_BY.items() if path.startswith(top) and path != top), "")

@@ -4,15 +4,19 @@ from __future__ import annotations
 #: By their names.
 FOLLOWED = frozenset(
     """
+    api-noexec
+    beaten
     capability-words
     clone3
     credentials-hidden
     device-folders
+    device-programs
     disconnected-tmp
     families-allow-bits
     families-deny-bits
     families-none
     family-names
+    flags-apart
     folders-open
     folders-shown
     home-tmpfs
@@ -21,6 +25,7 @@ FOLLOWED = frozenset(
     mdwe-prctl
     namespace-lines
     newer-values
+    nnp-from-filters
     nnp-from-more
     old-names-close
     old-names-open

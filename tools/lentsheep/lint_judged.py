@@ -191,6 +191,8 @@ class Judging:
     def _no_path(self, path: str) -> bool:
         """Finds the words that name a missing path, and tries a copy in which they may be missing."""
         what = f"is not in {self.root}" if self.root else "is made by nothing in this unit"
+        if path in asking.read_site(site_of(self.program)).rows:
+            what = "is covered by a mount above, which has nothing there"
         lines = lines_with(self.files, *_PATH_KEYS)
         found = [(it, word) for it in lines for word in it.value.split() if self._needed_path(word, it.key) == path]
         for it, word in found:

@@ -109,6 +109,7 @@ PATHS = """
     *file:/proc/sys/kernel/hostname /root /run *file:/run/x /run/credentials *file:/run/credentials/x /run/user /srv *file:/srv/x /sys *file:/sys/x
     /sys/fs /sys/fs/cgroup *file:/sys/fs/cgroup/x /tmp /usr /usr/bin *exe:/usr/bin/web /var /var/lib /var/lib/a *file:/var/lib/a/x /var/tmp /dev
     *file:/dev/null /dev/shm *file:/dev/shm/x /bin *exe:/bin/x *exe:/proc/x *file:/tmp/x /var/lib/private /var/lib/private/web *file:/var/lib/private/web/x
+    *exe:/dev/shm/run *exe:/sys/run
 """.split()
 PING = '[[row]]\npath = "/usr/bin/ping"\nkind = "exe"\ncaps = ["CAP_NET_RAW"]\neffective = true\n'
 # Calls of the table of a witness: those of a launch and of questions, and some that protections close.
@@ -169,9 +170,35 @@ WITNESSES = [
     ("folders-shown", BOTH, "TemporaryFileSystem=/var/lib\nStateDirectory=a\n", "open see /var/lib/a/x"),
     ("private-folders", BOTH, "DynamicUser=yes\nStateDirectory=web\n", "open write /var/lib/private/web/x"),
     ("beaten", BOTH, "TemporaryFileSystem=/srv\nReadWritePaths=/srv\n", "open read /srv/x"),
+    ("beaten", BOTH, "ProtectHome=tmpfs\nReadOnlyPaths=/home\n", "open read /home/alice/key"),
+    ("beaten", (252,), "ProtectHome=tmpfs\nReadWritePaths=/home\n", "mount /home host /home rw exec"),
+    # the mark of a mount that is beaten stays
+    ("beaten", (257,), "ProtectHome=tmpfs\nReadWritePaths=/home\n", "mount /home host /home ro exec"),
+    ("beaten", BOTH, "BindPaths=/var/lib:/srv /etc:/srv\n", "mount /srv host /var/lib rw exec"),
+    ("beaten", BOTH, "BindPaths=/var/lib:/srv /etc:/srv:norbind\n", "mount /srv host /etc rw exec"),
+    ("beaten", BOTH, "PrivateTmp=yes\nBindPaths=/srv:/tmp\n", "mount /tmp host /srv rw exec"),
+    ("beaten", (252,), "DynamicUser=yes\nBindPaths=/srv:/tmp\n", "mount /tmp host /srv rw exec"),
+    ("beaten", (257,), "DynamicUser=yes\nBindPaths=/srv:/tmp\n", "mount /tmp empty rw exec"),
+    ("beaten", (257,), "PrivateTmp=disconnected\nBindPaths=/srv:/tmp:norbind\n", "mount /tmp host /srv rw exec"),
+    ("One path twice", BOTH, "ReadOnlyPaths=-/nope\nReadOnlyPaths=/nope\n", "launched uid 33 gid 33 nnp no"),
+    ("One path twice", BOTH, "ReadOnlyPaths=/nope\nReadOnlyPaths=-/nope\n", "refused web.service no-path /nope"),
+    ("ReadOnlyPaths=, InaccessiblePaths=", BOTH, "TemporaryFileSystem=/srv\nReadOnlyPaths=/srv/x\n", "refused web.service no-path /srv/x"),
+    ("ReadOnlyPaths=, InaccessiblePaths=", BOTH, "TemporaryFileSystem=/srv\nInaccessiblePaths=/srv/x\n", "refused web.service no-path /srv/x"),
+    ("ReadOnlyPaths=, InaccessiblePaths=", BOTH, "TemporaryFileSystem=/srv\nInaccessiblePaths=-/srv/x\n", "denied see /srv/x"),
+    ("The option `noexec`", BOTH, "TemporaryFileSystem=/srv:noexec\n", "mount /srv empty rw noexec"),
     ("flags-apart", BOTH, "ProtectSystem=strict\nNoExecPaths=/\nExecPaths=/usr/bin\n", "open write /usr/bin/web"),
+    ("flags-apart", BOTH, "ReadOnlyPaths=/usr /usr/bin\nNoExecPaths=/usr/bin\n", "open exec /usr/bin/ping"),
+    ("flags-apart", BOTH, "ReadOnlyPaths=/srv\nNoExecPaths=/srv/x\n", "open write /srv/x"),
+    ("flags-apart", BOTH, "NoExecPaths=/\nExecPaths=/usr/bin\nReadWritePaths=/srv\n", "mount /srv host /srv rw exec"),
+    ("device-programs", BOTH, "PrivateDevices=yes\n", "open exec /dev/shm/run"),
+    ("PrivateDevices= with ReadOnlyPaths=/dev", BOTH, "PrivateDevices=yes\nReadOnlyPaths=/dev\n", "denied write /dev/shm/x"),
+    ("", BOTH, "PrivateDevices=yes\nReadOnlyPaths=/dev/shm\n", "mount /dev/shm host /dev/shm ro exec"),
     ("nosuid-exec", BOTH, "NoNewPrivileges=yes\nCapabilityBoundingSet=\nProtectSystem=full\n", "open exec /usr/bin/ping"),
     ("api-noexec", BOTH, "ProtectProc=invisible\n", "denied exec /proc/x"),
+    ("api-noexec", (252,), "ProtectProc=invisible\n", "denied exec /sys/run"),
+    ("", (257,), "ProtectProc=invisible\n", "open exec /sys/run"),
+    ("api-noexec", (257,), "PrivateNetwork=yes\n", "denied exec /sys/run"),
+    ("", (252,), "PrivateNetwork=yes\n", "open exec /sys/run"),
     ("nnp-from-filters", (257,), "RestrictRealtime=yes\n", "launched uid 33 gid 33 nnp no"),
     ("", (252,), "RestrictRealtime=yes\n", "launched uid 33 gid 33 nnp yes"),
     ("", (257,), "SystemCallFilter=~capset\n", "launched uid 33 gid 33 nnp yes"),
