@@ -158,7 +158,7 @@ WITNESSES = [
     ("`!` and `!!`", BOTH, "ExecStart=\nExecStart=--/usr/bin/web\n", "refused web.service no-command"),
     ("A program without a slash", BOTH, "ExecStart=\nExecStart=web\n", "launched uid 33 gid 33 nnp no"),
     ("", BOTH, "ExecStart=\nExecStart=nosuch\n", "refused web.service outside ExecStart"),
-    ("The specifiers `%f", BOTH, "ExecStart=\nExecStart=/usr/bin/%p %m\nReadOnlyPaths=/srv/%z -/\nInaccessiblePaths=-/%z\n", "refused web.service no-path /srv/%25z"),
+    ("The specifiers `%f", BOTH, "ExecStart=\nExecStart=/usr/bin/%p %m\nReadOnlyPaths=/srv/%z\nInaccessiblePaths=-/%z\n", "refused web.service no-path /srv/%25z"),
     ("A number in User=", BOTH, "User=4711\n", "refused web.service no-user 4711"),
     ("AmbientCapabilities= outside", BOTH, "CapabilityBoundingSet=CAP_NET_RAW\nAmbientCapabilities=CAP_SYS_ADMIN CAP_NET_RAW\n", "launched uid 33 gid 33 nnp no"),
     ("home-tmpfs", (252,), "ProtectHome=tmpfs\n", "mount /home empty rw exec"),
