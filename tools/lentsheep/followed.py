@@ -29,12 +29,16 @@ FOLLOWED = frozenset(
     nnp-from-more
     old-names-close
     old-names-open
+    other-calls
     personality-question
     private-folders
     run-writable
+    sched-setattr
+    socketpair
     strict-homes
     suid-newer-calls
     sys-writable
+    tmpfile-bits
     tunables-cgroup
     tunables-more
     write-filter

@@ -12,6 +12,7 @@ use Rattle.call_table.specs.declared.listed.CallLine.{CallLine}
 use Rattle.call_table.specs.declared.causes.CallsCause.{CallsCause}
 use Rattle.call_table.specs.declared.causes.CallsError.{CallsError}
 use Rattle.call_table.proofs.Grouping.{groups_wider, no_groups}
+use Rattle.call_table.proofs.ReadBy.{read_base}
 
 no_lines : (most : ℕ) → AreLines most []
 no_lines most = record {
@@ -96,4 +97,5 @@ begins two name arch table e = record {
   faultless = refl;
   read = e;
   sound = subst IsTable (sym e) (record { calls = no_lines 512; native = λ k d lt. absurd (omega arith); no_abi = λ k d lt. absurd (omega arith); families = no_lines 128; groups = no_groups 0; few_groups = omega arith; second = tt });
+  by_kernel = read_base (record { name = name; arch = arch }) [] table e;
 }

@@ -13,6 +13,7 @@ pub mod Meant
 pub mod Numbering
 pub mod Onces
 pub mod Places
+pub mod ReadBy
 pub mod Standing
 pub mod Steps
 pub mod Versions

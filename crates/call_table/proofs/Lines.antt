@@ -1,5 +1,5 @@
 -- The lines of the table, by their names.
-use Rattle.std.proofs.Common.{◌≡◌, ℕ, List, [], ◌∷◌, Bool, true, false, Option, Some, cond, map, refl, sym, ap, ◌∙◌}
+use Rattle.std.proofs.Common.{◌≡◌, ℕ, List, [], ◌∷◌, Bool, true, false, Option, Some, None, cond, map, refl, sym, ap, ◌∙◌}
 use Rattle.std.specs.Prelude.{find, slice_get, not, option_map, ◌&&◌}
 use Rattle.std.specs.Cmp.{decided}
 use Rattle.std.specs.List.{IsDistinct, AllByRecursion, list_all}
@@ -8,7 +8,8 @@ use Rattle.std.specs.Str.{bytes_eq}
 use Rattle.std.proofs.lemmas.Bool.{and_parts, not-true}
 use Rattle.std.proofs.lemmas.Map.Entries.{lookup_from_place}
 use Rattle.std.proofs.lemmas.Slice.Eq.{bytes_eq-Decides}
-use Rattle.call_table.specs.call_names.Known.{known_calls, known_call}
+use Rattle.call_table.specs.call_names.Known.{known_calls, linux_calls, entry_in, known_call}
+use Rattle.call_table.specs.declared.call_names.kernel.Kernel.TheVariants.{Base, Linux}
 use Rattle.call_table.specs.declared.call_names.known.KnownCall.{KnownCall}
 
 -- tests that no name occurs again after itself
@@ -29,9 +30,33 @@ distinct_by_test (name ∷ names) h = (differ name names (and_parts _ _ h).0, di
 pub once : IsDistinct bytes_eq (map (λ line. line.0) known_calls)
 once = distinct_by_test (map (λ line. line.0) known_calls) (unfold is_distinct in refl)
 
-pub found : (place : ℕ) (name : List ℕ) (call : KnownCall) → slice_get known_calls place ≡ Some (name, call) → known_call name ≡ Some call
+pub once_in_linux : IsDistinct bytes_eq (map (λ line. line.0) linux_calls)
+once_in_linux = distinct_by_test (map (λ line. line.0) linux_calls) (unfold is_distinct in refl)
+
+-- the base kernel has its own entry, whatever Linux has
+in_base : (own base : Option KnownCall) → entry_in own Base base ≡ base
+in_base None base = refl
+in_base (Some own) base = refl
+
+pub found : (place : ℕ) (name : List ℕ) (call : KnownCall) → slice_get known_calls place ≡ Some (name, call)
+    → known_call Base name ≡ Some call
 unfolding known_call
-found place name call = lookup_from_place (decided bytes_eq bytes_eq-Decides) known_calls place name call once
+found place name call e =
+    in_base (lookup (bytes_eq name) linux_calls) (lookup (bytes_eq name) known_calls)
+    ∙ lookup_from_place (decided bytes_eq bytes_eq-Decides) known_calls place name call once e
+
+pub found_in_linux : (place : ℕ) (name : List ℕ) (call : KnownCall) → slice_get linux_calls place ≡ Some (name, call)
+    → known_call Linux name ≡ Some call
+unfolding known_call
+found_in_linux place name call e =
+    ap (λ (own : Option KnownCall). entry_in own Linux (lookup (bytes_eq name) known_calls))
+    (lookup_from_place (decided bytes_eq bytes_eq-Decides) linux_calls place name call once_in_linux e)
+
+pub as_in_base : (name : List ℕ) → lookup (bytes_eq name) linux_calls ≡ None → known_call Linux name ≡ known_call Base name
+unfolding known_call
+as_in_base name e =
+    ap (λ (own : Option KnownCall). entry_in own Linux (lookup (bytes_eq name) known_calls)) e
+    ∙ sym (in_base (lookup (bytes_eq name) linux_calls) (lookup (bytes_eq name) known_calls))
 
 -- a look-up among lines is a search for the line
 searched : {X Y : Type 0} (test : List ℕ → Bool) (line_of : X → List ℕ × Y) (lines : List X) →

@@ -2,6 +2,7 @@
 use Rattle.std.proofs.Common.{subst, ◌≡◌, ℕ, zero, suc, ◌+◌, ◌-◌, ◌<◌, ◌≤◌, Bool, true, false, cond, ltb, List, [], ◌∷◌, ◌++◌, length}
 use Rattle.std.proofs.Common.{get_or, Some, None, ◌⊎◌, ⊎_elim, inl, inr, refl, ap, ◌∙◌, arith, length-append}
 use Rattle.std.specs.Prelude.{◌||◌, find, slice_get}
+use Rattle.call_table.specs.declared.call_names.kernel.Kernel.TheVariants.{Base}
 use Rattle.call_table.specs.declared.listed.CallLine.{CallLine}
 use Rattle.std.specs.List.{position, position_or_len, list_any, All}
 use Rattle.std.proofs.lemmas.Bool.{cases_lt}
@@ -144,4 +145,4 @@ found_holds P p (y ∷ xs) x all e = by (p y) (found_holds P p xs x (λ k d lt. 
     by false later e = later e
 
 pub some_line : CallLine
-some_line = record { name = []; number = 0; cap = None; abi = 0 }
+some_line = record { name = []; number = 0; cap = None; abi = 0; kernel = Base }

@@ -22,6 +22,7 @@ use Rattle.call_table.specs.Reading.{Head, line_kind, call_of, family_of, group_
 use Rattle.call_table.specs.Reading.{every_call_of, with_group, groups_behind, groups_of, table_behind, at_line, fault_at, fault_of}
 use Rattle.call_table.specs.Progress.{Steps, native_with, second_with, with_kind, HasRead, ReadsRest}
 use Rattle.call_table.proofs.Befores.{with_before-append, given-append}
+use Rattle.call_table.proofs.ReadBy.{read_base}
 
 groups_behind-append : (groups : List GroupLine) (places more : List (List Line × Line))
     → groups_behind groups (places ++ more) ≡ groups_behind (groups_behind groups places) more
@@ -110,13 +111,16 @@ fault_known two head lines line table cause h e = ap (λ (t : Table). option_map
 pub reads_more : (two : Bool) (head : Head) (lines : List Line) (line : Line) (table next : Table) → HasRead two head lines table
     → cause_of two table (line_kind line) ≡ None → next ≡ with_kind table (line_kind line) → IsTable next
     → HasRead two head (lines ++ line ∷ []) next
-reads_more two head lines line table next h none made sound = record {
-  faultless = ap (λ faults. slice_get faults 0) (given-append (fault_at two head) lines (line ∷ []))
-      ∙ no_more (filter_map (fault_at two head) (with_before [] lines)) (fault_at two head (lines, line)) h.faultless
-      (fault_known two head lines line table None h none);
-  read = made ∙ ap (λ (t : Table). with_kind t (line_kind line)) h.read ∙ table_more head lines line;
-  sound = sound;
-}
+reads_more two head lines line table next h none made sound =
+    let read : next ≡ table_behind head (lines ++ line ∷ []) = made ∙ ap (λ (t : Table). with_kind t (line_kind line)) h.read ∙ table_more head lines line in
+    record {
+      faultless = ap (λ faults. slice_get faults 0) (given-append (fault_at two head) lines (line ∷ []))
+          ∙ no_more (filter_map (fault_at two head) (with_before [] lines)) (fault_at two head (lines, line)) h.faultless
+          (fault_known two head lines line table None h none);
+      read = read;
+      sound = sound;
+      by_kernel = read_base head (lines ++ line ∷ []) next read;
+    }
 
 first-append : (xs ys : List CallsError) → slice_get xs 0 ≡ None → slice_get (xs ++ ys) 0 ≡ slice_get ys 0
 first-append [] ys e = refl

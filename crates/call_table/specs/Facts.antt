@@ -7,7 +7,9 @@ use Rattle.call_table.specs.Lookups.{AreOnce, IsInRange, named, group_named}
 use Rattle.call_table.specs.Faults.{most_calls, most_families, most_groups}
 use Rattle.call_table.specs.Reading.{missing_call}
 use Rattle.call_table.specs.ByNumber.{AscendsByNumber}
+use Rattle.call_table.specs.Kernels.{AreBy}
 use Rattle.call_table.specs.Table.{Abi, Table, second_calls, every_call}
+use Rattle.call_table.specs.declared.call_names.kernel.Kernel.{Kernel}
 use Rattle.call_table.specs.declared.listed.CallLine.{CallLine}
 use Rattle.call_table.specs.declared.listed.GroupLine.{GroupLine}
 use Rattle.call_table.specs.declared.by_number.Numbered.{Numbered}
@@ -54,10 +56,12 @@ pub record IsTable (table : Table) : Type 0 where
   pub few_groups : length table.groups ≤ most_groups
   pub second : IfSome table.second (IsSecond table)
 
--- a table that was read also has the calls of every launch
+-- a table that was read also has the calls of every launch, and one kernel reads the names of all calls
 pub record IsWhole (table : Table) : Type 0 where
   pub sound : IsTable table
   pub launches : missing_call table.calls ≡ None
+  pub kernel : Kernel
+  pub by_kernel : AreBy kernel (every_call table)
 
 -- such a table is kept with the order of its calls by number
 pub record IsKept (table : Table) (order second_order : List Numbered) : Type 0 where

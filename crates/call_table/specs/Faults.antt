@@ -7,6 +7,7 @@ use Rattle.std.specs.Str.{bytes_eq}
 use Rattle.call_table.specs.Kinds.{Entry, Kind, abi, call, family, group, malformed}
 use Rattle.call_table.specs.Numbers.{arch_of, number_of, cap_of}
 use Rattle.call_table.specs.call_names.Known.{is_known as is_known_call}
+use Rattle.call_table.specs.declared.call_names.kernel.Kernel.TheVariants.{Base}
 use Rattle.call_table.specs.Lookups.{has_name, has_number, named}
 use Rattle.call_table.specs.Members.{has_group, is_known}
 use Rattle.call_table.specs.Table.{Abi, Table, every_call}
@@ -65,8 +66,8 @@ group_fault calls groups name members =
 
 -- a call belongs to the last ABI before it
 abbrev pub call_fault : Option Abi → List CallLine → Entry → Option CallsCause
-call_fault None calls entry = entry_fault [] calls most_calls (is_known_call entry.name) entry
-call_fault (Some second) calls entry = entry_fault calls second.calls most_calls (is_known_call entry.name) entry
+call_fault None calls entry = entry_fault [] calls most_calls (is_known_call Base entry.name) entry
+call_fault (Some second) calls entry = entry_fault calls second.calls most_calls (is_known_call Base entry.name) entry
 
 -- the fault of a further abi line: there is at most one, only after `version 2`, and its name is not `native`
 unfoldable pub abi_fault : Bool → Table → List ℕ → List ℕ → Option CallsCause

@@ -3,6 +3,7 @@ pub mod ByNumber
 pub mod Causes
 pub mod Facts
 pub mod Faults
+pub mod Kernels
 pub mod Kinds
 pub mod Lookups
 pub mod Marks

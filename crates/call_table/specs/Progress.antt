@@ -10,9 +10,11 @@ use Rattle.call_table.specs.Faults.{is_bad_cap, has_other_cap, entry_fault}
 use Rattle.call_table.specs.Reading.{Head, listed_as, call_of, family_of, group_of, opened_by, fault_of, table_behind, table_of_rest}
 use Rattle.call_table.specs.Reading.{table_from}
 use Rattle.call_table.specs.Facts.{IsTable}
+use Rattle.call_table.specs.Kernels.{AreBy}
 use Rattle.call_table.specs.Table.{Abi, Table, every_call}
 use Rattle.call_table.specs.Views.{made}
 use Rattle.call_table.specs.declared.lists.Lists.{Lists}
+use Rattle.call_table.specs.declared.call_names.kernel.Kernel.TheVariants.{Base}
 use Rattle.call_table.specs.declared.listed.CallLine.{CallLine}
 use Rattle.call_table.specs.declared.causes.CallsCause.{CallsCause}
 use Rattle.call_table.specs.declared.causes.CallsCause.TheVariants.{Cap}
@@ -40,7 +42,7 @@ Steps cause number wanted made (Err (NoCall name)) = ⊥
 -- an entry without a fault after some lines has this number and this capability
 pub record IsChecked (others lines : List CallLine) (most : ℕ) (without_cap : Bool) (entry : Entry) (number : ℕ) (cap' : Option ℕ) : Type 0 where
   pub faultless : entry_fault others lines most without_cap entry ≡ None
-  pub listed : (place : ℕ) → listed_as place entry ≡ Some (record { name = entry.name; number = number; cap = cap'; abi = place })
+  pub listed : (place : ℕ) → listed_as place entry ≡ Some (record { name = entry.name; number = number; cap = cap'; abi = place; kernel = Base })
   pub same_cap : IfSome (named entry.name others) (λ other. other.cap ≡ cap')
   pub new_name : list_any (has_name entry.name) lines ≡ false
   pub new_number : list_any (has_number number) lines ≡ false
@@ -94,6 +96,7 @@ pub record HasRead (two : Bool) (head : Head) (lines : List Line) (table : Table
   pub faultless : fault_of two head lines ≡ None
   pub read : table ≡ table_behind head lines
   pub sound : IsTable table
+  pub by_kernel : AreBy Base (every_call table)
 
 abbrev pub ReadsRest : Bool → Head → List Line → Result Lists CallsError → Type 0
 ReadsRest two head lines (Ok lists) = HasRead two head lines (made lists)

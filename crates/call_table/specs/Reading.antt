@@ -12,6 +12,7 @@ use Rattle.call_table.specs.Lookups.{has_name}
 use Rattle.call_table.specs.Members.{members_of}
 use Rattle.call_table.specs.Faults.{cause_of}
 use Rattle.call_table.specs.Table.{Abi, Table, second_calls}
+use Rattle.call_table.specs.declared.call_names.kernel.Kernel.TheVariants.{Base}
 use Rattle.call_table.specs.declared.listed.CallLine.{CallLine}
 use Rattle.call_table.specs.declared.listed.GroupLine.{GroupLine}
 use Rattle.call_table.specs.declared.causes.CallsCause.{CallsCause}
@@ -22,10 +23,11 @@ use Rattle.call_table.specs.declared.causes.CallsError.TheVariants.{NotText, Lin
 unfoldable pub line_kind : Line → Kind
 line_kind line = kind_of (words_of line.text)
 
--- the line of an entry in a table, if its number can be read; it belongs to the ABI of this position, and a family has 0
+-- the line of an entry in a table, if its number can be read; it belongs to the ABI of this position, and a family has 0; the base
+-- kernel reads its name
 abbrev pub listed_as : ℕ → Entry → Option CallLine
 listed_as place entry = option_map
-    (λ number. record { name = entry.name; number = number; cap = option_and_then cap_of entry.cap_word; abi = place })
+    (λ number. record { name = entry.name; number = number; cap = option_and_then cap_of entry.cap_word; abi = place; kernel = Base })
     (number_of entry.digits)
 
 abbrev pub call_of : ℕ → Kind → Option CallLine

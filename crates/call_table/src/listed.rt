@@ -1,6 +1,10 @@
 // Defines the lines of a table: a call or a family, and a group of calls.
+ghost use Rattle.std.specs.Prelude.{refl};
+ghost use Rattle.call_table.specs.Kernels.{read_by};
+
+use crate::call_names::Kernel;
 use crate::names::Name;
-use name_table::{NameTable, Named};
+use name_table::{Marked, NameTable, Named};
 use text_forms::item_list::ItemList;
 
 /// A call or a family of sockets.
@@ -13,6 +17,8 @@ pub struct CallLine {
     pub cap: Option<u8>,
     /// The position of the call's ABI, from 0. A family has 0.
     pub abi: u8,
+    /// The kernel that reads the name of a call. A table that was just read has the base kernel, and a family keeps it.
+    pub kernel: Kernel,
 }
 
 impl Named for CallLine {
@@ -20,6 +26,18 @@ impl Named for CallLine {
 
     fn name(&self) -> &str {
         self.name.as_str()
+    }
+}
+
+impl Marked for CallLine {
+    type Mark = Kernel;
+
+    ghost marked = { read_by };
+
+    ghost keeps_name = { λ kernel line. refl };
+
+    fn mark(&mut self, kernel: Kernel) {
+        self.kernel = kernel;
     }
 }
 

@@ -4,6 +4,7 @@ ghost use Rattle.std.specs.List.{cons_option, All};
 ghost use Rattle.std.specs.Option.{option_map};
 ghost use Rattle.text_forms.specs.line_text.Views.{line_view};
 ghost use Rattle.call_table.specs.Views.{made, made_second, lines_seen};
+ghost use Rattle.call_table.specs.Kernels.{known_by};
 ghost use Rattle.call_table.specs.Table.{second_calls};
 ghost use Rattle.call_table.specs.Kinds.{abi, call, seen, seen_entry};
 ghost use Rattle.call_table.specs.Facts.{AreLines, AreOf, AreGroups, IsTable, HasCapAmong};
@@ -12,7 +13,7 @@ ghost use Rattle.call_table.specs.Faults.{is_same_cap, has_other_cap, entry_faul
 ghost use Rattle.call_table.specs.Reading.{listed_as, line_kind};
 ghost use Rattle.call_table.specs.Progress.{Steps, ReadsCap, ChecksCap, ChecksEntry, with_kind};
 
-use crate::call_names::is_known;
+use crate::call_names::{Kernel, is_known};
 use crate::causes::{CallsCause, CallsError};
 use crate::kinds::{Entry, Kind, kind_of_words};
 use crate::listed::{CallLine, CallLines, GroupLine, GroupLines};
@@ -162,6 +163,7 @@ fn add_entry(
                 number,
                 cap,
                 abi,
+                kernel: Kernel::Base,
             };
             lines.push(alloc, line)?;
             Ok(())
@@ -220,6 +222,16 @@ impl Lists {
         }
     }
 
+    /// Lets this kernel read the names of all calls.
+    pub fn known_by(&mut self, kernel: Kernel)
+        ensures reads_each_call { made self.new ≡ known_by kernel (made self.old) }
+    {
+        self.calls.mark(kernel);
+        if let Some(second) = &mut self.second {
+            second.calls.mark(kernel);
+        }
+    }
+
     // Opens a second ABI.
     #[tactic(auto, unfolding(crate::specs::Faults::abi_fault))]
     fn add_abi(
@@ -257,7 +269,7 @@ impl Lists {
         ensures steps { Steps (cause_of true (made self.old) (call (seen_entry row.entry))) at (with_kind (made self.old) (call (seen_entry row.entry))) (made self.new) result }
         ensures sound { OnOk result (IsTable (made self.new)) }
     {
-        let without_cap = is_known(row.name);
+        let without_cap = is_known(Kernel::Base, row.name);
         match &mut self.second {
             None => add_entry(
                 alloc,

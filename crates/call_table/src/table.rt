@@ -2,15 +2,18 @@
 ghost use Rattle.std.specs.Prelude.{◌≡◌, ◌<◌, ◌≤◌, ◌^◌, None, map, find, length, option_and_then, slice_get};
 ghost use Rattle.std.specs.Option.{option_map, option_copied};
 ghost use Rattle.call_table.specs.Lookups.{named, numbered, place_named, group_named};
+ghost use Rattle.call_table.specs.declared.call_names.kernel.Kernel.TheVariants.{Base};
 ghost use Rattle.call_table.specs.ByNumber.{AscendsByNumber};
 ghost use Rattle.call_table.specs.Facts.{AreLines, AreOf, AreGroups, IsTable, IsWhole};
 ghost use Rattle.call_table.specs.Faults.{most_calls, most_families, most_groups};
 ghost use Rattle.call_table.specs.Progress.{IsUnlessMemory};
 ghost use Rattle.call_table.specs.Reading.{launch_calls, lacks, missing_call, unless_missing};
+ghost use Rattle.call_table.specs.Kernels.{AreBy, known_by};
 ghost use Rattle.call_table.specs.Views.{made, lines_seen};
 ghost use Rattle.call_table.specs.Table.{every_call, abis, abi_at, arch_of, calls_in};
 
 use crate::by_number::{Numbered, by_number};
+use crate::call_names::Kernel;
 use crate::causes::CallsError;
 use crate::listed::{CallLine, CallLines, GroupLine};
 use crate::lists::{Lists, second_calls};
@@ -81,7 +84,8 @@ fn missing_call(calls: &CallLines) -> Option<&'static str>
 impl CallTable {
     // Makes the table of these lists, if they have the calls of every launch.
     pub(crate) fn of(alloc: Global, lists: Lists) -> Result<CallTable, CallsError>
-        requires { IsTable (made lists) }
+        requires sound { IsTable (made lists) }
+        requires by_kernel { AreBy Base (every_call (made lists)) }
         ensures { IsUnlessMemory result (unless_missing (missing_call lists.calls) (made lists)) }
     {
         if let Some(name) = missing_call(&lists.calls) {
@@ -94,6 +98,13 @@ impl CallTable {
             by_number: by_number_order,
             second_by_number,
         })
+    }
+
+    /// Lets this kernel read the names of all calls. The base kernel reads the names of a table that was just read.
+    pub fn known_by(&mut self, kernel: Kernel)
+        ensures reads_each_call { self.new ≡ known_by kernel self.old }
+    {
+        self.lists.known_by(kernel);
     }
 
     /// Returns the architecture, as AUDIT_ARCH of linux/audit.h: `0xc000003e` for x86-64.
@@ -225,7 +236,21 @@ impl CallTable {
     pub fn number_in(&self, abi: u8, name: &str) -> Option<u32>
         ensures by_name { result ≡ option_map (λ call. call.number) (named name.now (calls_in self.now abi)) }
     {
-        Some(named(self.lines_in(abi), name)?.number)
+        Some(self.call_named(abi, name)?.number)
+    }
+
+    /// Returns the call of this name of the ABI at this position.
+    pub fn call_named(&self, abi: u8, name: &str) -> Option<&CallLine>
+        ensures by_name { option_copied result ≡ named name.now (calls_in self.now abi) }
+    {
+        named(self.lines_in(abi), name)
+    }
+
+    /// Returns the call to which the ABI at this position gives this number.
+    pub fn call_numbered(&self, abi: u8, number: u32) -> Option<&CallLine>
+        ensures by_number { option_copied result ≡ numbered number (calls_in self.now abi) }
+    {
+        numbered(self.calls_in(abi), number)
     }
 
     /// Returns the name of the call to which the ABI at this position gives this number.

@@ -17,7 +17,7 @@ use kernel_ways::{CallData, CallKind, Decision};
 pub fn rule_of(line: &CallLine) -> Option<Rule>
     ensures by_its_name { result ≡ rule_of line.now }
 {
-    match known_call(line.name.as_str()) {
+    match known_call(line.kernel, line.name.as_str()) {
         None => Some(Rule::Plain(line.cap)),
         Some(KnownCall::Absent) => None,
         Some(KnownCall::Modelled(rule)) => Some(Rule::Known(rule)),

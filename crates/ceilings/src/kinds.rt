@@ -1,12 +1,13 @@
 //! Kinds of calls, and the words with which a call asks for its kind first.
 
 ghost use Rattle.std.specs.Prelude.{◌≡◌, ◌<◌};
+ghost use Rattle.kernel_ways.specs.call_table.declared.call_names.rule.CallRule.TheVariants.{Socketpair};
 ghost use Rattle.kernel_ways.specs.kernel_model.declared.kernel_calls.rule.Rule.TheVariants.{Known, Plain};
-ghost use Rattle.kernel_ways.specs.kernel_laws.Kinds.{one_word, words, wide_words};
-ghost use Rattle.kernel_ways.specs.kernel_laws.declared.question_types.kind.CallKind.TheVariants.{ForPath};
+ghost use Rattle.kernel_ways.specs.kernel_laws.Kinds.{made_words, one_word, words, wide_words};
+ghost use Rattle.kernel_ways.specs.kernel_laws.declared.question_types.kind.CallKind.TheVariants.{ForFamily, ForPath};
 
-use kernel_model::CallRule;
 use kernel_model::kernel_calls::Rule;
+use kernel_model::{Argument, CallRule};
 use kernel_ways::{CallKind, Wish};
 
 /// PROT_WRITE and PROT_EXEC of mmap(2).
@@ -33,6 +34,12 @@ const S_ISUID: u64 = 0x800;
 /// SYS_SOCKET of socketcall(2).
 const SYS_SOCKET: u64 = 1;
 
+/// O_TMPFILE of open(2).
+const O_TMPFILE: u64 = 0x41_0000;
+
+/// AF_UNIX of socketpair(2).
+const AF_UNIX: u32 = 1;
+
 /// O_WRONLY of open(2).
 const O_WRONLY: u64 = 1;
 
@@ -52,6 +59,15 @@ fn one_word(at: usize, value: u64) -> [u64; 6]
     words
 }
 
+// The words with which open(2) makes a file with a set-id bit.
+fn made_words(flags: Argument) -> [u64; 6]
+    ensures { result ≡ made_words flags }
+{
+    let mut words = one_word(flags.place(), O_TMPFILE);
+    words[flags.mode_place()] = S_ISUID;
+    words
+}
+
 // The words with which a call of the rule does first what is wished of a path.
 fn path_words(wish: Wish, rule: CallRule) -> Option<[u64; 6]>
     ensures { result ≡ words (ForPath wish) (Known rule) }
@@ -62,18 +78,31 @@ fn path_words(wish: Wish, rule: CallRule) -> Option<[u64; 6]>
             _ => None,
         },
         Wish::Read => match rule {
-            CallRule::Open(_) => Some(NO_WORDS),
+            CallRule::Open(_) | CallRule::OpenWith(_) | CallRule::Openat2 => Some(NO_WORDS),
             _ => None,
         },
         Wish::Write => match rule {
-            CallRule::Open(flags) => Some(one_word(flags.place(), O_WRONLY)),
-            CallRule::Create | CallRule::Truncate => Some(NO_WORDS),
+            CallRule::Open(flags) | CallRule::OpenWith(flags) => {
+                Some(one_word(flags.place(), O_WRONLY))
+            }
+            CallRule::Openat2 | CallRule::Create | CallRule::Truncate => Some(NO_WORDS),
             _ => None,
         },
         Wish::Exec => match rule {
             CallRule::Execve => Some(NO_WORDS),
             _ => None,
         },
+    }
+}
+
+// The words with which socketpair(2) makes sockets of the family first: it makes none but of AF_UNIX.
+fn pair_words(family: u32) -> Option<[u64; 6]>
+    ensures { result ≡ words (ForFamily family) (Known Socketpair) }
+{
+    if family == AF_UNIX {
+        Some(one_word(0, u64::from(AF_UNIX)))
+    } else {
+        None
     }
 }
 
@@ -85,23 +114,26 @@ fn known_words(kind: CallKind, rule: CallRule) -> Option<[u64; 6]>
         (CallKind::ForPath(wish), _) => return path_words(wish, rule),
         (CallKind::ForFamily(family), CallRule::Socket) => one_word(0, u64::from(family)),
         (CallKind::ForFamily(_), CallRule::Socketcall) => one_word(0, SYS_SOCKET),
+        (CallKind::ForFamily(family), CallRule::Socketpair) => return pair_words(family),
         (CallKind::ForNamespace(kind), CallRule::Unshare | CallRule::Clone) => {
             one_word(0, u64::from(kind.flag()))
         }
+        (CallKind::ForNamespace(_), CallRule::Clone3) => NO_WORDS,
         (CallKind::MapsWx, CallRule::Map) => one_word(2, WRITE_AND_EXEC),
         (CallKind::ProtectsX, CallRule::Protect) => one_word(2, EXEC),
         (CallKind::AttachesX, CallRule::Attach) => one_word(2, SHM_EXEC),
         (CallKind::AttachesReadOnlyX, CallRule::Attach) => one_word(2, SHM_EXEC_AND_RDONLY),
         (CallKind::SchedulesRealtime, CallRule::Schedule) => one_word(1, SCHED_FIFO),
+        (CallKind::SetsRealtime, CallRule::SetAttributes) => NO_WORDS,
         (CallKind::TakesPersonality, CallRule::Personality) => one_word(0, PER_LINUX32),
         (CallKind::SetsMode, CallRule::SetMode(mode)) => one_word(mode.place(), S_ISUID),
+        (CallKind::OpensMode, CallRule::OpenWith(flags)) => made_words(flags),
         (CallKind::ChangesMounts, CallRule::Mount)
         | (CallKind::RemovesMounts, CallRule::Umount)
         | (CallKind::SetsCaps, CallRule::Capset)
-        | (CallKind::TakesUid, CallRule::Setuid | CallRule::Setresuid)
-        | (CallKind::TakesGid, CallRule::Setgid | CallRule::Setresgid | CallRule::Setgroups) => {
-            NO_WORDS
-        }
+        | (CallKind::TakesUid, CallRule::Setuid | CallRule::Setresuid | CallRule::Setreuid)
+        | (CallKind::TakesGid, CallRule::Setgid | CallRule::Setresgid)
+        | (CallKind::TakesGid, CallRule::Setregid | CallRule::Setgroups) => NO_WORDS,
         _ => return None,
     };
     Some(words)

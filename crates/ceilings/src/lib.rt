@@ -32,7 +32,7 @@ pub use kernel_model::{
     is_known,
 };
 pub use kernel_ways::linux_numbers::capabilities::{
-    CAP_LAST_CAP, CAP_SETGID, CAP_SETUID, CAP_SYS_ADMIN,
+    CAP_LAST_CAP, CAP_SETGID, CAP_SETUID, CAP_SYS_ADMIN, CAP_SYS_NICE,
 };
 pub use kernel_ways::{
     FilterProgram, LaunchError, Launched, Mentioned, MountSteps, PlanError, Resolved, Settings,

@@ -12,6 +12,7 @@ use Rattle.asked_service.specs.call_table.Names.{is_name, behind_at}
 use Rattle.asked_service.specs.call_table.Numbers.{number_of, cap_of}
 use Rattle.asked_service.specs.call_table.Reading.{line_kind, call_of, calls_of, native_lines, is_abi, opened_by, second_of, every_call_of}
 use Rattle.asked_service.specs.call_table.Table.{second_calls}
+use Rattle.asked_service.specs.call_table.declared.call_names.kernel.Kernel.TheVariants.{Base}
 use Rattle.asked_service.specs.call_table.declared.listed.CallLine.{CallLine}
 
 -- ---- what stands in a text
@@ -176,7 +177,7 @@ one_fits here more place (call entry) calls fits fit = by (number_of entry.digit
   where
     by : (number : Option ℕ) → Fit (here + more)
         (cons_option (option_map
-        (λ number. record { name = entry.name; number = number; cap = option_and_then cap_of entry.cap_word; abi = place }) number) calls)
+        (λ number. record { name = entry.name; number = number; cap = option_and_then cap_of entry.cap_word; abi = place; kernel = Base }) number) calls)
     by None = fit_more more (here + more) calls (omega arith) fit
     by (Some number) = (ap (λ b. b && list_all (λ (line : CallLine). is_name line.name) calls) fits.0 ∙ fit.0, omega (arith, fits.1, fit.1))
 

@@ -1,13 +1,15 @@
 -- The names of a table that was read are plain, and any of them, behind `@default`, have no more bytes than its text.
 use Rattle.std.proofs.Common.{◌≡◌, ℕ, zero, ◌+◌, ◌<◌, ◌≤◌, suc, Bool, true, false, cond, Option, Some, None, Ok, Err, List, [], ◌∷◌, drop}
-use Rattle.std.proofs.Common.{length, length-append, flat_map, refl, subst, arith}
+use Rattle.std.proofs.Common.{length, length-append, flat_map, refl, sym, ap, ◌∙◌, ◌++◌, subst, arith}
 use Rattle.std.specs.Prelude.{◌&&◌, ◌==◌, codes, slice_get, slice_index, if◌then◌else◌}
 use Rattle.std.specs.List.{AllByRecursion, list_all}
 use Rattle.std.specs.List.Sorted.{IsStrictlyIncreasing}
-use Rattle.std.specs.Option.{option_map_or}
+use Rattle.std.specs.Option.{option_map, option_map_or}
 use Rattle.std.specs.Str.Parse.{digits_value}
 use Rattle.std.proofs.lemmas.Bool.Decides.{nat_tests}
+use Rattle.std.proofs.lemmas.List.{map-append}
 use Rattle.std.proofs.lemmas.List.Elements.{recursion_from_All}
+use Rattle.std.proofs.lemmas.List.Folds.{list_all-map}
 use Rattle.std.proofs.lemmas.List.Quantifiers.{position-Some}
 use Rattle.asked_service.specs.text_forms.line_text.Lines.{Line, is_text, lines_of}
 use Rattle.asked_service.specs.call_table.Kinds.{Kind, abi, call, family, group, malformed}
@@ -16,7 +18,9 @@ use Rattle.asked_service.specs.call_table.Names.{is_name}
 use Rattle.asked_service.specs.call_table.Numbers.{arch_of, is_lower_hex}
 use Rattle.asked_service.specs.call_table.Reading.{Head, line_kind, table_behind, fault_of, missing_call, unless_missing, unless_fault}
 use Rattle.asked_service.specs.call_table.Reading.{table_of_rest, with_arch, with_abi, table_from, is_version, table_of_lines, table_of}
-use Rattle.asked_service.specs.call_table.Table.{Table, every_call}
+use Rattle.asked_service.specs.call_table.Kernels.{calls_by, known_by, read_by, second_by}
+use Rattle.asked_service.specs.call_table.Table.{Abi, Table, every_call, second_calls}
+use Rattle.asked_service.specs.call_table.declared.call_names.kernel.Kernel.{Kernel}
 use Rattle.asked_service.specs.call_table.declared.listed.CallLine.{CallLine}
 use Rattle.asked_service.specs.call_table.declared.causes.CallsError.{CallsError}
 use Rattle.asked_service.specs.call_table.declared.causes.CallsError.TheVariants.{NotText}
@@ -101,6 +105,27 @@ fits_text bytes table = by (is_text bytes)
         (fits_lines (lines_of bytes) table is)
     by false is = cc
 
+-- ---- a kernel that reads the names
+named_room : (kernel : Kernel) (lines : List CallLine) → room_of_names (calls_by kernel lines) ≡ room_of_names lines
+named_room kernel [] = refl
+named_room kernel (line ∷ lines) = ap (λ room. suc (length line.name) + room) (named_room kernel lines)
+
+every_by : (kernel : Kernel) (table : Table) → every_call (known_by kernel table) ≡ calls_by kernel (every_call table)
+every_by kernel table =
+    ap (λ more. calls_by kernel table.calls ++ more) (second_are table.second)
+    ∙ sym (map-append (read_by kernel) table.calls (second_calls table.second))
+  where
+    second_are : (o : Option Abi) → second_calls (option_map (second_by kernel) o) ≡ calls_by kernel (second_calls o)
+    second_are None = refl
+    second_are (Some second) = refl
+
+fits_by : (kernel : Kernel) (room : ℕ) (table : Table) → FitsTable room table → FitsTable room (known_by kernel table)
+fits_by kernel room table fits =
+    let every = every_call table in
+    let plain = ap (λ calls. list_all (λ (line : CallLine). is_name line.name) calls) (every_by kernel table) ∙ list_all-map (λ (line : CallLine). is_name line.name) (read_by kernel) every ∙ fits.0 in
+    let names = ap room_of_names (every_by kernel table) ∙ named_room kernel every in
+    (plain, omega (arith, names, fits.1))
+
 -- ---- some names of a table
 -- what stands behind a later place is no more
 later_is_no_more : (place later : ℕ) (lines : List CallLine) → place ≤ later
@@ -167,14 +192,17 @@ module _ (table : Table) where
       names_behind 0 place names (omega arith)
       (recursion_from_All (λ place. is_first_line table place ≡ true) (place ∷ names) are.first_lines) are.in_order
 
--- the table of a text of at most 1 MiB
-pub table_is_plain : (bytes : List ℕ) (table : Table) → length bytes ≤ 1048576 → table_of bytes ≡ Ok table → HasPlainNames table
-table_is_plain bytes table le is =
-    let fits = fits_text bytes table is in
-    record {
-      plain = fits.0;
-      short = λ names are.
-          let long = length-append (codes "@default") (flat_map (λ place. 32 ∷ name_at table place) names) in
-          let fewer = names_fit table names are in
-          omega (arith, le, fits.1, long, fewer);
-    }
+fitting_is_plain : (bytes : List ℕ) (table : Table) → length bytes ≤ 1048576 → FitsTable (suc (length bytes)) table → HasPlainNames table
+fitting_is_plain bytes table le fits = record {
+  plain = fits.0;
+  short = λ names are.
+      let long = length-append (codes "@default") (flat_map (λ place. 32 ∷ name_at table place) names) in
+      let fewer = names_fit table names are in
+      omega (arith, le, fits.1, long, fewer);
+}
+
+-- the table of a text of at most 1 MiB, whatever kernel reads the names
+pub table_is_plain : (bytes : List ℕ) (table : Table) (kernel : Kernel) → length bytes ≤ 1048576 → table_of bytes ≡ Ok table
+    → HasPlainNames (known_by kernel table)
+table_is_plain bytes table kernel le is =
+    fitting_is_plain bytes (known_by kernel table) le (fits_by kernel (suc (length bytes)) table (fits_text bytes table is))

@@ -123,7 +123,7 @@ module _ (one other : List (List Insn)) (world : World) (call : Call) (nothing :
         → applied world call.pid process (effect_of (host_of world) (caller_over one world process) operation)
         ≡ applied world call.pid process (effect_of (host_of world) (caller_over other world process) operation)
     operation_same (d.See path) asks = refl
-    operation_same (d.Open flags path) asks = refl
+    operation_same (d.Open flags mode path) asks = refl
     operation_same (d.Create path) asks = refl
     operation_same (d.Truncate path) asks = refl
     operation_same (d.Execve path) asks = refl
@@ -133,8 +133,10 @@ module _ (one other : List (List Insn)) (world : World) (call : Call) (nothing :
     operation_same (d.Attach flags) asks = refl
     operation_same (d.Schedule policy) asks = refl
     operation_same (d.Personality domain) asks = refl
+    operation_same (d.SetAttributes policy) asks = refl
     operation_same (d.Socket family) asks = refl
     operation_same (d.Socketcall op family) asks = refl
+    operation_same (d.Socketpair family) asks = refl
     operation_same d.Enter asks = refl
     operation_same d.Fork asks = refl
     operation_same (d.Clone flags) asks = refl

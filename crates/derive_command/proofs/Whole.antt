@@ -16,7 +16,7 @@ use Rattle.derive_command.specs.trace_profile.Derived.{Derives, IsOnlyOne}
 use Rattle.derive_command.specs.trace_profile.Errors.{error_of}
 use Rattle.derive_command.specs.trace_profile.Extended.{open_unit}
 use Rattle.derive_command.specs.trace_profile.Finding.{DerivesOpen}
-use Rattle.derive_command.specs.trace_profile.PlainNames.{IsReadFrom}
+use Rattle.derive_command.specs.trace_profile.PlainNames.{HasPlainNames, IsReadFrom}
 use Rattle.derive_command.specs.trace_profile.Scripts.{first_seccomp}
 use Rattle.derive_command.specs.declared.trace_profile.derived.DeriveError.{DeriveError}
 use Rattle.derive_command.specs.declared.trace_profile.derived.Derived.{Derived}
@@ -31,7 +31,8 @@ module _ (unit : Resolved) (table : calls.Table) (site : Site) (script : List Ca
   pub only_over_read : (derived : Derived) → DerivesOpen unit table site script (Ok derived) → (bytes : List ℕ)
       → IsReadFrom bytes table → IsOnlyOne unit table site script derived.names
   only_over_read derived is bytes read =
-      (derives_all derived is).2 (table_is_plain bytes table read.fits_a_file read.is_its_table)
+      (derives_all derived is).2
+      (subst HasPlainNames read.is_known_by (table_is_plain bytes read.read read.kernel read.fits_a_file read.is_its_table))
 
 -- why there is nothing
 module _ (unit : Resolved) (table : calls.Table) (site : Site) (script : List Call) (none : first_seccomp table script ≡ None) where

@@ -45,7 +45,8 @@ pub use filter_settings::filter_rules::{
     permits_family,
 };
 pub use filter_settings::{
-    CallLine, CallTable, CallsCause, CallsError, GroupLine, filter_settings, name_at, read_calls,
+    CallLine, CallTable, CallsCause, CallsError, GroupLine, Kernel, filter_settings, name_at,
+    read_calls,
 };
 pub use judged::is_read;
 pub use mount_settings::{

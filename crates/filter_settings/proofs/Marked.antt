@@ -16,6 +16,7 @@ use Rattle.call_table.specs.Table.{Table, every_call, calls_in, second_calls}
 use Rattle.call_table.specs.Names.{behind_at}
 use Rattle.call_table.specs.Lookups.{has_name, place_named, group_named}
 use Rattle.call_table.specs.Members.{has_member, is_first}
+use Rattle.call_table.specs.declared.call_names.kernel.Kernel.TheVariants.{Base}
 use Rattle.call_table.specs.declared.listed.CallLine.{CallLine}
 use Rattle.call_table.specs.declared.listed.GroupLine.{GroupLine}
 use Rattle.call_table.proofs.AllCalls.{second_are}
@@ -181,7 +182,7 @@ module _ (table : Table) (default : Action) (list : CallList) (marks : List Mark
   stands_within d = (position-Some (has_name name) (every_call table) place d (sym found)).0
 
   some_line : CallLine
-  some_line = record { name = []; number = 0; cap = None; abi = 0 }
+  some_line = record { name = []; number = 0; cap = None; abi = 0; kernel = Base }
 
   pub has_mark : place < length marks
   has_mark = let lt = stands_within some_line in omega (arith, lt, are.as_many)

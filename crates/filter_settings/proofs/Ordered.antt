@@ -6,6 +6,7 @@ use Rattle.std.specs.List.Sorted.{IsPermutation, IsStrictlyIncreasing}
 use Rattle.std.proofs.Math.Seq.{get_or-append_seam}
 use Rattle.std.proofs.lemmas.List.Elements.{All-from_recursion, recursion_from_All}
 use Rattle.std.proofs.lemmas.List.Sorted.{All-permutation, IsPermutation-map}
+use Rattle.call_table.specs.declared.call_names.kernel.Kernel.TheVariants.{Base}
 use Rattle.call_table.specs.declared.listed.CallLine.{CallLine}
 use Rattle.call_table.specs.declared.by_number.Numbered.{Numbered}
 use Rattle.call_table.specs.ByNumber.{numbered_at, numbered_lines, AscendsByNumber}
@@ -13,7 +14,7 @@ use Rattle.filter_settings.specs.filter_rules.Order.{Ascends}
 
 -- a stand-in for a call after the last one
 abbrev pub no_line : ℕ → CallLine
-no_line number = record { name = []; number = number; cap = None; abi = 0 }
+no_line number = record { name = []; number = number; cap = None; abi = 0; kernel = Base }
 
 -- the call at the position of a number
 abbrev pub line_at : List CallLine → Numbered → CallLine

@@ -2,6 +2,7 @@
 pub use Rattle.call_table.specs.Causes as Causes
 pub use Rattle.call_table.specs.Facts as Facts
 pub use Rattle.call_table.specs.Faults as Faults
+pub use Rattle.call_table.specs.Kernels as Kernels
 pub use Rattle.call_table.specs.Kinds as Kinds
 pub use Rattle.call_table.specs.Lookups as Lookups
 pub use Rattle.call_table.specs.Members as Members

@@ -22,7 +22,7 @@ mod namespaces;
 mod settings;
 
 pub use call_rules::{CallData, Decision, Insn, Program};
-pub use call_table::call_names::is_known;
+pub use call_table::call_names::{Kernel, is_known};
 pub use call_table::call_words::name_at;
 pub use call_table::{CallLine, CallTable, CallsCause, CallsError, GroupLine, read_calls};
 pub use dropin_merge::linux_numbers;

@@ -65,9 +65,10 @@ abbrev NoPath : Payload → Type 0
 NoPath pay.Nothing = Unit {0}
 NoPath (pay.OnePath path) = ⊥
 NoPath (pay.TwoPaths source target) = ⊥
+NoPath (pay.PathFlags path flags) = ⊥
 NoPath (pay.Sets p e i) = Unit {0}
 NoPath (pay.Ids ids) = Unit {0}
-NoPath (pay.Family family) = Unit {0}
+NoPath (pay.Number number) = Unit {0}
 NoPath (pay.Code bytes) = Unit {0}
 
 abbrev NamesNone : LaunchStep → Type 0
@@ -87,9 +88,10 @@ module _ (site other : Site) where
   none_same pay.Nothing table none = tt
   none_same (pay.OnePath path) table none = absurd none
   none_same (pay.TwoPaths source target) table none = absurd none
+  none_same (pay.PathFlags path flags) table none = absurd none
   none_same (pay.Sets p e i) table none = tt
   none_same (pay.Ids ids) table none = tt
-  none_same (pay.Family family) table none = tt
+  none_same (pay.Number number) table none = tt
   none_same (pay.Code bytes) table none = tt
 
   mounted_there : (world : World) (entry : MountStep) (o : Option Process)

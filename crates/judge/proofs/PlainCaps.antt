@@ -20,11 +20,11 @@ by_plain top None cap e = refl
 by_plain top (Some known) cap e = cc
 
 -- a call that the kernel knows asks for none here
-pub known_have : (top : Bounds) (line : CallLine) → is_known line.name ≡ true → true ≡ can_have_for top (rule_of line)
+pub known_have : (top : Bounds) (line : CallLine) → is_known line.kernel line.name ≡ true → true ≡ can_have_for top (rule_of line)
 unfolding rule_of
-known_have top line e = by_known top (known_call line.name) line.cap e
+known_have top line e = by_known top (known_call line.kernel line.name) line.cap e
 
 -- a plain call asks for that of its line
-pub plain_have : (top : Bounds) (line : CallLine) → is_known line.name ≡ false → can_have_cap top line.cap ≡ can_have_for top (rule_of line)
+pub plain_have : (top : Bounds) (line : CallLine) → is_known line.kernel line.name ≡ false → can_have_cap top line.cap ≡ can_have_for top (rule_of line)
 unfolding rule_of
-plain_have top line e = by_plain top (known_call line.name) line.cap e
+plain_have top line e = by_plain top (known_call line.kernel line.name) line.cap e

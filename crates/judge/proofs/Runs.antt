@@ -7,7 +7,7 @@ use Rattle.ceilings.specs.abs_path.Paths.{Path, is_root}
 use Rattle.ceilings.specs.abs_path.Prefix.{is_below, rest_of}
 use Rattle.ceilings.specs.bpf_code.declared.decision.Decision.{Decision}
 use Rattle.ceilings.specs.bpf_code.declared.decision.Decision.TheVariants as decision
-use Rattle.ceilings.specs.call_table.call_names.Known.{place_of}
+use Rattle.ceilings.specs.call_table.call_names.Known.{mode_place_of, place_of}
 use Rattle.ceilings.specs.call_table.declared.call_names.rule.CallRule.{CallRule}
 use Rattle.ceilings.specs.call_table.declared.call_names.rule.CallRule.TheVariants as known
 use Rattle.ceilings.specs.linux_numbers.Errnos.{ebusy, einval, enotdir, eagain, enospc}
@@ -30,7 +30,7 @@ use Rattle.ceilings.specs.kernel_model.kern_files.MountCall.{kind_found, flags_o
 use Rattle.ceilings.specs.kernel_model.kernel_calls.Calls.{FitsPayload, IsPath}
 use Rattle.ceilings.specs.kernel_model.kernel_calls.Operation as d
 use Rattle.ceilings.specs.kernel_model.kernel_calls.Operation.{Operation, operation_by, known_operation, asked_if, asked_by, asked_of, bare, by_path}
-use Rattle.ceilings.specs.kernel_model.kernel_calls.Operation.{by_paths, by_sets, by_ids, by_family, by_code}
+use Rattle.ceilings.specs.kernel_model.kernel_calls.Operation.{by_path_flags, by_paths, by_sets, by_ids, by_number, by_code}
 use Rattle.ceilings.specs.kernel_model.kernel_calls.Rules.{rule_at}
 use Rattle.ceilings.specs.kernel_model.kernel_calls.Words.{low_word}
 use Rattle.ceilings.specs.kernel_model.declared.kernel_calls.call.Call.{Call}
@@ -64,9 +64,10 @@ module _ (site other : Site) where
   PayloadSame table pay.Nothing = Unit {0}
   PayloadSame table (pay.OnePath path) = FindsSame table path
   PayloadSame table (pay.TwoPaths source target) = FindsSame table source × FindsSame table target
+  PayloadSame table (pay.PathFlags path flags) = FindsSame table path
   PayloadSame table (pay.Sets p e i) = Unit {0}
   PayloadSame table (pay.Ids ids) = Unit {0}
-  PayloadSame table (pay.Family family) = Unit {0}
+  PayloadSame table (pay.Number number) = Unit {0}
   PayloadSame table (pay.Code bytes) = Unit {0}
 
   mount_same : (mounts : Mounts) (source target : Path) (flags : ℕ) → FindsSame (steps_of mounts) source
@@ -193,9 +194,10 @@ module _ (site other : Site) where
     bare_goes operation same pay.Nothing = operation_goes operation same
     bare_goes operation same (pay.OnePath path) = refl
     bare_goes operation same (pay.TwoPaths source target) = refl
+    bare_goes operation same (pay.PathFlags path flags) = refl
     bare_goes operation same (pay.Sets p e i) = refl
     bare_goes operation same (pay.Ids ids) = refl
-    bare_goes operation same (pay.Family family) = refl
+    bare_goes operation same (pay.Number number) = refl
     bare_goes operation same (pay.Code bytes) = refl
 
     path_goes : (operation : Path → Operation) → ((path : Path) → FindsSame table path → Same (operation path)) → (payload : Payload)
@@ -203,9 +205,10 @@ module _ (site other : Site) where
     path_goes operation same pay.Nothing found = refl
     path_goes operation same (pay.OnePath path) found = operation_goes (operation path) (same path found)
     path_goes operation same (pay.TwoPaths source target) found = refl
+    path_goes operation same (pay.PathFlags path flags) found = refl
     path_goes operation same (pay.Sets p e i) found = refl
     path_goes operation same (pay.Ids ids) found = refl
-    path_goes operation same (pay.Family family) found = refl
+    path_goes operation same (pay.Number number) found = refl
     path_goes operation same (pay.Code bytes) found = refl
 
     paths_goes : (operation : Path → Path → Operation)
@@ -214,45 +217,62 @@ module _ (site other : Site) where
     paths_goes operation same pay.Nothing found = refl
     paths_goes operation same (pay.OnePath path) found = refl
     paths_goes operation same (pay.TwoPaths source target) found = operation_goes (operation source target) (same source target found.0 found.1)
+    paths_goes operation same (pay.PathFlags path flags) found = refl
     paths_goes operation same (pay.Sets p e i) found = refl
     paths_goes operation same (pay.Ids ids) found = refl
-    paths_goes operation same (pay.Family family) found = refl
+    paths_goes operation same (pay.Number number) found = refl
     paths_goes operation same (pay.Code bytes) found = refl
+
+    path_flags_goes : (operation : Path → ℕ → Operation) → ((path : Path) (flags : ℕ) → FindsSame table path → Same (operation path flags))
+        → (payload : Payload) → PayloadSame table payload → Goes (by_path_flags operation payload)
+    path_flags_goes operation same pay.Nothing found = refl
+    path_flags_goes operation same (pay.OnePath path) found = refl
+    path_flags_goes operation same (pay.TwoPaths source target) found = refl
+    path_flags_goes operation same (pay.PathFlags path flags) found = operation_goes (operation path flags) (same path flags found)
+    path_flags_goes operation same (pay.Sets p e i) found = refl
+    path_flags_goes operation same (pay.Ids ids) found = refl
+    path_flags_goes operation same (pay.Number number) found = refl
+    path_flags_goes operation same (pay.Code bytes) found = refl
 
     sets_goes : (payload : Payload) → Goes (by_sets d.Capset payload)
     sets_goes pay.Nothing = refl
     sets_goes (pay.OnePath path) = refl
     sets_goes (pay.TwoPaths source target) = refl
+    sets_goes (pay.PathFlags path flags) = refl
     sets_goes (pay.Sets p e i) = operation_goes (d.Capset p e i) refl
     sets_goes (pay.Ids ids) = refl
-    sets_goes (pay.Family family) = refl
+    sets_goes (pay.Number number) = refl
     sets_goes (pay.Code bytes) = refl
 
     ids_goes : (payload : Payload) → Goes (by_ids d.Setgroups payload)
     ids_goes pay.Nothing = refl
     ids_goes (pay.OnePath path) = refl
     ids_goes (pay.TwoPaths source target) = refl
+    ids_goes (pay.PathFlags path flags) = refl
     ids_goes (pay.Sets p e i) = refl
     ids_goes (pay.Ids ids) = operation_goes (d.Setgroups ids) refl
-    ids_goes (pay.Family family) = refl
+    ids_goes (pay.Number number) = refl
     ids_goes (pay.Code bytes) = refl
 
-    family_goes : (op : ℕ) (payload : Payload) → Goes (by_family (d.Socketcall op) payload)
-    family_goes op pay.Nothing = refl
-    family_goes op (pay.OnePath path) = refl
-    family_goes op (pay.TwoPaths source target) = refl
-    family_goes op (pay.Sets p e i) = refl
-    family_goes op (pay.Ids ids) = refl
-    family_goes op (pay.Family family) = operation_goes (d.Socketcall op family) refl
-    family_goes op (pay.Code bytes) = refl
+    number_goes : (operation : ℕ → Operation) → ((number : ℕ) → Same (operation number)) → (payload : Payload)
+        → Goes (by_number operation payload)
+    number_goes operation same pay.Nothing = refl
+    number_goes operation same (pay.OnePath path) = refl
+    number_goes operation same (pay.TwoPaths source target) = refl
+    number_goes operation same (pay.PathFlags path flags) = refl
+    number_goes operation same (pay.Sets p e i) = refl
+    number_goes operation same (pay.Ids ids) = refl
+    number_goes operation same (pay.Number number) = operation_goes (operation number) (same number)
+    number_goes operation same (pay.Code bytes) = refl
 
     code_goes : (op flags : ℕ) (payload : Payload) → Goes (by_code (d.Seccomp op flags) payload)
     code_goes op flags pay.Nothing = refl
     code_goes op flags (pay.OnePath path) = refl
     code_goes op flags (pay.TwoPaths source target) = refl
+    code_goes op flags (pay.PathFlags path bits) = refl
     code_goes op flags (pay.Sets p e i) = refl
     code_goes op flags (pay.Ids ids) = refl
-    code_goes op flags (pay.Family family) = refl
+    code_goes op flags (pay.Number number) = refl
     code_goes op flags (pay.Code bytes) = operation_goes (d.Seccomp op flags bytes) refl
 
     here : (path : Path) → FindsSame table path → finds (row_at other.rows) table path ≡ finds (row_at world.site.rows) table path
@@ -274,8 +294,12 @@ module _ (site other : Site) where
 
     known_goes : (own : CallRule) (args : List ℕ) (payload : Payload) → PayloadSame table payload → Goes (known_operation own args payload)
     known_goes known.See args payload same = path_goes d.See (λ path s. ap (λ found. looks (see_answer 0 found)) (here path s)) payload same
-    known_goes (known.Open at) args payload same = path_goes (d.Open (low_word args (place_of at)))
+    known_goes (known.Open at) args payload same = path_goes (d.Open (low_word args (place_of at)) 0)
         (λ path s. ap (λ found. looks (open_answer (low_word args (place_of at)) (flags_at table path) found)) (here path s)) payload same
+    known_goes (known.OpenWith at) args payload same = path_goes (d.Open (low_word args (place_of at)) (low_word args (mode_place_of at)))
+        (λ path s. ap (λ found. looks (open_answer (low_word args (place_of at)) (flags_at table path) found)) (here path s)) payload same
+    known_goes known.Openat2 args payload same = path_flags_goes (λ path flags. d.Open flags 0 path)
+        (λ path flags s. ap (λ found. looks (open_answer flags (flags_at table path) found)) (here path s)) payload same
     known_goes known.Create args payload same = path_goes d.Create
         (λ path s. ap (λ found. looks (write_answer 3 (flags_at table path) found)) (here path s)) payload same
     known_goes known.Truncate args payload same = path_goes d.Truncate
@@ -288,12 +312,15 @@ module _ (site other : Site) where
     known_goes known.Protect args payload same = bare_goes _ refl payload
     known_goes known.Attach args payload same = bare_goes _ refl payload
     known_goes known.Schedule args payload same = bare_goes _ refl payload
+    known_goes known.SetAttributes args payload same = number_goes d.SetAttributes (λ number. refl) payload
     known_goes known.Personality args payload same = bare_goes _ refl payload
     known_goes known.Socket args payload same = bare_goes _ refl payload
-    known_goes known.Socketcall args payload same = family_goes _ payload
+    known_goes known.Socketcall args payload same = number_goes (d.Socketcall (low_word args 0)) (λ number. refl) payload
+    known_goes known.Socketpair args payload same = bare_goes _ refl payload
     known_goes known.Enter args payload same = bare_goes _ refl payload
     known_goes known.Fork args payload same = bare_goes _ refl payload
     known_goes known.Clone args payload same = bare_goes _ refl payload
+    known_goes known.Clone3 args payload same = number_goes d.Clone (λ number. refl) payload
     known_goes known.Unshare args payload same = bare_goes _ refl payload
     known_goes known.Exit args payload same = bare_goes _ refl payload
     known_goes known.Mount args payload same = paths_goes (λ source target. d.Mount source target (low_word args 3))
@@ -303,6 +330,8 @@ module _ (site other : Site) where
     known_goes known.Setgid args payload same = bare_goes _ refl payload
     known_goes known.Setresuid args payload same = bare_goes _ refl payload
     known_goes known.Setresgid args payload same = bare_goes _ refl payload
+    known_goes known.Setreuid args payload same = bare_goes _ refl payload
+    known_goes known.Setregid args payload same = bare_goes _ refl payload
     known_goes known.Setgroups args payload same = ids_goes payload
     known_goes known.Capset args payload same = sets_goes payload
     known_goes known.Prctl args payload same =
@@ -374,9 +403,11 @@ module _ (folder : Path) (site other : Site) (agree : AgreeOutside folder site o
       finds_same (table_of world process.namespace) path (not_shown world pid process path lives fit blind)
   payload_same world pid process lives blind (pay.TwoPaths source target) fit =
       (finds_same (table_of world process.namespace) source (not_shown world pid process source lives fit.0 blind), finds_same (table_of world process.namespace) target (not_shown world pid process target lives fit.1 blind))
+  payload_same world pid process lives blind (pay.PathFlags path flags) fit =
+      finds_same (table_of world process.namespace) path (not_shown world pid process path lives fit.0 blind)
   payload_same world pid process lives blind (pay.Sets p e i) fit = tt
   payload_same world pid process lives blind (pay.Ids ids) fit = tt
-  payload_same world pid process lives blind (pay.Family family) fit = tt
+  payload_same world pid process lives blind (pay.Number number) fit = tt
   payload_same world pid process lives blind (pay.Code bytes) fit = tt
 
 -- the site of a world stays

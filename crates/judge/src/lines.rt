@@ -7,11 +7,13 @@ ghost use Rattle.ceilings.specs.call_table.Table.{every_call};
 ghost use Rattle.ceilings.specs.kernel_model.kernel_calls.Rules.{rule_of};
 ghost use Rattle.ceilings.specs.kernel_laws.Bound.{can_have_cap, can_have_for, ceiling, open_at, power_of};
 ghost use Rattle.ceilings.specs.kernel_laws.declared.question_types.kind.CallKind.TheVariants.{PlainCall};
-ghost use Rattle.ceilings.specs.kernel_laws.declared.question_types.question.Question.TheVariants.{Call, Namespace as Ns, Socket};
+ghost use Rattle.ceilings.specs.kernel_laws.declared.question_types.question.Question.TheVariants.{Call, Namespace as Ns, Realtime, Socket};
 ghost use Rattle.ceilings.specs.kernel_laws.Launched.{Launch, can_make_user, launch_of, lets, lets_line};
 ghost use Rattle.ceilings.specs.Own.{IsCeilingOf};
 
-use ceilings::{CAP_SYS_ADMIN, CallLine, Ceiling, can_make_user, is_known, plain_line_at};
+use ceilings::{
+    CAP_SYS_ADMIN, CAP_SYS_NICE, CallLine, Ceiling, can_make_user, is_known, plain_line_at,
+};
 use questions::{CallKind, NamespaceType, World};
 
 // Returns whether the capability, if one is asked for, can become effective.
@@ -28,7 +30,7 @@ fn can_have_cap(top: &Ceiling, cap: Option<u8>) -> bool
 fn can_have_for(top: &Ceiling, line: &CallLine) -> bool
     ensures { (launch : Launch) → IsCeilingOf launch top.now → result ≡ can_have_for (ceiling launch) (rule_of line.now) }
 {
-    is_known(line.name.as_str()) || can_have_cap(top, line.cap)
+    is_known(line.kernel, line.name.as_str()) || can_have_cap(top, line.cap)
 }
 
 // Returns whether a plain call passes that has the name of this line, which is at this position.
@@ -79,6 +81,15 @@ pub(crate) fn is_socket_open(world: &World<'_>, top: &Ceiling, at: usize) -> boo
             can_have_cap(top, line.cap) && passes(world, top, CallKind::ForFamily(line.number))
         }
     }
+}
+
+// Returns whether a realtime policy can be taken: sched_setscheduler(2) passes, or sched_setattr(2) with its capability.
+pub(crate) fn is_realtime_open(world: &World<'_>, top: &Ceiling) -> bool
+    requires { IsCeilingOf (launch_of world.now) top.now }
+    ensures { let launch = launch_of world.now in result ≡ open_at launch (power_of launch) (ceiling launch) Realtime }
+{
+    passes(world, top, CallKind::SchedulesRealtime)
+        || (passes(world, top, CallKind::SetsRealtime) && can_have_cap(top, Some(CAP_SYS_NICE)))
 }
 
 // Returns whether a namespace of the type can be made, clone(2), unshare(2). One of users is made by itself, and

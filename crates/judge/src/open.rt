@@ -6,7 +6,7 @@ ghost use Rattle.ceilings.specs.kernel_laws.Launched.{IsLaunchedWorld, launch_of
 ghost use Rattle.ceilings.specs.Own.{IsCeilingOf};
 
 use crate::ids::{is_gid_open, is_uid_open};
-use crate::lines::{is_call_open, is_namespace_open, is_socket_open, passes};
+use crate::lines::{is_call_open, is_namespace_open, is_realtime_open, is_socket_open, passes};
 use crate::rows::is_path_open;
 use ceilings::{Ceiling, attaching, refuses_memory};
 use questions::{CallKind, Question, World};
@@ -26,9 +26,12 @@ pub(crate) fn is_open(world: &World<'_>, ceiling: &Ceiling, question: &Question)
         Question::MapWx => !refuses_memory(world) && passes(world, ceiling, CallKind::MapsWx),
         Question::ProtectX => passes(world, ceiling, CallKind::ProtectsX),
         Question::ShmX => passes(world, ceiling, attaching(world)),
-        Question::Realtime => passes(world, ceiling, CallKind::SchedulesRealtime),
+        Question::Realtime => is_realtime_open(world, ceiling),
         Question::Personality => passes(world, ceiling, CallKind::TakesPersonality),
-        Question::SuidBit => passes(world, ceiling, CallKind::SetsMode),
+        Question::SuidBit => {
+            passes(world, ceiling, CallKind::SetsMode)
+                || passes(world, ceiling, CallKind::OpensMode)
+        }
         Question::Cap(cap) => ceiling.effective.contains(*cap),
         Question::Uid(id) => is_uid_open(ceiling, *id),
         Question::Gid(id) => is_gid_open(ceiling, *id),

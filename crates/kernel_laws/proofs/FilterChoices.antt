@@ -17,6 +17,8 @@ use Rattle.kernel_model.proofs.OfCapSets.Members.{has_cut, has_none, has_union, 
 use Rattle.kernel_model.proofs.OfCapSets.Members.{within-from_IsWithin}
 use Rattle.filter_settings.specs.call_table.declared.listed.CallLine.{CallLine}
 use Rattle.filter_settings.specs.call_table.call_names.Known.{known_call}
+use Rattle.filter_settings.specs.call_table.declared.call_names.kernel.Kernel.{Kernel}
+use Rattle.filter_settings.specs.call_table.declared.call_names.kernel.Kernel.TheVariants as by_kernel
 use Rattle.filter_settings.specs.declared.filter_rules.mentions.FamilyList.{FamilyList}
 use Rattle.filter_settings.specs.declared.filter_rules.names.FilterName.TheVariants as filter
 use Rattle.filter_settings.specs.declared.filter_rules.namespace_types.NamespaceType.{NamespaceType}
@@ -47,7 +49,7 @@ use Rattle.kernel_laws.specs.declared.question_types.kind.CallKind.{CallKind}
 use Rattle.kernel_laws.specs.declared.question_types.kind.CallKind.TheVariants as k
 use Rattle.filter_settings.specs.declared.filter_rules.namespace_types.NamespaceType.TheVariants as namespace
 use Rattle.kernel_laws.specs.declared.question_types.wish.Wish.TheVariants as wish_to
-use Rattle.kernel_laws.specs.Kinds.{asks, words, wide_words, one_word, no_words}
+use Rattle.kernel_laws.specs.Kinds.{asks, words, wide_words, made_words, one_word, no_words}
 use Rattle.kernel_laws.specs.Questions as q
 use Rattle.filter_settings.specs.call_table.call_names.Known.{place_of}
 use Rattle.filter_settings.specs.call_table.declared.call_names.rule.Argument.{Argument}
@@ -64,7 +66,7 @@ use Rattle.kernel_laws.proofs.Filters.{bare_is}
 use Rattle.kernel_laws.proofs.FirstWords.{no_wish}
 
 abbrev pub with_name : CallLine → List ℕ → CallLine
-with_name line name = record { name = name; number = line.number; cap = line.cap; abi = line.abi }
+with_name line name = record { name = name; number = line.number; cap = line.cap; abi = line.abi; kernel = line.kernel }
 
 some_same : (own rule' : Rule) → Some own ≡ Some rule' → own ≡ rule'
 some_same own rule' e = cc
@@ -75,6 +77,41 @@ pub rule_named : (line : CallLine) (rule' : Rule) → rule_of line ≡ Some rule
 rule_named line rule' e name own named h =
     let P : List ℕ → Type 0 = λ n. rule_of (with_name line n) ≡ Some rule' in
     some_same own rule' (sym named ∙ subst P ((bytes_eq-Decides line.name name).0 h) e)
+
+-- the line with this name in a kernel
+abbrev pub in_kernel : CallLine → List ℕ → Kernel → CallLine
+in_kernel line name kernel = record { name = name; number = line.number; cap = line.cap; abi = line.abi; kernel = kernel }
+
+-- a line of a name that has this rule in one kernel, and that rule in the other, or none
+abbrev pub HasRules : CallLine → List ℕ → Rule → Rule → Type 0
+HasRules line name one other = (kernel : Kernel) (found : Rule) → rule_of (in_kernel line name kernel) ≡ Some found
+    → (one ≡ found) ⊎ (other ≡ found)
+
+pub rules_named : (line : CallLine) (rule' : Rule) → rule_of line ≡ Some rule' → (name : List ℕ) (one other : Rule)
+    → HasRules line name one other → bytes_eq line.name name ≡ true → (one ≡ rule') ⊎ (other ≡ rule')
+rules_named line rule' e name one other either h =
+    let P : List ℕ → Type 0 = λ n. rule_of (with_name line n) ≡ Some rule' in
+    either line.kernel rule' (subst P ((bytes_eq-Decides line.name name).0 h) e)
+
+-- open(2) and openat(2), whose mode Linux looks at
+pub open_rules : (line : CallLine) → HasRules line (codes "open") (rule.Known (known.Open argument.Second))
+    (rule.Known (known.OpenWith argument.Second))
+unfolding rule_of known_call
+open_rules line by_kernel.Base found e = inl (some_same (rule.Known (known.Open argument.Second)) found e)
+open_rules line by_kernel.Linux found e = inr (some_same (rule.Known (known.OpenWith argument.Second)) found e)
+
+pub openat_rules : (line : CallLine) → HasRules line (codes "openat") (rule.Known (known.Open argument.Third))
+    (rule.Known (known.OpenWith argument.Third))
+unfolding rule_of known_call
+openat_rules line by_kernel.Base found e = inl (some_same (rule.Known (known.Open argument.Third)) found e)
+openat_rules line by_kernel.Linux found e = inr (some_same (rule.Known (known.OpenWith argument.Third)) found e)
+
+-- fchmodat2(2), which the base kernel lacks
+pub fchmodat2_rules : (line : CallLine) → HasRules line (codes "fchmodat2") (rule.Known (known.SetMode argument.Third))
+    (rule.Known (known.SetMode argument.Third))
+unfolding rule_of known_call
+fchmodat2_rules line by_kernel.Base found e = cc
+fchmodat2_rules line by_kernel.Linux found e = inr (some_same (rule.Known (known.SetMode argument.Third)) found e)
 
 -- the words that ask first have this in their place
 first_is : (one first : List ℕ) → Some one ≡ Some first → one ≡ first
@@ -349,6 +386,26 @@ kind-Open-2 (k.ForPath wish_to.Write) first e = ap (λ (w : List ℕ). has_bits 
 kind-Open-2 (k.ForPath wish_to.Exec) first e = cc
 kind-Open-2 kind first e = cc
 
+kind-OpenWith-1 : (kind : CallKind) (first : List ℕ) → words kind (rule.Known (known.OpenWith argument.Second)) ≡ Some first
+    → has_bits (low_word first 1) 0x40 ≡ false
+kind-OpenWith-1 (k.ForPath wish_to.See) first e = cc
+kind-OpenWith-1 (k.ForPath wish_to.Read) first e = ap (λ (w : List ℕ). has_bits (low_word w 1) 0x40) (sym (first_is no_words first e))
+kind-OpenWith-1 (k.ForPath wish_to.Write) first e = ap (λ (w : List ℕ). has_bits (low_word w 1) 0x40) (sym (first_is (one_word 1 1) first e))
+kind-OpenWith-1 (k.ForPath wish_to.Exec) first e = cc
+kind-OpenWith-1 k.OpensMode first e =
+    ap (λ (w : List ℕ). has_bits (low_word w 1) 0x40) (sym (first_is (made_words argument.Second) first e))
+kind-OpenWith-1 kind first e = cc
+
+kind-OpenWith-2 : (kind : CallKind) (first : List ℕ) → words kind (rule.Known (known.OpenWith argument.Third)) ≡ Some first
+    → has_bits (low_word first 2) 0x40 ≡ false
+kind-OpenWith-2 (k.ForPath wish_to.See) first e = cc
+kind-OpenWith-2 (k.ForPath wish_to.Read) first e = ap (λ (w : List ℕ). has_bits (low_word w 2) 0x40) (sym (first_is no_words first e))
+kind-OpenWith-2 (k.ForPath wish_to.Write) first e = ap (λ (w : List ℕ). has_bits (low_word w 2) 0x40) (sym (first_is (one_word 2 1) first e))
+kind-OpenWith-2 (k.ForPath wish_to.Exec) first e = cc
+kind-OpenWith-2 k.OpensMode first e =
+    ap (λ (w : List ℕ). has_bits (low_word w 2) 0x40) (sym (first_is (made_words argument.Third) first e))
+kind-OpenWith-2 kind first e = cc
+
 -- the names of which the second word is a mode, and the third
 abbrev seconds : List (List ℕ)
 seconds = codes "chmod" ∷ codes "fchmod" ∷ codes "mkdir" ∷ codes "mknod" ∷ codes "creat" ∷ []
@@ -382,10 +439,6 @@ named_none line rule' is name none = by (bytes_eq line.name name) refl
         let P : List ℕ → Type 0 = λ n. rule_of (with_name line n) ≡ Some rule' in
         let clash : Some rule' ≡ None = sym (subst P ((bytes_eq-Decides line.name name).0 e) is) ∙ none in
         cc
-
-on_by : (b : Bool) → (b || false) ≡ true → b ≡ true
-on_by true e = refl
-on_by false e = e
 
 -- ---- the filters
 module _ (line : CallLine) (rule' : Rule) (kind : CallKind) (payload : Payload) (operation : Operation) (input first : CallData)
@@ -565,17 +618,23 @@ module _ (line : CallLine) (rule' : Rule) (kind : CallKind) (payload : Payload) 
 
       opens : Suid (codes "open")
       opens n = by_name refuses_mode (codes "open") n
-          (λ r. absurd (off_left (has_bits (low first 1) 0x40) (sets_id_bit (low first 2))
-          (kind-Open-1 kind first.args
-          (words_at (rule.Known (known.Open argument.Second)) (rule_is (codes "open") (rule.Known (known.Open argument.Second)) refl n)))
-          r)) h
+          (λ r. absurd (off_left (has_bits (low first 1) 0x40) (sets_id_bit (low first 2)) (makes_none
+          (rules_named line rule' is (codes "open") _ _ (open_rules line) n)) r)) h
+        where
+          makes_none : (rule.Known (known.Open argument.Second) ≡ rule') ⊎ (rule.Known (known.OpenWith argument.Second) ≡ rule')
+              → has_bits (low first 1) 0x40 ≡ false
+          makes_none (inl own) = kind-Open-1 kind first.args (words_at (rule.Known (known.Open argument.Second)) own)
+          makes_none (inr own) = kind-OpenWith-1 kind first.args (words_at (rule.Known (known.OpenWith argument.Second)) own)
 
       opens_at : Suid (codes "openat")
       opens_at n = by_name refuses_mode (codes "openat") n
-          (λ r. absurd (off_left (has_bits (low first 2) 0x40) (sets_id_bit (low first 3))
-          (kind-Open-2 kind first.args
-          (words_at (rule.Known (known.Open argument.Third)) (rule_is (codes "openat") (rule.Known (known.Open argument.Third)) refl n)))
-          r)) h
+          (λ r. absurd (off_left (has_bits (low first 2) 0x40) (sets_id_bit (low first 3)) (makes_none
+          (rules_named line rule' is (codes "openat") _ _ (openat_rules line) n)) r)) h
+        where
+          makes_none : (rule.Known (known.Open argument.Third) ≡ rule') ⊎ (rule.Known (known.OpenWith argument.Third) ≡ rule')
+              → has_bits (low first 2) 0x40 ≡ false
+          makes_none (inl own) = kind-Open-2 kind first.args (words_at (rule.Known (known.Open argument.Third)) own)
+          makes_none (inr own) = kind-OpenWith-2 kind first.args (words_at (rule.Known (known.OpenWith argument.Third)) own)
 
       by : (a b c : Bool) → is_one_of line.name seconds ≡ a → is_one_of line.name thirds ≡ b → bytes_eq line.name (codes "openat") ≡ c
           → option_map_or (λ at. has_mode line.name first && sets_id_bit (low first at))
@@ -585,21 +644,42 @@ module _ (line : CallLine) (rule' : Rule) (kind : CallKind) (payload : Payload) 
       by false false true x y z g = opens_at z
       by false false false x y z g = cc
 
-  -- with a version of systemd, whose further calls have no rule
+  -- fchmodat2(2) that is asked for a set-id bit is refused
+  newer_mode : (b : Bool) → bytes_eq line.name (codes "fchmodat2") ≡ b → (b && sets_id_bit (low first 2)) ≡ true
+      → (b && sets_id_bit (low input 2)) ≡ true
+  newer_mode false n e = cc
+  newer_mode true n e = by (rules_named line rule' is (codes "fchmodat2") _ _ (fchmodat2_rules line) n)
+    where
+      given : rule.Known (known.SetMode argument.Third) ≡ rule' → sets_id_bit (low input 2) ≡ true
+      given own = kind-SetMode kind input.args first.args argument.Third
+          (bare_at (rule.Known (known.SetMode argument.Third)) (d.SetMode (low_word input.args 2)) own (λ p. refl))
+          (words_at (rule.Known (known.SetMode argument.Third)) own)
+
+      by : (rule.Known (known.SetMode argument.Third) ≡ rule') ⊎ (rule.Known (known.SetMode argument.Third) ≡ rule')
+          → sets_id_bit (low input 2) ≡ true
+      by (inl own) = given own
+      by (inr own) = given own
+
+  -- with a version of systemd, which refuses further calls
   suid_passes : (systemd : Option Version) → decision_of (word_of (suid_action systemd line.name input)) ≡ decision.Pass
       → decision_of (word_of (suid_action systemd line.name first)) ≡ decision.Pass
   unfolding rule_of known_call
   suid_passes None = carry 1 (refuses_mode line.name input) (refuses_mode line.name first) off-1 suid_first
-  suid_passes (Some version) = by (bytes_eq line.name (codes "openat2")) (bytes_eq line.name (codes "fchmodat2"))
-      (named_none line rule' is (codes "openat2") refl) (named_none line rule' is (codes "fchmodat2") refl)
+  suid_passes (Some version) = by (bytes_eq line.name (codes "openat2")) (bytes_eq line.name (codes "fchmodat2")) refl
     where
-      by : (a b : Bool) → a ≡ false → b ≡ false
+      either : (b : Bool) → bytes_eq line.name (codes "fchmodat2") ≡ b
+          → (refuses_mode line.name first ≡ true) ⊎ ((b && sets_id_bit (low first 2)) ≡ true)
+          → (refuses_mode line.name input || (b && sets_id_bit (low input 2))) ≡ true
+      either b n (inl h) = or_left _ _ (suid_first h)
+      either b n (inr h) = or_right _ _ (newer_mode b n h)
+
+      by : (a b : Bool) → bytes_eq line.name (codes "fchmodat2") ≡ b
           → decision_of (word_of (cond a (Errno 38) (unless_refused 1 (refuses_mode line.name input || (b && sets_id_bit (low input 2)))))) ≡ decision.Pass
           → decision_of (word_of (cond a (Errno 38) (unless_refused 1 (refuses_mode line.name first || (b && sets_id_bit (low first 2)))))) ≡ decision.Pass
-      by true b e f = cc
-      by false true e f = cc
-      by false false e f = carry 1 (refuses_mode line.name input || false) (refuses_mode line.name first || false) off-1
-          (λ h. or_left _ _ (suid_first (on_by (refuses_mode line.name first) h)))
+      by true b n = λ e. e
+      by false b n = carry 1 (refuses_mode line.name input || (b && sets_id_bit (low input 2)))
+          (refuses_mode line.name first || (b && sets_id_bit (low first 2))) off-1
+          (λ h. either b n (or_cases (refuses_mode line.name first) (b && sets_id_bit (low first 2)) h))
 
   time_first : makes_time line.name first ≡ true → makes_time line.name input ≡ true
   unfolding rule_of known_call
@@ -615,18 +695,18 @@ module _ (line : CallLine) (rule' : Rule) (kind : CallKind) (payload : Payload) 
   unfolding rule_of known_call
   space_passes None types = carry 1 (refuses_namespace types line.name input) (refuses_namespace types line.name first) off-1
       (space_first types)
-  space_passes (Some version) types = by (bytes_eq line.name (codes "clone3")) (named_none line rule' is (codes "clone3") refl)
+  space_passes (Some version) types = by (bytes_eq line.name (codes "clone3"))
     where
       either : (refuses_namespace types line.name first ≡ true) ⊎ (makes_time line.name first ≡ true)
           → (refuses_namespace types line.name input || makes_time line.name input) ≡ true
       either (inl h) = or_left _ _ (space_first types h)
       either (inr h) = or_right _ _ (time_first h)
 
-      by : (a : Bool) → a ≡ false
+      by : (a : Bool)
           → decision_of (word_of (cond a (Errno 38) (unless_refused 1 (refuses_namespace types line.name input || makes_time line.name input)))) ≡ decision.Pass
           → decision_of (word_of (cond a (Errno 38) (unless_refused 1 (refuses_namespace types line.name first || makes_time line.name first)))) ≡ decision.Pass
-      by true e = cc
-      by false e = carry 1 (refuses_namespace types line.name input || makes_time line.name input)
+      by true = λ e. e
+      by false = carry 1 (refuses_namespace types line.name input || makes_time line.name input)
           (refuses_namespace types line.name first || makes_time line.name first) off-1
           (λ h. either (or_cases (refuses_namespace types line.name first) (makes_time line.name first) h))
 

@@ -41,9 +41,10 @@ pub bare_is : (operation own : Operation) (payload : Payload) → bare own paylo
 bare_is operation own pay.Nothing e = cc
 bare_is operation own (pay.OnePath path) e = cc
 bare_is operation own (pay.TwoPaths source target) e = cc
+bare_is operation own (pay.PathFlags path flags) e = cc
 bare_is operation own (pay.Sets permitted effective inheritable) e = cc
 bare_is operation own (pay.Ids ids) e = cc
-bare_is operation own (pay.Family family) e = cc
+bare_is operation own (pay.Number number) e = cc
 bare_is operation own (pay.Code bytes) e = cc
 
 -- a line of this number, with this rule

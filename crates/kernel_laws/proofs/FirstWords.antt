@@ -1,13 +1,14 @@
 -- Each call that asks for a kind of thing has words that ask for it first; so filters that go by the number alone let the
 -- first choice through where they let any through.
-use Rattle.std.proofs.Common.{◌≡◌, ℕ, Bool, true, false, List, Option, Some, refl, subst}
+use Rattle.std.proofs.Common.{◌≡◌, ℕ, Bool, true, false, cond, eqb, List, Option, Some, None, refl, sym, ap, ◌∙◌, subst}
 use Rattle.std.specs.Prelude.{◌||◌, is_some}
-use Rattle.std.proofs.lemmas.Bool.{or_left, or_right}
+use Rattle.std.proofs.lemmas.Bool.{or_left, or_right, and_parts, eqb-true}
 use Rattle.kernel_model.specs.abs_path.Paths.{Path}
 use Rattle.kernel_model.specs.kernel_calls.Words.{low_word}
 use Rattle.kernel_model.specs.declared.kernel_calls.payload.Payload.TheVariants as pay
 use Rattle.kernel_model.specs.declared.kernel_calls.payload.Payload.{Payload}
-use Rattle.filter_settings.specs.call_table.call_names.Known.{place_of}
+use Rattle.filter_settings.specs.linux_numbers.Limits.{no_id}
+use Rattle.filter_settings.specs.call_table.call_names.Known.{mode_place_of, place_of}
 use Rattle.filter_settings.specs.call_table.declared.call_names.rule.Argument.{Argument}
 use Rattle.kernel_model.specs.declared.kernel_calls.rule.Rule.TheVariants as rule
 use Rattle.filter_settings.specs.call_table.declared.call_names.rule.CallRule.TheVariants as known
@@ -19,7 +20,7 @@ use Rattle.kernel_laws.specs.declared.question_types.wish.Wish.{Wish}
 use Rattle.kernel_laws.specs.declared.question_types.kind.CallKind.{CallKind}
 use Rattle.kernel_laws.specs.declared.question_types.wish.Wish.TheVariants as wish_to
 use Rattle.kernel_laws.specs.declared.question_types.kind.CallKind.TheVariants as k
-use Rattle.kernel_laws.specs.Kinds.{asks, words}
+use Rattle.kernel_laws.specs.Kinds.{asks, words, one_word}
 
 pub record Has (kind : CallKind) (rule' : Rule) : Type 0 where
   pub args : List ℕ
@@ -48,12 +49,28 @@ given-See path (k.ForPath wish_to.Write) h = cc
 given-See path (k.ForPath wish_to.Exec) h = cc
 given-See path kind h = cc
 
-given-Open : (args : List ℕ) (at : Argument) (path : Path) → Given (d.Open (low_word args (place_of at)) path) (rule.Known (known.Open at))
+given-Open : (args : List ℕ) (at : Argument) (path : Path) → Given (d.Open (low_word args (place_of at)) 0 path) (rule.Known (known.Open at))
 given-Open args at path (k.ForPath wish_to.Read) h = record { args = _; are = refl }
 given-Open args at path (k.ForPath wish_to.Write) h = record { args = _; are = refl }
 given-Open args at path (k.ForPath wish_to.See) h = cc
 given-Open args at path (k.ForPath wish_to.Exec) h = cc
 given-Open args at path kind h = cc
+
+given-OpenWith : (args : List ℕ) (at : Argument) (path : Path)
+    → Given (d.Open (low_word args (place_of at)) (low_word args (mode_place_of at)) path) (rule.Known (known.OpenWith at))
+given-OpenWith args at path (k.ForPath wish_to.Read) h = record { args = _; are = refl }
+given-OpenWith args at path (k.ForPath wish_to.Write) h = record { args = _; are = refl }
+given-OpenWith args at path (k.ForPath wish_to.See) h = cc
+given-OpenWith args at path (k.ForPath wish_to.Exec) h = cc
+given-OpenWith args at path k.OpensMode h = record { args = _; are = refl }
+given-OpenWith args at path kind h = cc
+
+given-Openat2 : (flags : ℕ) (path : Path) → Given (d.Open flags 0 path) (rule.Known known.Openat2)
+given-Openat2 flags path (k.ForPath wish_to.Read) h = record { args = _; are = refl }
+given-Openat2 flags path (k.ForPath wish_to.Write) h = record { args = _; are = refl }
+given-Openat2 flags path (k.ForPath wish_to.See) h = cc
+given-Openat2 flags path (k.ForPath wish_to.Exec) h = cc
+given-Openat2 flags path kind h = cc
 
 given-Create : (path : Path) → Given (d.Create path) (rule.Known known.Create)
 given-Create path (k.ForPath wish_to.Write) h = record { args = _; are = refl }
@@ -112,10 +129,23 @@ given-Socket args (k.ForFamily family) h = record { args = _; are = refl }
 given-Socket args (k.ForPath wish) h = no_wish (d.Socket (low_word args 0)) refl wish h
 given-Socket args kind h = cc
 
+given-SetAttributes : (policy : ℕ) → Given (d.SetAttributes policy) (rule.Known known.SetAttributes)
+given-SetAttributes policy k.SetsRealtime h = record { args = _; are = refl }
+given-SetAttributes policy (k.ForPath wish) h = no_wish (d.SetAttributes policy) refl wish h
+given-SetAttributes policy kind h = cc
+
 given-Socketcall : (args : List ℕ) (family : ℕ) → Given (d.Socketcall (low_word args 0) family) (rule.Known known.Socketcall)
 given-Socketcall args family (k.ForFamily own) h = record { args = _; are = refl }
 given-Socketcall args family (k.ForPath wish) h = no_wish (d.Socketcall (low_word args 0) family) refl wish h
 given-Socketcall args family kind h = cc
+
+given-Socketpair : (args : List ℕ) → Given (d.Socketpair (low_word args 0)) (rule.Known known.Socketpair)
+given-Socketpair args (k.ForFamily family) h =
+    let both = and_parts (eqb (low_word args 0) 1) (eqb (low_word args 0) family) h in
+    let is : eqb family 1 ≡ true = ap (λ n. eqb n 1) (sym (eqb-true (low_word args 0) family both.1)) ∙ both.0 in
+    record { args = one_word 0 1; are = ap (λ b. cond {A = Option (List ℕ)} b (Some (one_word 0 1)) None) is }
+given-Socketpair args (k.ForPath wish) h = no_wish (d.Socketpair (low_word args 0)) refl wish h
+given-Socketpair args kind h = cc
 
 given-Enter : Given (d.Enter) (rule.Known known.Enter)
 given-Enter (k.ForPath wish) h = no_wish d.Enter refl wish h
@@ -129,6 +159,11 @@ given-Clone : (args : List ℕ) → Given (d.Clone (low_word args 0)) (rule.Know
 given-Clone args (k.ForNamespace space) h = record { args = _; are = refl }
 given-Clone args (k.ForPath wish) h = no_wish (d.Clone (low_word args 0)) refl wish h
 given-Clone args kind h = cc
+
+given-Clone3 : (flags : ℕ) → Given (d.Clone flags) (rule.Known known.Clone3)
+given-Clone3 flags (k.ForNamespace space) h = record { args = _; are = refl }
+given-Clone3 flags (k.ForPath wish) h = no_wish (d.Clone flags) refl wish h
+given-Clone3 flags kind h = cc
 
 given-Unshare : (args : List ℕ) → Given (d.Unshare (low_word args 0)) (rule.Known known.Unshare)
 given-Unshare args (k.ForNamespace space) h = record { args = _; are = refl }
@@ -169,6 +204,16 @@ given-Setresgid args k.TakesGid h = record { args = _; are = refl }
 given-Setresgid args (k.ForPath wish) h = no_wish (d.Setresgid (low_word args 0) (low_word args 1) (low_word args 2)) refl wish h
 given-Setresgid args kind h = cc
 
+given-Setreuid : (args : List ℕ) → Given (d.Setresuid (low_word args 0) (low_word args 1) no_id) (rule.Known known.Setreuid)
+given-Setreuid args k.TakesUid h = record { args = _; are = refl }
+given-Setreuid args (k.ForPath wish) h = no_wish (d.Setresuid (low_word args 0) (low_word args 1) no_id) refl wish h
+given-Setreuid args kind h = cc
+
+given-Setregid : (args : List ℕ) → Given (d.Setresgid (low_word args 0) (low_word args 1) no_id) (rule.Known known.Setregid)
+given-Setregid args k.TakesGid h = record { args = _; are = refl }
+given-Setregid args (k.ForPath wish) h = no_wish (d.Setresgid (low_word args 0) (low_word args 1) no_id) refl wish h
+given-Setregid args kind h = cc
+
 given-Setgroups : (ids : List ℕ) → Given (d.Setgroups ids) (rule.Known known.Setgroups)
 given-Setgroups ids k.TakesGid h = record { args = _; are = refl }
 given-Setgroups ids (k.ForPath wish) h = no_wish (d.Setgroups ids) refl wish h
@@ -203,8 +248,15 @@ pub has_words : (rule' : Rule) (args : List ℕ) (payload : Payload) (operation 
 has_words (rule.Known known.See) args (pay.OnePath path) operation f = by_same (d.See path) operation (rule.Known known.See) (given-See path) (cc)
 has_words (rule.Known known.See) args payload operation f = cc
 has_words (rule.Known (known.Open at)) args (pay.OnePath path) operation f =
-    by_same (d.Open (low_word args (place_of at)) path) operation (rule.Known (known.Open at)) (given-Open args at path) (cc)
+    by_same (d.Open (low_word args (place_of at)) 0 path) operation (rule.Known (known.Open at)) (given-Open args at path) (cc)
 has_words (rule.Known (known.Open at)) args payload operation f = cc
+has_words (rule.Known (known.OpenWith at)) args (pay.OnePath path) operation f =
+    by_same (d.Open (low_word args (place_of at)) (low_word args (mode_place_of at)) path) operation (rule.Known (known.OpenWith at))
+    (given-OpenWith args at path) (cc)
+has_words (rule.Known (known.OpenWith at)) args payload operation f = cc
+has_words (rule.Known known.Openat2) args (pay.PathFlags path flags) operation f =
+    by_same (d.Open flags 0 path) operation (rule.Known known.Openat2) (given-Openat2 flags path) (cc)
+has_words (rule.Known known.Openat2) args payload operation f = cc
 has_words (rule.Known known.Create) args (pay.OnePath path) operation f =
     by_same (d.Create path) operation (rule.Known known.Create) (given-Create path) (cc)
 has_words (rule.Known known.Create) args payload operation f = cc
@@ -229,15 +281,21 @@ has_words (rule.Known known.Attach) args payload operation f = cc
 has_words (rule.Known known.Schedule) args pay.Nothing operation f =
     by_same (d.Schedule (low_word args 1)) operation (rule.Known known.Schedule) (given-Schedule args) (cc)
 has_words (rule.Known known.Schedule) args payload operation f = cc
+has_words (rule.Known known.SetAttributes) args (pay.Number policy) operation f =
+    by_same (d.SetAttributes policy) operation (rule.Known known.SetAttributes) (given-SetAttributes policy) (cc)
+has_words (rule.Known known.SetAttributes) args payload operation f = cc
 has_words (rule.Known known.Personality) args pay.Nothing operation f =
     by_same (d.Personality (low_word args 0)) operation (rule.Known known.Personality) (given-Personality args) (cc)
 has_words (rule.Known known.Personality) args payload operation f = cc
 has_words (rule.Known known.Socket) args pay.Nothing operation f =
     by_same (d.Socket (low_word args 0)) operation (rule.Known known.Socket) (given-Socket args) (cc)
 has_words (rule.Known known.Socket) args payload operation f = cc
-has_words (rule.Known known.Socketcall) args (pay.Family family) operation f =
+has_words (rule.Known known.Socketcall) args (pay.Number family) operation f =
     by_same (d.Socketcall (low_word args 0) family) operation (rule.Known known.Socketcall) (given-Socketcall args family) (cc)
 has_words (rule.Known known.Socketcall) args payload operation f = cc
+has_words (rule.Known known.Socketpair) args pay.Nothing operation f =
+    by_same (d.Socketpair (low_word args 0)) operation (rule.Known known.Socketpair) (given-Socketpair args) (cc)
+has_words (rule.Known known.Socketpair) args payload operation f = cc
 has_words (rule.Known known.Enter) args pay.Nothing operation f = by_same (d.Enter) operation (rule.Known known.Enter) given-Enter (cc)
 has_words (rule.Known known.Enter) args payload operation f = cc
 has_words (rule.Known known.Fork) args pay.Nothing operation f = by_same (d.Fork) operation (rule.Known known.Fork) given-Fork (cc)
@@ -245,6 +303,9 @@ has_words (rule.Known known.Fork) args payload operation f = cc
 has_words (rule.Known known.Clone) args pay.Nothing operation f =
     by_same (d.Clone (low_word args 0)) operation (rule.Known known.Clone) (given-Clone args) (cc)
 has_words (rule.Known known.Clone) args payload operation f = cc
+has_words (rule.Known known.Clone3) args (pay.Number flags) operation f =
+    by_same (d.Clone flags) operation (rule.Known known.Clone3) (given-Clone3 flags) (cc)
+has_words (rule.Known known.Clone3) args payload operation f = cc
 has_words (rule.Known known.Unshare) args pay.Nothing operation f =
     by_same (d.Unshare (low_word args 0)) operation (rule.Known known.Unshare) (given-Unshare args) (cc)
 has_words (rule.Known known.Unshare) args payload operation f = cc
@@ -270,6 +331,12 @@ has_words (rule.Known known.Setresgid) args pay.Nothing operation f =
     by_same (d.Setresgid (low_word args 0) (low_word args 1) (low_word args 2)) operation (rule.Known known.Setresgid) (given-Setresgid args)
     (cc)
 has_words (rule.Known known.Setresgid) args payload operation f = cc
+has_words (rule.Known known.Setreuid) args pay.Nothing operation f =
+    by_same (d.Setresuid (low_word args 0) (low_word args 1) no_id) operation (rule.Known known.Setreuid) (given-Setreuid args) (cc)
+has_words (rule.Known known.Setreuid) args payload operation f = cc
+has_words (rule.Known known.Setregid) args pay.Nothing operation f =
+    by_same (d.Setresgid (low_word args 0) (low_word args 1) no_id) operation (rule.Known known.Setregid) (given-Setregid args) (cc)
+has_words (rule.Known known.Setregid) args payload operation f = cc
 has_words (rule.Known known.Setgroups) args (pay.Ids ids) operation f =
     by_same (d.Setgroups ids) operation (rule.Known known.Setgroups) (given-Setgroups ids) (cc)
 has_words (rule.Known known.Setgroups) args payload operation f = cc

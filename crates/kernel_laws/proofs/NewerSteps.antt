@@ -27,7 +27,7 @@ use Rattle.kernel_model.specs.Effects.{Effect, Refuse, Answer, SetCreds, Push, C
 use Rattle.kernel_model.specs.Effects.{looks, creds_effect, table_effect, first_alone, with_cap_of, with_admin, with_own, socket_effect}
 use Rattle.kernel_model.specs.Effects.{socketcall_effect, clone_effect, unshare_effect, ambient_effect, prctl_effect, push_effect}
 use Rattle.kernel_model.specs.Effects.{seccomp_effect, newuser, other_spaces, newns, protect_effect, attach_effect, set_mdwe_effect}
-use Rattle.kernel_model.specs.Effects.{prctl_effect_of}
+use Rattle.kernel_model.specs.Effects.{prctl_effect_of, attributes_effect, sockets_effect, socketpair_effect, no_pair}
 use Rattle.kernel_laws.specs.Bounds.{Bounds, KeepsIds}
 use Rattle.kernel_laws.specs.Ceiling.{TableIn, IsStable, IsSafe}
 use Rattle.kernel_laws.specs.Kinds.{asks}
@@ -63,9 +63,23 @@ module _ (launch : Launch) (power : Power) (top : Bounds) (below : Table → Typ
   safe_alone None creds value = tt
   safe_alone (Some number) creds value = tt
 
+  safe_attributes : (creds : Creds) (policy : ℕ) → Safe (attributes_effect true creds policy)
+  safe_attributes creds policy = tt
+
+  safe_sockets : (value : ℕ) (creds : Creds) (line : Option CallLine) → Safe (sockets_effect value true creds line)
+  safe_sockets value creds None = tt
+  safe_sockets value creds (Some line) = safe_alone line.cap creds value
+
   safe_socket : (creds : Creds) (line : Option CallLine) → Safe (socket_effect true creds line)
-  safe_socket creds None = tt
-  safe_socket creds (Some line) = safe_alone line.cap creds 3
+  safe_socket creds line = safe_sockets 3 creds line
+
+  safe_unpaired : (line : Option CallLine) → Safe (no_pair line)
+  safe_unpaired None = tt
+  safe_unpaired (Some line) = tt
+
+  safe_socketpair : (creds : Creds) (family : ℕ) (line : Option CallLine) → Safe (socketpair_effect true creds family line)
+  safe_socketpair creds family line =
+      safe_if (eqb family 1) (sockets_effect 0 true creds line) (no_pair line) (λ e. safe_sockets 0 creds line) (λ e. safe_unpaired line)
 
   safe_socketcall : (creds : Creds) (op : ℕ) (line : Option CallLine) → Safe (socketcall_effect true creds op line)
   safe_socketcall creds op line =
@@ -188,7 +202,7 @@ module _ (launch : Launch) (power : Power) (top : Bounds) (below : Table → Typ
         → Through operation
         → Safe (effect_of (record { rows = row_at launch.site.rows; families = families; mdwe = mdwe }) (newer_caller creds stack) operation)
     safe_newer families mdwe creds stack (d.See path) held p = safe_looks _
-    safe_newer families mdwe creds stack (d.Open flags path) held p = safe_looks _
+    safe_newer families mdwe creds stack (d.Open flags mode path) held p = safe_looks _
     safe_newer families mdwe creds stack (d.Create path) held p = safe_looks _
     safe_newer families mdwe creds stack (d.Truncate path) held p = safe_looks _
     safe_newer families mdwe creds stack (d.Execve path) held p =
@@ -199,8 +213,10 @@ module _ (launch : Launch) (power : Power) (top : Bounds) (below : Table → Typ
     safe_newer families mdwe creds stack (d.Attach flags) held p = safe_attach creds flags
     safe_newer families mdwe creds stack (d.Schedule policy) held p = safe_looks _
     safe_newer families mdwe creds stack (d.Personality domain) held p = tt
+    safe_newer families mdwe creds stack (d.SetAttributes policy) held p = safe_attributes creds policy
     safe_newer families mdwe creds stack (d.Socket family) held p = safe_socket creds _
     safe_newer families mdwe creds stack (d.Socketcall op family) held p = safe_socketcall creds op _
+    safe_newer families mdwe creds stack (d.Socketpair family) held p = safe_socketpair creds family _
     safe_newer families mdwe creds stack d.Enter held p = tt
     safe_newer families mdwe creds stack d.Fork held p = tt
     safe_newer families mdwe creds stack (d.Clone flags) held p = safe_clone creds flags (p (k.ForNamespace User))

@@ -15,7 +15,8 @@ use Rattle.filter_settings.specs.call_table.declared.listed.CallLine.{CallLine}
 use Rattle.filter_settings.specs.call_table.Lookups.{numbered}
 use Rattle.filter_settings.specs.declared.filter_rules.settings.FilterSettings.{FilterSettings}
 use Rattle.filter_settings.specs.declared.filter_rules.names.FilterName.{FilterName}
-use Rattle.filter_settings.specs.call_table.call_names.Known.{place_of}
+use Rattle.filter_settings.specs.call_table.call_names.Known.{mode_place_of, place_of}
+use Rattle.filter_settings.specs.call_table.declared.call_names.rule.Argument.{Argument}
 use Rattle.filter_settings.specs.call_rules.Action.{word_of}
 use Rattle.filter_settings.specs.filter_rules.Wanted.{named_action, unnamed_action, wanted_action}
 use Rattle.kernel_model.specs.kernel_calls.Words.{low_word}
@@ -29,7 +30,7 @@ use Rattle.filter_settings.specs.declared.filter_rules.namespace_types.Namespace
 use Rattle.filter_settings.specs.declared.filter_rules.namespace_types.NamespaceType.TheVariants as namespace
 use Rattle.kernel_laws.specs.declared.question_types.wish.Wish.TheVariants as wish_to
 use Rattle.kernel_laws.specs.declared.question_types.wish.Wish.{Wish}
-use Rattle.kernel_laws.specs.Kinds.{asks, words, wide_words, one_word, no_words, AreWords}
+use Rattle.kernel_laws.specs.Kinds.{asks, words, wide_words, made_words, one_word, no_words, AreWords}
 use Rattle.filter_settings.specs.call_table.Table.{Abi, Table, native, abi_at, arch_of, calls_in}
 use Rattle.filter_settings.specs.filter_rules.Wanted.{other_action}
 use Rattle.std.specs.Option.{option_to_list, option_or}
@@ -67,6 +68,16 @@ bare_words = record { count = refl; each = All-from_recursion (λ arg. arg < 2 ^
 word_words : (at value : ℕ) → value < 2 ^ 64 → AreWords (one_word at value)
 word_words at value h = record { count = length_set no_words at value; each = All-from_recursion (λ arg. arg < 2 ^ 64) (one_word at value) (small_set no_words at value h no_small) }
 
+made_small : (at : Argument) → AreWords (made_words at)
+made_small at =
+    let words = set (one_word (place_of at) 0x41_0000) (mode_place_of at) 0x800 in
+    record {
+      count = length_set (one_word (place_of at) 0x41_0000) (mode_place_of at) 0x800 ∙ length_set no_words (place_of at) 0x41_0000;
+      each = All-from_recursion (λ arg. arg < 2 ^ 64) words
+          (small_set (one_word (place_of at) 0x41_0000) (mode_place_of at) 0x800 (omega arith)
+          (small_set no_words (place_of at) 0x41_0000 (omega arith) no_small));
+    }
+
 by_same : (one first : List ℕ) → AreWords one → Some one ≡ Some first → AreWords first
 by_same one first h e = let same : one ≡ first = cc in subst AreWords same h
 
@@ -88,6 +99,10 @@ path_fit : (wish : Wish) (call : CallRule) (first : List ℕ) → words (k.ForPa
 path_fit wish_to.See known.See first e = by_same no_words first bare_words e
 path_fit wish_to.Read (known.Open at) first e = by_same no_words first bare_words e
 path_fit wish_to.Write (known.Open at) first e = by_same (one_word (place_of at) 1) first (word_words (place_of at) 1 (omega arith)) e
+path_fit wish_to.Read (known.OpenWith at) first e = by_same no_words first bare_words e
+path_fit wish_to.Write (known.OpenWith at) first e = by_same (one_word (place_of at) 1) first (word_words (place_of at) 1 (omega arith)) e
+path_fit wish_to.Read known.Openat2 first e = by_same no_words first bare_words e
+path_fit wish_to.Write known.Openat2 first e = by_same no_words first bare_words e
 path_fit wish_to.Write known.Create first e = by_same no_words first bare_words e
 path_fit wish_to.Write known.Truncate first e = by_same no_words first bare_words e
 path_fit wish_to.Exec known.Execve first e = by_same no_words first bare_words e
@@ -98,25 +113,35 @@ known_fit : (kind : CallKind) (call : CallRule) (first : List ℕ) → family_or
 known_fit (k.ForPath wish) call first h e = path_fit wish call first e
 known_fit (k.ForFamily family) known.Socket first h e = by_same (one_word 0 family) first (word_words 0 family h) e
 known_fit (k.ForFamily family) known.Socketcall first h e = by_same (one_word 0 1) first (word_words 0 1 (omega arith)) e
+known_fit (k.ForFamily family) known.Socketpair first h e = pair_fit (eqb family 1) e
+  where
+    pair_fit : (b : Bool) → cond {A = Option (List ℕ)} b (Some (one_word 0 1)) None ≡ Some first → AreWords first
+    pair_fit true e = by_same (one_word 0 1) first (word_words 0 1 (omega arith)) e
+    pair_fit false e = cc
 known_fit (k.ForNamespace space) known.Clone first h e = by_same (one_word 0 (q.flag_of space)) first
     (word_words 0 (q.flag_of space) (flag_small space)) e
 known_fit (k.ForNamespace space) known.Unshare first h e = by_same (one_word 0 (q.flag_of space)) first
     (word_words 0 (q.flag_of space) (flag_small space)) e
+known_fit (k.ForNamespace space) known.Clone3 first h e = by_same no_words first bare_words e
 known_fit k.MapsWx known.Map first h e = by_same (one_word 2 6) first (word_words 2 6 (omega arith)) e
 known_fit k.ProtectsX known.Protect first h e = by_same (one_word 2 4) first (word_words 2 4 (omega arith)) e
 known_fit k.AttachesX known.Attach first h e = by_same (one_word 2 0x8000) first (word_words 2 0x8000 (omega arith)) e
 known_fit k.AttachesReadOnlyX known.Attach first h e = by_same (one_word 2 0x9000) first (word_words 2 0x9000 (omega arith)) e
 known_fit k.SchedulesRealtime known.Schedule first h e = by_same (one_word 1 1) first (word_words 1 1 (omega arith)) e
+known_fit k.SetsRealtime known.SetAttributes first h e = by_same no_words first bare_words e
 known_fit k.TakesPersonality known.Personality first h e = by_same (one_word 0 8) first (word_words 0 8 (omega arith)) e
 known_fit k.SetsMode (known.SetMode at) first h e = by_same (one_word (place_of at) 0x800) first
     (word_words (place_of at) 0x800 (omega arith)) e
+known_fit k.OpensMode (known.OpenWith at) first h e = by_same (made_words at) first (made_small at) e
 known_fit k.ChangesMounts known.Mount first h e = by_same no_words first bare_words e
 known_fit k.RemovesMounts known.Umount first h e = by_same no_words first bare_words e
 known_fit k.SetsCaps known.Capset first h e = by_same no_words first bare_words e
 known_fit k.TakesUid known.Setuid first h e = by_same no_words first bare_words e
 known_fit k.TakesUid known.Setresuid first h e = by_same no_words first bare_words e
+known_fit k.TakesUid known.Setreuid first h e = by_same no_words first bare_words e
 known_fit k.TakesGid known.Setgid first h e = by_same no_words first bare_words e
 known_fit k.TakesGid known.Setresgid first h e = by_same no_words first bare_words e
+known_fit k.TakesGid known.Setregid first h e = by_same no_words first bare_words e
 known_fit k.TakesGid known.Setgroups first h e = by_same no_words first bare_words e
 known_fit kind call first h e = cc
 
@@ -148,6 +173,7 @@ family_small (k.ForFamily family) args first (rule.Known known.Socket) payload o
     let P : ℕ → Type 0 = λ n. n < 2 ^ 32 in
     subst P same (low_small args 0)
 family_small (k.ForFamily family) args first (rule.Known known.Socketcall) payload operation e is asked = omega arith
+family_small (k.ForFamily family) args first (rule.Known known.Socketpair) payload operation e is asked = omega arith
 family_small (k.ForFamily family) args first rule' payload operation e is asked = cc
 family_small kind args first rule' payload operation e is asked = omega arith
 

@@ -118,7 +118,7 @@ pub wish_fits : (world : World) (pid : ℕ) (process : Process) (wish : Wish) (o
     → fits wish (flags_at (table_of world process.namespace) path) ≡ true
 wish_fits world pid process ToSee operation path target e g h = refl
 wish_fits world pid process ToRead operation path target e g h = refl
-wish_fits world pid process ToWrite (d.Open flags own) path target e g h = by (is_writing flags) refl e
+wish_fits world pid process ToWrite (d.Open flags mode own) path target e g h = by (is_writing flags) refl e
   where
     by : (b : Bool) → is_writing flags ≡ b → cond b (Some own) None ≡ Some path
         → not (flags_at (table_of world process.namespace) path).read_only ≡ true

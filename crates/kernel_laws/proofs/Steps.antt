@@ -30,6 +30,7 @@ use Rattle.kernel_model.specs.Effects.{Effect, Refuse, Answer, SetCreds, Push, C
 use Rattle.kernel_model.specs.Effects.{looks, creds_effect, table_effect, with_cap_of, with_admin, socket_effect, clone_effect}
 use Rattle.kernel_model.specs.Effects.{unshare_effect, ambient_effect, prctl_effect, push_effect, seccomp_effect, newuser, other_spaces}
 use Rattle.kernel_model.specs.Effects.{newns, socketcall_effect, protect_effect, attach_effect, set_mdwe_effect, prctl_effect_of}
+use Rattle.kernel_model.specs.Effects.{attributes_effect, schedule_answer, sockets_effect, socketpair_effect, no_pair}
 use Rattle.kernel_model.specs.kern_files.Looking.{flags_at}
 use Rattle.kernel_model.specs.declared.kern_files.program.Program.{Program}
 use Rattle.kernel_model.specs.kern_files.Executing.{marks_of, program_answer, executed, exec_answer}
@@ -75,9 +76,23 @@ module _ (launch : Launch) (may_uids may_gids : Bool) (power : Power) (top : Bou
   safe_cap_of None creds value = tt
   safe_cap_of (Some number) creds value = safe_if (has creds.effective number) (Answer value) (Refuse 1) (λ e. tt) (λ e. tt)
 
+  safe_attributes : (creds : Creds) (policy : ℕ) → Safe (attributes_effect false creds policy)
+  safe_attributes creds policy = safe_if (has creds.effective 23) (looks (schedule_answer policy)) (Refuse 1) (λ e. safe_looks _) (λ e. tt)
+
+  safe_sockets : (value : ℕ) (creds : Creds) (line : Option CallLine) → Safe (sockets_effect value false creds line)
+  safe_sockets value creds None = tt
+  safe_sockets value creds (Some line) = safe_cap_of line.cap creds value
+
   safe_socket : (creds : Creds) (line : Option CallLine) → Safe (socket_effect false creds line)
-  safe_socket creds None = tt
-  safe_socket creds (Some line) = safe_cap_of line.cap creds 3
+  safe_socket creds line = safe_sockets 3 creds line
+
+  safe_unpaired : (line : Option CallLine) → Safe (no_pair line)
+  safe_unpaired None = tt
+  safe_unpaired (Some line) = tt
+
+  safe_socketpair : (creds : Creds) (family : ℕ) (line : Option CallLine) → Safe (socketpair_effect false creds family line)
+  safe_socketpair creds family line =
+      safe_if (eqb family 1) (sockets_effect 0 false creds line) (no_pair line) (λ e. safe_sockets 0 creds line) (λ e. safe_unpaired line)
 
   safe_socketcall : (creds : Creds) (op : ℕ) (line : Option CallLine) → Safe (socketcall_effect false creds op line)
   safe_socketcall creds op line =
@@ -221,7 +236,7 @@ module _ (launch : Launch) (may_uids may_gids : Bool) (power : Power) (top : Bou
       → Keeps top creds → CanHold power launch.table table → Through operation → Uses may_uids may_gids creds operation
       → Safe (effect_of (record { rows = row_at launch.site.rows; families = families; mdwe = mdwe }) (first_caller creds stack table) operation)
   safe_effect families mdwe creds stack table (d.See path) held allowed p u = safe_looks _
-  safe_effect families mdwe creds stack table (d.Open flags path) held allowed p u = safe_looks _
+  safe_effect families mdwe creds stack table (d.Open flags mode path) held allowed p u = safe_looks _
   safe_effect families mdwe creds stack table (d.Create path) held allowed p u = safe_looks _
   safe_effect families mdwe creds stack table (d.Truncate path) held allowed p u = safe_looks _
   safe_effect families mdwe creds stack table (d.Execve path) held allowed p u =
@@ -232,8 +247,10 @@ module _ (launch : Launch) (may_uids may_gids : Bool) (power : Power) (top : Bou
   safe_effect families mdwe creds stack table (d.Attach flags) held allowed p u = safe_attach creds flags
   safe_effect families mdwe creds stack table (d.Schedule policy) held allowed p u = safe_looks _
   safe_effect families mdwe creds stack table (d.Personality domain) held allowed p u = tt
+  safe_effect families mdwe creds stack table (d.SetAttributes policy) held allowed p u = safe_attributes creds policy
   safe_effect families mdwe creds stack table (d.Socket family) held allowed p u = safe_socket creds _
   safe_effect families mdwe creds stack table (d.Socketcall op family) held allowed p u = safe_socketcall creds op _
+  safe_effect families mdwe creds stack table (d.Socketpair family) held allowed p u = safe_socketpair creds family _
   safe_effect families mdwe creds stack table d.Enter held allowed p u = tt
   safe_effect families mdwe creds stack table d.Fork held allowed p u = tt
   safe_effect families mdwe creds stack table (d.Clone flags) held allowed p u = safe_clone creds flags held (p (k.ForNamespace User))

@@ -1,5 +1,5 @@
 -- What the ceiling closes is denied.
-use Rattle.std.proofs.Common.{◌≡◌, ℕ, inl, inr, cond, eqb, Bool, true, false, List, ◌++◌, Option, Some, None, refl, ap, ◌∙◌, sym}
+use Rattle.std.proofs.Common.{◌≡◌, ◌⊎◌, ℕ, inl, inr, cond, eqb, Bool, true, false, List, ◌++◌, Option, Some, None, refl, ap, ◌∙◌, sym}
 use Rattle.std.proofs.Common.{subst}
 use Rattle.std.specs.Prelude.{slice_get, not, ◌&&◌, ◌||◌, ◌-◌, is_some, nat_le}
 use Rattle.std.specs.List as list
@@ -7,13 +7,15 @@ use Rattle.std.specs.List.{list_any}
 use Rattle.std.specs.Str.{bytes_eq}
 use Rattle.std.proofs.lemmas.Slice.Eq.{bytes_eq-Decides}
 use Rattle.filter_settings.specs.call_table.call_names.Known.{known_call}
-use Rattle.std.proofs.lemmas.Bool.{eqb-true, eq-eqb, and_from, or_left, or_right, and_parts}
+use Rattle.std.proofs.lemmas.Bool.{eqb-true, eq-eqb, and_from, or_left, or_right, or_cases, and_parts}
 use Rattle.filter_settings.specs.bpf_code.declared.machine.Insn.{Insn}
 use Rattle.filter_settings.specs.bpf_code.declared.decision.Decision.TheVariants as decision
 use Rattle.filter_settings.specs.bpf_code.Stack.{decision_on}
+use Rattle.kernel_model.specs.kern_creds.declared.creds.Creds.{Creds}
 use Rattle.kernel_model.specs.abs_path.Paths.{Path}
 use Rattle.kernel_model.specs.cap_sets.Sets.{has, within, IsWithin}
 use Rattle.kernel_model.proofs.OfCapSets.Members.{within-from_IsWithin, IsWithin-from_within, within_through}
+use Rattle.filter_settings.specs.call_table.declared.call_names.kernel.Kernel.{Kernel}
 use Rattle.filter_settings.specs.call_table.declared.listed.CallLine.{CallLine}
 use Rattle.filter_settings.specs.call_table.Table as calls
 use Rattle.filter_settings.specs.call_table.Lookups.{numbered}
@@ -31,7 +33,7 @@ use Rattle.kernel_model.specs.kernel_calls.Rules.{rule_of, rule_by}
 use Rattle.kernel_model.specs.kernel_calls.Operation as d
 use Rattle.kernel_model.specs.kernel_calls.Operation.{Operation, Does, asked_of, bare, operation_by}
 use Rattle.kernel_model.specs.Effects as f
-use Rattle.kernel_model.specs.Effects.{Effect, Host, Caller, effect_of, socket_effect}
+use Rattle.kernel_model.specs.Effects.{Effect, Host, Caller, effect_of, attributes_effect, no_pair, socket_effect, sockets_effect}
 use Rattle.kernel_model.specs.kern_files.Looking.{flags_at}
 use Rattle.kernel_model.specs.kern_files.Executing.{marks_of}
 use Rattle.kernel_model.specs.World.{World, mounts_of, table_of, host_of, caller_of, is_newer}
@@ -48,7 +50,7 @@ use Rattle.filter_settings.specs.declared.filter_rules.namespace_types.Namespace
 use Rattle.kernel_laws.specs.declared.question_types.kind.CallKind.TheVariants as k
 use Rattle.kernel_laws.specs.Questions.{is_plain, IsAsked}
 use Rattle.kernel_laws.specs.Denied.{path_for, ReachesRow, ReachesCall, Performs, Reaches, Holds, IsDenied, is_family, asks_family}
-use Rattle.kernel_laws.specs.Denied.{asks_space, asks_map, asks_protect, asks_attach, asks_realtime, asks_personality, asks_mode}
+use Rattle.kernel_laws.specs.Denied.{asks_space, asks_map, asks_protect, asks_attach, asks_realtime, is_realtime, asks_personality, asks_mode}
 use Rattle.kernel_laws.specs.Reach.{Leads, reaches}
 use Rattle.kernel_laws.specs.Kinds.{asks, asks_number}
 use Rattle.kernel_laws.specs.Launched.{Launch, data_at, lets, lets_line, can_make_user, IsLaunched, launch_of}
@@ -195,16 +197,22 @@ module _ (launch : Launch) (l : IsLaunched launch) (below : Mounts → Type 0) (
       has_top now call held w done.0 number done.1
 
   -- a name has one rule
-  one_rule : (line other : CallLine) → line.name ≡ other.name → line.cap ≡ other.cap → rule_of line ≡ rule_of other
+  one_rule : (line other : CallLine) → line.kernel ≡ other.kernel → line.name ≡ other.name → line.cap ≡ other.cap
+      → rule_of line ≡ rule_of other
   unfolding rule_of
-  one_rule line other name cap' = ap (λ n. rule_by (known_call n) line.cap) name ∙ ap (rule_by (known_call other.name)) cap'
+  one_rule line other kernel name cap' =
+      ap (λ k. rule_by (known_call k line.name) line.cap) kernel ∙ ap (λ n. rule_by (known_call other.kernel n) line.cap) name
+      ∙ ap (rule_by (known_call other.kernel other.name)) cap'
 
   same_rule : (place nr abi : ℕ) (line called : CallLine) → slice_get (calls.every_call launch.calls) place ≡ Some line
       → numbered nr (calls.calls_in launch.calls abi) ≡ Some called → line.name ≡ called.name → rule_of line ≡ rule_of called
   same_rule place nr abi line called listed found name =
       let caps = slice_all (λ one. list.All (λ other. one.name ≡ other.name → one.cap ≡ other.cap) (calls.every_call launch.calls)) (calls.every_call launch.calls) place line l.one_cap listed in
       let cap' = found_all (λ other. line.name ≡ other.name → line.cap ≡ other.cap) (calls.calls_in launch.calls abi) nr called (all_in (λ other. line.name ≡ other.name → line.cap ≡ other.cap) launch.calls abi caps) found in
-      one_rule line called name (cap' name)
+      let by : Kernel = l.one_kernel.0 in
+      let own : line.kernel ≡ by = slice_all (λ (one : CallLine). one.kernel ≡ by) (calls.every_call launch.calls) place line l.one_kernel.1 listed in
+      let other : called.kernel ≡ by = found_all (λ one. one.kernel ≡ by) (calls.calls_in launch.calls abi) nr called (all_in (λ one. one.kernel ≡ by) launch.calls abi l.one_kernel.1) found in
+      one_rule line called (own ∙ sym other) name (cap' name)
 
   plain_open : (place : ℕ) (now : World) (call : Call) → IsAsked launch.calls (asking.Call place) → IsCall call → All now
       → ReachesCall place (moment_at now call) → is_open launch (asking.Call place) ≡ true
@@ -250,36 +258,42 @@ module _ (launch : Launch) (l : IsLaunched launch) (below : Mounts → Type 0) (
       by_cap w r plain e = cc
 
   -- ---- sockets
-  -- a call for the family of a place comes to what socket(2) of that family comes to
+  -- a call for the family of a place makes sockets of that family
   record ForFamilyAt (families : List CallLine) (place : ℕ) (operation : Operation) : Type 0 where
     pub family : ℕ
     pub line : CallLine
     pub listed : slice_get families place ≡ Some line
     pub same : family ≡ line.number
     pub asks_it : asks_number family operation ≡ true
+    pub value : ℕ
     pub comes_to : (host : Host) (caller : Caller) → effect_of host caller operation
-        ≡ socket_effect caller.newer caller.creds (numbered family host.families)
+        ≡ sockets_effect value caller.newer caller.creds (numbered family host.families)
 
   family_listed : (families : List CallLine) (place family : ℕ) (operation : Operation) → is_family (slice_get families place) family ≡ true
-      → asks_number family operation ≡ true
+      → asks_number family operation ≡ true → (value : ℕ)
       → ((host : Host) (caller : Caller) → effect_of host caller operation
-      ≡ socket_effect caller.newer caller.creds (numbered family host.families)) → ForFamilyAt families place operation
-  family_listed families place family operation e asks_it comes_to = by (slice_get families place) refl e
+      ≡ sockets_effect value caller.newer caller.creds (numbered family host.families)) → ForFamilyAt families place operation
+  family_listed families place family operation e asks_it value comes_to = by (slice_get families place) refl e
     where
       by : (o : Option CallLine) → slice_get families place ≡ o → is_family o family ≡ true → ForFamilyAt families place operation
       by None is e = cc
       by (Some line) is e = record
-          { family = family; line = line; listed = is; same = eqb-true family line.number e; asks_it = asks_it; comes_to = comes_to }
+          { family = family; line = line; listed = is; same = eqb-true family line.number e; asks_it = asks_it; value = value; comes_to = comes_to }
 
   family_is : (families : List CallLine) (place : ℕ) (operation : Operation) → asks_family families place operation ≡ true
       → ForFamilyAt families place operation
-  family_is families place (d.Socket family) e = family_listed families place family (d.Socket family) e (eq-eqb family family refl)
+  family_is families place (d.Socket family) e = family_listed families place family (d.Socket family) e (eq-eqb family family refl) 3
       (λ host caller. refl)
   family_is families place (d.Socketcall op family) e =
       let both = and_parts (eqb op 1) (is_family (slice_get families place) family) e in
-      family_listed families place family (d.Socketcall op family) both.1 (and_from _ _ both.0 (eq-eqb family family refl))
+      family_listed families place family (d.Socketcall op family) both.1 (and_from _ _ both.0 (eq-eqb family family refl)) 3
       (λ host caller. ap (λ b. cond b (socket_effect caller.newer caller.creds (numbered family host.families))
       (cond (nat_le 2 op && nat_le op 20) (f.Answer 0) (f.Refuse einval))) both.0)
+  family_is families place (d.Socketpair family) e =
+      let both = and_parts (eqb family 1) (is_family (slice_get families place) family) e in
+      family_listed families place family (d.Socketpair family) both.1 (and_from _ _ both.0 (eq-eqb family family refl)) 0
+      (λ host caller. ap (λ b. cond b (sockets_effect 0 caller.newer caller.creds (numbered family host.families))
+      (no_pair (numbered family host.families))) both.0)
   family_is families place operation e = cc
 
   socket_open : (place : ℕ) (now : World) (call : Call) → IsCall call → All now
@@ -295,9 +309,53 @@ module _ (launch : Launch) (l : IsLaunched launch) (below : Mounts → Type 0) (
       let asked : asks (k.ForFamily line.number) w.operation ≡ true = ap (λ n. asks_number n w.operation) (sym h.same) ∙ h.asks_it in
       let passes = kind_lets now call fit held w (k.ForFamily line.number) asked in
       let P : Effect → Type 0 = λ x. DoneBy now call.pid w.process x in
-      let done : DoneBy now call.pid w.process (socket_effect (is_newer w.process) w.process.creds (Some line)) = subst P (h.comes_to (host_of now) (caller_of now w.process) ∙ ap (socket_effect (is_newer w.process) w.process.creds) here) w.done in
+      let done : DoneBy now call.pid w.process (sockets_effect h.value (is_newer w.process) w.process.creds (Some line)) = subst P (h.comes_to (host_of now) (caller_of now w.process) ∙ ap (sockets_effect h.value (is_newer w.process) w.process.creds) here) w.done in
       ap (if_listed (λ line. lets launch (k.ForFamily line.number) && can_have_cap top line.cap)) listed
-      ∙ and_from _ _ passes (can_cap now call held w line.cap 3 done)
+      ∙ and_from _ _ passes (can_cap now call held w line.cap h.value done)
+
+  -- ---- realtime policies
+  -- the effect of sched_setattr(2) with such a policy
+  attributes_given : (newer : Bool) (creds : Creds) (policy : ℕ) → is_realtime policy ≡ true → attributes_effect newer creds policy
+      ≡ f.first_alone newer (Some 23) (f.with_cap_of (Some 23) creds (f.Answer 0))
+  attributes_given newer creds policy e = by (or_cases (eqb policy 1) (eqb policy 2) e)
+    where
+      at : (known : ℕ) → policy ≡ known → attributes_effect newer creds known ≡ f.first_alone newer (Some 23) (f.with_cap_of (Some 23) creds (f.Answer 0))
+          → attributes_effect newer creds policy ≡ f.first_alone newer (Some 23) (f.with_cap_of (Some 23) creds (f.Answer 0))
+      at known same given = ap (attributes_effect newer creds) same ∙ given
+
+      by : (eqb policy 1 ≡ true) ⊎ (eqb policy 2 ≡ true) → attributes_effect newer creds policy ≡ f.first_alone newer (Some 23) (f.with_cap_of (Some 23) creds (f.Answer 0))
+      by (inl one) = at 1 (eqb-true policy 1 one) refl
+      by (inr two) = at 2 (eqb-true policy 2 two) refl
+
+  realtime_open : (now : World) (call : Call) → IsCall call → All now → Performs asks_realtime (moment_at now call)
+      → is_open launch asking.Realtime ≡ true
+  realtime_open now call fit held p =
+      let w = was_done now call p.done in
+      let same = same_operation now call p.operation w.operation p.is w.asks in
+      by w w.operation refl (ap asks_realtime (sym same) ∙ p.such)
+    where
+      by : (w : WasDone now call) (own : Operation) → w.operation ≡ own → asks_realtime own ≡ true → is_open launch asking.Realtime ≡ true
+      by w (d.Schedule policy) is e = or_left _ _ (kind_lets now call fit held w k.SchedulesRealtime (ap (asks k.SchedulesRealtime) is ∙ e))
+      by w (d.SetAttributes policy) is e =
+          let passes = kind_lets now call fit held w k.SetsRealtime (ap (asks k.SetsRealtime) is ∙ e) in
+          let P : Effect → Type 0 = λ x. DoneBy now call.pid w.process x in
+          let effect = ap (effect_of (host_of now) (caller_of now w.process)) is ∙ attributes_given (is_newer w.process) w.process.creds policy e in
+          or_right (lets launch k.SchedulesRealtime) _ (and_from _ _ passes (can_cap now call held w (Some 23) 0 (subst P effect w.done)))
+      by w own is e = cc
+
+  -- ---- set-id bits
+  suid_open : (now : World) (call : Call) → IsCall call → All now → Performs asks_mode (moment_at now call)
+      → is_open launch asking.SuidBit ≡ true
+  suid_open now call fit held p =
+      let w = was_done now call p.done in
+      let same = same_operation now call p.operation w.operation p.is w.asks in
+      by w w.operation refl (ap asks_mode (sym same) ∙ p.such)
+    where
+      by : (w : WasDone now call) (own : Operation) → w.operation ≡ own → asks_mode own ≡ true → is_open launch asking.SuidBit ≡ true
+      by w (d.SetMode mode) is e = or_left _ _ (kind_lets now call fit held w k.SetsMode (ap (asks k.SetsMode) is ∙ e))
+      by w (d.Open flags mode path) is e =
+          or_right (lets launch k.SetsMode) _ (kind_lets now call fit held w k.OpensMode (ap (asks k.OpensMode) is ∙ e))
+      by w own is e = cc
 
   space_open : (space : NamespaceType) (now : World) (call : Call) → IsCall call → All now
       → Performs (asks_space space) (moment_at now call) → is_open launch (asking.Namespace space) ≡ true
@@ -373,10 +431,10 @@ module _ (launch : Launch) (l : IsLaunched launch) (below : Mounts → Type 0) (
   reached_open less asking.MapWx asked now call fit held r = map_open now call fit held r
   reached_open less asking.ProtectX asked now call fit held r = kind_of now call fit held asks_protect r k.ProtectsX (λ operation e. e)
   reached_open less asking.ShmX asked now call fit held r = shm_open now call fit held r
-  reached_open less asking.Realtime asked now call fit held r = kind_of now call fit held asks_realtime r k.SchedulesRealtime (λ operation e. e)
+  reached_open less asking.Realtime asked now call fit held r = realtime_open now call fit held r
   reached_open less asking.Personality asked now call fit held r =
       kind_of now call fit held asks_personality r k.TakesPersonality (λ operation e. e)
-  reached_open less asking.SuidBit asked now call fit held r = kind_of now call fit held asks_mode r k.SetsMode (λ operation e. e)
+  reached_open less asking.SuidBit asked now call fit held r = suid_open now call fit held r
   reached_open less (asking.Cap number) asked now call fit held r = absurd r
   reached_open less (asking.Uid id) asked now call fit held r = absurd r
   reached_open less (asking.Gid id) asked now call fit held r = absurd r

@@ -6,7 +6,7 @@ use Rattle.filter_settings.specs.call_table.declared.listed.CallLine.{CallLine}
 use Rattle.filter_settings.specs.call_table.Table.{every_call}
 use Rattle.kernel_model.specs.cap_sets.Sets.{has, none, union, cut, within}
 use Rattle.kernel_model.specs.site_table.declared.row.Row.{Row}
-use Rattle.filter_settings.specs.linux_numbers.Capabilities.{cap_sys_admin, cap_setuid, cap_setgid}
+use Rattle.filter_settings.specs.linux_numbers.Capabilities.{cap_sys_admin, cap_sys_nice, cap_setuid, cap_setgid}
 use Rattle.kernel_laws.specs.Bounds.{Bounds}
 use Rattle.kernel_model.specs.site_table.Kinds.{is_exe}
 use Rattle.kernel_laws.specs.Reach.{reaches}
@@ -17,8 +17,9 @@ use Rattle.kernel_laws.specs.declared.question_types.power.Power.{Power}
 use Rattle.kernel_laws.specs.declared.question_types.power.Power.TheVariants.{None as Nowise, Unmount as Unmounting, Mount as Mounting}
 use Rattle.kernel_laws.specs.declared.question_types.kind.CallKind.{CallKind}
 use Rattle.kernel_laws.specs.declared.question_types.kind.CallKind.TheVariants.{ForPath, PlainCall, ForFamily, ForNamespace, MapsWx}
-use Rattle.kernel_laws.specs.declared.question_types.kind.CallKind.TheVariants.{ProtectsX, AttachesX, AttachesReadOnlyX, SchedulesRealtime, TakesPersonality}
-use Rattle.kernel_laws.specs.declared.question_types.kind.CallKind.TheVariants.{SetsMode, ChangesMounts, RemovesMounts, SetsCaps, TakesUid}
+use Rattle.kernel_laws.specs.declared.question_types.kind.CallKind.TheVariants.{ProtectsX, AttachesX, AttachesReadOnlyX, SchedulesRealtime, SetsRealtime}
+use Rattle.kernel_laws.specs.declared.question_types.kind.CallKind.TheVariants.{TakesPersonality}
+use Rattle.kernel_laws.specs.declared.question_types.kind.CallKind.TheVariants.{SetsMode, OpensMode, ChangesMounts, RemovesMounts, SetsCaps, TakesUid}
 use Rattle.kernel_laws.specs.declared.question_types.kind.CallKind.TheVariants.{TakesGid}
 use Rattle.kernel_laws.specs.declared.question_types.wish.Wish.{Wish}
 use Rattle.kernel_laws.specs.declared.question_types.wish.Wish.TheVariants.{See as ToSee, Read as ToRead, Write as ToWrite, Exec as ToExec}
@@ -204,9 +205,9 @@ open_at launch power top (Ns space) =
 open_at launch power top MapWx = not launch.creds.mdwe && lets launch MapsWx
 open_at launch power top ProtectX = lets launch ProtectsX
 open_at launch power top ShmX = lets launch (attaching launch)
-open_at launch power top Realtime = lets launch SchedulesRealtime
+open_at launch power top Realtime = lets launch SchedulesRealtime || (lets launch SetsRealtime && can_have_cap top (Some cap_sys_nice))
 open_at launch power top Personality = lets launch TakesPersonality
-open_at launch power top SuidBit = lets launch SetsMode
+open_at launch power top SuidBit = lets launch SetsMode || lets launch OpensMode
 open_at launch power top (Cap number) = has top.effective number
 open_at launch power top (Uid id) = top.uid id
 open_at launch power top (Gid id) = top.gid id

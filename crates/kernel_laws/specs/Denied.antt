@@ -20,6 +20,7 @@ use Rattle.kernel_model.specs.kernel_calls.Calls.{IsPath, AreCalls}
 use Rattle.kernel_model.specs.kernel_calls.Operation as operation
 use Rattle.kernel_model.specs.kernel_calls.Operation.{Operation, Does, asked_of}
 use Rattle.kernel_model.specs.declared.process.Process.{Process}
+use Rattle.kernel_model.specs.Effects.{af_unix}
 use Rattle.kernel_model.specs.World.{World, process_of, living_of, table_of}
 use Rattle.kernel_model.specs.Runs.{Moment, moments, run, IsDone, AllDone}
 use Rattle.kernel_laws.specs.declared.question_types.wish.Wish.{Wish}
@@ -35,8 +36,8 @@ use Rattle.kernel_laws.specs.Questions.{flag_of}
 -- its access mode, creat(2) and truncate(2) write, execve(2) executes
 abbrev pub path_for : Wish → Operation → Option Path
 path_for ToSee (operation.See path) = Some path
-path_for ToRead (operation.Open flags path) = if is_reading flags then Some path else None
-path_for ToWrite (operation.Open flags path) = if is_writing flags then Some path else None
+path_for ToRead (operation.Open flags mode path) = if is_reading flags then Some path else None
+path_for ToWrite (operation.Open flags mode path) = if is_writing flags then Some path else None
 path_for ToWrite (operation.Create path) = Some path
 path_for ToWrite (operation.Truncate path) = Some path
 path_for ToExec (operation.Execve path) = Some path
@@ -85,9 +86,14 @@ abbrev pub asks_attach : Operation → Bool
 asks_attach (operation.Attach flags) = has_all 0x8000 flags
 asks_attach _ = false
 
--- sched_setscheduler(2): SCHED_FIFO and SCHED_RR
+-- sched(7): SCHED_FIFO and SCHED_RR
+abbrev pub is_realtime : ℕ → Bool
+is_realtime policy = policy == 1 || policy == 2
+
+-- sched_setscheduler(2), sched_setattr(2)
 abbrev pub asks_realtime : Operation → Bool
-asks_realtime (operation.Schedule policy) = policy == 1 || policy == 2
+asks_realtime (operation.Schedule policy) = is_realtime policy
+asks_realtime (operation.SetAttributes policy) = is_realtime policy
 asks_realtime _ = false
 
 -- personality(2): neither PER_LINUX nor 0xffffffff, which asks what the domain is
@@ -96,8 +102,17 @@ asks_personality (operation.Personality domain) = not (domain == 0 || domain == 
 asks_personality _ = false
 
 -- inode(7): S_ISUID or S_ISGID
+abbrev pub has_id_bit : ℕ → Bool
+has_id_bit mode = has_some 0xc00 mode
+
+-- open(2): O_CREAT or O_TMPFILE makes a file, with the mode
+abbrev pub makes_file : ℕ → Bool
+makes_file flags = has_some 0x40_0040 flags
+
+-- chmod(2), mkdir(2), mknod(2) and similar calls give a mode, and open(2) and openat(2) that of a file that they make
 abbrev pub asks_mode : Operation → Bool
-asks_mode (operation.SetMode mode) = has_some 0xc00 mode
+asks_mode (operation.SetMode mode) = has_id_bit mode
+asks_mode (operation.Open flags mode path) = has_id_bit mode && makes_file flags
 asks_mode _ = false
 
 -- the family has the number of the line, if there is one
@@ -105,10 +120,11 @@ abbrev pub is_family : Option CallLine → ℕ → Bool
 is_family None family = false
 is_family (Some line) family = family == line.number
 
--- socket(2) of the family of this place, or SYS_SOCKET, which is 1, of socketcall(2)
+-- socket(2) of the family of this place, or SYS_SOCKET, which is 1, of socketcall(2); and socketpair(2) of AF_UNIX, if it is this family
 abbrev pub asks_family : List CallLine → ℕ → Operation → Bool
 asks_family families place (operation.Socket family) = is_family (slice_get families place) family
 asks_family families place (operation.Socketcall op family) = op == 1 && is_family (slice_get families place) family
+asks_family families place (operation.Socketpair family) = family == af_unix && is_family (slice_get families place) family
 asks_family families place _ = false
 
 -- a call that is done and asks for such a thing

@@ -15,6 +15,8 @@ use Rattle.filter_settings.specs.call_table.declared.listed.CallLine.{CallLine}
 use Rattle.filter_settings.specs.call_table.Table as calls
 use Rattle.filter_settings.specs.call_table.Lookups.{IsInRange, place_numbered}
 use Rattle.filter_settings.specs.call_table.Facts.{AreOf}
+use Rattle.filter_settings.specs.call_table.Kernels.{AreBy}
+use Rattle.filter_settings.specs.call_table.declared.call_names.kernel.Kernel.{Kernel}
 use Rattle.kernel_model.specs.site_table.Table.{Site}
 use Rattle.kernel_model.specs.kern_creds.declared.creds.Creds.{Creds}
 use Rattle.kernel_model.specs.kern_creds.Start as creds
@@ -93,12 +95,13 @@ pub record Chosen (launch : Launch) (kind : CallKind) (rule : Rule) (abi nr : �
 -- what a launch leaves
 pub record IsLaunched (launch : Launch) : Type 0 where
   -- each ABI gives a number once: the line of a place is what its number finds; a line says its ABI; a name has one capability;
-  -- and calls have numbers of 32 bits
+  -- one kernel reads the names; and calls have numbers of 32 bits
   pub calls_once : (abi at : ℕ) (line : CallLine) → slice_get (calls.calls_in launch.calls abi) at ≡ Some line
       → place_numbered line.number (calls.calls_in launch.calls abi) ≡ Some at
   pub calls_of_abi : (abi : ℕ) → AreOf abi (calls.calls_in launch.calls abi)
   pub one_cap : All (λ line. All (λ other. line.name ≡ other.name → line.cap ≡ other.cap) (calls.every_call launch.calls))
       (calls.every_call launch.calls)
+  pub one_kernel : (kernel : Kernel) × AreBy kernel (calls.every_call launch.calls)
   pub families_once : (at : ℕ) (line : CallLine) → slice_get launch.calls.families at ≡ Some line
       → place_numbered line.number launch.calls.families ≡ Some at
   pub calls_in_range : (abi : ℕ) → All IsInRange (calls.calls_in launch.calls abi)

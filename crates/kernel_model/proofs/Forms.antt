@@ -1,21 +1,22 @@
 -- The form of a payload decides, and of the words the low halves.
 use Rattle.std.proofs.Common.{◌≡◌, ◌↔◌, ℕ, ◌<◌, List, IsSome, refl, ap, ◌∙◌, arith}
 use Rattle.site_table.specs.abs_path.Paths.{Path}
-use Rattle.call_table.specs.call_names.Known.{place_of, form_of}
+use Rattle.kern_mounts.specs.linux_numbers.Limits.{no_id}
+use Rattle.call_table.specs.call_names.Known.{mode_place_of, place_of, form_of}
 use Rattle.call_table.specs.declared.call_names.rule.Argument.{Argument}
 use Rattle.call_table.specs.declared.call_names.rule.Argument.TheVariants.{Second, Third}
 use Rattle.call_table.specs.declared.call_names.rule.CallRule.{CallRule}
 use Rattle.call_table.specs.declared.call_names.rule.CallRule.TheVariants as known
 use Rattle.call_table.specs.declared.call_names.payload.PayloadForm.TheVariants as form
 use Rattle.kernel_model.specs.declared.kernel_calls.payload.Payload.{Payload}
-use Rattle.kernel_model.specs.declared.kernel_calls.payload.Payload.TheVariants.{Nothing, OnePath, TwoPaths, Sets, Ids, Family, Code}
+use Rattle.kernel_model.specs.declared.kernel_calls.payload.Payload.TheVariants.{Nothing, OnePath, TwoPaths, PathFlags, Sets, Ids, Number, Code}
 use Rattle.kernel_model.specs.declared.kernel_calls.rule.Rule.{Rule}
 use Rattle.kernel_model.specs.declared.kernel_calls.rule.Rule.TheVariants as rule
 use Rattle.kernel_model.specs.kernel_calls.Calls.{form_of_payload}
 use Rattle.kernel_model.specs.kernel_calls.Operation.{Operation, See, Open, Create, Truncate, Execve, SetMode, Map, Protect, Attach, Schedule}
-use Rattle.kernel_model.specs.kernel_calls.Operation.{Personality, Socket, Socketcall, Enter, Fork, Clone, Unshare, Exit, Mount, Umount, Setuid}
+use Rattle.kernel_model.specs.kernel_calls.Operation.{SetAttributes, Personality, Socket, Socketcall, Socketpair, Enter, Fork, Clone, Unshare, Exit, Mount, Umount, Setuid}
 use Rattle.kernel_model.specs.kernel_calls.Operation.{Setgid, Setresuid, Setresgid, Setgroups, Capset, Prctl, Seccomp, Plain, bare, by_path}
-use Rattle.kernel_model.specs.kernel_calls.Operation.{by_paths, by_sets, by_ids, by_family, by_code, known_operation, operation_by}
+use Rattle.kernel_model.specs.kernel_calls.Operation.{by_path_flags, by_paths, by_sets, by_ids, by_number, by_code, known_operation, operation_by}
 use Rattle.kernel_model.specs.kernel_calls.Rules.{form_of_rule}
 use Rattle.kernel_model.specs.kernel_calls.Words.{low_word}
 
@@ -32,6 +33,11 @@ by_paths_form : (operation : Path → Path → Operation) (payload : Payload)
 by_paths_form operation (TwoPaths source target) = (λ h. refl, λ h. refl)
 by_paths_form operation payload = (λ h. cc, λ h. cc)
 
+by_path_flags_form : (operation : Path → ℕ → Operation) (payload : Payload)
+    → (form_of_payload payload ≡ form.PathFlags) ↔ IsSome (by_path_flags operation payload)
+by_path_flags_form operation (PathFlags path flags) = (λ h. refl, λ h. refl)
+by_path_flags_form operation payload = (λ h. cc, λ h. cc)
+
 by_sets_form : (operation : ℕ → ℕ → ℕ → Operation) (payload : Payload) → (form_of_payload payload ≡ form.Sets) ↔ IsSome (by_sets operation payload)
 by_sets_form operation (Sets permitted effective inheritable) = (λ h. refl, λ h. refl)
 by_sets_form operation payload = (λ h. cc, λ h. cc)
@@ -40,9 +46,9 @@ by_ids_form : (operation : List ℕ → Operation) (payload : Payload) → (form
 by_ids_form operation (Ids ids) = (λ h. refl, λ h. refl)
 by_ids_form operation payload = (λ h. cc, λ h. cc)
 
-by_family_form : (operation : ℕ → Operation) (payload : Payload) → (form_of_payload payload ≡ form.Family) ↔ IsSome (by_family operation payload)
-by_family_form operation (Family family) = (λ h. refl, λ h. refl)
-by_family_form operation payload = (λ h. cc, λ h. cc)
+by_number_form : (operation : ℕ → Operation) (payload : Payload) → (form_of_payload payload ≡ form.Number) ↔ IsSome (by_number operation payload)
+by_number_form operation (Number number) = (λ h. refl, λ h. refl)
+by_number_form operation payload = (λ h. cc, λ h. cc)
 
 by_code_form : (operation : List ℕ → Operation) (payload : Payload) → (form_of_payload payload ≡ form.Program) ↔ IsSome (by_code operation payload)
 by_code_form operation (Code bytes) = (λ h. refl, λ h. refl)
@@ -51,7 +57,9 @@ by_code_form operation payload = (λ h. cc, λ h. cc)
 known_form : (rule : CallRule) (args : List ℕ) (payload : Payload)
     → (form_of_payload payload ≡ form_of rule) ↔ IsSome (known_operation rule args payload)
 known_form known.See args = by_path_form See
-known_form (known.Open flags) args = by_path_form (Open (low_word args (place_of flags)))
+known_form (known.Open flags) args = by_path_form (Open (low_word args (place_of flags)) 0)
+known_form (known.OpenWith flags) args = by_path_form (Open (low_word args (place_of flags)) (low_word args (mode_place_of flags)))
+known_form known.Openat2 args = by_path_flags_form (λ path flags. Open flags 0 path)
 known_form known.Create args = by_path_form Create
 known_form known.Truncate args = by_path_form Truncate
 known_form known.Execve args = by_path_form Execve
@@ -60,12 +68,15 @@ known_form known.Map args = bare_form (Map (low_word args 2))
 known_form known.Protect args = bare_form (Protect (low_word args 2))
 known_form known.Attach args = bare_form (Attach (low_word args 2))
 known_form known.Schedule args = bare_form (Schedule (low_word args 1))
+known_form known.SetAttributes args = by_number_form SetAttributes
 known_form known.Personality args = bare_form (Personality (low_word args 0))
 known_form known.Socket args = bare_form (Socket (low_word args 0))
-known_form known.Socketcall args = by_family_form (Socketcall (low_word args 0))
+known_form known.Socketcall args = by_number_form (Socketcall (low_word args 0))
+known_form known.Socketpair args = bare_form (Socketpair (low_word args 0))
 known_form known.Enter args = bare_form Enter
 known_form known.Fork args = bare_form Fork
 known_form known.Clone args = bare_form (Clone (low_word args 0))
+known_form known.Clone3 args = by_number_form Clone
 known_form known.Unshare args = bare_form (Unshare (low_word args 0))
 known_form known.Exit args = bare_form Exit
 known_form known.Mount args = by_paths_form (λ source target. Mount source target (low_word args 3))
@@ -74,6 +85,8 @@ known_form known.Setuid args = bare_form (Setuid (low_word args 0))
 known_form known.Setgid args = bare_form (Setgid (low_word args 0))
 known_form known.Setresuid args = bare_form (Setresuid (low_word args 0) (low_word args 1) (low_word args 2))
 known_form known.Setresgid args = bare_form (Setresgid (low_word args 0) (low_word args 1) (low_word args 2))
+known_form known.Setreuid args = bare_form (Setresuid (low_word args 0) (low_word args 1) no_id)
+known_form known.Setregid args = bare_form (Setresgid (low_word args 0) (low_word args 1) no_id)
 known_form known.Setgroups args = by_ids_form Setgroups
 known_form known.Capset args = by_sets_form Capset
 known_form known.Prctl args = bare_form (Prctl (low_word args 0) (low_word args 1) (low_word args 2) (low_word args 3) (low_word args 4))
@@ -87,6 +100,15 @@ form_decides (rule.Plain cap) args payload = bare_form (Plain cap) payload
 within : (argument : Argument) → place_of argument < 6
 within Second = omega arith
 within Third = omega arith
+
+mode_within : (argument : Argument) → mode_place_of argument < 6
+mode_within Second = omega arith
+mode_within Third = omega arith
+
+two_low : (operation : ℕ → ℕ → Operation) (args other : List ℕ) (payload : Payload)
+    → ((at : ℕ) → at < 6 → low_word args at ≡ low_word other at)
+    → bare (operation (low_word args 0) (low_word args 1)) payload ≡ bare (operation (low_word other 0) (low_word other 1)) payload
+two_low operation args other payload same = rw (same 0 (omega arith), same 1 (omega arith)) refl
 
 three_low : (operation : ℕ → ℕ → ℕ → Operation) (args other : List ℕ) (payload : Payload)
     → ((at : ℕ) → at < 6 → low_word args at ≡ low_word other at)
@@ -103,7 +125,10 @@ five_low operation args other payload same =
 
 known_low : (rule : CallRule) (args other : List ℕ) (payload : Payload) → ((at : ℕ) → at < 6 → low_word args at ≡ low_word other at)
     → known_operation rule args payload ≡ known_operation rule other payload
-known_low (known.Open flags) args other payload same = ap (λ w. by_path (Open w) payload) (same (place_of flags) (within flags))
+known_low (known.Open flags) args other payload same = ap (λ w. by_path (Open w 0) payload) (same (place_of flags) (within flags))
+known_low (known.OpenWith flags) args other payload same =
+    ap (λ w. by_path (Open w (low_word args (mode_place_of flags))) payload) (same (place_of flags) (within flags))
+    ∙ ap (λ w. by_path (Open (low_word other (place_of flags)) w) payload) (same (mode_place_of flags) (mode_within flags))
 known_low (known.SetMode mode) args other payload same = ap (λ w. bare (SetMode w) payload) (same (place_of mode) (within mode))
 known_low known.Map args other payload same = ap (λ w. bare (Map w) payload) (same 2 (omega arith))
 known_low known.Protect args other payload same = ap (λ w. bare (Protect w) payload) (same 2 (omega arith))
@@ -111,7 +136,8 @@ known_low known.Attach args other payload same = ap (λ w. bare (Attach w) paylo
 known_low known.Schedule args other payload same = ap (λ w. bare (Schedule w) payload) (same 1 (omega arith))
 known_low known.Personality args other payload same = ap (λ w. bare (Personality w) payload) (same 0 (omega arith))
 known_low known.Socket args other payload same = ap (λ w. bare (Socket w) payload) (same 0 (omega arith))
-known_low known.Socketcall args other payload same = ap (λ w. by_family (Socketcall w) payload) (same 0 (omega arith))
+known_low known.Socketcall args other payload same = ap (λ w. by_number (Socketcall w) payload) (same 0 (omega arith))
+known_low known.Socketpair args other payload same = ap (λ w. bare (Socketpair w) payload) (same 0 (omega arith))
 known_low known.Clone args other payload same = ap (λ w. bare (Clone w) payload) (same 0 (omega arith))
 known_low known.Unshare args other payload same = ap (λ w. bare (Unshare w) payload) (same 0 (omega arith))
 known_low known.Mount args other payload same = ap (λ w. by_paths (λ source target. Mount source target w) payload) (same 3 (omega arith))
@@ -120,6 +146,8 @@ known_low known.Setuid args other payload same = ap (λ w. bare (Setuid w) paylo
 known_low known.Setgid args other payload same = ap (λ w. bare (Setgid w) payload) (same 0 (omega arith))
 known_low known.Setresuid args other payload same = three_low Setresuid args other payload same
 known_low known.Setresgid args other payload same = three_low Setresgid args other payload same
+known_low known.Setreuid args other payload same = two_low (λ r e. Setresuid r e no_id) args other payload same
+known_low known.Setregid args other payload same = two_low (λ r e. Setresgid r e no_id) args other payload same
 known_low known.Prctl args other payload same = five_low Prctl args other payload same
 known_low known.Seccomp args other payload same = ap (λ w. by_code (Seccomp w (low_word args 1)) payload) (same 0 (omega arith))
     ∙ ap (λ w. by_code (Seccomp (low_word other 0) w) payload) (same 1 (omega arith))

@@ -29,9 +29,10 @@ use Rattle.kernel_model.specs.declared.process.Process.{Process}
 use Rattle.kernel_model.specs.declared.reply.Reply.{Reply}
 use Rattle.kernel_model.specs.Effects as f
 use Rattle.kernel_model.specs.Effects.{Effect, Host, Caller, thread_flag, newns, newuser, other_spaces, no_spaces, effect_of, looks}
-use Rattle.kernel_model.specs.Effects.{creds_effect, table_effect, with_cap, with_cap_of, with_admin, socket_effect, clone_effect}
+use Rattle.kernel_model.specs.Effects.{creds_effect, table_effect, with_cap, with_cap_of, with_admin, socket_effect, sockets_effect, clone_effect}
 use Rattle.kernel_model.specs.Effects.{unshare_effect, is_set_effect, ambient_effect, no_new_privs_effect, keepcaps_effect, prctl_effect}
-use Rattle.kernel_model.specs.Effects.{push_effect, seccomp_effect, first_alone, socketcall_effect, protect_effect, attach_effect}
+use Rattle.kernel_model.specs.Effects.{push_effect, seccomp_effect, first_alone, socketcall_effect, socketpair_effect, no_pair, af_unix, protect_effect}
+use Rattle.kernel_model.specs.Effects.{attach_effect, attributes_effect, schedule_answer}
 use Rattle.kernel_model.specs.Effects.{set_mdwe_effect, prctl_effect_of}
 use Rattle.kernel_model.specs.World.{World, living_of, of_number, table_or, mounts_of, with_process, with_table, with_child, with_copy}
 use Rattle.kernel_model.specs.World.{moved_to, ended, host_of, caller_of, owner_of, with_user, entered_by}
@@ -100,9 +101,25 @@ roots_alone false cap creds value = roots_cap_of cap creds value
 roots_alone true None creds value = gives value
 roots_alone true (Some cap) creds value = refuses eperm
 
+roots_attributes : (newer : Bool) (creds : Creds) (policy : ℕ) → MakesRooted (attributes_effect newer creds policy)
+roots_attributes true creds policy = refuses eperm
+roots_attributes false creds policy = roots_cap 23 creds (looks (schedule_answer policy)) (roots_looks (schedule_answer policy))
+
+roots_sockets : (value : ℕ) (newer : Bool) (creds : Creds) (line : Option CallLine) → MakesRooted (sockets_effect value newer creds line)
+roots_sockets value newer creds None = refuses _
+roots_sockets value newer creds (Some line) = roots_alone newer line.cap creds value
+
 roots_socket : (newer : Bool) (creds : Creds) (line : Option CallLine) → MakesRooted (socket_effect newer creds line)
-roots_socket newer creds None = refuses _
-roots_socket newer creds (Some line) = roots_alone newer line.cap creds 3
+roots_socket newer creds line = roots_sockets 3 newer creds line
+
+roots_unpaired : (line : Option CallLine) → MakesRooted (no_pair line)
+roots_unpaired None = refuses _
+roots_unpaired (Some line) = refuses _
+
+roots_socketpair : (newer : Bool) (creds : Creds) (family : ℕ) (line : Option CallLine)
+    → MakesRooted (socketpair_effect newer creds family line)
+roots_socketpair newer creds family line = roots_if (family == af_unix) (sockets_effect 0 newer creds line) (no_pair line)
+    (roots_sockets 0 newer creds line) (roots_unpaired line)
 
 -- where ids are not mapped
 roots_ids : (real effective saved : ℕ)
@@ -299,7 +316,7 @@ roots_seccomp creds stack op flags bytes = mode (not (op == 1 && flags == 0))
 
 pub roots_effect : (host : Host) (caller : Caller) (operation : Operation) → IsRooted caller.table → MakesRooted (effect_of host caller operation)
 roots_effect host caller (d.See path) h = roots_looks _
-roots_effect host caller (d.Open flags path) h = roots_looks _
+roots_effect host caller (d.Open flags mode path) h = roots_looks _
 roots_effect host caller (d.Create path) h = roots_looks _
 roots_effect host caller (d.Truncate path) h = roots_looks _
 roots_effect host caller (d.Execve path) h = roots_creds _
@@ -309,8 +326,10 @@ roots_effect host caller (d.Protect protection) h = roots_protect caller.creds p
 roots_effect host caller (d.Attach flags) h = roots_attach caller.creds flags
 roots_effect host caller (d.Schedule policy) h = roots_looks _
 roots_effect host caller (d.Personality persona) h = gives 0
+roots_effect host caller (d.SetAttributes policy) h = roots_attributes caller.newer caller.creds policy
 roots_effect host caller (d.Socket family) h = roots_socket caller.newer caller.creds _
 roots_effect host caller (d.Socketcall op family) h = roots_socketcall caller.newer caller.creds op _
+roots_effect host caller (d.Socketpair family) h = roots_socketpair caller.newer caller.creds family _
 roots_effect host caller d.Enter h = refuses _
 roots_effect host caller d.Fork h = child false
 roots_effect host caller (d.Clone flags) h = roots_clone caller.creds flags

@@ -22,18 +22,18 @@ one_rule calls at line once e =
     ap (option_and_then rule_of) (at_its_place (has_number line.number) calls
     ∙ ap (option_and_then (slice_get calls)) (once.by_number at line e) ∙ e)
 
-pub absent : (line : CallLine) → (rule_of line ≡ None) ↔ (known_call line.name ≡ Some Absent)
+pub absent : (line : CallLine) → (rule_of line ≡ None) ↔ (known_call line.kernel line.name ≡ Some Absent)
 unfolding rule_of
-absent line = by (known_call line.name)
+absent line = by (known_call line.kernel line.name)
   where
     by : (known : Option KnownCall) → (rule_by known line.cap ≡ None) ↔ (known ≡ Some Absent)
     by None = (λ h. cc, λ h. cc)
     by (Some Absent) = (λ h. refl, λ h. refl)
     by (Some (Modelled rule)) = (λ h. cc, λ h. cc)
 
-pub plain : (line : CallLine) (cap : Option ℕ) → (rule_of line ≡ Some (Plain cap)) ↔ ((is_known line.name ≡ false) × (line.cap ≡ cap))
+pub plain : (line : CallLine) (cap : Option ℕ) → (rule_of line ≡ Some (Plain cap)) ↔ ((is_known line.kernel line.name ≡ false) × (line.cap ≡ cap))
 unfolding rule_of
-plain line cap = by (known_call line.name)
+plain line cap = by (known_call line.kernel line.name)
   where
     by : (known : Option KnownCall) → (rule_by known line.cap ≡ Some (Plain cap)) ↔ ((is_some known ≡ false) × (line.cap ≡ cap))
     by None = (λ h. (refl, cc), λ h. ap (λ c. Some (Plain c)) h.1)
@@ -53,7 +53,7 @@ lacking table call = by (rule_at (calls_in table call.abi) call.nr)
 
 pub absent_calls_are_lacking : (table : Table) (call : Call) (at : ℕ) (line : CallLine) → AreOnce (calls_in table call.abi)
     → slice_get (calls_in table call.abi) at ≡ Some line → call.nr ≡ line.number
-    → (asked_of table call ≡ Lacking) ↔ (known_call line.name ≡ Some Absent)
+    → (asked_of table call ≡ Lacking) ↔ (known_call line.kernel line.name ≡ Some Absent)
 absent_calls_are_lacking table call at line once e same =
     let calls : List CallLine = calls_in table call.abi in
     let rule : rule_at calls call.nr ≡ rule_of line = ap (rule_at calls) same ∙ one_rule calls at line once e in

@@ -15,6 +15,7 @@ use Rattle.std.proofs.lemmas.List.FromFn.{length-enumerate_from, get_or-enumerat
 use Rattle.std.proofs.lemmas.List.Kept.{AllPairs-from_increasing}
 use Rattle.std.proofs.lemmas.List.Sorted.{IsPermutation-sym, Contains-permutation, IsNonDecreasingBy-from_default}
 use Rattle.std.proofs.lemmas.Option.{slice_get-get_or, slice_get_past}
+use Rattle.call_table.specs.declared.call_names.kernel.Kernel.TheVariants.{Base}
 use Rattle.call_table.specs.declared.listed.CallLine.{CallLine}
 use Rattle.call_table.specs.declared.by_number.Numbered.{Numbered}
 use Rattle.call_table.specs.Lookups.{has_number, numbered, place_numbered}
@@ -27,7 +28,7 @@ abbrev pub none : Numbered
 none = record { number = 0; position = 0 }
 
 abbrev blank : CallLine
-blank = record { name = []; number = 0; cap = None; abi = 0 }
+blank = record { name = []; number = 0; cap = None; abi = 0; kernel = Base }
 
 -- the line at a place, with its number
 abbrev line_at : List CallLine → ℕ → Numbered

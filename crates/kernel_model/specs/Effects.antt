@@ -6,8 +6,8 @@ use Rattle.bpf_code.specs.ProgramOf.{program_of}
 use Rattle.bpf_code.specs.Stack.{room_of}
 use Rattle.site_table.specs.cap_sets.Sets.{has}
 use Rattle.site_table.specs.abs_path.Paths.{Path}
-use Rattle.kern_mounts.specs.linux_numbers.Errnos.{eperm, ebadf, eacces, einval, enomem, eafnosupport}
-use Rattle.kern_mounts.specs.linux_numbers.Capabilities.{cap_sys_admin, cap_last_cap}
+use Rattle.kern_mounts.specs.linux_numbers.Errnos.{eperm, ebadf, eacces, einval, enomem, eopnotsupp, eafnosupport}
+use Rattle.kern_mounts.specs.linux_numbers.Capabilities.{cap_sys_admin, cap_sys_nice, cap_last_cap}
 use Rattle.kern_mounts.specs.linux_numbers.Limits.{max_insns_per_path, no_id}
 use Rattle.call_table.specs.declared.listed.CallLine.{CallLine}
 use Rattle.call_table.specs.Lookups.{numbered}
@@ -26,7 +26,8 @@ use Rattle.kernel_model.specs.kern_files.Looking.{flags_at, see_answer, write_an
 use Rattle.kernel_model.specs.kern_files.Executing.{exec_answer_in}
 use Rattle.kernel_model.specs.kernel_calls.Operation.{Operation, See, Open, Create, Truncate, Execve, SetMode, Map, Protect, Attach, Schedule}
 use Rattle.kernel_model.specs.kernel_calls.Operation.{Personality, Socket, Enter, Fork, Clone, Unshare, Exit, Mount, Umount, Setuid, Setgid}
-use Rattle.kernel_model.specs.kernel_calls.Operation.{Setresuid, Setresgid, Setgroups, Capset, Prctl, Seccomp, Plain, Socketcall}
+use Rattle.kernel_model.specs.kernel_calls.Operation.{Setresuid, Setresgid, Setgroups, Capset, Prctl, Seccomp, Plain, Socketcall, Socketpair}
+use Rattle.kernel_model.specs.kernel_calls.Operation.{SetAttributes}
 use Rattle.kernel_model.specs.kern_files.MountCall.{after_mount}
 use Rattle.kernel_model.specs.kern_files.UmountCall.{umount_answer}
 
@@ -137,11 +138,18 @@ is_policy policy = nat_lt policy 4 || policy == 5
 abbrev pub schedule_answer : ℕ → Result ℕ ℕ
 schedule_answer policy = if is_policy policy then Ok 0 else Err einval
 
--- socket(2): EAFNOSUPPORT if the table lacks the family; then the call needs the family's capability. Its value is 3, the first
--- descriptor after the three standard ones
+-- sched_setattr(2): EPERM without CAP_SYS_NICE; then like sched_setscheduler(2)
+abbrev pub attributes_effect : Bool → Creds → ℕ → Effect
+attributes_effect newer creds policy = first_alone newer (Some cap_sys_nice) (with_cap cap_sys_nice creds (looks (schedule_answer policy)))
+
+-- a call that makes sockets, and its value: EAFNOSUPPORT if the table lacks the family; then the call needs the family's capability
+abbrev pub sockets_effect : ℕ → Bool → Creds → Option CallLine → Effect
+sockets_effect value newer creds None = Refuse eafnosupport
+sockets_effect value newer creds (Some line) = first_alone newer line.cap (with_cap_of line.cap creds (Answer value))
+
+-- socket(2): its value is 3, the first descriptor after the three standard ones
 abbrev pub socket_effect : Bool → Creds → Option CallLine → Effect
-socket_effect newer creds None = Refuse eafnosupport
-socket_effect newer creds (Some line) = first_alone newer line.cap (with_cap_of line.cap creds (Answer 3))
+socket_effect newer creds line = sockets_effect 3 newer creds line
 
 -- socketcall(2): SYS_SOCKET (1) is like socket(2). The other operations, from SYS_BIND (2) to SYS_SENDMMSG (20), succeed.
 -- EINVAL for any other
@@ -150,6 +158,19 @@ socketcall_effect newer creds op line =
     if op == 1 then socket_effect newer creds line
     else if nat_le 2 op && nat_le op 20 then Answer 0
     else Refuse einval
+
+-- AF_UNIX, address_families(7)
+abbrev pub af_unix : ℕ
+af_unix = 1
+
+-- a family whose sockets do not come in pairs, if the table has it: EOPNOTSUPP
+abbrev pub no_pair : Option CallLine → Effect
+no_pair None = Refuse eafnosupport
+no_pair (Some line) = Refuse eopnotsupp
+
+-- socketpair(2): only sockets of AF_UNIX come in pairs, and its value is 0
+abbrev pub socketpair_effect : Bool → Creds → ℕ → Option CallLine → Effect
+socketpair_effect newer creds family line = if family == af_unix then sockets_effect 0 newer creds line else no_pair line
 
 -- CLONE_THREAD: the child is a thread of the caller
 abbrev pub thread_flag : ℕ
@@ -254,7 +275,7 @@ seccomp_effect creds stack op flags bytes =
 -- the effect of what a call asks for, once the caller's programs let the call through
 abbrev pub effect_of : Host → Caller → Operation → Effect
 effect_of host caller (See path) = looks (see_answer 0 (finds host.rows (steps_of caller.table) path))
-effect_of host caller (Open flags path) =
+effect_of host caller (Open flags mode path) =
     looks (open_answer flags (flags_at (steps_of caller.table) path) (finds host.rows (steps_of caller.table) path))
 effect_of host caller (Create path) =
     looks (write_answer 3 (flags_at (steps_of caller.table) path) (finds host.rows (steps_of caller.table) path))
@@ -268,9 +289,11 @@ effect_of host caller (Map protection) = protect_effect caller.creds protection
 effect_of host caller (Protect protection) = protect_effect caller.creds protection
 effect_of host caller (Attach flags) = attach_effect caller.creds flags
 effect_of host caller (Schedule policy) = looks (schedule_answer policy)
+effect_of host caller (SetAttributes policy) = attributes_effect caller.newer caller.creds policy
 effect_of host caller (Personality persona) = Answer 0
 effect_of host caller (Socket family) = socket_effect caller.newer caller.creds (numbered family host.families)
 effect_of host caller (Socketcall op family) = socketcall_effect caller.newer caller.creds op (numbered family host.families)
+effect_of host caller (Socketpair family) = socketpair_effect caller.newer caller.creds family (numbered family host.families)
 effect_of host caller Enter = Refuse ebadf
 effect_of host caller Fork = Child false
 effect_of host caller (Clone flags) = clone_effect caller.creds flags

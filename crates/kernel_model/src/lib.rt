@@ -29,7 +29,9 @@ mod steps;
 mod told;
 mod world;
 
-pub use call_table::call_names::{CallRule, KnownCall, PayloadForm, form_of, is_known, known_call};
+pub use call_table::call_names::{
+    Argument, CallRule, Kernel, KnownCall, PayloadForm, form_of, is_known, known_call,
+};
 pub use call_table::call_words::{push_abi, spelled};
 pub use call_table::{
     CallLine, CallTable, ItemList, Line, push_u64, push_word, read_decimal, read_lines, read_text,

@@ -1,5 +1,5 @@
 //! Calls that change nothing: stat(2) and similar calls, open(2), creat(2), truncate(2), socket(2), socketcall(2),
-//! sched_setscheduler(2), and calls that only check a capability. None of them takes memory.
+//! socketpair(2), sched_setscheduler(2), sched_setattr(2), and calls that only check a capability. None of them takes memory.
 
 ghost use Rattle.std.specs.Prelude.{◌≡◌, option_copied};
 ghost use Rattle.call_table.specs.Lookups.{numbered};
@@ -7,7 +7,7 @@ ghost use Rattle.site_table.specs.Table.{row_at};
 ghost use Rattle.kern_mounts.specs.Finds.{finds};
 ghost use Rattle.kern_mounts.specs.Mounts.{steps_of};
 ghost use Rattle.kernel_model.specs.kern_files.Looking.{flags_at, valued, see_answer, write_answer, open_answer};
-ghost use Rattle.kernel_model.specs.Effects.{Answer, schedule_answer, socket_effect, with_cap_of, first_alone, socketcall_effect};
+ghost use Rattle.kernel_model.specs.Effects.{Answer, attributes_effect, schedule_answer, socket_effect, sockets_effect, with_cap_of, first_alone, socketcall_effect, socketpair_effect};
 ghost use Rattle.kernel_model.specs.Replies.{Answers, value_reply};
 
 use crate::kern_files::{open_file, see, write_file};
@@ -17,10 +17,14 @@ use abs_path::AbsPath;
 use call_table::{CallLine, CallTable};
 use kern_creds::Creds;
 use kern_mounts::MountTable;
-use kern_mounts::linux_numbers::errnos::{EAFNOSUPPORT, EINVAL, EPERM};
+use kern_mounts::linux_numbers::capabilities::CAP_SYS_NICE;
+use kern_mounts::linux_numbers::errnos::{EAFNOSUPPORT, EINVAL, EOPNOTSUPP, EPERM};
 
 // The first descriptor after the three standard ones.
 const DESCRIPTOR: u64 = 3;
+
+// The family whose sockets come in pairs, address_families(7).
+const AF_UNIX: u32 = 1;
 
 // The operation of socketcall(2) that makes a socket, linux/net.h.
 const SYS_SOCKET: u32 = 1;
@@ -72,13 +76,34 @@ impl<'a> Told<'a> {
         done(0, write_file(table, self.site, path))
     }
 
+    // A call that makes sockets and has this value. Returns EAFNOSUPPORT if the table lacks the family, and EPERM without
+    // the family's capability.
+    fn sockets(&self, creds: &Creds, newer: bool, family: u32, value: u64) -> Reply
+        ensures { Answers result (sockets_effect value newer creds.now (numbered family self.now.calls.now.families)) }
+    {
+        match family_of(self.calls, family) {
+            None => Reply::Refused(EAFNOSUPPORT),
+            Some(line) => with_cap_of(line.cap, creds, newer, value),
+        }
+    }
+
     /// socket(2). Returns EAFNOSUPPORT if the table lacks the family, and EPERM without the family's capability.
     pub fn socket(&self, creds: &Creds, newer: bool, family: u32) -> Reply
         ensures by_the_family { Answers result (socket_effect newer creds.now (numbered family self.now.calls.now.families)) }
     {
+        self.sockets(creds, newer, family, DESCRIPTOR)
+    }
+
+    /// socketpair(2): like socket(2) for AF_UNIX. Returns EOPNOTSUPP for any other family of the table.
+    pub fn socketpair(&self, creds: &Creds, newer: bool, family: u32) -> Reply
+        ensures by_the_family { Answers result (socketpair_effect newer creds.now family (numbered family self.now.calls.now.families)) }
+    {
+        if family == AF_UNIX {
+            return self.sockets(creds, newer, family, 0);
+        }
         match family_of(self.calls, family) {
             None => Reply::Refused(EAFNOSUPPORT),
-            Some(line) => with_cap_of(line.cap, creds, newer, DESCRIPTOR),
+            Some(_) => Reply::Refused(EOPNOTSUPP),
         }
     }
 
@@ -127,4 +152,15 @@ pub(crate) fn schedule(policy: u32) -> Reply
     } else {
         Reply::Refused(EINVAL)
     }
+}
+
+/// sched_setattr(2). Returns EPERM unless CAP_SYS_NICE is effective in the first user namespace, and EINVAL for an unknown
+/// policy.
+pub(crate) fn set_attributes(creds: &Creds, newer: bool, policy: u32) -> Reply
+    ensures { Answers result (attributes_effect newer creds.now policy) }
+{
+    if newer || !creds.effective().contains(CAP_SYS_NICE) {
+        return Reply::Refused(EPERM);
+    }
+    schedule(policy)
 }

@@ -14,7 +14,7 @@ ghost use Rattle.kernel_model.specs.declared.reply.Reply.TheVariants.{Done};
 use crate::clones::{clone, unshare};
 use crate::identity::setgroups;
 use crate::kernel_calls::Operation;
-use crate::looks::{schedule, with_cap_of};
+use crate::looks::{schedule, set_attributes, with_cap_of};
 use crate::memory::{attach, protect};
 use crate::mounts::umount;
 use crate::outcome::Outcome;
@@ -79,7 +79,7 @@ pub(crate) fn perform(
     let newer = caller.user != FIRST_USER;
     match *operation {
         Operation::See(path) => Ok(Replied(told.see(table, path))),
-        Operation::Open(flags, path) => Ok(Replied(told.open(table, path, flags))),
+        Operation::Open(flags, _, path) => Ok(Replied(told.open(table, path, flags))),
         Operation::Create(path) => Ok(Replied(told.create(table, path))),
         Operation::Truncate(path) => Ok(Replied(told.truncate(table, path))),
         Operation::Execve(path) => Ok(left(told.execute(&mut caller.creds, newer, table, path))),
@@ -89,10 +89,14 @@ pub(crate) fn perform(
         }
         Operation::Attach(flags) => Ok(Replied(attach(&caller.creds, flags))),
         Operation::Schedule(policy) => Ok(Replied(schedule(policy))),
+        Operation::SetAttributes(policy) => {
+            Ok(Replied(set_attributes(&caller.creds, newer, policy)))
+        }
         Operation::Socket(family) => Ok(Replied(told.socket(&caller.creds, newer, family))),
         Operation::Socketcall(op, family) => {
             Ok(Replied(told.socketcall(&caller.creds, newer, op, family)))
         }
+        Operation::Socketpair(family) => Ok(Replied(told.socketpair(&caller.creds, newer, family))),
         Operation::Enter => Ok(Replied(Reply::Refused(EBADF))),
         Operation::Fork => Ok(MakesChild { own_mounts: false }),
         Operation::Clone(flags) => Ok(clone(&caller.creds, flags)),

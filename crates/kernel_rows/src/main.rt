@@ -4,6 +4,7 @@
 //! A line `part NAME` of the standard input begins the rows of a part, and prints nothing. A line that begins with
 //! `#` says what the next rows show, and is printed. The parts are these:
 //! - `worlds` has blocks of calls, each on a world of its own, all over the first tables that the lines hold.
+//! - `linux` has the same, and Linux reads the names of the calls.
 //! - `mounts` has tables of mounts.
 //! - `alike` has pairs of sites that differ below a folder alone.
 #![tactic(auto)]

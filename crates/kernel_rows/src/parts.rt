@@ -10,6 +10,7 @@ use std::io;
 pub struct Parts<'a> {
     part: String,
     worlds: worlds::Rows<'a>,
+    linux: worlds::Rows<'a>,
     mounts: mounts::Rows,
     alike: alike::Rows,
 }
@@ -19,7 +20,8 @@ impl<'a> Parts<'a> {
     pub fn new(alloc: Global, tables: &'a Tables) -> Result<Self, AllocError> {
         Ok(Parts {
             part: String::new(alloc),
-            worlds: worlds::Rows::new(alloc, tables)?,
+            worlds: worlds::Rows::new(alloc, &tables.calls, &tables.site)?,
+            linux: worlds::Rows::new(alloc, &tables.linux, &tables.site)?,
             mounts: mounts::Rows::new(alloc)?,
             alike: alike::Rows::new(alloc),
         })
@@ -34,6 +36,7 @@ impl<'a> Follow for Parts<'a> {
         }
         match self.part.as_str() {
             "worlds" => self.worlds.follow(alloc, line),
+            "linux" => self.linux.follow(alloc, line),
             "mounts" => self.mounts.follow(alloc, line),
             "alike" => self.alike.follow(alloc, line),
             _ => Ok(Shown::Answer(said(alloc, "no part")?)),

@@ -8,8 +8,7 @@ mod tables;
 
 use crate::replies::reply_text;
 pub use crate::worlds::tables::{Tables, tables_of};
-use asked_service::{Call, World};
-use report_text::read_script;
+use asked_service::{Call, CallTable, SiteTable, World, read_script};
 use row_tools::{Follow, Shown, number, said};
 use std::alloc::{AllocError, Global};
 use std::io;
@@ -17,16 +16,22 @@ use std::io;
 /// The world of a block, and its tables.
 #[derive(Drop)]
 pub struct Rows<'a> {
-    tables: &'a Tables,
+    calls: &'a CallTable,
+    site: &'a SiteTable,
     world: World<'a>,
 }
 
 impl<'a> Rows<'a> {
     /// A fresh world with these tables.
-    pub fn new(alloc: Global, tables: &'a Tables) -> Result<Self, AllocError> {
+    pub fn new(
+        alloc: Global,
+        calls: &'a CallTable,
+        site: &'a SiteTable,
+    ) -> Result<Self, AllocError> {
         Ok(Rows {
-            tables,
-            world: World::start(alloc, &tables.calls, &tables.site)?,
+            calls,
+            site,
+            world: World::start(alloc, calls, site)?,
         })
     }
 
@@ -36,7 +41,7 @@ impl<'a> Rows<'a> {
             Some(rest) => rest.split_once(' ').unwrap_or(("1", rest)),
             None => ("1", row),
         };
-        match &read_script(alloc, &self.tables.calls, line.as_bytes()) {
+        match &read_script(alloc, self.calls, line.as_bytes()) {
             Ok(script) => match script.list().first() {
                 Some(call) => self.repeated(alloc, number(count), call),
                 None => said(alloc, "no row"),
@@ -60,7 +65,7 @@ impl<'a> Follow for Rows<'a> {
             return Ok(Shown::Line);
         }
         if row.starts_with("world ") {
-            self.world = World::start(alloc, &self.tables.calls, &self.tables.site)?;
+            self.world = World::start(alloc, self.calls, self.site)?;
             return Ok(Shown::Line);
         }
         let answer = match row {

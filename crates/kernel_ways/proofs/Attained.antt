@@ -10,7 +10,6 @@ use Rattle.launcher.specs.kern_creds.declared.creds.Creds.{Creds}
 use Rattle.launcher.specs.kern_creds.declared.ids.Ids.{Ids}
 use Rattle.launcher.specs.kern_creds.Exec.{exec_done, owner_or, is_set_id}
 use Rattle.launcher.specs.kern_creds.Capset.{with_sets}
-use Rattle.launcher.specs.kern_creds.Ids.{all_of}
 use Rattle.launcher.specs.kern_creds.RootChange.{with_uids, after_switch, after_leaving_root, has_root}
 use Rattle.launcher.specs.kernel_laws.Bound.{is_owner, is_barred, can_run, file_gain, gain_at, gathered, when, caps_before, caps_at}
 use Rattle.launcher.specs.kernel_laws.Bound.{with_root, power_by, power_of}
@@ -32,7 +31,7 @@ use Rattle.kernel_ways.specs.Ways.{place_of, Way, here, by_creds}
 use Rattle.kernel_ways.proofs.Solo.{way_join}
 use Rattle.kernel_ways.proofs.Avoiding.{Avoids, avoid_one, avoid_join}
 use Rattle.kernel_ways.proofs.Lines.{some_line}
-use Rattle.kernel_ways.proofs.Privileged.{capset_call, uid_call}
+use Rattle.kernel_ways.proofs.Privileged.{ids_by, effective_by, capset_call, uid_call}
 use Rattle.kernel_ways.proofs.Exposing.{exposed, marks_count, HasPower}
 use Rattle.kernel_ways.proofs.Rows.{IsKnown, known_at, known_found, owner_alone, no_bit}
 use Rattle.kernel_ways.proofs.Gains as gains
@@ -50,10 +49,6 @@ gathered_from f (first ∷ rows) number h = elim (or_cases _ _ (sym (has_union (
 -- execve leaves uid 0 where it is
 abbrev pub IsRootlike : Row → Type 0
 IsRootlike target = (is_owner 0 target.setuid ≡ true) ⊎ (target.setuid ≡ None)
-
--- uid 0 for all three
-abbrev pub zeroed : Creds → Creds
-zeroed creds = with_uids creds (all_of 0)
 
 -- ---- a change of the uids keeps the rest
 module _ (launch : Launch) where
@@ -277,11 +272,12 @@ module _ (launch : Launch) (l : IsLaunched launch) (o : Offers launch) where
         let line = some_line launch l TakesUid s in
         let own_call = id_call (place_of line.line) line.own 0 in
         let change = uid_call launch o creds table 0 (omega arith) line h in
-        let after = zeroed creds in
-        let b = basis_uids launch creds (all_of 0) basis in
+        let ids = ids_by line.own creds.uids 0 in
+        let after = with_uids creds ids in
+        let b = basis_uids launch creds ids basis in
         let off = off_of after b in
         let ran = runs launch l o after table target b.bounding r in
-        let uid : eqb after.uids.effective 0 ≡ true = ap (λ (ids : Ids). eqb ids.effective 0) (uids_after creds (all_of 0)) in
+        let uid : eqb after.uids.effective 0 ≡ true = ap (λ (ids : Ids). eqb ids.effective 0) (uids_after creds ids) ∙ ap (λ id. eqb id 0) (effective_by line.own creds.uids 0) in
         let root = ap (λ id. eqb id 0) (gains.uid_after after (marks_of target) off) ∙ stays_zero target.setuid after.uids.effective like uid in
         let w = gains.zero_gives after (marks_of target) off root in
         let has_own : has after.bounding number ≡ true = ap (λ s. has s number) b.bounding ∙ own in

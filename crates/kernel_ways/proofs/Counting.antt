@@ -39,6 +39,7 @@ use Rattle.launcher.specs.kernel_model.Effects.{first_alone, schedule_answer, so
 use Rattle.launcher.specs.kernel_model.Effects.{no_new_privs_effect, keepcaps_effect, prctl_effect, push_effect, seccomp_effect, effect_of}
 use Rattle.launcher.specs.kernel_model.kern_files.Bits.{has_all}
 use Rattle.launcher.specs.kernel_model.Effects.{socketcall_effect, protect_effect, attach_effect, set_mdwe_effect, prctl_effect_of}
+use Rattle.launcher.specs.kernel_model.Effects.{attributes_effect, sockets_effect, socketpair_effect, no_pair}
 use Rattle.launcher.specs.kernel_model.MountStep.{with_step, stepped_by}
 use Rattle.launcher.specs.kernel_model.Step.{step}
 use Rattle.launcher.specs.kernel_model.StepCases as case
@@ -102,9 +103,25 @@ stays_alone false o creds value = stays_cap o creds value
 stays_alone true None creds value = tt
 stays_alone true (Some number) creds value = tt
 
+stays_attributes : (newer : Bool) (creds : Creds) (policy : ℕ) → Stays (attributes_effect newer creds policy)
+stays_attributes true creds policy = tt
+stays_attributes false creds policy =
+    either (has creds.effective 23) (looks (schedule_answer policy)) (f.Refuse eperm) (stays_looks (schedule_answer policy)) tt
+
+stays_sockets : (value : ℕ) (newer : Bool) (creds : Creds) (o : Option CallLine) → Stays (sockets_effect value newer creds o)
+stays_sockets value newer creds None = tt
+stays_sockets value newer creds (Some line) = stays_alone newer line.cap creds value
+
 stays_socket : (newer : Bool) (creds : Creds) (o : Option CallLine) → Stays (socket_effect newer creds o)
-stays_socket newer creds None = tt
-stays_socket newer creds (Some line) = stays_alone newer line.cap creds 3
+stays_socket newer creds o = stays_sockets 3 newer creds o
+
+stays_unpaired : (o : Option CallLine) → Stays (no_pair o)
+stays_unpaired None = tt
+stays_unpaired (Some line) = tt
+
+stays_socketpair : (newer : Bool) (creds : Creds) (family : ℕ) (o : Option CallLine) → Stays (socketpair_effect newer creds family o)
+stays_socketpair newer creds family o =
+    either (eqb family 1) (sockets_effect 0 newer creds o) (no_pair o) (stays_sockets 0 newer creds o) (stays_unpaired o)
 
 stays_ids : (real effective saved : ℕ)
     → Stays (cond ((eqb real no_id && eqb effective no_id) && eqb saved no_id) (f.Answer 0) (f.Refuse einval))
@@ -189,7 +206,7 @@ stays_seccomp creds stack op flags code =
 
 effect_stays : (host : Host) (caller : Caller) (operation : Operation) → parts operation ≡ false → Stays (effect_of host caller operation)
 effect_stays host caller (d.See path) e = stays_looks (see_answer 0 (finds host.rows (steps_of caller.table) path))
-effect_stays host caller (d.Open flags path) e = stays_looks
+effect_stays host caller (d.Open flags mode path) e = stays_looks
     (open_answer flags (flags_at (steps_of caller.table) path) (finds host.rows (steps_of caller.table) path))
 effect_stays host caller (d.Create path) e =
     stays_looks (write_answer 3 (flags_at (steps_of caller.table) path) (finds host.rows (steps_of caller.table) path))
@@ -204,9 +221,12 @@ effect_stays host caller (d.Protect protection) e = stays_protect caller.creds p
 effect_stays host caller (d.Attach flags) e = stays_attach caller.creds flags
 effect_stays host caller (d.Schedule policy) e = stays_looks (schedule_answer policy)
 effect_stays host caller (d.Personality persona) e = tt
+effect_stays host caller (d.SetAttributes policy) e = stays_attributes caller.newer caller.creds policy
 effect_stays host caller (d.Socket family) e = stays_socket caller.newer caller.creds (numbered family host.families)
 effect_stays host caller (d.Socketcall op family) e =
     stays_socketcall caller.newer caller.creds op (numbered family host.families)
+effect_stays host caller (d.Socketpair family) e =
+    stays_socketpair caller.newer caller.creds family (numbered family host.families)
 effect_stays host caller d.Enter e = tt
 effect_stays host caller d.Fork e = refl
 effect_stays host caller (d.Clone flags) e = cc

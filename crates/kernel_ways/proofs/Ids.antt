@@ -8,7 +8,6 @@ use Rattle.launcher.specs.site_table.declared.row.Row.{Row}
 use Rattle.launcher.specs.kern_creds.declared.creds.Creds.{Creds}
 use Rattle.launcher.specs.kern_creds.declared.ids.Ids.{Ids}
 use Rattle.launcher.specs.kern_creds.Exec.{exec_done, owner_or}
-use Rattle.launcher.specs.kern_creds.Ids.{all_of}
 use Rattle.launcher.specs.kern_creds.RootChange.{with_uids}
 use Rattle.launcher.specs.kernel_laws.Bound.{is_owner, can_run, owned_by, grouped_by, any_uid, any_gid, caps_at, power_of, ceiling}
 use Rattle.launcher.specs.kernel_model.declared.kernel_calls.call.Call.{Call}
@@ -26,7 +25,7 @@ use Rattle.kernel_ways.specs.Taking.{id_call}
 use Rattle.kernel_ways.specs.Ways.{place_of, Way, here, by_creds}
 use Rattle.kernel_ways.proofs.Solo.{way_join}
 use Rattle.kernel_ways.proofs.Lines.{some_line}
-use Rattle.kernel_ways.proofs.Privileged.{uid_call, gid_call}
+use Rattle.kernel_ways.proofs.Privileged.{ids_by, effective_by, uid_call, gid_call}
 use Rattle.kernel_ways.proofs.Exposing.{HasPower}
 use Rattle.kernel_ways.proofs.Rows.{known_at}
 use Rattle.kernel_ways.proofs.Gains as gains
@@ -168,12 +167,13 @@ module _ (launch : Launch) (l : IsLaunched launch) (o : Offers launch) where
         let line = some_line launch l TakesUid s in
         let own_call = id_call (place_of line.line) line.own id in
         let change = uid_call launch o g.creds x.0 id small line g.holds in
+        let ids = ids_by line.own g.creds.uids id in
         record {
           calls = g.calls ++ (own_call ∷ []);
-          creds = with_uids g.creds (all_of id);
+          creds = with_uids g.creds ids;
           now = x.0;
           way = way_join g.way (by_creds own_call change.makes here);
-          has = ap (λ (ids : Ids). ids.effective) (uids_after g.creds (all_of id));
+          has = ap (λ (ids : Ids). ids.effective) (uids_after g.creds ids) ∙ effective_by line.own g.creds.uids id;
           no_uid = λ e. cc;
           no_gid = λ e. cc;
         }

@@ -41,7 +41,7 @@ use Rattle.launcher.specs.filter_settings.declared.filter_rules.namespace_types.
 use Rattle.launcher.specs.kernel_laws.declared.question_types.wish.Wish.TheVariants.{Exec as ToExec}
 use Rattle.launcher.specs.kernel_laws.declared.question_types.kind.CallKind.TheVariants as k
 use Rattle.launcher.specs.filter_settings.declared.filter_rules.namespace_types.NamespaceType.TheVariants as namespace
-use Rattle.launcher.specs.kernel_laws.Kinds.{AreWords, no_words, one_word}
+use Rattle.launcher.specs.kernel_laws.Kinds.{AreWords, no_words, one_word, space_payload}
 use Rattle.launcher.specs.kernel_laws.Launched.{Launch}
 use Rattle.launcher.specs.kernel_laws.Questions.{flag_of}
 use Rattle.launcher.specs.kernel_laws.Reach.{fits}
@@ -50,7 +50,7 @@ use Rattle.kernel_ways.specs.Showing.{IsDoable}
 use Rattle.kernel_ways.specs.Ways.{CallAt, IsCallAt, IsSolo, Makes, host_at, caller_at, passes_at, place_of, rule_there, solo_world}
 use Rattle.kernel_ways.specs.Ways.{solo_process}
 use Rattle.kernel_ways.proofs.Choices as choices
-use Rattle.kernel_ways.proofs.Lines.{Line, choice_of, flag_words, make, zeros, first_by}
+use Rattle.kernel_ways.proofs.Lines.{Line, choice_of, flag_fits, flag_words, make, zeros, first_by}
 use Rattle.kernel_ways.proofs.Solo.{steps, mounts_are}
 
 -- every capability is had there
@@ -117,15 +117,19 @@ module _ (launch : Launch) (some : nat_lt 0 launch.site.user_namespaces ≡ true
       (subst R (sym some) (tt, is_inside 2 s.namespace refl refl refl (mounts_are launch creds table s.namespace s.tables s.owners s.numbered s.own s.home s.few (d.Clone (flag_of namespace.User)) call (f.UserChild false) m) s.few refl)))
 
   enters_by : {own : Rule} {args : List ℕ} → (nr : CallAt) → IsCallAt nr → rule_there launch nr ≡ Some own → passes_at launch nr args
-      → choices.Choice (k.ForNamespace namespace.User) own args → Enters own (first_by nr args pay.Nothing)
+      → choices.Choice (k.ForNamespace namespace.User) own args → Enters own (first_by nr args (space_payload own namespace.User))
   enters_by nr n at t (choices.unshare _) =
       let m = make launch creds table nr (rule.Known known.Unshare) (one_word 0 (flag_of namespace.User)) pay.Nothing (d.Unshare (flag_of namespace.User)) (f.OwnUser false) n (flag_words namespace.User) tt at refl t refl in
       record { operation = d.Unshare (flag_of namespace.User); effect = f.OwnUser false; makes = m; such = refl; pid = 1; small = omega arith; pid_is = refl; inside = by_unshare (first_by nr (one_word 0 (flag_of namespace.User)) pay.Nothing) m }
   enters_by nr n at t (choices.clone _) =
       let m = make launch creds table nr (rule.Known known.Clone) (one_word 0 (flag_of namespace.User)) pay.Nothing (d.Clone (flag_of namespace.User)) (f.UserChild false) n (flag_words namespace.User) tt at refl t refl in
       record { operation = d.Clone (flag_of namespace.User); effect = f.UserChild false; makes = m; such = refl; pid = 2; small = omega arith; pid_is = refl; inside = by_clone (first_by nr (one_word 0 (flag_of namespace.User)) pay.Nothing) m }
+  enters_by nr n at t (choices.clone3 _) =
+      let m = make launch creds table nr (rule.Known known.Clone3) no_words (pay.Number (flag_of namespace.User)) (d.Clone (flag_of namespace.User)) (f.UserChild false) n zeros (flag_fits namespace.User) at refl t refl in
+      record { operation = d.Clone (flag_of namespace.User); effect = f.UserChild false; makes = m; such = refl; pid = 2; small = omega arith; pid_is = refl; inside = by_clone (first_by nr no_words (pay.Number (flag_of namespace.User))) m }
 
-  pub enters : (line : Line launch (k.ForNamespace namespace.User)) → Enters line.own (first_by (place_of line.line) line.args pay.Nothing)
+  pub enters : (line : Line launch (k.ForNamespace namespace.User))
+      → Enters line.own (first_by (place_of line.line) line.args (space_payload line.own namespace.User))
   enters line = enters_by (place_of line.line) line.number line.at line.through (choice_of line)
 
 -- ---- one call inside
@@ -198,15 +202,35 @@ module _ (launch : Launch) (creds : Creds) (table : Table) (pid : ℕ) (small : 
   clone_in namespace.Uts u nr n at t = in_space namespace.Uts nr (rule.Known known.Clone) (d.Clone (flag_of namespace.Uts))
       (f.Child false) n at t refl (λ owns. admits (f.Child false)) tt refl
 
+  -- clone3(2) carries the flag
+  in_clone3 : (space : NamespaceType) (nr : CallAt) (effect : Effect) → IsCallAt nr → rule_there launch nr ≡ Some (rule.Known known.Clone3)
+      → passes_at launch nr no_words
+      → ((owns : Bool) → effect_of (host_at launch) (newer_at launch (entered creds) table owns) (d.Clone (flag_of space)) ≡ effect)
+      → IsDoable effect → asks_space space (d.Clone (flag_of space)) ≡ true
+      → Inside (asks_space space) (call_by pid nr no_words (pay.Number (flag_of space)))
+  in_clone3 space nr effect n at t e h such = record { operation = d.Clone (flag_of space); effect = effect; makes = make_in nr (rule.Known known.Clone3) no_words (pay.Number (flag_of space)) (d.Clone (flag_of space)) effect n zeros (flag_fits space) at refl t e; doable = h; such = such }
+
+  clone3_in : (space : NamespaceType) → is_user space ≡ false → (nr : CallAt) → IsCallAt nr
+      → rule_there launch nr ≡ Some (rule.Known known.Clone3) → passes_at launch nr no_words
+      → Inside (asks_space space) (call_by pid nr no_words (pay.Number (flag_of space)))
+  clone3_in namespace.Cgroup u nr n at t = in_clone3 namespace.Cgroup nr (f.Child false) n at t (λ owns. admits (f.Child false)) tt refl
+  clone3_in namespace.Ipc u nr n at t = in_clone3 namespace.Ipc nr (f.Child false) n at t (λ owns. admits (f.Child false)) tt refl
+  clone3_in namespace.Net u nr n at t = in_clone3 namespace.Net nr (f.Child false) n at t (λ owns. admits (f.Child false)) tt refl
+  clone3_in namespace.Mnt u nr n at t = in_clone3 namespace.Mnt nr (f.Child true) n at t (λ owns. admits (f.Child true)) tt refl
+  clone3_in namespace.Pid u nr n at t = in_clone3 namespace.Pid nr (f.Child false) n at t (λ owns. admits (f.Child false)) tt refl
+  clone3_in namespace.User u nr n at t = cc
+  clone3_in namespace.Uts u nr n at t = in_clone3 namespace.Uts nr (f.Child false) n at t (λ owns. admits (f.Child false)) tt refl
+
   space_in : {own : Rule} {args : List ℕ} → (space : NamespaceType) → is_user space ≡ false → (nr : CallAt) → IsCallAt nr
       → rule_there launch nr ≡ Some own → passes_at launch nr args → choices.Choice (k.ForNamespace space) own args
-      → Inside (asks_space space) (call_by pid nr args pay.Nothing)
+      → Inside (asks_space space) (call_by pid nr args (space_payload own space))
   space_in space u nr n at t (choices.unshare _) = unshare_in space u nr n at t
   space_in space u nr n at t (choices.clone _) = clone_in space u nr n at t
+  space_in space u nr n at t (choices.clone3 _) = clone3_in space u nr n at t
 
   -- any other namespace
   pub own_space : (space : NamespaceType) → is_user space ≡ false → (line : Line launch (k.ForNamespace space))
-      → Inside (asks_space space) (call_by pid (place_of line.line) line.args pay.Nothing)
+      → Inside (asks_space space) (call_by pid (place_of line.line) line.args (space_payload line.own space))
   own_space space u line = space_in space u (place_of line.line) line.number line.at line.through (choice_of line)
 
   -- a program whose set is not within the bounding set of the launch

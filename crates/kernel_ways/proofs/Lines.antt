@@ -11,6 +11,7 @@ use Rattle.std.proofs.lemmas.Option.{slice_get-get_or, slice_get_within}
 use Rattle.launcher.specs.bpf_code.declared.decision.Decision.{Decision}
 use Rattle.launcher.specs.bpf_code.declared.decision.Decision.TheVariants as decision
 use Rattle.launcher.specs.bpf_code.Stack.{decision_on}
+use Rattle.launcher.specs.call_table.declared.call_names.kernel.Kernel.{Kernel}
 use Rattle.launcher.specs.call_table.declared.listed.CallLine.{CallLine}
 use Rattle.launcher.specs.call_table.Lookups.{numbered, IsInRange}
 use Rattle.launcher.specs.kern_creds.declared.creds.Creds.{Creds}
@@ -103,9 +104,12 @@ of_abi launch l at line listed = elim (parts_at launch.calls.calls (calls.second
       record { at = there.0; listed = subst (λ abi. slice_get (calls.calls_in launch.calls abi) there.0 ≡ Some line) (sym own) here; low = omega (arith, own) })
 ]
 
-one_rule : (line other : CallLine) → line.name ≡ other.name → line.cap ≡ other.cap → rule_of line ≡ rule_of other
+one_rule : (line other : CallLine) → line.kernel ≡ other.kernel → line.name ≡ other.name → line.cap ≡ other.cap
+    → rule_of line ≡ rule_of other
 unfolding rule_of
-one_rule line other name cap' = ap (λ n. rule_by (known_call n) line.cap) name ∙ ap (rule_by (known_call other.name)) cap'
+one_rule line other kernel name cap' =
+    ap (λ k. rule_by (known_call k line.name) line.cap) kernel ∙ ap (λ n. rule_by (known_call other.kernel n) line.cap) name
+    ∙ ap (rule_by (known_call other.kernel other.name)) cap'
 
 -- a name has one rule
 pub same_rule : (launch : Launch) → IsLaunched launch → (place at : ℕ) (line other : CallLine)
@@ -113,7 +117,10 @@ pub same_rule : (launch : Launch) → IsLaunched launch → (place at : ℕ) (li
     → line.name ≡ other.name → rule_of line ≡ rule_of other
 same_rule launch l place at line other listed there name =
     let caps = slice_all (λ one. All (λ other. one.name ≡ other.name → one.cap ≡ other.cap) (calls.every_call launch.calls)) (calls.every_call launch.calls) place line l.one_cap listed in
-    one_rule line other name (slice_all (λ other. line.name ≡ other.name → line.cap ≡ other.cap)
+    let by : Kernel = l.one_kernel.0 in
+    let own : line.kernel ≡ by = slice_all (λ (one : CallLine). one.kernel ≡ by) (calls.every_call launch.calls) place line l.one_kernel.1 listed in
+    let others : other.kernel ≡ by = slice_all (λ (one : CallLine). one.kernel ≡ by) (calls.every_call launch.calls) at other l.one_kernel.1 there in
+    one_rule line other (own ∙ sym others) name (slice_all (λ other. line.name ≡ other.name → line.cap ≡ other.cap)
     (calls.every_call launch.calls) at other caps there name)
 
 pub line_at : (launch : Launch) → IsLaunched launch → (kind : CallKind) (at : ℕ) (line : CallLine)
@@ -155,17 +162,17 @@ six a b c d ha hb hc hd = record {
 pub zeros : AreWords no_words
 zeros = six 0 0 0 0 (omega arith) (omega arith) (omega arith) (omega arith)
 
+pub flag_fits : (space : NamespaceType) → IsWord (flag_of space)
+flag_fits namespace.Cgroup = omega arith
+flag_fits namespace.Ipc = omega arith
+flag_fits namespace.Net = omega arith
+flag_fits namespace.Mnt = omega arith
+flag_fits namespace.Pid = omega arith
+flag_fits namespace.User = omega arith
+flag_fits namespace.Uts = omega arith
+
 pub flag_words : (space : NamespaceType) → AreWords (flag_of space ∷ 0 ∷ 0 ∷ 0 ∷ 0 ∷ 0 ∷ [])
-flag_words space = six (flag_of space) 0 0 0 (by space) (omega arith) (omega arith) (omega arith)
-  where
-    by : (space : NamespaceType) → IsWord (flag_of space)
-    by namespace.Cgroup = omega arith
-    by namespace.Ipc = omega arith
-    by namespace.Net = omega arith
-    by namespace.Mnt = omega arith
-    by namespace.Pid = omega arith
-    by namespace.User = omega arith
-    by namespace.Uts = omega arith
+flag_words space = six (flag_of space) 0 0 0 (flag_fits space) (omega arith) (omega arith) (omega arith)
 
 -- ---- a call of process 1
 abbrev pub first_by : CallAt → List ℕ → Payload → Call

@@ -25,7 +25,7 @@ use Rattle.launcher.specs.kernel_model.declared.kernel_calls.rule.Rule.TheVarian
 use Rattle.launcher.specs.kernel_model.Effects as f
 use Rattle.launcher.specs.kernel_model.Effects.{Effect, SetCreds, looks, creds_effect, effect_of}
 use Rattle.launcher.specs.kernel_laws.Denied.{path_for}
-use Rattle.launcher.specs.kernel_laws.Kinds.{AreWords, no_words, one_word}
+use Rattle.launcher.specs.kernel_laws.Kinds.{AreWords, no_words, one_word, path_payload}
 use Rattle.launcher.specs.kernel_laws.Launched.{Launch, passes}
 use Rattle.launcher.specs.kernel_laws.declared.question_types.wish.Wish.{Wish}
 use Rattle.launcher.specs.kernel_laws.declared.question_types.wish.Wish.TheVariants.{See as ToSee, Read as ToRead, Write as ToWrite}
@@ -75,6 +75,21 @@ module _ (launch : Launch) (creds : Creds) (table : Table) where
       wanted = wanted;
     }
 
+    -- the same by openat2(2), which carries the flags
+    by_how : (nr : CallAt) (flags value : ℕ) (wish : Wish) → IsCallAt nr → flags < 2 ^ 32
+        → rule_there launch nr ≡ Some (rule.Known known.Openat2) → passes_at launch nr no_words
+        → path_for wish (d.Open flags 0 path) ≡ Some path
+        → effect_on (host_at launch) (caller_at launch creds table) table (d.Open flags 0 path) ≡ f.Answer value
+        → PathCall wish path (first_by nr no_words (pay.PathFlags path flags))
+    by_how nr flags value wish n small at t wanted e = record {
+      operation = d.Open flags 0 path;
+      effect = f.Answer value;
+      makes = make launch creds table nr (rule.Known known.Openat2) no_words (pay.PathFlags path flags) (d.Open flags 0 path)
+          (f.Answer value) n zeros (fit, small) at refl t e;
+      doable = tt;
+      wanted = wanted;
+    }
+
     see_by : {own : Rule} {args : List ℕ} → (nr : CallAt) → IsCallAt nr → rule_there launch nr ≡ Some own → passes_at launch nr args
         → choices.Choice (k.ForPath ToSee) own args → PathCall ToSee path (first_by nr args (pay.OnePath path))
     see_by nr n at t choices.sees = by_path nr (rule.Known known.See) no_words (d.See path) 0 ToSee n zeros at t refl refl (seen 0)
@@ -83,14 +98,19 @@ module _ (launch : Launch) (creds : Creds) (table : Table) where
     see_path line = see_by (place_of line.line) line.number line.at line.through (choice_of line)
 
     read_by : {own : Rule} {args : List ℕ} → (nr : CallAt) → IsCallAt nr → rule_there launch nr ≡ Some own → passes_at launch nr args
-        → choices.Choice (k.ForPath ToRead) own args → PathCall ToRead path (first_by nr args (pay.OnePath path))
+        → choices.Choice (k.ForPath ToRead) own args → PathCall ToRead path (first_by nr args (path_payload ToRead own path))
     read_by nr n at t (choices.reads argument.Second) = by_path nr (rule.Known (known.Open argument.Second)) no_words
-        (d.Open 0 path) 3 ToRead n zeros at t refl refl (seen 3)
+        (d.Open 0 0 path) 3 ToRead n zeros at t refl refl (seen 3)
     read_by nr n at t (choices.reads argument.Third) = by_path nr (rule.Known (known.Open argument.Third)) no_words
-        (d.Open 0 path) 3 ToRead n zeros at t refl refl (seen 3)
+        (d.Open 0 0 path) 3 ToRead n zeros at t refl refl (seen 3)
+    read_by nr n at t (choices.reads_with argument.Second) = by_path nr (rule.Known (known.OpenWith argument.Second)) no_words
+        (d.Open 0 0 path) 3 ToRead n zeros at t refl refl (seen 3)
+    read_by nr n at t (choices.reads_with argument.Third) = by_path nr (rule.Known (known.OpenWith argument.Third)) no_words
+        (d.Open 0 0 path) 3 ToRead n zeros at t refl refl (seen 3)
+    read_by nr n at t choices.reads_how = by_how nr 0 3 ToRead n (omega arith) at t refl (seen 3)
 
     pub read_path : (line : Line launch (k.ForPath ToRead)) → PathCall ToRead path
-        (first_by (place_of line.line) line.args (pay.OnePath path))
+        (first_by (place_of line.line) line.args (path_payload ToRead line.own path))
     read_path line = read_by (place_of line.line) line.number line.at line.through (choice_of line)
 
     module _ (file : is_dir target.kind ≡ false) (writes : fits ToWrite (flags_at table path) ≡ true) where
@@ -105,20 +125,27 @@ module _ (launch : Launch) (creds : Creds) (table : Table) where
           by true b g h = cc
 
       write_by : {own : Rule} {args : List ℕ} → (nr : CallAt) → IsCallAt nr → rule_there launch nr ≡ Some own → passes_at launch nr args
-          → choices.Choice (k.ForPath ToWrite) own args → PathCall ToWrite path (first_by nr args (pay.OnePath path))
+          → choices.Choice (k.ForPath ToWrite) own args → PathCall ToWrite path (first_by nr args (path_payload ToWrite own path))
       write_by nr n at t (choices.opens argument.Second) =
-          by_path nr (rule.Known (known.Open argument.Second)) (one_word 1 1) (d.Open 1 path) 3 ToWrite n
+          by_path nr (rule.Known (known.Open argument.Second)) (one_word 1 1) (d.Open 1 0 path) 3 ToWrite n
           (six 0 1 0 0 (omega arith) (omega arith) (omega arith) (omega arith)) at t refl refl (written 3)
       write_by nr n at t (choices.opens argument.Third) =
-          by_path nr (rule.Known (known.Open argument.Third)) (one_word 2 1) (d.Open 1 path) 3 ToWrite n
+          by_path nr (rule.Known (known.Open argument.Third)) (one_word 2 1) (d.Open 1 0 path) 3 ToWrite n
           (six 0 0 1 0 (omega arith) (omega arith) (omega arith) (omega arith)) at t refl refl (written 3)
+      write_by nr n at t (choices.opens_with argument.Second) =
+          by_path nr (rule.Known (known.OpenWith argument.Second)) (one_word 1 1) (d.Open 1 0 path) 3 ToWrite n
+          (six 0 1 0 0 (omega arith) (omega arith) (omega arith) (omega arith)) at t refl refl (written 3)
+      write_by nr n at t (choices.opens_with argument.Third) =
+          by_path nr (rule.Known (known.OpenWith argument.Third)) (one_word 2 1) (d.Open 1 0 path) 3 ToWrite n
+          (six 0 0 1 0 (omega arith) (omega arith) (omega arith) (omega arith)) at t refl refl (written 3)
+      write_by nr n at t choices.opens_how = by_how nr 1 3 ToWrite n (omega arith) at t refl (written 3)
       write_by nr n at t choices.creates = by_path nr (rule.Known known.Create) no_words (d.Create path) 3 ToWrite n zeros at t refl refl
           (written 3)
       write_by nr n at t choices.truncates = by_path nr (rule.Known known.Truncate) no_words
           (d.Truncate path) 0 ToWrite n zeros at t refl refl (written 0)
 
       pub write_path : (line : Line launch (k.ForPath ToWrite))
-          → PathCall ToWrite path (first_by (place_of line.line) line.args (pay.OnePath path))
+          → PathCall ToWrite path (first_by (place_of line.line) line.args (path_payload ToWrite line.own path))
       write_path line = write_by (place_of line.line) line.number line.at line.through (choice_of line)
 
     module _ (exe : is_exe target.kind ≡ true) (runs : fits ToExec (flags_at table path) ≡ true) (admitted : is_refused creds (marks_of target) (flags_at table path).no_suid ≡ false) where

@@ -1,8 +1,9 @@
--- Calls that ask for a thing and name no path.
+-- Calls that ask for a thing, and for no row.
 use Rattle.std.specs.Prelude.{◌^◌, ◌%◌, not}
-use Rattle.std.proofs.lemmas.Bool.{and_parts, not-true}
-use Rattle.std.proofs.Common.{◌≡◌, ℕ, Bool, true, false, List, [], ◌∷◌, Option, Some, None, refl, ap, ◌∙◌, subst, cond, arith, ◌<◌, ◌+◌}
+use Rattle.std.proofs.lemmas.Bool.{and_parts, not-true, eqb-true}
+use Rattle.std.proofs.Common.{◌≡◌, ℕ, Bool, true, false, List, [], ◌∷◌, Option, Some, None, refl, ap, ◌∙◌, sym, subst, cond, eqb, arith, ◌<◌, ◌+◌}
 use Rattle.std.proofs.lemmas.List.Elements.{All-from_recursion}
+use Rattle.launcher.specs.abs_path.Paths.{Path}
 use Rattle.launcher.specs.cap_sets.Sets.{has}
 use Rattle.launcher.specs.linux_numbers.Errnos.{eacces, eperm}
 use Rattle.launcher.specs.call_table.declared.call_names.rule.Argument.TheVariants as argument
@@ -10,7 +11,10 @@ use Rattle.launcher.specs.call_table.declared.call_names.rule.CallRule.TheVarian
 use Rattle.launcher.specs.call_table.declared.listed.CallLine.{CallLine}
 use Rattle.launcher.specs.call_table.Lookups.{numbered}
 use Rattle.launcher.specs.kern_creds.declared.creds.Creds.{Creds}
+use Rattle.launcher.specs.kern_mounts.Finds.{finds, row}
 use Rattle.launcher.specs.kern_mounts.Split.{Table}
+use Rattle.launcher.specs.site_table.declared.row.Row.{Row}
+use Rattle.launcher.specs.site_table.Table.{row_at}
 use Rattle.launcher.specs.kernel_model.kernel_calls.Operation as d
 use Rattle.launcher.specs.kernel_model.kernel_calls.Operation.{Operation}
 use Rattle.launcher.specs.kernel_model.kernel_calls.Rules.{rule_of, rule_at}
@@ -18,22 +22,25 @@ use Rattle.launcher.specs.kernel_model.declared.kernel_calls.payload.Payload.The
 use Rattle.launcher.specs.kernel_model.declared.kernel_calls.rule.Rule.{Rule}
 use Rattle.launcher.specs.kernel_model.declared.kernel_calls.rule.Rule.TheVariants as rule
 use Rattle.launcher.specs.kernel_model.kern_files.Bits.{has_all}
+use Rattle.launcher.specs.kernel_model.kern_files.Looking.{see_answer}
+use Rattle.launcher.specs.kernel_model.kernel_calls.Calls.{IsPath}
 use Rattle.launcher.specs.kernel_model.Effects as f
-use Rattle.launcher.specs.kernel_model.Effects.{Effect, effect_of, with_cap_of, socket_effect}
+use Rattle.launcher.specs.kernel_model.Effects.{Effect, effect_of, looks, with_cap_of, socket_effect, sockets_effect, no_pair}
 use Rattle.launcher.specs.kernel_laws.Bound.{is_user}
-use Rattle.launcher.specs.kernel_laws.Denied.{asks_space, asks_attach}
+use Rattle.launcher.specs.kernel_laws.Denied.{asks_space, asks_attach, asks_mode, asks_realtime}
 use Rattle.launcher.specs.kernel_laws.declared.question_types.kind.CallKind.{CallKind}
 use Rattle.launcher.specs.filter_settings.declared.filter_rules.namespace_types.NamespaceType.{NamespaceType}
 use Rattle.launcher.specs.kernel_laws.declared.question_types.kind.CallKind.TheVariants as kinds
 use Rattle.launcher.specs.filter_settings.declared.filter_rules.namespace_types.NamespaceType.TheVariants as namespace
 use Rattle.launcher.specs.kernel_laws.Kinds as k
-use Rattle.launcher.specs.kernel_laws.Kinds.{AreWords, asks_attach_read, asks_plain, family_payload, no_words, one_word}
+use Rattle.launcher.specs.kernel_laws.Kinds.{AreWords, asks_attach_read, asks_attributes, asks_plain, asks_schedule, family_payload, no_words, one_word}
+use Rattle.launcher.specs.kernel_laws.Kinds.{asks_made_mode, asks_set_mode, made_words, realtime_payload, space_payload}
 use Rattle.launcher.specs.kernel_laws.Launched.{Launch, passes}
 use Rattle.launcher.specs.kernel_laws.Questions.{flag_of}
 use Rattle.kernel_ways.specs.Ways.{effect_on, host_at, caller_at, CallAt, IsCallAt, rule_there, passes_at, place_of}
 use Rattle.kernel_ways.proofs.Choices as choices
 use Rattle.kernel_ways.proofs.Operations.{Performed}
-use Rattle.kernel_ways.proofs.Lines.{Line, choice_of, flag_words, make, six, zeros, first_by}
+use Rattle.kernel_ways.proofs.Lines.{Line, choice_of, flag_fits, flag_words, make, six, zeros, first_by}
 use Rattle.kernel_ways.specs.Showing.{IsDoable}
 
 -- the capability is effective, if there is one
@@ -49,6 +56,24 @@ cap_lets creds (Some number) effect h = ap (λ b. cond b effect (f.Refuse eperm)
 pub read_attaches : (operation : Operation) → asks_attach_read operation ≡ true → asks_attach operation ≡ true
 read_attaches (d.Attach flags) e = (and_parts (has_all 0x8000 flags) (has_all 0x1000 flags) e).0
 read_attaches operation e = cc
+
+-- each of these calls gives a set-id bit
+pub sets_mode : (operation : Operation) → asks_set_mode operation ≡ true → asks_mode operation ≡ true
+sets_mode (d.SetMode mode) e = e
+sets_mode operation e = cc
+
+pub makes_bit : (operation : Operation) → asks_made_mode operation ≡ true → asks_mode operation ≡ true
+makes_bit (d.Open flags mode path) e = e
+makes_bit operation e = cc
+
+-- either call takes a realtime policy
+pub schedules : (operation : Operation) → asks_schedule operation ≡ true → asks_realtime operation ≡ true
+schedules (d.Schedule policy) e = e
+schedules operation e = cc
+
+pub sets_realtime : (operation : Operation) → asks_attributes operation ≡ true → asks_realtime operation ≡ true
+sets_realtime (d.SetAttributes policy) e = e
+sets_realtime operation e = cc
 
 -- a call asks for it by its words alone, and every process may, by whether it has the mark that refuses memory
 abbrev pub is_free : CallKind → Bool → Bool
@@ -107,6 +132,51 @@ module _ (launch : Launch) (creds : Creds) (table : Table) where
       → Performed launch creds table (k.asks kind) (first_by (place_of line.line) line.args pay.Nothing)
   free kind h line = free_by (place_of line.line) line.number line.at line.through h (choice_of line)
 
+  -- a file with a set-id bit that is made at a path which finds a row
+  makes_by : (path : Path) → IsPath path → (target : Row) → finds (row_at launch.site.rows) table path ≡ row target
+      → {own : Rule} {args : List ℕ} → (nr : CallAt) → IsCallAt nr → rule_there launch nr ≡ Some own → passes_at launch nr args
+      → choices.Choice kinds.OpensMode own args → Performed launch creds table asks_made_mode (first_by nr args (pay.OnePath path))
+  makes_by path fit target found nr n at t (choices.opens_mode argument.Second) = record {
+    operation = d.Open 0x41_0000 0x800 path;
+    effect = f.Answer 3;
+    makes = make launch creds table nr (rule.Known (known.OpenWith argument.Second)) (made_words argument.Second) (pay.OnePath path)
+        (d.Open 0x41_0000 0x800 path) (f.Answer 3) n (six 0 0x41_0000 0x800 0 (omega arith) (omega arith) (omega arith) (omega arith)) fit
+        at refl t (ap (λ x. looks (see_answer 3 x)) found);
+    doable = tt;
+    such = refl;
+  }
+  makes_by path fit target found nr n at t (choices.opens_mode argument.Third) = record {
+    operation = d.Open 0x41_0000 0x800 path;
+    effect = f.Answer 3;
+    makes = make launch creds table nr (rule.Known (known.OpenWith argument.Third)) (made_words argument.Third) (pay.OnePath path)
+        (d.Open 0x41_0000 0x800 path) (f.Answer 3) n (six 0 0 0x41_0000 0x800 (omega arith) (omega arith) (omega arith) (omega arith)) fit
+        at refl t (ap (λ x. looks (see_answer 3 x)) found);
+    doable = tt;
+    such = refl;
+  }
+
+  pub makes_mode : (path : Path) → IsPath path → (target : Row) → finds (row_at launch.site.rows) table path ≡ row target
+      → (line : Line launch kinds.OpensMode)
+      → Performed launch creds table asks_made_mode (first_by (place_of line.line) line.args (pay.OnePath path))
+  makes_mode path fit target found line = makes_by path fit target found (place_of line.line) line.number line.at line.through (choice_of line)
+
+  -- a realtime policy, by CAP_SYS_NICE
+  attributes_by : {own : Rule} {args : List ℕ} → (nr : CallAt) → IsCallAt nr → rule_there launch nr ≡ Some own → passes_at launch nr args
+      → choices.Choice kinds.SetsRealtime own args → CapAtHand creds (Some 23)
+      → Performed launch creds table asks_attributes (first_by nr args realtime_payload)
+  attributes_by nr n at t choices.sets_attributes can = record {
+    operation = d.SetAttributes 1;
+    effect = f.Answer 0;
+    makes = make launch creds table nr (rule.Known known.SetAttributes) no_words realtime_payload (d.SetAttributes 1) (f.Answer 0) n zeros
+        (omega arith) at refl t (cap_lets creds (Some 23) (f.Answer 0) can);
+    doable = tt;
+    such = refl;
+  }
+
+  pub attributes : (line : Line launch kinds.SetsRealtime) → CapAtHand creds (Some 23)
+      → Performed launch creds table asks_attributes (first_by (place_of line.line) line.args realtime_payload)
+  attributes line can = attributes_by (place_of line.line) line.number line.at line.through (choice_of line) can
+
   -- a plain call, with its capability
   abbrev pub can_for : Option Rule → Type 0
   can_for (Some (rule.Plain number)) = CapAtHand creds number
@@ -155,35 +225,44 @@ module _ (launch : Launch) (creds : Creds) (table : Table) where
       → rule_there launch nr ≡ Some own → passes_at launch nr args → choices.Choice (kinds.ForFamily family.number) own args
       → numbered family.number launch.calls.families ≡ Some family → CapAtHand creds family.cap → (p : Operation → Bool)
       → p (d.Socket family.number) ≡ true → p (d.Socketcall 1 family.number) ≡ true
+      → (eqb family.number 1 ≡ true → p (d.Socketpair family.number) ≡ true)
       → Performed launch creds table p (first_by nr args (family_payload own family.number))
-  socket_by family small nr n at t (choices.socket _) found can p such through =
+  socket_by family small nr n at t (choices.socket _) found can p such through paired =
       let word : family.number % 2 ^ 32 ≡ family.number = low family.number small in
       bare_call p nr (rule.Known known.Socket) (family.number ∷ 0 ∷ 0 ∷ 0 ∷ 0 ∷ 0 ∷ []) (d.Socket family.number) (f.Answer 3) n
       (six family.number 0 0 0 small (omega arith) (omega arith) (omega arith)) at t
       (ap (λ w. Some (d.Socket w)) word)
       (ap (socket_effect false creds) found ∙ cap_lets creds family.cap (f.Answer 3) can) tt such
-  socket_by family small nr n at t (choices.wide_socket _) found can p such through =
+  socket_by family small nr n at t (choices.wide_socket _) found can p such through paired =
       bare_call p nr (rule.Known known.Socket) ((2 ^ 32 + family.number) ∷ 0 ∷ 0 ∷ 0 ∷ 0 ∷ 0 ∷ []) (d.Socket family.number) (f.Answer 3) n
       (wide_word family.number small) at t
       (ap (λ w. Some (d.Socket w)) (wide_low family.number small))
       (ap (socket_effect false creds) found ∙ cap_lets creds family.cap (f.Answer 3) can) tt such
-  socket_by family small nr n at t (choices.socketcall _) found can p such through = record {
+  socket_by family small nr n at t (choices.socketcall _) found can p such through paired = record {
     operation = d.Socketcall 1 family.number;
     effect = f.Answer 3;
     makes =
-        make launch creds table nr (rule.Known known.Socketcall) (one_word 0 1) (pay.Family family.number) (d.Socketcall 1 family.number)
+        make launch creds table nr (rule.Known known.Socketcall) (one_word 0 1) (pay.Number family.number) (d.Socketcall 1 family.number)
         (f.Answer 3) n (six 1 0 0 0 (omega arith) (omega arith) (omega arith) (omega arith)) small at refl t
         (ap (socket_effect false creds) found ∙ cap_lets creds family.cap (f.Answer 3) can);
     doable = tt;
     such = through;
   }
+  socket_by family small nr n at t (choices.socketpair _ is) found can p such through paired =
+      let one : family.number ≡ 1 = eqb-true family.number 1 is in
+      bare_call p nr (rule.Known known.Socketpair) (one_word 0 1) (d.Socketpair family.number) (f.Answer 0) n
+      (six 1 0 0 0 (omega arith) (omega arith) (omega arith) (omega arith)) at t (ap (λ w. Some (d.Socketpair w)) (sym one))
+      (ap (λ b. cond b (sockets_effect 0 false creds (numbered family.number launch.calls.families))
+      (no_pair (numbered family.number launch.calls.families))) is
+      ∙ ap (sockets_effect 0 false creds) found ∙ cap_lets creds family.cap (f.Answer 0) can) tt (paired is)
 
   pub socket : (family : CallLine) → family.number < 2 ^ 32 → (line : Line launch (kinds.ForFamily family.number))
       → numbered family.number launch.calls.families ≡ Some family → CapAtHand creds family.cap → (p : Operation → Bool)
       → p (d.Socket family.number) ≡ true → p (d.Socketcall 1 family.number) ≡ true
+      → (eqb family.number 1 ≡ true → p (d.Socketpair family.number) ≡ true)
       → Performed launch creds table p (first_by (place_of line.line) line.args (family_payload line.own family.number))
-  socket family small line found can p such through = socket_by family small (place_of line.line) line.number line.at line.through
-      (choice_of line) found can p such through
+  socket family small line found can p such through paired =
+      socket_by family small (place_of line.line) line.number line.at line.through (choice_of line) found can p such through paired
 
   -- a namespace of its own
   module _ (admin : has creds.effective 21 ≡ true) where
@@ -230,12 +309,39 @@ module _ (launch : Launch) (creds : Creds) (table : Table) where
     clone_by namespace.User u nr n at t = cc
     clone_by namespace.Uts u nr n at t = cloned namespace.Uts (f.Child false) nr n at t refl (admits (f.Child false)) tt refl
 
+    -- clone3(2) carries the flag
+    cloned3 : (space : NamespaceType) (effect : Effect) (nr : CallAt) → IsCallAt nr → rule_there launch nr ≡ Some (rule.Known known.Clone3)
+        → passes_at launch nr no_words
+        → effect_on (host_at launch) (caller_at launch creds table) table (d.Clone (flag_of space)) ≡ effect → IsDoable effect
+        → asks_space space (d.Clone (flag_of space)) ≡ true
+        → Performed launch creds table (asks_space space) (first_by nr no_words (pay.Number (flag_of space)))
+    cloned3 space effect nr n at t e h such = record {
+      operation = d.Clone (flag_of space);
+      effect = effect;
+      makes = make launch creds table nr (rule.Known known.Clone3) no_words (pay.Number (flag_of space)) (d.Clone (flag_of space)) effect n
+          zeros (flag_fits space) at refl t e;
+      doable = h;
+      such = such;
+    }
+
+    clone3_by : (space : NamespaceType) → is_user space ≡ false → (nr : CallAt) → IsCallAt nr
+        → rule_there launch nr ≡ Some (rule.Known known.Clone3) → passes_at launch nr no_words
+        → Performed launch creds table (asks_space space) (first_by nr no_words (pay.Number (flag_of space)))
+    clone3_by namespace.Cgroup u nr n at t = cloned3 namespace.Cgroup (f.Child false) nr n at t (admits (f.Child false)) tt refl
+    clone3_by namespace.Ipc u nr n at t = cloned3 namespace.Ipc (f.Child false) nr n at t (admits (f.Child false)) tt refl
+    clone3_by namespace.Net u nr n at t = cloned3 namespace.Net (f.Child false) nr n at t (admits (f.Child false)) tt refl
+    clone3_by namespace.Mnt u nr n at t = cloned3 namespace.Mnt (f.Child true) nr n at t (admits (f.Child true)) tt refl
+    clone3_by namespace.Pid u nr n at t = cloned3 namespace.Pid (f.Child false) nr n at t (admits (f.Child false)) tt refl
+    clone3_by namespace.User u nr n at t = cc
+    clone3_by namespace.Uts u nr n at t = cloned3 namespace.Uts (f.Child false) nr n at t (admits (f.Child false)) tt refl
+
     space_by : {own : Rule} {args : List ℕ} → (space : NamespaceType) → is_user space ≡ false → (nr : CallAt) → IsCallAt nr
         → rule_there launch nr ≡ Some own → passes_at launch nr args → choices.Choice (kinds.ForNamespace space) own args
-        → Performed launch creds table (asks_space space) (first_by nr args pay.Nothing)
+        → Performed launch creds table (asks_space space) (first_by nr args (space_payload own space))
     space_by space u nr n at t (choices.unshare _) = unshare_by space u nr n at t
     space_by space u nr n at t (choices.clone _) = clone_by space u nr n at t
+    space_by space u nr n at t (choices.clone3 _) = clone3_by space u nr n at t
 
     pub own_space : (space : NamespaceType) → is_user space ≡ false → (line : Line launch (kinds.ForNamespace space))
-        → Performed launch creds table (asks_space space) (first_by (place_of line.line) line.args pay.Nothing)
+        → Performed launch creds table (asks_space space) (first_by (place_of line.line) line.args (space_payload line.own space))
     own_space space u line = space_by space u (place_of line.line) line.number line.at line.through (choice_of line)

@@ -8,6 +8,8 @@ use Rattle.launcher.specs.abs_path.Paths.{Path}
 use Rattle.launcher.specs.cap_sets.Sets.{has}
 use Rattle.launcher.specs.site_table.Table.{row_at}
 use Rattle.launcher.specs.kern_creds.declared.creds.Creds.{Creds}
+use Rattle.launcher.specs.linux_numbers.Limits.{no_id}
+use Rattle.launcher.specs.kern_creds.declared.ids.Ids.{Ids}
 use Rattle.launcher.specs.kern_creds.Ids.{all_of}
 use Rattle.launcher.specs.kern_creds.RootChange.{with_uids}
 use Rattle.launcher.specs.kern_creds.Capset.{may_capset, with_sets}
@@ -40,6 +42,17 @@ low n h = omega (arith, h)
 
 not_none : (id : ℕ) → id ≤ 4294967294 → eqb id 4294967295 ≡ false
 not_none id h = grind (arith, nat_tests, h)
+
+-- the ids after a call of this rule that takes an id: setreuid(2) and setregid(2) leave the saved one
+abbrev pub ids_by : Rule → Ids → ℕ → Ids
+ids_by (rule.Known known.Setreuid) old id = record { real = id; effective = id; saved = old.saved }
+ids_by (rule.Known known.Setregid) old id = record { real = id; effective = id; saved = old.saved }
+ids_by own old id = all_of id
+
+pub effective_by : (own : Rule) (old : Ids) (id : ℕ) → (ids_by own old id).effective ≡ id
+effective_by (rule.Known known.Setreuid) old id = refl
+effective_by (rule.Known known.Setregid) old id = refl
+effective_by own old id = refl
 
 module _ (launch : Launch) (o : Offers launch) (creds : Creds) (table : Table) where
   pub record TableCall (now : Table) : Type 0 where
@@ -143,7 +156,7 @@ module _ (launch : Launch) (o : Offers launch) (creds : Creds) (table : Table) w
 
     uid_by : {own : Rule} {args : List ℕ} → (nr : CallAt) → IsCallAt nr → rule_there launch nr ≡ Some own → passes_at launch nr args
         → choices.Choice k.TakesUid own args → has creds.effective 7 ≡ true
-        → CredsCall false (with_uids creds (all_of id)) (id_call nr own id)
+        → CredsCall false (with_uids creds (ids_by own creds.uids id)) (id_call nr own id)
     uid_by nr n at t choices.setuid h =
         let w = six id 0 0 0 word (omega arith) (omega arith) (omega arith) in
         record {
@@ -164,9 +177,20 @@ module _ (launch : Launch) (o : Offers launch) (creds : Creds) (table : Table) w
           no_uid = λ e. cc;
           no_gid = refl;
         }
+    uid_by nr n at t choices.setreuid h =
+        let w = six id id 0 0 word word (omega arith) (omega arith) in
+        record {
+          operation = d.Setresuid id id no_id;
+          makes = make launch creds table nr (rule.Known known.Setreuid) (id ∷ id ∷ 0 ∷ 0 ∷ 0 ∷ 0 ∷ []) pay.Nothing
+              (d.Setresuid id id no_id) (SetCreds (with_uids creds (ids_by (rule.Known known.Setreuid) creds.uids id))) n w tt at
+              (ap (λ w. Some (d.Setresuid w w no_id)) (low id word))
+              (other nr (rule.Known known.Setreuid) (id ∷ id ∷ 0 ∷ 0 ∷ 0 ∷ 0 ∷ []) n w at refl t) (rw (not_none id small, h) refl);
+          no_uid = λ e. cc;
+          no_gid = refl;
+        }
 
     pub uid_call : (line : Line launch k.TakesUid) → has creds.effective 7 ≡ true
-        → CredsCall false (with_uids creds (all_of id)) (id_call (place_of line.line) line.own id)
+        → CredsCall false (with_uids creds (ids_by line.own creds.uids id)) (id_call (place_of line.line) line.own id)
     uid_call line = uid_by (place_of line.line) line.number line.at line.through (choice_of line)
 
     pub record GidCall (call : Call) : Type 0 where
@@ -198,6 +222,20 @@ module _ (launch : Launch) (o : Offers launch) (creds : Creds) (table : Table) w
                 (d.Setresgid id id id) (SetCreds (record creds { gids = all_of id })) n w tt at
                 (ap (λ w. Some (d.Setresgid w w w)) (low id word))
                 (other nr (rule.Known known.Setresgid) (id ∷ id ∷ id ∷ 0 ∷ 0 ∷ 0 ∷ []) n w at refl t) (rw (not_none id small, h) refl);
+          };
+          has_gid = inl refl;
+        }
+    gid_by nr n at t choices.setregid h =
+        let w = six id id 0 0 word word (omega arith) (omega arith) in
+        let ids = ids_by (rule.Known known.Setregid) creds.gids id in
+        record {
+          now = record creds { gids = ids };
+          change = record {
+            operation = d.Setresgid id id no_id;
+            makes = make launch creds table nr (rule.Known known.Setregid) (id ∷ id ∷ 0 ∷ 0 ∷ 0 ∷ 0 ∷ []) pay.Nothing
+                (d.Setresgid id id no_id) (SetCreds (record creds { gids = ids })) n w tt at
+                (ap (λ w. Some (d.Setresgid w w no_id)) (low id word))
+                (other nr (rule.Known known.Setregid) (id ∷ id ∷ 0 ∷ 0 ∷ 0 ∷ 0 ∷ []) n w at refl t) (rw (not_none id small, h) refl);
           };
           has_gid = inl refl;
         }

@@ -55,7 +55,7 @@ use Rattle.kernel_ways.proofs.Lines.{same_rule, Line, first_by, low_number, some
 use Rattle.kernel_ways.proofs.Operations.{PathCall, Performed, see_path, read_path, write_path, exec_path}
 use Rattle.kernel_ways.proofs.Performing as performing
 use Rattle.std.proofs.Common.{cond}
-use Rattle.kernel_ways.proofs.Performing.{CapAtHand, is_free, read_attaches}
+use Rattle.kernel_ways.proofs.Performing.{CapAtHand, is_free, makes_bit, read_attaches, schedules, sets_mode, sets_realtime}
 use Rattle.kernel_ways.proofs.Rows.{IsKnown, known_at}
 use Rattle.kernel_ways.proofs.Exposing.{exposed, way_mounts, mounts_pass}
 use Rattle.kernel_ways.proofs.Attained.{Gained, attained, admin_gained}
@@ -228,7 +228,7 @@ module _ (world : World) (launch : Launch) (l : IsLaunched launch) (o : Offers l
       let both = and_parts (nat_lt 0 launch.site.user_namespaces) (lets launch (kinds.ForNamespace namespace.User)) user in
       let line = some_line launch l (kinds.ForNamespace namespace.User) both.1 in
       let first = enters launch both.0 launch.creds launch.table line in
-      let call = first_by (place_of line.line) line.args pay.Nothing in
+      let call = first_by (place_of line.line) line.args (k.space_payload line.own namespace.User) in
       let done = (first.inside world s).0 in
       (call ∷ [], record { fit = (first.makes.fit, tt); done = (done, tt); last = inl (performs launch launch.creds launch.table world s (asks_space namespace.User) first.operation call first.effect first.makes first.such done) })
 
@@ -275,7 +275,7 @@ module _ (world : World) (launch : Launch) (l : IsLaunched launch) (o : Offers l
       let found : numbered line.number launch.calls.families ≡ Some line = at_position launch.calls.families line.number place line (l.families_once place line listed) listed in
       let p : Operation → Bool = asks_family launch.calls.families place in
       let such : p (d.Socket line.number) ≡ true = ap (λ (c : Option CallLine). is_family c line.number) listed ∙ eq-eqb line.number line.number refl in
-      let x = performing.socket launch w.creds w.now line (low_number launch.calls.families o.calls.families.in_range place line listed) (some_line launch l (kinds.ForFamily line.number) e) found w.can p such such in
+      let x = performing.socket launch w.creds w.now line (low_number launch.calls.families o.calls.families.in_range place line listed) (some_line launch l (kinds.ForFamily line.number) e) found w.can p such such (λ is. ap (λ b. b && p (d.Socket line.number)) is ∙ such) in
       by_performed (asking.Socket place) p w.creds w.now w.way x x.such
 
   -- ---- each question
@@ -315,6 +315,33 @@ module _ (world : World) (launch : Launch) (l : IsLaunched launch) (o : Offers l
       by true on h = shown_free asking.ShmX kinds.AttachesReadOnlyX refl (λ call x. read_attaches x.operation x.such) h
       by false off h = shown_free asking.ShmX kinds.AttachesX (ap not off) (λ call x. x.such) h
 
+  -- by sched_setattr(2) and the capability, where sched_setscheduler(2) does not pass
+  shown_attributes : lets launch kinds.SetsRealtime ≡ true → can_have_cap (ceiling launch) (Some 23) ≡ true → IsShown world asking.Realtime
+  shown_attributes e h =
+      let w = having (Some 23) h in
+      let x = performing.attributes launch w.creds w.now (some_line launch l kinds.SetsRealtime e) w.can in
+      by_performed asking.Realtime k.asks_attributes w.creds w.now w.way x (sets_realtime x.operation x.such)
+
+  shown_realtime : is_open launch asking.Realtime ≡ true → IsShown world asking.Realtime
+  shown_realtime e =
+      elim (or_cases (lets launch kinds.SchedulesRealtime) (lets launch kinds.SetsRealtime && can_have_cap (ceiling launch) (Some 23)) e) [
+        | inl one ↦ shown_free asking.Realtime kinds.SchedulesRealtime refl (λ call x. schedules x.operation x.such) one
+        | inr other' ↦ (let both = and_parts (lets launch kinds.SetsRealtime) (can_have_cap (ceiling launch) (Some 23)) other' in shown_attributes both.0 both.1)
+      ]
+
+  -- by open(2) of a file that is made, at the path of the program
+  shown_made : lets launch kinds.OpensMode ≡ true → IsShown world asking.SuidBit
+  shown_made e =
+      let p = o.program.found in
+      let x = performing.makes_mode launch launch.creds launch.table p.path p.can_be_named o.program.program p.is_found (some_line launch l kinds.OpensMode e) in
+      by_performed asking.SuidBit k.asks_made_mode launch.creds launch.table here x (makes_bit x.operation x.such)
+
+  shown_suid : is_open launch asking.SuidBit ≡ true → IsShown world asking.SuidBit
+  shown_suid e = elim (or_cases (lets launch kinds.SetsMode) (lets launch kinds.OpensMode) e) [
+    | inl sets ↦ shown_free asking.SuidBit kinds.SetsMode refl (λ call x. sets_mode x.operation x.such) sets
+    | inr makes ↦ shown_made makes
+  ]
+
   pub shown : (question : Question) → IsFit launch.site question → is_open launch question ≡ true → IsShown world question
   shown (asking.Path wish place) fit e = let x = listed_is (can_reach launch (power_of launch) wish) (slice_get launch.site.rows place) e in shown_row place x.0 x.1 wish fit x.2
   shown (asking.Call place) fit e =
@@ -331,9 +358,9 @@ module _ (world : World) (launch : Launch) (l : IsLaunched launch) (o : Offers l
       shown_free asking.MapWx kinds.MapsWx both.0 (λ call x. x.such) both.1
   shown asking.ProtectX fit e = shown_free asking.ProtectX kinds.ProtectsX refl (λ call x. x.such) e
   shown asking.ShmX fit e = shown_attached e
-  shown asking.Realtime fit e = shown_free asking.Realtime kinds.SchedulesRealtime refl (λ call x. x.such) e
+  shown asking.Realtime fit e = shown_realtime e
   shown asking.Personality fit e = shown_free asking.Personality kinds.TakesPersonality refl (λ call x. x.such) e
-  shown asking.SuidBit fit e = shown_free asking.SuidBit kinds.SetsMode refl (λ call x. x.such) e
+  shown asking.SuidBit fit e = shown_suid e
   shown (asking.Cap number) fit e = let x = attained launch l o number e in cap_shown number x.0 x.1
   shown (asking.Uid id) fit e = let t = uid_taken launch l o id fit e in (t.calls, creds_show launch launch.creds t.creds launch.table t.now world t.calls (asking.Uid id) s t.way t.has)
   shown (asking.Gid id) fit e = let t = gid_taken launch l o id fit e in (t.calls, creds_show launch launch.creds t.creds launch.table t.now world t.calls (asking.Gid id) s t.way t.has)

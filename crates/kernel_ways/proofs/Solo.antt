@@ -39,7 +39,7 @@ effect_by : (host : Host) (creds : Creds) (stack : List (List Insn)) (table : Ta
     → effect_of host (record { creds = creds; stack = stack; table = map plain table; newer = false; owns = true }) operation
     ≡ effect_on host (record { creds = creds; stack = stack; table = map plain table; newer = false; owns = true }) table operation
 effect_by host creds stack table (d.See path) = ap (λ (t : Table). looks (see_answer 0 (finds host.rows t path))) (steps_plain table)
-effect_by host creds stack table (d.Open flags path) =
+effect_by host creds stack table (d.Open flags mode path) =
     ap (λ (t : Table). looks (open_answer flags (flags_at t path) (finds host.rows t path))) (steps_plain table)
 effect_by host creds stack table (d.Create path) = ap (λ (t : Table). looks (write_answer 3 (flags_at t path) (finds host.rows t path)))
     (steps_plain table)
@@ -55,8 +55,10 @@ effect_by host creds stack table (d.Protect protection) = refl
 effect_by host creds stack table (d.Attach flags) = refl
 effect_by host creds stack table (d.Schedule policy) = refl
 effect_by host creds stack table (d.Personality persona) = refl
+effect_by host creds stack table (d.SetAttributes policy) = refl
 effect_by host creds stack table (d.Socket family) = refl
 effect_by host creds stack table (d.Socketcall op family) = refl
+effect_by host creds stack table (d.Socketpair family) = refl
 effect_by host creds stack table d.Enter = refl
 effect_by host creds stack table d.Fork = refl
 effect_by host creds stack table (d.Clone flags) = refl

@@ -1,5 +1,6 @@
 -- Filters of settings look at no words of execve(2), of the calls that mount, and of those that set ids or capabilities.
 use Rattle.std.proofs.Common.{◌≡◌, ℕ, Bool, true, false, cond, codes, List, [], ◌∷◌, Option, Some, None, refl, ap, ◌∙◌, sym, arith, eqb}
+use Rattle.std.proofs.Common.{inl, inr}
 use Rattle.std.specs.Prelude.{◌||◌, ◌&&◌}
 use Rattle.std.specs.List.{AllByRecursion}
 use Rattle.std.specs.Option.{option_map_or}
@@ -38,7 +39,7 @@ use Rattle.launcher.specs.kernel_model.declared.kernel_calls.rule.Rule.{Rule}
 use Rattle.launcher.specs.kernel_model.declared.kernel_calls.rule.Rule.TheVariants.{Known}
 use Rattle.launcher.specs.kernel_laws.FirstChoice.{Means}
 use Rattle.launcher.specs.kernel_laws.Launched.{Launch, data_at}
-use Rattle.launcher.proofs.OfKernelLaws.FilterChoices.{with_name, rule_named, named_none}
+use Rattle.launcher.proofs.OfKernelLaws.FilterChoices.{HasRules, with_name, rule_named, rules_named, open_rules, openat_rules, fchmodat2_rules}
 use Rattle.launcher.proofs.OfKernelLaws.Filters.{HasRule, has_rule}
 use Rattle.launcher.proofs.OfKernelLaws.Programs.{stack_passes}
 use Rattle.kernel_ways.specs.Launching.{SettingsPassAlike}
@@ -55,6 +56,18 @@ module _ (line : CallLine) (rule : Rule) (is : rule_of line ≡ Some rule) (unlo
       by : (b : Bool) → bytes_eq line.name name ≡ b → b ≡ false
       by false e = refl
       by true e = let clash : false ≡ true = sym off ∙ ap is_unlooked (rule_named line rule is name own named e) ∙ unlooked in cc
+
+  -- nor one that has a rule of each kernel
+  no_rules : (name : List ℕ) (one other : Rule) → HasRules line name one other → is_unlooked one ≡ false → is_unlooked other ≡ false
+      → bytes_eq line.name name ≡ false
+  no_rules name one other rules off off' = by (bytes_eq line.name name) refl
+    where
+      clash : (own : Rule) → is_unlooked own ≡ false → own ≡ rule → ⊥
+      clash own none same = let both : false ≡ true = sym none ∙ ap is_unlooked same ∙ unlooked in cc
+
+      by : (b : Bool) → bytes_eq line.name name ≡ b → b ≡ false
+      by false e = refl
+      by true e = elim (rules_named line rule is name one other rules e) [ inl same ↦ absurd (clash one off same) | inr same ↦ absurd (clash other off' same) ]
 
   family_free : (systemd : Option Version) (families : Option FamilyList) (input : CallData)
       → refuses_family systemd families line.name input ≡ false
@@ -87,8 +100,8 @@ module _ (line : CallLine) (rule : Rule) (is : rule_of line ≡ Some rule) (unlo
         no_name (codes "fchmodat") (Known (known.SetMode Third)) refl refl,
         no_name (codes "mkdirat") (Known (known.SetMode Third)) refl refl,
         no_name (codes "mknodat") (Known (known.SetMode Third)) refl refl,
-        no_name (codes "open") (Known (known.Open Second)) refl refl,
-        no_name (codes "openat") (Known (known.Open Third)) refl refl,
+        no_rules (codes "open") (Known (known.Open Second)) (Known (known.OpenWith Second)) (open_rules line) refl refl,
+        no_rules (codes "openat") (Known (known.Open Third)) (Known (known.OpenWith Third)) (openat_rules line) refl refl,
       ) refl
 
   namespace_free : (types : NamespaceTypes) (input : CallData) → refuses_namespace types line.name input ≡ false
@@ -100,7 +113,7 @@ module _ (line : CallLine) (rule : Rule) (is : rule_of line ≡ Some rule) (unlo
         no_name (codes "setns") (Known known.Enter) refl refl,
       ) refl
 
-  -- with a version of systemd, whose further calls have no rule
+  -- with a version of systemd, which refuses further calls
   suid_alike : (systemd : Option Version) (one other : CallData) → suid_action systemd line.name one ≡ suid_action systemd line.name other
   unfolding rule_of known_call
   suid_alike None one other = ap (λ b. unless_refused 1 b) (mode_free one ∙ sym (mode_free other))
@@ -111,7 +124,7 @@ module _ (line : CallLine) (rule : Rule) (is : rule_of line ≡ Some rule) (unlo
       at input =
           ap (λ b. cond (bytes_eq line.name (codes "openat2")) (Errno 38)
           (unless_refused 1 (refuses_mode line.name input || (b && sets_id_bit (low input 2)))))
-          (named_none line rule is (codes "fchmodat2") refl)
+          (no_rules (codes "fchmodat2") (Known (known.SetMode Third)) (Known (known.SetMode Third)) (fchmodat2_rules line) refl refl)
           ∙ ap (λ b. cond (bytes_eq line.name (codes "openat2")) (Errno 38) (unless_refused 1 (b || false))) (mode_free input)
 
   space_alike : (systemd : Option Version) (types : NamespaceTypes) (one other : CallData)

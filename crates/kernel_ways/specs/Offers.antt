@@ -3,7 +3,7 @@
 use Rattle.std.specs.Prelude.{◌≡◌, ℕ, ◌<◌, ◌^◌, Bool, true, false, List, Some}
 use Rattle.launcher.specs.abs_path.Paths.{Path}
 use Rattle.launcher.specs.call_table.declared.call_names.rule.CallRule.TheVariants.{Execve, Mount, Umount, Setuid, Setgid, Setresuid}
-use Rattle.launcher.specs.call_table.declared.call_names.rule.CallRule.TheVariants.{Setresgid, Setgroups, Capset}
+use Rattle.launcher.specs.call_table.declared.call_names.rule.CallRule.TheVariants.{Setresgid, Setreuid, Setregid, Setgroups, Capset}
 use Rattle.launcher.specs.call_table.Facts.{IsTable}
 use Rattle.launcher.specs.site_table.declared.row.Row.{Row}
 use Rattle.launcher.specs.site_table.Kinds.{is_exe}
@@ -21,7 +21,8 @@ use Rattle.launcher.specs.kernel_laws.declared.question_types.wish.Wish.TheVaria
 use Rattle.reach_paths.specs.Finding.{dirs_of, FindsRow}
 use Rattle.kernel_ways.specs.Ways.{CallAt, IsCallAt, rule_there, passes_at}
 
--- execve(2), the calls that mount, and those that set ids or capabilities: no setting of systemd.exec(5) filters them by their words
+-- execve(2) and execveat(2), the calls that mount, and those that set ids or capabilities: no setting of systemd.exec(5) filters them
+-- by their words
 abbrev pub is_unlooked : Rule → Bool
 is_unlooked (Known Execve) = true
 is_unlooked (Known Mount) = true
@@ -30,6 +31,8 @@ is_unlooked (Known Setuid) = true
 is_unlooked (Known Setgid) = true
 is_unlooked (Known Setresuid) = true
 is_unlooked (Known Setresgid) = true
+is_unlooked (Known Setreuid) = true
+is_unlooked (Known Setregid) = true
 is_unlooked (Known Setgroups) = true
 is_unlooked (Known Capset) = true
 is_unlooked rule = false

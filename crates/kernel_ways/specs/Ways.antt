@@ -49,7 +49,7 @@ caller_at launch creds table = record { creds = creds; stack = launch.stack; tab
 -- the effect of a call; where it looks at a path, by the entries of the caller's table alone
 abbrev pub effect_on : Host → Caller → Table → Operation → Effect
 effect_on host caller table (See path) = looks (see_answer 0 (finds host.rows table path))
-effect_on host caller table (Open flags path) = looks (open_answer flags (flags_at table path) (finds host.rows table path))
+effect_on host caller table (Open flags mode path) = looks (open_answer flags (flags_at table path) (finds host.rows table path))
 effect_on host caller table (Create path) = looks (write_answer 3 (flags_at table path) (finds host.rows table path))
 effect_on host caller table (Truncate path) = looks (write_answer 0 (flags_at table path) (finds host.rows table path))
 effect_on host caller table (Execve path) = creds_effect (exec_answer caller.creds (flags_at table path) (finds host.rows table path))

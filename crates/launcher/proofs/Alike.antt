@@ -304,7 +304,7 @@ module _ (one other : List (List Insn)) (world : World) (call : Call) where
         → Outcome (applied world call.pid process (effect_of (host_of world) (caller_over one world process) operation))
         (applied world call.pid process (effect_of (host_of world) (caller_over other world process) operation))
     operation_alike (d.See path) asks = inl refl
-    operation_alike (d.Open flags path) asks = inl refl
+    operation_alike (d.Open flags mode path) asks = inl refl
     operation_alike (d.Create path) asks = inl refl
     operation_alike (d.Truncate path) asks = inl refl
     operation_alike (d.Execve path) asks = inl refl
@@ -314,8 +314,10 @@ module _ (one other : List (List Insn)) (world : World) (call : Call) where
     operation_alike (d.Attach flags) asks = inl refl
     operation_alike (d.Schedule policy) asks = inl refl
     operation_alike (d.Personality domain) asks = inl refl
+    operation_alike (d.SetAttributes policy) asks = inl refl
     operation_alike (d.Socket family) asks = inl refl
     operation_alike (d.Socketcall op family) asks = inl refl
+    operation_alike (d.Socketpair family) asks = inl refl
     operation_alike d.Enter asks = inl refl
     operation_alike d.Fork asks = inl refl
     operation_alike (d.Clone flags) asks = inl refl

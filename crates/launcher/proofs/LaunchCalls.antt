@@ -51,7 +51,7 @@ none_first p x xs e = by (p x) refl e
     by false is e = (is, e)
 
 abbrev with_name : CallLine → List ℕ → CallLine
-with_name line name = record { name = name; number = line.number; cap = line.cap; abi = line.abi }
+with_name line name = record { name = name; number = line.number; cap = line.cap; abi = line.abi; kernel = line.kernel }
 
 module _ (table : calls.Table) (whole : IsWhole table) where
   follows : (name : List ℕ) (rule' : Rule) → lacks table.calls name ≡ false

@@ -278,6 +278,7 @@ launched_is_world settings table site wanted plan last steps whole arch refusing
       calls_once = once_in table whole.sound;
       calls_of_abi = of_abi_in table whole.sound;
       one_cap = one_cap_in table whole.sound;
+      one_kernel = (whole.kernel, whole.by_kernel);
       families_once = whole.sound.families.once.by_number;
       calls_in_range = range_in table whole.sound;
       arch = arch;

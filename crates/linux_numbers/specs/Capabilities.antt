@@ -25,6 +25,10 @@ cap_sys_rawio = 17
 abbrev pub cap_sys_admin : ℕ
 cap_sys_admin = 21
 
+-- allows taking a realtime policy, and more
+abbrev pub cap_sys_nice : ℕ
+cap_sys_nice = 23
+
 -- allows setting the clock
 abbrev pub cap_sys_time : ℕ
 cap_sys_time = 25

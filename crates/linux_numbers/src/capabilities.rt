@@ -18,6 +18,9 @@ pub const CAP_SYS_RAWIO: u8 = 17;
 /// Allows mounting, installing filters, making namespaces, and more.
 pub const CAP_SYS_ADMIN: u8 = 21;
 
+/// Allows taking a realtime policy, and more.
+pub const CAP_SYS_NICE: u8 = 23;
+
 /// Allows setting the clock.
 pub const CAP_SYS_TIME: u8 = 25;
 

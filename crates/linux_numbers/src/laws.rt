@@ -3,7 +3,7 @@
 
 ghost use Rattle.std.specs.Prelude.{◌≡◌};
 ghost use Rattle.linux_numbers.specs.Errnos.{eperm, enoent, esrch, eintr, eio, enxio, e2big, enoexec, ebadf, eagain, enomem, eacces, efault, ebusy, eexist, exdev, enodev, enotdir, eisdir, einval, enfile, emfile, enotty, efbig, enospc, erofs, epipe, erange, enametoolong, enosys, eopnotsupp, eafnosupport, etimedout, econnrefused};
-ghost use Rattle.linux_numbers.specs.Capabilities.{cap_setgid, cap_setuid, cap_setpcap, cap_sys_module, cap_sys_rawio, cap_sys_admin, cap_sys_time, cap_mknod, cap_syslog, cap_wake_alarm, cap_last_cap};
+ghost use Rattle.linux_numbers.specs.Capabilities.{cap_setgid, cap_setuid, cap_setpcap, cap_sys_module, cap_sys_rawio, cap_sys_admin, cap_sys_nice, cap_sys_time, cap_mknod, cap_syslog, cap_wake_alarm, cap_last_cap};
 ghost use Rattle.linux_numbers.specs.Actions.{kill_process, kill_thread, trap, errno, user_notif, trace, log, allow, action_full, data_bits};
 ghost use Rattle.linux_numbers.specs.Limits.{max_errno, no_id, ngroups_max, bpf_maxinsns, max_insns_per_path, mount_max};
 
@@ -12,7 +12,7 @@ use crate::actions::{
 };
 use crate::capabilities::{
     CAP_LAST_CAP, CAP_MKNOD, CAP_SETGID, CAP_SETPCAP, CAP_SETUID, CAP_SYS_ADMIN, CAP_SYS_MODULE,
-    CAP_SYS_RAWIO, CAP_SYS_TIME, CAP_SYSLOG, CAP_WAKE_ALARM,
+    CAP_SYS_NICE, CAP_SYS_RAWIO, CAP_SYS_TIME, CAP_SYSLOG, CAP_WAKE_ALARM,
 };
 use crate::errnos::{
     E2BIG, EACCES, EAFNOSUPPORT, EAGAIN, EBADF, EBUSY, ECONNREFUSED, EEXIST, EFAULT, EFBIG, EINTR,
@@ -68,6 +68,7 @@ pub fn capability_numbers()
     ensures cap_sys_module { CAP_SYS_MODULE ≡ cap_sys_module }
     ensures cap_sys_rawio { CAP_SYS_RAWIO ≡ cap_sys_rawio }
     ensures cap_sys_admin { CAP_SYS_ADMIN ≡ cap_sys_admin }
+    ensures cap_sys_nice { CAP_SYS_NICE ≡ cap_sys_nice }
     ensures cap_sys_time { CAP_SYS_TIME ≡ cap_sys_time }
     ensures cap_mknod { CAP_MKNOD ≡ cap_mknod }
     ensures cap_syslog { CAP_SYSLOG ≡ cap_syslog }

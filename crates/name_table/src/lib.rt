@@ -25,6 +25,20 @@ pub trait Named {
         ensures { result.now ≡ name_of self.now };
 }
 
+/// A line that can be marked, which leaves its name as it is.
+pub trait Marked: Named {
+    /// What a line is marked with.
+    type Mark: Copy;
+
+    ghost marked: { Self.Mark → Self → Self };
+
+    /// Marks the line.
+    fn mark(&mut self, mark: Self::Mark)
+        ensures { self.new ≡ marked mark self.old };
+
+    ghost keeps_name: { (mark : Self.Mark) (line : Self) → Self.Named.name_of (marked mark line) ≡ Self.Named.name_of line };
+}
+
 /// Lines in their order, each with a name of its own; contracts see them as a list.
 #[derive(Drop)]
 pub struct NameTable<L: Named> {
@@ -82,6 +96,23 @@ impl<L: Named> NameTable<L> {
         ensures by_name { result ≡ position (λ line. bytes_eq name.now (L.name_of line)) self.now }
     {
         place_of(&self.lines, &self.places, name)
+    }
+}
+
+impl<L: Marked> NameTable<L> {
+    /// Marks each line. The lines keep their names and their order.
+    pub fn mark(&mut self, mark: L::Mark)
+        ensures marks_each { self.new ≡ map (L.marked mark) self.old }
+    {
+        mark_each(&mut self.lines, mark);
+    }
+}
+
+fn mark_each<L: Marked>(lines: &mut [L], mark: L::Mark)
+    ensures { lines.new ≡ map (L.marked mark) lines.old }
+{
+    for line in lines.iter_mut() {
+        line.mark(mark);
     }
 }
 

@@ -11,7 +11,6 @@ use Rattle.ceilings.specs.site_table.declared.row.Row.{Row}
 use Rattle.ceilings.specs.kern_creds.declared.creds.Creds.{Creds}
 use Rattle.ceilings.specs.kern_creds.declared.ids.Ids.{Ids}
 use Rattle.ceilings.specs.kern_creds.Exec.{exec_done}
-use Rattle.ceilings.specs.kern_creds.Ids.{all_of}
 use Rattle.ceilings.specs.kern_creds.RootChange.{with_uids}
 use Rattle.ceilings.specs.kern_mounts.Split.{Table}
 use Rattle.ceilings.specs.kernel_model.kern_files.Executing.{marks_of}
@@ -63,9 +62,10 @@ module _ (launch : Launch) (l : IsLaunched launch) (o : Offers launch) (id : ℕ
   takes_uid e h =
       let c = chosen launch l TakesUid e in
       let change = privileged.uid_call launch o creds table id small c.line h in
+      let ids = privileged.ids_by c.line.own creds.uids id in
       let same = taking_is launch TakesUid id (place_of c.line.line) (place_is c) c.line.own (rule_is c) in
-      let Q : List Call → Type 0 = λ calls. Way launch creds table calls (with_uids creds (all_of id)) table in
-      record { end = with_uids creds (all_of id); way = subst Q (sym same) (by_creds (id_call (place_of c.line.line) c.line.own id) change.makes here); has = ap (λ (ids : Ids). ids.effective) (uids_after creds (all_of id)) }
+      let Q : List Call → Type 0 = λ calls. Way launch creds table calls (with_uids creds ids) table in
+      record { end = with_uids creds ids; way = subst Q (sym same) (by_creds (id_call (place_of c.line.line) c.line.own id) change.makes here); has = ap (λ (ids : Ids). ids.effective) (uids_after creds ids) ∙ privileged.effective_by c.line.own creds.uids id }
 
   pub takes_gid : lets launch TakesGid ≡ true → has creds.effective 6 ≡ true → Takes launch TakesGid id (asking.Gid id) creds table
   takes_gid e h =

@@ -30,17 +30,19 @@ use Rattle.ceilings.specs.kernel_laws.declared.question_types.power.Power.TheVar
 use Rattle.ceilings.specs.kernel_laws.declared.question_types.power.Power.TheVariants.{Mount as Mounting}
 use Rattle.ceilings.specs.kernel_laws.declared.question_types.question.Question.TheVariants as asking
 use Rattle.ceilings.specs.kernel_laws.Launched.{Launch, IsLaunched, lets, can_make_user}
+use Rattle.ceilings.specs.kernel_laws.Kinds.{path_payload}
 use Rattle.ceilings.specs.kernel_laws.Reach.{reaches}
 use Rattle.ceilings.specs.kernel_ways.Laws.{IsFit}
 use Rattle.ceilings.specs.kernel_ways.Offers.{Offers, RunsProgram}
-use Rattle.ceilings.specs.kernel_ways.Ways.{Way, here, IsSolo}
+use Rattle.ceilings.specs.kernel_ways.Ways.{Way, here, IsSolo, place_of}
 use Rattle.ceilings.proofs.OfKernelWays.Solo.{way_join}
+use Rattle.ceilings.proofs.OfKernelWays.Lines.{first_by}
 use Rattle.ceilings.proofs.OfKernelWays.Operations.{PathCall, see_path, read_path, write_path, exec_path}
 use Rattle.ceilings.proofs.OfKernelWays.Exposing.{mounts_pass}
 use Rattle.ceilings.proofs.OfKernelWays.Gains.{Basis}
 use Rattle.ceilings.proofs.OfKernelWays.Rows.{IsKnown, known_at}
 use Rattle.ceilings.proofs.OfKernelWays.Showing.{calls_show}
-use Rattle.open_calls.specs.chosen_calls.Chosen.{unmarked, operation_calls, row_calls, user_call, pid_inside, call_inside, inside_calls}
+use Rattle.open_calls.specs.chosen_calls.Chosen.{wish_payload, unmarked, operation_calls, row_calls, user_call, pid_inside, call_inside, inside_calls}
 use Rattle.open_calls.specs.chosen_calls.Chosen.{row_inside}
 use Rattle.open_calls.proofs.ChosenCallsInside.{user_called, inside_is, at_place}
 use Rattle.ceilings.specs.kernel_ways.Entering.{MakesIn}
@@ -54,7 +56,7 @@ use Rattle.open_calls.specs.chosen_calls.First.{call_by}
 use Rattle.open_calls.specs.chosen_calls.Gaining.{CapWay, gain_calls, gain, at_once, cap_calls, gaining}
 use Rattle.open_calls.proofs.Complete.{admin_is, gain_is}
 use Rattle.open_calls.proofs.Exposed.{ExposedAt, marked, by_mounts}
-use Rattle.open_calls.proofs.FirstLines.{chosen, call_is}
+use Rattle.open_calls.proofs.FirstLines.{ChosenLine, chosen, call_is, rule_is}
 use Rattle.open_calls.proofs.Gained.{GainedSo, gained_by, at_once_gained, basis_launch}
 
 -- ---- the calls that gain a capability
@@ -108,11 +110,18 @@ module _ (world : World) (launch : Launch) (l : IsLaunched launch) (o : Offers l
   own_known : IsKnown launch.site target
   own_known = known_at launch.site o.site place target listed
 
+  -- the first call for a wish, with what it carries
+  wished : (wish : Wish) (c : ChosenLine launch (ForPath wish)) (path : Path)
+      → call_by launch (ForPath wish) (wish_payload launch wish path)
+      ≡ first_by (place_of c.line.line) c.line.args (path_payload wish c.line.own path)
+  wished wish c path = call_is c (wish_payload launch wish path)
+      ∙ ap (λ own. first_by (place_of c.line.line) c.line.args (path_payload wish own path)) (rule_is c)
+
   path_call : (wish : Wish) → IsFit launch.site (asking.Path wish place) → lets launch (ForPath wish) ≡ true
       → (creds : Creds) (power : Power) (flags : ℕ) → (x : ExposedAt launch creds power flags target wish)
       → Admits wish creds target (flags_at x.now (exposing_path launch power wish target.path)).no_suid
       → PathCall launch creds x.now wish (exposing_path launch power wish target.path)
-      (call_by launch (ForPath wish) (OnePath (exposing_path launch power wish target.path)))
+      (call_by launch (ForPath wish) (wish_payload launch wish (exposing_path launch power wish target.path)))
   path_call ToSee fit passes creds power flags x admitted =
       let c = chosen launch l (ForPath ToSee) passes in
       let path = exposing_path launch power ToSee target.path in
@@ -122,12 +131,12 @@ module _ (world : World) (launch : Launch) (l : IsLaunched launch) (o : Offers l
       let c = chosen launch l (ForPath ToRead) passes in
       let path = exposing_path launch power ToRead target.path in
       let P : Call → Type 0 = λ call. PathCall launch creds x.now ToRead path call in
-      subst P (sym (call_is c (OnePath path))) (read_path launch creds x.now path x.found.can_be_named target x.found.is_found c.line)
+      subst P (sym (wished ToRead c path)) (read_path launch creds x.now path x.found.can_be_named target x.found.is_found c.line)
   path_call ToWrite fit passes creds power flags x admitted =
       let c = chosen launch l (ForPath ToWrite) passes in
       let path = exposing_path launch power ToWrite target.path in
       let P : Call → Type 0 = λ call. PathCall launch creds x.now ToWrite path call in
-      subst P (sym (call_is c (OnePath path)))
+      subst P (sym (wished ToWrite c path))
       (write_path launch creds x.now path x.found.can_be_named target x.found.is_found (fit target listed) x.found.is_allowed c.line)
   path_call ToExec fit passes creds power flags x admitted =
       let c = chosen launch l (ForPath ToExec) passes in
@@ -144,7 +153,7 @@ module _ (world : World) (launch : Launch) (l : IsLaunched launch) (o : Offers l
       → Shows world (asking.Path wish place) (front ++ operation_calls launch power flags wish target)
   behind wish fit passes {front = front} creds way power flags x admitted =
       let path = exposing_path launch power wish target.path in
-      let call = call_by launch (ForPath wish) (OnePath path) in
+      let call = call_by launch (ForPath wish) (wish_payload launch wish path) in
       let calls = exposing_calls launch power flags wish target.path in
       let c = path_call wish fit passes creds power flags x admitted in
       let shown = calls_show launch launch.creds creds launch.table x.now world (front ++ calls) (asking.Path wish place) c.operation call c.effect s (way_join way x.way) c.makes c.doable (path, target, c.wanted, listed, x.found.is_found) in

@@ -14,7 +14,7 @@ use Rattle.ceilings.specs.kern_creds.declared.creds.Creds.{Creds}
 use Rattle.ceilings.specs.kern_creds.declared.ids.Ids.{Ids}
 use Rattle.ceilings.specs.kern_creds.Exec.{exec_done, owner_or}
 use Rattle.ceilings.specs.kern_creds.Capset.{with_sets}
-use Rattle.ceilings.specs.kern_creds.Ids.{all_of}
+use Rattle.ceilings.specs.kern_creds.RootChange.{with_uids}
 use Rattle.ceilings.specs.kern_mounts.Split.{Table}
 use Rattle.ceilings.specs.kernel_model.kern_files.Executing.{marks_of}
 use Rattle.ceilings.specs.kernel_model.declared.kernel_calls.call.Call.{Call}
@@ -29,7 +29,7 @@ use Rattle.ceilings.specs.kernel_ways.Offers.{Offers, RunsProgram}
 use Rattle.ceilings.specs.kernel_ways.Taking.{id_call, sets_call}
 use Rattle.ceilings.specs.kernel_ways.Ways.{Way, here, by_creds, place_of}
 use Rattle.ceilings.proofs.OfKernelWays.Solo.{way_join}
-use Rattle.ceilings.proofs.OfKernelWays.Attained.{IsRootlike, zeroed, basis_uids, uids_after, stays_zero, unmarked}
+use Rattle.ceilings.proofs.OfKernelWays.Attained.{IsRootlike, basis_uids, uids_after, stays_zero, unmarked}
 use Rattle.ceilings.proofs.OfKernelWays.Exposing.{HasPower, marks_count}
 use Rattle.ceilings.proofs.OfKernelWays.Gains as gains
 use Rattle.ceilings.proofs.OfKernelWays.Gains.{Basis, common_small}
@@ -281,11 +281,12 @@ module _ (launch : Launch) (l : IsLaunched launch) (o : Offers launch) where
       let inner = and_parts (not launch.creds.no_new_privs) (lets launch TakesUid) parts.0 in
       let c = chosen launch l TakesUid inner.1 in
       let change = privileged.uid_call launch o g.creds g.now 0 (omega arith) c.line g.holds in
-      let after = zeroed g.creds in
-      let b = basis_uids launch g.creds (all_of 0) g.basis in
+      let ids = privileged.ids_by c.line.own g.creds.uids 0 in
+      let after = with_uids g.creds ids in
+      let b = basis_uids launch g.creds ids g.basis in
       let mark = b.mark ∙ not-true launch.creds.no_new_privs inner.0 in
       let run = runs_at launch l o after g.now last g.target b.bounding g.again in
-      let uid : eqb after.uids.effective 0 ≡ true = ap (λ (ids : Ids). eqb ids.effective 0) (uids_after g.creds (all_of 0)) in
+      let uid : eqb after.uids.effective 0 ≡ true = ap (λ (ids : Ids). eqb ids.effective 0) (uids_after g.creds ids) ∙ ap (λ id. eqb id 0) (privileged.effective_by c.line.own g.creds.uids 0) in
       let root = ap (λ id. eqb id 0) (gains.uid_after after (marks_of g.target) mark) ∙ stays_zero g.target.setuid after.uids.effective g.rootlike uid in
       let w = gains.zero_gives after (marks_of g.target) mark root in
       let own : has after.bounding number ≡ true = ap (λ s. has s number) b.bounding ∙ parts.1 in

@@ -8,19 +8,19 @@ use Rattle.ceilings.specs.abs_path.Paths.{Path}
 use Rattle.ceilings.specs.call_table.Table.{every_call}
 use Rattle.ceilings.specs.call_table.declared.listed.CallLine.{CallLine}
 use Rattle.ceilings.specs.cap_sets.Sets.{has}
-use Rattle.ceilings.specs.linux_numbers.Capabilities.{cap_sys_admin, cap_setuid, cap_setgid}
+use Rattle.ceilings.specs.linux_numbers.Capabilities.{cap_sys_admin, cap_sys_nice, cap_setuid, cap_setgid}
 use Rattle.ceilings.specs.site_table.declared.row.Row.{Row}
 use Rattle.ceilings.specs.kernel_model.kern_files.MountCall.{ms_remount_bind}
 use Rattle.ceilings.specs.kernel_model.kernel_calls.Rules.{rule_of}
 use Rattle.ceilings.specs.kernel_model.kernel_calls.Operation.{Clone, Does, asked_by, asked_of}
 use Rattle.ceilings.specs.kernel_model.declared.kernel_calls.call.Call.{Call}
-use Rattle.ceilings.specs.kernel_model.declared.kernel_calls.payload.Payload.TheVariants.{Nothing, OnePath}
+use Rattle.ceilings.specs.kernel_model.declared.kernel_calls.payload.Payload.TheVariants.{Nothing, Number, OnePath}
 use Rattle.ceilings.specs.kernel_model.declared.kernel_calls.rule.Rule.{Rule}
 use Rattle.ceilings.specs.kernel_laws.Bound.{is_barred, is_mounting, is_owner, is_to_exec, is_user, can_reach, ceiling, if_listed, is_open}
 use Rattle.ceilings.specs.kernel_laws.Bound.{power_of}
 use Rattle.ceilings.specs.kernel_laws.declared.question_types.kind.CallKind.{CallKind}
 use Rattle.ceilings.specs.kernel_laws.declared.question_types.kind.CallKind.TheVariants.{ForFamily, ForPath, ForNamespace, RemovesMounts}
-use Rattle.ceilings.specs.kernel_laws.declared.question_types.kind.CallKind.TheVariants.{TakesUid, TakesGid}
+use Rattle.ceilings.specs.kernel_laws.declared.question_types.kind.CallKind.TheVariants.{OpensMode, SchedulesRealtime, SetsMode, SetsRealtime, TakesUid, TakesGid}
 use Rattle.ceilings.specs.kernel_laws.declared.question_types.question.Question.{Question}
 use Rattle.questions.specs.filter_settings.declared.filter_rules.namespace_types.NamespaceType.{NamespaceType}
 use Rattle.questions.specs.filter_settings.declared.filter_rules.namespace_types.NamespaceType.TheVariants.{User}
@@ -30,7 +30,7 @@ use Rattle.ceilings.specs.kernel_laws.declared.question_types.power.Power.{Power
 use Rattle.ceilings.specs.kernel_laws.declared.question_types.power.Power.TheVariants.{None as Nowise, Unmount as Unmounting}
 use Rattle.ceilings.specs.kernel_laws.declared.question_types.power.Power.TheVariants.{Mount as Mounting}
 use Rattle.ceilings.specs.kernel_laws.declared.question_types.question.Question.TheVariants as asking
-use Rattle.ceilings.specs.kernel_laws.Kinds.{one_word}
+use Rattle.ceilings.specs.kernel_laws.Kinds.{no_words, one_word, realtime_payload, space_payload}
 use Rattle.ceilings.specs.kernel_laws.Launched.{Launch, IsLaunched, lets, can_make_user, launch_of}
 use Rattle.ceilings.specs.kernel_laws.PlainCalls.{bare_call}
 use Rattle.ceilings.specs.kernel_laws.Questions.{flag_of}
@@ -43,7 +43,7 @@ use Rattle.ceilings.proofs.OfKernelWays.Lines.{choice_of, first_by}
 use Rattle.open_calls.specs.chosen_calls.Chosen.{unmarked, is_held_off, operation_calls, user_call, pid_inside, call_inside, inside_calls}
 use Rattle.open_calls.specs.chosen_calls.Chosen.{row_inside, row_calls, runner, taking, id_at_power, id_by_cap, id_by_row, id_calls}
 use Rattle.open_calls.specs.chosen_calls.Chosen.{uid_calls, gid_calls, plain_cap, plain_line, plain_calls, socket_payload, socket_calls}
-use Rattle.open_calls.specs.chosen_calls.Chosen.{space_calls, calls_for}
+use Rattle.open_calls.specs.chosen_calls.Chosen.{own_payload, wish_payload, realtime_calls, space_calls, suid_calls, calls_for}
 use Rattle.open_calls.specs.chosen_calls.Exposing.{exposing_calls, exposing_path, lead, shown_at}
 use Rattle.open_calls.specs.chosen_calls.First.{call_by, line_of, own_rule}
 use Rattle.open_calls.specs.chosen_calls.Gaining.{FileWay, Held, ByRun, ByCapset, CapWay, ByFile, ByRoot, GainWay, AtOnce, Behind, run_call}
@@ -84,7 +84,7 @@ module _ (launch : Launch) where
   operation : (power : Power) (flags : ℕ) (wish : Wish) (row : Row) → AreFirst (operation_calls launch power flags wish row)
   operation power flags wish row =
       join (exposing_calls launch power flags wish row.path)
-      (call_by launch (ForPath wish) (OnePath (exposing_path launch power wish row.path)) ∷ []) (exposing power flags wish row.path)
+      (call_by launch (ForPath wish) (wish_payload launch wish (exposing_path launch power wish row.path)) ∷ []) (exposing power flags wish row.path)
       (refl, tt)
 
   runs : (power : Power) (row : Row) → AreFirst (run_calls launch power row)
@@ -146,14 +146,20 @@ inside_by : (launch : Launch) → IsLaunched launch → can_make_user launch ≡
 inside_by launch l user =
     let both = and_parts (nat_lt 0 launch.site.user_namespaces) (lets launch (ForNamespace User)) user in
     let c = chosen launch l (ForNamespace User) both.1 in
-    by (place_of c.line.line) (rule_is c) (call_is c Nothing) c.line.at (choice_of c.line)
+    by (place_of c.line.line) (rule_is c)
+    (call_is c (own_payload launch User) ∙ ap (λ own. first_by (place_of c.line.line) c.line.args (space_payload own User)) (rule_is c))
+    c.line.at (choice_of c.line)
   where
     by : {own : Rule} {args : List ℕ} → (nr : CallAt) → own_rule (line_of launch (ForNamespace User)) ≡ own
-        → user_call launch ≡ first_by nr args Nothing → rule_there launch nr ≡ Some own → choices.Choice (ForNamespace User) own args
+        → user_call launch ≡ first_by nr args (space_payload own User) → rule_there launch nr ≡ Some own → choices.Choice (ForNamespace User) own args
         → IsInside launch
     by nr rule call at (choices.unshare _) = inl (ap pid_in rule)
     by nr rule call at (choices.clone _) =
         let own = first_by nr (one_word 0 (flag_of User)) Nothing in
+        let asks : asked_of launch.calls own ≡ Does (Clone (flag_of User)) = ap (λ r. asked_by r own) at in
+        inr (ap pid_in rule, record { flags = flag_of User; asks = ap (asked_of launch.calls) call ∙ asks; newer = refl })
+    by nr rule call at (choices.clone3 _) =
+        let own = first_by nr no_words (Number (flag_of User)) in
         let asks : asked_of launch.calls own ≡ Does (Clone (flag_of User)) = ap (λ r. asked_by r own) at in
         inr (ap pid_in rule, record { flags = flag_of User; asks = ap (asked_of launch.calls) call ∙ asks; newer = refl })
 
@@ -241,15 +247,15 @@ module _ (launch : Launch) (entered : can_make_user launch ≡ true → IsInside
       by : (user admin : Bool) → cond user (can_make_user launch) (lets launch (ForNamespace space) && (admin || can_make_user launch))
           ≡ true
           → Made (cond user (user_call launch ∷ [])
-          (cond admin (gaining launch program cap_sys_admin ++ call_by launch (ForNamespace space) Nothing ∷ [])
-          (user_call launch ∷ call_inside launch (ForNamespace space) Nothing ∷ [])))
+          (cond admin (gaining launch program cap_sys_admin ++ call_by launch (ForNamespace space) (own_payload launch space) ∷ [])
+          (user_call launch ∷ call_inside launch (ForNamespace space) (own_payload launch space) ∷ [])))
       by true admin e = by_first (user_call launch) [] refl no_more
       by false true e =
-          made (gaining launch program cap_sys_admin ++ call_by launch (ForNamespace space) Nothing ∷ [])
-          (join (gaining launch program cap_sys_admin) (call_by launch (ForNamespace space) Nothing ∷ [])
+          made (gaining launch program cap_sys_admin ++ call_by launch (ForNamespace space) (own_payload launch space) ∷ [])
+          (join (gaining launch program cap_sys_admin) (call_by launch (ForNamespace space) (own_payload launch space) ∷ [])
           (gains launch program cap_sys_admin) (refl, tt))
       by false false e = inside (entered (and_parts (lets launch (ForNamespace space)) (can_make_user launch) e).1)
-          (call_inside launch (ForNamespace space) Nothing) refl
+          (call_inside launch (ForNamespace space) (own_payload launch space)) refl
 
   -- the rest is of process 1
   for_plain : (line : CallLine) → AreFirst (plain_calls launch program line)
@@ -262,6 +268,17 @@ module _ (launch : Launch) (entered : can_make_user launch ≡ true → IsInside
   for_socket line =
       join (gaining_if launch program line.cap) (call_by launch (ForFamily line.number) (socket_payload launch line.number) ∷ [])
       (gains_if launch program line.cap) (refl, tt)
+
+  for_realtime : AreFirst (realtime_calls launch program)
+  for_realtime =
+      either (lets launch SchedulesRealtime) (call_by launch SchedulesRealtime Nothing ∷ [])
+      (gaining_if launch program (Some cap_sys_nice) ++ call_by launch SetsRealtime realtime_payload ∷ []) (refl, tt)
+      (join (gaining_if launch program (Some cap_sys_nice)) (call_by launch SetsRealtime realtime_payload ∷ [])
+      (gains_if launch program (Some cap_sys_nice)) (refl, tt))
+
+  for_suid : AreFirst (suid_calls launch program)
+  for_suid = either (lets launch SetsMode) (call_by launch SetsMode Nothing ∷ []) (call_by launch OpensMode (OnePath program) ∷ []) (refl, tt)
+      (refl, tt)
 
   for_uid : (id : ℕ) → AreFirst (uid_calls launch program id)
   for_uid id = either (id == launch.creds.uids.effective) []
@@ -284,9 +301,9 @@ module _ (launch : Launch) (entered : can_make_user launch ≡ true → IsInside
   are_made asking.MapWx e = by_first _ [] refl no_more
   are_made asking.ProtectX e = by_first _ [] refl no_more
   are_made asking.ShmX e = by_first _ [] refl no_more
-  are_made asking.Realtime e = by_first _ [] refl no_more
+  are_made asking.Realtime e = made (realtime_calls launch program) for_realtime
   are_made asking.Personality e = by_first _ [] refl no_more
-  are_made asking.SuidBit e = by_first _ [] refl no_more
+  are_made asking.SuidBit e = made (suid_calls launch program) for_suid
   are_made (asking.Cap number) e = made (gaining launch program number) (gains launch program number)
   are_made (asking.Uid id) e = made (uid_calls launch program id) (for_uid id)
   are_made (asking.Gid id) e = made (gid_calls launch program id) (for_gid id)

@@ -3,12 +3,14 @@ use Rattle.std.proofs.Common.{◌≡◌, ℕ, Bool, true, false, cond, Option, S
 use Rattle.std.specs.Prelude.{find, ◌&&◌, ◌||◌, not}
 use Rattle.std.specs.List.{list_any}
 use Rattle.std.proofs.lemmas.Bool.{and_parts}
+use Rattle.ceilings.specs.linux_numbers.Capabilities.{cap_sys_nice}
 use Rattle.ceilings.specs.site_table.declared.row.Row.{Row}
-use Rattle.ceilings.specs.kernel_laws.Bound.{any_gid, any_uid, can_run, caps_at, ceiling, grouped_by, is_open, owned_by, power_of}
+use Rattle.ceilings.specs.kernel_laws.Bound.{any_gid, any_uid, can_have_cap, can_run, caps_at, ceiling, grouped_by, is_open, owned_by, power_of}
 use Rattle.ceilings.specs.kernel_laws.declared.question_types.kind.CallKind.{CallKind}
-use Rattle.ceilings.specs.kernel_laws.declared.question_types.kind.CallKind.TheVariants.{MapsWx, TakesUid, TakesGid}
+use Rattle.ceilings.specs.kernel_laws.declared.question_types.kind.CallKind.TheVariants.{MapsWx, OpensMode, SchedulesRealtime, SetsMode, SetsRealtime, TakesUid}
+use Rattle.ceilings.specs.kernel_laws.declared.question_types.kind.CallKind.TheVariants.{TakesGid}
 use Rattle.ceilings.specs.kernel_laws.declared.question_types.power.Power.{Power}
-use Rattle.ceilings.specs.kernel_laws.declared.question_types.question.Question.TheVariants.{MapWx}
+use Rattle.ceilings.specs.kernel_laws.declared.question_types.question.Question.TheVariants.{MapWx, Realtime, SuidBit}
 use Rattle.ceilings.specs.kernel_laws.declared.question_types.power.Power.TheVariants.{None as Nowise}
 use Rattle.ceilings.specs.kernel_laws.Launched.{Launch, lets}
 use Rattle.ceilings.specs.kernel_ways.Offers.{Offers}
@@ -58,3 +60,17 @@ id_is_open launch Group id h off = gid_is_open launch id h off
 -- memory to be both written and executed is mapped by a call that passes
 pub map_passes : (launch : Launch) → is_open launch MapWx ≡ true → lets launch MapsWx ≡ true
 map_passes launch e = (and_parts (not launch.creds.mdwe) (lets launch MapsWx) e).1
+
+-- where sched_setscheduler(2) does not pass, sched_setattr(2) takes a realtime policy
+pub attributes_pass : (launch : Launch) → is_open launch Realtime ≡ true → lets launch SchedulesRealtime ≡ false
+    → lets launch SetsRealtime ≡ true
+attributes_pass launch e off = by (lets launch SchedulesRealtime) off e
+  where
+    by : (b : Bool) → b ≡ false → (b || (lets launch SetsRealtime && can_have_cap (ceiling launch) (Some cap_sys_nice))) ≡ true
+        → lets launch SetsRealtime ≡ true
+    by true off e = cc
+    by false off e = (and_parts (lets launch SetsRealtime) (can_have_cap (ceiling launch) (Some cap_sys_nice)) e).0
+
+-- where no call that only gives a mode passes, one that makes a file does
+pub makes_pass : (launch : Launch) → is_open launch SuidBit ≡ true → lets launch SetsMode ≡ false → lets launch OpensMode ≡ true
+makes_pass launch e off = ap (λ b. b || lets launch OpensMode) (sym off) ∙ e

@@ -17,7 +17,7 @@ use Rattle.ceilings.specs.kernel_model.kernel_calls.Operation as d
 use Rattle.ceilings.specs.kernel_model.kernel_calls.Operation.{Operation}
 use Rattle.ceilings.specs.kernel_model.kernel_calls.Rules.{rule_of}
 use Rattle.ceilings.specs.kernel_model.declared.kernel_calls.call.Call.{Call}
-use Rattle.ceilings.specs.kernel_model.declared.kernel_calls.payload.Payload.TheVariants.{Nothing}
+use Rattle.ceilings.specs.kernel_model.declared.kernel_calls.payload.Payload.TheVariants.{Nothing, OnePath}
 use Rattle.ceilings.specs.kernel_model.declared.kernel_calls.rule.Rule.{Rule}
 use Rattle.ceilings.specs.kernel_model.World.{World}
 use Rattle.ceilings.specs.kernel_laws.Bound.{is_user, can_reach, can_have_cap, can_have_for, if_listed, power_of, ceiling, is_open}
@@ -41,15 +41,15 @@ use Rattle.ceilings.proofs.OfKernelWays.Choices as choices
 use Rattle.ceilings.proofs.OfKernelWays.Operations.{Performed}
 use Rattle.ceilings.proofs.OfKernelWays.Lines.{choice_of, first_by, low_number, line_at, of_abi, same_rule}
 use Rattle.ceilings.proofs.OfKernelWays.Performing as performing
-use Rattle.ceilings.proofs.OfKernelWays.Performing.{CapAtHand, is_free, read_attaches}
+use Rattle.ceilings.proofs.OfKernelWays.Performing.{CapAtHand, is_free, makes_bit, read_attaches, schedules, sets_mode, sets_realtime}
 use Rattle.ceilings.proofs.OfKernelWays.Showing.{calls_show, creds_show}
 use Rattle.ceilings.proofs.OfKernelWays.Starts.{starts_solo, performs}
-use Rattle.open_calls.specs.chosen_calls.Chosen.{plain_cap, row_calls, plain_calls, socket_calls, space_calls, user_call, pid_inside}
+use Rattle.open_calls.specs.chosen_calls.Chosen.{own_payload, plain_cap, suid_calls, realtime_calls, row_calls, plain_calls, socket_calls, space_calls, user_call, pid_inside}
 use Rattle.open_calls.specs.chosen_calls.Chosen.{call_inside, calls_for, is_called, plain_line, socket_payload}
 use Rattle.open_calls.specs.chosen_calls.First.{call_by, no_line}
 use Rattle.open_calls.proofs.ChosenCallsInside.{user_called, inside_is}
 use Rattle.ceilings.proofs.OfKernelWays.Entering.{calls_show_inside}
-use Rattle.ceilings.proofs.OfKernelWays.InUser.{enters, Inside, own_space}
+use Rattle.ceilings.proofs.OfKernelWays.InUser.{enters, Inside, own_space, call_by as made_by}
 use Rattle.open_calls.specs.chosen_calls.Gaining.{gaining, gaining_if}
 use Rattle.open_calls.specs.chosen_calls.Laws.{ChoiceShows}
 use Rattle.open_calls.proofs.FirstLines.{chosen, call_is, rule_is}
@@ -89,12 +89,13 @@ module _ (world : World) (launch : Launch) (l : IsLaunched launch) (o : Offers l
 
   shown_space : (space : NamespaceType) → is_user space ≡ false → lets launch (kinds.ForNamespace space) ≡ true
       → has (ceiling launch).effective 21 ≡ true → Shows world (asking.Namespace space)
-      (gaining launch program 21 ++ call_by launch (kinds.ForNamespace space) Nothing ∷ [])
+      (gaining launch program 21 ++ call_by launch (kinds.ForNamespace space) (own_payload launch space) ∷ [])
   shown_space space u e h =
       let g = gained launch l o program p 21 h in
       let c = chosen launch l (kinds.ForNamespace space) e in
       let P : Call → Type 0 = λ call. Performed launch g.creds g.now (asks_space space) call in
-      let x = subst P (sym (call_is c Nothing)) (performing.own_space launch g.creds g.now g.holds space u c.line) in
+      let same = call_is c (own_payload launch space) ∙ ap (λ own. first_by (place_of c.line.line) c.line.args (k.space_payload own space)) (rule_is c) in
+      let x = subst P (sym same) (performing.own_space launch g.creds g.now g.holds space u c.line) in
       by_performed (asking.Namespace space) (asks_space space) g.creds g.now g.way x x.such
 
   -- a user namespace by itself
@@ -103,29 +104,31 @@ module _ (world : World) (launch : Launch) (l : IsLaunched launch) (o : Offers l
       let both = and_parts (nat_lt 0 launch.site.user_namespaces) (lets launch (kinds.ForNamespace namespace.User)) user in
       let c = chosen launch l (kinds.ForNamespace namespace.User) both.1 in
       let first = enters launch both.0 launch.creds launch.table c.line in
-      let call = first_by (place_of c.line.line) c.line.args Nothing in
+      let call = first_by (place_of c.line.line) c.line.args (k.space_payload c.line.own namespace.User) in
+      let same : user_call launch ≡ call = call_is c (own_payload launch namespace.User) ∙ ap (λ own. first_by (place_of c.line.line) c.line.args (k.space_payload own namespace.User)) (rule_is c) in
       let done = (first.inside world s).0 in
       let P : Call → Type 0 = λ own. Shows world (asking.Namespace namespace.User) (own ∷ []) in
-      subst P (sym (call_is c Nothing)) (record { fit = (first.makes.fit, tt); done = (done, tt); last = inl (performs launch launch.creds launch.table world s (asks_space namespace.User) first.operation call first.effect first.makes first.such done) })
+      subst P (sym same) (record { fit = (first.makes.fit, tt); done = (done, tt); last = inl (performs launch launch.creds launch.table world s (asks_space namespace.User) first.operation call first.effect first.makes first.such done) })
 
   -- another one in it
   shown_within : (space : NamespaceType) → is_user space ≡ false → lets launch (kinds.ForNamespace space) ≡ true
       → can_make_user launch ≡ true → Shows world (asking.Namespace space)
-      (user_call launch ∷ call_inside launch (kinds.ForNamespace space) Nothing ∷ [])
+      (user_call launch ∷ call_inside launch (kinds.ForNamespace space) (own_payload launch space) ∷ [])
   shown_within space u e user =
       let v = user_called launch l user launch.creds launch.table in
       let c = chosen launch l (kinds.ForNamespace space) e in
       let P : Call → Type 0 = λ call. Inside launch launch.creds launch.table (pid_inside launch) v.small (asks_space space) call in
-      let x = subst P (sym (inside_is launch c Nothing)) (own_space launch launch.creds launch.table (pid_inside launch) v.small space u c.line) in
+      let same = inside_is launch c (own_payload launch space) ∙ ap (λ own. made_by (pid_inside launch) (place_of c.line.line) c.line.args (k.space_payload own space)) (rule_is c) in
+      let x = subst P (sym same) (own_space launch launch.creds launch.table (pid_inside launch) v.small space u c.line) in
       calls_show_inside launch launch.creds launch.creds launch.table launch.table world [] (asking.Namespace space) (pid_inside launch)
-      (user_call launch) (call_inside launch (kinds.ForNamespace space) Nothing) x.operation x.effect s here v.fit v.inside x.makes
+      (user_call launch) (call_inside launch (kinds.ForNamespace space) (own_payload launch space)) x.operation x.effect s here v.fit v.inside x.makes
       x.doable x.such
 
   other_space : (space : NamespaceType) → is_user space ≡ false
       → (lets launch (kinds.ForNamespace space) && (has (ceiling launch).effective 21 || can_make_user launch)) ≡ true
       → Shows world (asking.Namespace space)
-      (cond (has (ceiling launch).effective 21) (gaining launch program 21 ++ call_by launch (kinds.ForNamespace space) Nothing ∷ [])
-      (user_call launch ∷ call_inside launch (kinds.ForNamespace space) Nothing ∷ []))
+      (cond (has (ceiling launch).effective 21) (gaining launch program 21 ++ call_by launch (kinds.ForNamespace space) (own_payload launch space) ∷ [])
+      (user_call launch ∷ call_inside launch (kinds.ForNamespace space) (own_payload launch space) ∷ []))
   other_space space u e =
       let both = and_parts (lets launch (kinds.ForNamespace space)) (has (ceiling launch).effective 21 || can_make_user launch) e in
       by (has (ceiling launch).effective 21) refl both.0 both.1
@@ -133,8 +136,8 @@ module _ (world : World) (launch : Launch) (l : IsLaunched launch) (o : Offers l
       by : (b : Bool) → has (ceiling launch).effective 21 ≡ b → lets launch (kinds.ForNamespace space) ≡ true
           → (b || can_make_user launch) ≡ true
           → Shows world (asking.Namespace space)
-          (cond b (gaining launch program 21 ++ call_by launch (kinds.ForNamespace space) Nothing ∷ [])
-          (user_call launch ∷ call_inside launch (kinds.ForNamespace space) Nothing ∷ []))
+          (cond b (gaining launch program 21 ++ call_by launch (kinds.ForNamespace space) (own_payload launch space) ∷ [])
+          (user_call launch ∷ call_inside launch (kinds.ForNamespace space) (own_payload launch space) ∷ []))
       by true h let' more = shown_space space u let' h
       by false h let' more = shown_within space u let' more
 
@@ -207,7 +210,7 @@ module _ (world : World) (launch : Launch) (l : IsLaunched launch) (o : Offers l
       let payload : socket_payload launch line.number ≡ k.family_payload c.line.own line.number = ap (λ own. k.family_payload own line.number) (rule_is c) in
       let P : Call → Type 0 = λ call. Performed launch w.creds w.now asks call in
       let same = call_is c (socket_payload launch line.number) ∙ ap (first_by (place_of c.line.line) c.line.args) payload in
-      let x = subst P (sym same) (performing.socket launch w.creds w.now line (low_number launch.calls.families o.calls.families.in_range place line listed) c.line found w.can asks such such) in
+      let x = subst P (sym same) (performing.socket launch w.creds w.now line (low_number launch.calls.families o.calls.families.in_range place line listed) c.line found w.can asks such such (λ is. ap (λ b. b && asks (d.Socket line.number)) is ∙ such)) in
       by_performed (asking.Socket place) asks w.creds w.now w.way x x.such
 
   -- ---- each question
@@ -228,6 +231,45 @@ module _ (world : World) (launch : Launch) (l : IsLaunched launch) (o : Offers l
           → Shows world asking.ShmX (call_by launch (cond m kinds.AttachesReadOnlyX kinds.AttachesX) Nothing ∷ [])
       by true on h = shown_free asking.ShmX kinds.AttachesReadOnlyX refl h (λ call x. read_attaches x.operation x.such)
       by false off h = shown_free asking.ShmX kinds.AttachesX (ap not off) h (λ call x. x.such)
+
+  -- by sched_setattr(2) and the capability, where sched_setscheduler(2) does not pass
+  shown_attributes : lets launch kinds.SetsRealtime ≡ true → can_have_cap (ceiling launch) (Some 23) ≡ true
+      → Shows world asking.Realtime (gaining_if launch program (Some 23) ++ call_by launch kinds.SetsRealtime k.realtime_payload ∷ [])
+  shown_attributes e h =
+      let w = having (Some 23) h in
+      let c = chosen launch l kinds.SetsRealtime e in
+      let P : Call → Type 0 = λ call. Performed launch w.creds w.now k.asks_attributes call in
+      let x = subst P (sym (call_is c k.realtime_payload)) (performing.attributes launch w.creds w.now c.line w.can) in
+      by_performed asking.Realtime k.asks_attributes w.creds w.now w.way x (sets_realtime x.operation x.such)
+
+  shown_realtime : is_open launch asking.Realtime ≡ true → Shows world asking.Realtime (realtime_calls launch program)
+  shown_realtime e = by (lets launch kinds.SchedulesRealtime) refl e
+    where
+      by : (b : Bool) → lets launch kinds.SchedulesRealtime ≡ b
+          → (b || (lets launch kinds.SetsRealtime && can_have_cap (ceiling launch) (Some 23))) ≡ true
+          → Shows world asking.Realtime (cond b (call_by launch kinds.SchedulesRealtime Nothing ∷ [])
+          (gaining_if launch program (Some 23) ++ call_by launch kinds.SetsRealtime k.realtime_payload ∷ []))
+      by true on h = shown_free asking.Realtime kinds.SchedulesRealtime refl on (λ call x. schedules x.operation x.such)
+      by false off h = let both = and_parts (lets launch kinds.SetsRealtime) (can_have_cap (ceiling launch) (Some 23)) h in shown_attributes both.0 both.1
+
+  -- by open(2) of a file that is made, at the path of the program
+  shown_made : lets launch kinds.OpensMode ≡ true → Shows world asking.SuidBit (call_by launch kinds.OpensMode (OnePath program) ∷ [])
+  shown_made e =
+      let c = chosen launch l kinds.OpensMode e in
+      let found = p.0.found in
+      let own : Performed launch launch.creds launch.table k.asks_made_mode (first_by (place_of c.line.line) c.line.args (OnePath found.path)) = performing.makes_mode launch launch.creds launch.table found.path found.can_be_named p.0.program found.is_found c.line in
+      let P : Path → Type 0 = λ path. Performed launch launch.creds launch.table k.asks_made_mode (first_by (place_of c.line.line) c.line.args (OnePath path)) in
+      let Q : Call → Type 0 = λ call. Performed launch launch.creds launch.table k.asks_made_mode call in
+      let x = subst Q (sym (call_is c (OnePath program))) (subst P p.1 own) in
+      by_performed asking.SuidBit k.asks_made_mode launch.creds launch.table here x (makes_bit x.operation x.such)
+
+  shown_suid : is_open launch asking.SuidBit ≡ true → Shows world asking.SuidBit (suid_calls launch program)
+  shown_suid e = by (lets launch kinds.SetsMode) refl e
+    where
+      by : (b : Bool) → lets launch kinds.SetsMode ≡ b → (b || lets launch kinds.OpensMode) ≡ true
+          → Shows world asking.SuidBit (cond b (call_by launch kinds.SetsMode Nothing ∷ []) (call_by launch kinds.OpensMode (OnePath program) ∷ []))
+      by true on h = shown_free asking.SuidBit kinds.SetsMode refl on (λ call x. sets_mode x.operation x.such)
+      by false off h = shown_made h
 
   pub shown : (question : Question) → IsFit launch.site question → is_open launch question ≡ true
       → Shows world question (calls_for launch program question)
@@ -252,9 +294,9 @@ module _ (world : World) (launch : Launch) (l : IsLaunched launch) (o : Offers l
       shown_free asking.MapWx kinds.MapsWx both.0 both.1 (λ call x. x.such)
   shown asking.ProtectX fit e = shown_free asking.ProtectX kinds.ProtectsX refl e (λ call x. x.such)
   shown asking.ShmX fit e = shown_attached e
-  shown asking.Realtime fit e = shown_free asking.Realtime kinds.SchedulesRealtime refl e (λ call x. x.such)
+  shown asking.Realtime fit e = shown_realtime e
   shown asking.Personality fit e = shown_free asking.Personality kinds.TakesPersonality refl e (λ call x. x.such)
-  shown asking.SuidBit fit e = shown_free asking.SuidBit kinds.SetsMode refl e (λ call x. x.such)
+  shown asking.SuidBit fit e = shown_suid e
   shown (asking.Cap number) fit e = let g = gained launch l o program p number e in creds_show launch launch.creds g.creds launch.table g.now world (gaining launch program number) (asking.Cap number) s g.way g.holds
   shown (asking.Uid id) fit e = uid_shown world launch l o s program p id fit e
   shown (asking.Gid id) fit e = gid_shown world launch l o s program p id fit e

@@ -3,7 +3,7 @@
 ghost use Rattle.std.specs.Prelude.{◌≡◌, ◌++◌, ◌∷◌, [], Contains, true, option_copied, slice_get, IfOk, OnOk, Some};
 ghost use Rattle.std.specs.List.{list_any};
 ghost use Rattle.ceilings.specs.call_table.Table.{every_call};
-ghost use Rattle.open_calls.specs.chosen_calls.Chosen.{calls_for, plain_cap, space_calls, is_called, plain_calls, plain_line};
+ghost use Rattle.open_calls.specs.chosen_calls.Chosen.{calls_for, plain_cap, realtime_calls, space_calls, suid_calls, is_called, plain_calls, plain_line};
 ghost use Rattle.open_calls.specs.chosen_calls.First.{call_by};
 ghost use Rattle.open_calls.specs.chosen_calls.Makers.{AreMadeByService};
 ghost use Rattle.ceilings.specs.kernel_model.declared.kernel_calls.payload.Payload.TheVariants.{Nothing};
@@ -14,15 +14,18 @@ ghost use Rattle.ceilings.specs.kernel_laws.Launched.{launch_of, lets};
 ghost use Rattle.ceilings.specs.kernel_laws.Questions.{questions};
 ghost use Rattle.ceilings.specs.kernel_ways.Laws.{IsServedWorld};
 ghost use Rattle.ceilings.specs.kernel_ways.Offers.{RunsProgram};
-ghost use Rattle.ceilings.specs.kernel_laws.declared.question_types.question.Question.TheVariants.{Call as CallQuestion, MapWx, Namespace as Ns, Socket};
+ghost use Rattle.ceilings.specs.kernel_laws.declared.question_types.question.Question.TheVariants.{Call as CallQuestion, MapWx, Namespace as Ns, Realtime, Socket, SuidBit};
 ghost use Rattle.ceilings.specs.kernel_laws.declared.question_types.kind.CallKind.TheVariants.{MapsWx};
 
 use crate::first::call_of;
 use crate::ids::IdKind;
 use crate::service::{Made, Service};
-use ceilings::{CAP_SYS_ADMIN, CallLine, attaching, plain_line_at, rule_of};
+use ceilings::{CAP_SYS_ADMIN, CAP_SYS_NICE, CallLine, attaching, plain_line_at, rule_of};
 use questions::{Call, CallKind, NamespaceType, Payload, Question, Rule, World};
 use std::alloc::AllocError;
+
+/// SCHED_FIFO of sched(7).
+const SCHED_FIFO: u32 = 1;
 
 // The call of this number.
 fn listed_call<'a>(world: &'a World<'_>, at: usize) -> Option<&'a CallLine>
@@ -140,10 +143,48 @@ impl Service<'_> {
         let first = CallKind::ForNamespace(kind);
         if self.admin {
             self.push_gaining(calls, CAP_SYS_ADMIN)?;
-            return self.push_first(calls, first);
+            calls.push(self.call_by(first, self.own_payload(kind)))?;
+            return Ok(());
         }
         calls.push(self.user_call())?;
-        calls.push(self.call_inside(first, Payload::Nothing))?;
+        calls.push(self.call_inside(first, self.own_payload(kind)))?;
+        Ok(())
+    }
+
+    // Returns whether some call of the kind passes.
+    fn passes(&self, kind: CallKind) -> bool
+        ensures { result ≡ lets (launch_of self.now.world.now) kind }
+    {
+        self.top.rules.let_through(self.world, kind)
+    }
+
+    // Adds the calls that take a realtime policy: sched_setscheduler(2) if it passes, else sched_setattr(2) with its
+    // capability.
+    #[tactic(auto, using(crate::proofs::Opening::attributes_pass))]
+    fn push_realtime(&self, calls: &mut Vec<Call>) -> Made<()>
+        requires served { IsServedWorld self.now.world.now }
+        requires reachable { is_open (launch_of self.now.world.now) Realtime ≡ true }
+        ensures { OnOk result (calls.new.items ≡ calls.old.items ++ realtime_calls (launch_of self.now.world.now) self.now.program.now) }
+    {
+        if self.passes(CallKind::SchedulesRealtime) {
+            return self.push_first(calls, CallKind::SchedulesRealtime);
+        }
+        self.push_gaining_if(calls, Some(CAP_SYS_NICE))?;
+        calls.push(self.call_by(CallKind::SetsRealtime, Payload::Number(SCHED_FIFO)))?;
+        Ok(())
+    }
+
+    // Adds the call that gives a set-id bit: one that only gives a mode if it passes, else open(2) of a file that is made.
+    #[tactic(auto, using(crate::proofs::Opening::makes_pass))]
+    fn push_suid(&self, calls: &mut Vec<Call>) -> Made<()>
+        requires reachable { is_open (launch_of self.now.world.now) SuidBit ≡ true }
+        ensures { OnOk result (calls.new.items ≡ calls.old.items ++ suid_calls (launch_of self.now.world.now) self.now.program.now) }
+    {
+        if self.passes(CallKind::SetsMode) {
+            return self.push_first(calls, CallKind::SetsMode);
+        }
+        let path = self.program.copy(self.alloc)?;
+        calls.push(self.call_by(CallKind::OpensMode, Payload::OnePath(path)))?;
         Ok(())
     }
 
@@ -162,9 +203,9 @@ impl Service<'_> {
             Question::MapWx => self.push_map(calls),
             Question::ProtectX => self.push_first(calls, CallKind::ProtectsX),
             Question::ShmX => self.push_first(calls, attaching(self.world)),
-            Question::Realtime => self.push_first(calls, CallKind::SchedulesRealtime),
+            Question::Realtime => self.push_realtime(calls),
             Question::Personality => self.push_first(calls, CallKind::TakesPersonality),
-            Question::SuidBit => self.push_first(calls, CallKind::SetsMode),
+            Question::SuidBit => self.push_suid(calls),
             Question::Cap(cap) => self.push_gaining(calls, *cap),
             Question::Uid(id) => self.push_id(calls, IdKind::User, *id),
             Question::Gid(id) => self.push_id(calls, IdKind::Group, *id),

@@ -235,8 +235,8 @@ impl Service<'_> {
     {
         self.push_exposing(calls, flags, aim)?;
         let path = self.exposing_path(aim)?;
-        let kind = CallKind::ForPath(aim.wish);
-        calls.push(self.call_by(kind, Payload::OnePath(path)))?;
+        let payload = self.wish_payload(aim.wish, path);
+        calls.push(self.call_by(CallKind::ForPath(aim.wish), payload))?;
         Ok(())
     }
 }

@@ -161,6 +161,7 @@ pub(crate) fn id_words(rule: Rule, id: u32) -> [u64; 6]
     let id = u64::from(id);
     match rule {
         Rule::Known(CallRule::Setresuid | CallRule::Setresgid) => [id, id, id, 0, 0, 0],
+        Rule::Known(CallRule::Setreuid | CallRule::Setregid) => [id, id, 0, 0, 0, 0],
         Rule::Known(CallRule::Setgroups) => [0; 6],
         _ => [id, 0, 0, 0, 0, 0],
     }

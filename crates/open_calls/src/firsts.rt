@@ -1,9 +1,9 @@
 //! The first calls of the kinds that are asked for often, kept; and the first call of every kind.
 
 ghost use Rattle.std.specs.Prelude.{◌≡◌, true, IfOk};
-ghost use Rattle.open_calls.specs.chosen_calls.Chosen.{call_inside, pid_inside, user_call, socket_payload};
+ghost use Rattle.open_calls.specs.chosen_calls.Chosen.{call_inside, own_payload, pid_inside, user_call, socket_payload, wish_payload};
 ghost use Rattle.open_calls.specs.chosen_calls.First.{call_by, line_of, own_rule};
-ghost use Rattle.ceilings.specs.kernel_laws.declared.question_types.kind.CallKind.TheVariants.{ForNamespace, ForFamily};
+ghost use Rattle.ceilings.specs.kernel_laws.declared.question_types.kind.CallKind.TheVariants.{ForNamespace, ForFamily, ForPath};
 ghost use Rattle.questions.specs.filter_settings.declared.filter_rules.namespace_types.NamespaceType.TheVariants.{User};
 ghost use Rattle.ceilings.specs.kernel_laws.Launched.{Launch, launch_of, lets};
 ghost use Rattle.ceilings.specs.kernel_ways.Taking.{id_call};
@@ -15,8 +15,14 @@ ghost use Rattle.open_calls.specs.Firsts.{AreFirsts, IsFirst, first_of};
 use crate::basis::Basis;
 use crate::first::{FirstCall, first_call, id_payload, id_words};
 use crate::service::{Made, Service};
+use abs_path::AbsPath;
 use ceilings::{CallRule, Ceiling};
 use questions::{Call, CallKind, NamespaceType, Payload, Rule, Wish, World};
+
+/// O_RDONLY and O_WRONLY of open(2).
+const O_RDONLY: u32 = 0;
+
+const O_WRONLY: u32 = 1;
 
 /// The first calls of some kinds; None if no call of the kind passes.
 #[derive(Clone, Copy)]
@@ -123,7 +129,31 @@ impl Service<'_> {
         ensures { result ≡ socket_payload (launch_of self.now.world.now) family }
     {
         match self.first(CallKind::ForFamily(family)).rule {
-            Rule::Known(CallRule::Socketcall) => Payload::Family(family),
+            Rule::Known(CallRule::Socketcall) => Payload::Number(family),
+            _ => Payload::Nothing,
+        }
+    }
+
+    /// Returns what the first call for a wish carries: the path, and with openat2(2) also the flags.
+    pub(crate) fn wish_payload(&self, wish: Wish, path: AbsPath) -> Payload
+        requires some_passes { lets (launch_of self.now.world.now) (ForPath wish) ≡ true }
+        ensures { result ≡ wish_payload (launch_of self.now.world.now) wish path }
+    {
+        let rule = self.first(CallKind::ForPath(wish)).rule;
+        match (wish, rule) {
+            (Wish::Read, Rule::Known(CallRule::Openat2)) => Payload::PathFlags(path, O_RDONLY),
+            (Wish::Write, Rule::Known(CallRule::Openat2)) => Payload::PathFlags(path, O_WRONLY),
+            _ => Payload::OnePath(path),
+        }
+    }
+
+    /// Returns what the first call for a type of namespace carries: its flag, where the call is clone3(2).
+    pub(crate) fn own_payload(&self, kind: NamespaceType) -> Payload
+        requires some_passes { lets (launch_of self.now.world.now) (ForNamespace kind) ≡ true }
+        ensures { result ≡ own_payload (launch_of self.now.world.now) kind }
+    {
+        match self.first(CallKind::ForNamespace(kind)).rule {
+            Rule::Known(CallRule::Clone3) => Payload::Number(kind.flag()),
             _ => Payload::Nothing,
         }
     }
@@ -133,8 +163,8 @@ impl Service<'_> {
         requires some_passes { lets (launch_of self.now.world.now) (ForNamespace User) ≡ true }
         ensures { result ≡ user_call (launch_of self.now.world.now) }
     {
-        let kind = CallKind::ForNamespace(NamespaceType::User);
-        self.call_by(kind, Payload::Nothing)
+        let payload = self.own_payload(NamespaceType::User);
+        self.call_by(CallKind::ForNamespace(NamespaceType::User), payload)
     }
 
     // Returns the number of the process that is in the user namespace: process 1 by unshare(2), else its first child.

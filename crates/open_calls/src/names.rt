@@ -38,10 +38,12 @@ pub(crate) fn names_of(kind: CallKind) -> &'static [&'static str]
         CallKind::ProtectsX => &["mprotect", "pkey_mprotect"],
         CallKind::AttachesX | CallKind::AttachesReadOnlyX => &["shmat"],
         CallKind::SchedulesRealtime => &["sched_setscheduler"],
+        CallKind::SetsRealtime => &["sched_setattr"],
         CallKind::TakesPersonality => &["personality"],
         CallKind::SetsMode => &[
             "chmod", "fchmod", "fchmodat", "mkdir", "mkdirat", "mknod", "mknodat",
         ],
+        CallKind::OpensMode => &["open", "openat"],
         CallKind::ChangesMounts => &["mount"],
         CallKind::RemovesMounts => &["umount2"],
         CallKind::SetsCaps => &["capset"],

@@ -13,6 +13,6 @@ by_cases None cap = refl
 by_cases (Some Absent) cap = refl
 by_cases (Some (Modelled rule)) cap = refl
 
-pub unknown_is_plain : (line : CallLine) → not (is_known line.name) ≡ is_plain (rule_of line)
+pub unknown_is_plain : (line : CallLine) → not (is_known line.kernel line.name) ≡ is_plain (rule_of line)
 unfolding rule_of
-unknown_is_plain line = by_cases (known_call line.name) line.cap
+unknown_is_plain line = by_cases (known_call line.kernel line.name) line.cap

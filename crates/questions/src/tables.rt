@@ -43,7 +43,7 @@ pub(crate) fn push_rows(list: &mut Vec<Question>, rows: &[Row]) -> Result<(), Al
 fn is_plain(line: &CallLine) -> bool
     ensures { result ≡ is_plain (rule_of line.now) }
 {
-    !is_known(line.name.as_str())
+    !is_known(line.kernel, line.name.as_str())
 }
 
 // Returns how many calls there are, in all ABIs.

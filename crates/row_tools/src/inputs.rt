@@ -3,6 +3,7 @@
 //! The unit is web.service with its files. The rows give the lines of `[Service]` of each file.
 use crate::held::HeldText;
 use crate::wording::{said, text_of};
+use call_table::call_names::Kernel;
 use call_table::{CallTable, read_calls};
 use dropin_merge::{Resolved, Text, UnitFile, UnitFiles, UnitName, Version, read_unit};
 use site_table::{SiteTable, read_site};
@@ -20,6 +21,13 @@ pub struct Inputs {
 pub fn calls_of(alloc: Global, text: &str) -> Option<Box<CallTable>> {
     let calls = read_calls(alloc, text.as_bytes()).ok()?;
     Box::new(alloc, calls).ok()
+}
+
+/// Reads the table of calls of a text, and lets Linux read the names of its calls. None if the text is refused.
+pub fn linux_calls_of(alloc: Global, text: &str) -> Option<Box<CallTable>> {
+    let mut calls = calls_of(alloc, text)?;
+    calls.known_by(Kernel::Linux);
+    Some(calls)
 }
 
 /// Reads the site of a text. None if the text is refused.
@@ -62,8 +70,11 @@ fn unit_of(alloc: Global, files: &[&str], systemd: Option<Version>) -> Option<Bo
 
 /// Reads these texts. None if one is refused.
 pub fn inputs_of(alloc: Global, calls: &str, site: &str, files: &[&str]) -> Option<Inputs> {
-    let calls = calls_of(alloc, calls)?;
     let site = site_of(alloc, site)?;
+    let calls = match site.systemd() {
+        None => calls_of(alloc, calls)?,
+        Some(_) => linux_calls_of(alloc, calls)?,
+    };
     let unit = unit_of(alloc, files, site.systemd())?;
     Some(Inputs { unit, calls, site })
 }

@@ -14,6 +14,6 @@ mod lines;
 mod wording;
 
 pub use held::HeldText;
-pub use inputs::{Inputs, Texts, calls_of, inputs_of, site_of};
+pub use inputs::{Inputs, Texts, calls_of, inputs_of, linux_calls_of, site_of};
 pub use lines::{Follow, Shown, follow_line, follow_lines, part_of};
 pub use wording::{bytes_of, long_path, number, number32, said, text_of, words};

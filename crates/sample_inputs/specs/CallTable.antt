@@ -2,15 +2,16 @@
 use Rattle.std.specs.Prelude.{ℕ, codes, Some, None, List, [], ◌∷◌}
 use Rattle.launcher.specs.linux_numbers.Capabilities.{cap_sys_module, cap_sys_rawio, cap_sys_admin, cap_sys_time, cap_syslog}
 use Rattle.launcher.specs.call_table.Table.{Table}
+use Rattle.launcher.specs.call_table.declared.call_names.kernel.Kernel.TheVariants.{Base}
 use Rattle.launcher.specs.call_table.declared.listed.CallLine.{CallLine}
 use Rattle.launcher.specs.call_table.declared.listed.GroupLine.{GroupLine}
 
 -- a call or a family without a capability, and one with a capability
 abbrev pub plain : List ℕ → ℕ → CallLine
-plain name number = record { name = name; number = number; cap = None; abi = 0 }
+plain name number = record { name = name; number = number; cap = None; abi = 0; kernel = Base }
 
 abbrev pub capable : List ℕ → ℕ → ℕ → CallLine
-capable name number cap = record { name = name; number = number; cap = Some cap; abi = 0 }
+capable name number cap = record { name = name; number = number; cap = Some cap; abi = 0; kernel = Base }
 
 -- for raw sockets (capabilities(7))
 abbrev pub cap_net_raw : ℕ

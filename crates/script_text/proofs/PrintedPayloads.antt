@@ -19,13 +19,13 @@ use Rattle.hex.specs.Hex.{IsBytes, encode_lower, encode_with, decode_of, lower_d
 use Rattle.hex.proofs.HexLemmas.{decode_of-encode_lower, length-encode_with}
 use Rattle.kernel_model.specs.kernel_calls.Calls.{IsPath, FitsPayload}
 use Rattle.kernel_model.specs.declared.kernel_calls.payload.Payload.{Payload}
-use Rattle.kernel_model.specs.declared.kernel_calls.payload.Payload.TheVariants.{Nothing, OnePath, TwoPaths, Sets, Ids, Family, Code}
+use Rattle.kernel_model.specs.declared.kernel_calls.payload.Payload.TheVariants.{Nothing, OnePath, TwoPaths, PathFlags, Sets, Ids, Number, Code}
 use Rattle.kernel_model.specs.text_forms.Escaped.{escaped_byte, escaped_word, is_coded, upper_digit}
 use Rattle.kernel_model.proofs.OfTextForms.Escapes.{escaped_read, no_white}
 use Rattle.script_text.specs.Escapes.{text_only, escaped_text}
 use Rattle.script_text.specs.Marks.{before, between_commas}
 use Rattle.script_text.specs.Numbers.{all_read, with_front}
-use Rattle.script_text.specs.Payloads.{faultless_path, path_of, set_of, ids_of, is_code, code_of, with_words, two_paths, three_sets}
+use Rattle.script_text.specs.Payloads.{faultless_path, path_of, set_of, ids_of, is_code, code_of, with_words, path_flags, two_paths, three_sets}
 use Rattle.script_text.specs.Payloads.{payload_of}
 use Rattle.script_text.specs.Printed.{has_form, each_number, with_commas, ids_word, code_word, payload_words}
 use Rattle.script_text.specs.PrintedAgain.{HasTexts, IsText, IsWord}
@@ -48,6 +48,13 @@ paths_again source target p utf8 =
     ap (λ o. option_and_then (λ from. option_map (λ to. TwoPaths from to) o) (path_of (escaped_word (text_of source))))
     (path_again target p.1 utf8.1)
     ∙ ap (λ o. option_and_then (λ from. Some (TwoPaths from target)) o) (path_again source p.0 utf8.0)
+
+path_flags_again : (path : Path) (flags : ℕ) → IsPath path × (flags < 2 ^ 32) → IsText (text_of path)
+    → path_flags (escaped_word (text_of path)) (decimal flags) ≡ Some (PathFlags path flags)
+path_flags_again path flags p utf8 =
+    ap (λ o. option_and_then (λ at. option_map (λ bits. PathFlags at bits) o) (path_of (escaped_word (text_of path))))
+    (number_again flags p.1)
+    ∙ ap (λ o. option_and_then (λ at. Some (PathFlags at flags)) o) (path_again path p.0 utf8)
 
 -- sets
 sets_again : (permitted effective inheritable : ℕ) → (permitted < 2 ^ 41) × (effective < 2 ^ 41) × (inheritable < 2 ^ 41)
@@ -153,10 +160,12 @@ payload_again form.Nothing Nothing rest h fits texts = refl
 payload_again form.OnePath (OnePath path) rest h fits texts = ap (option_map (λ path. (OnePath path, rest))) (path_again path fits texts)
 payload_again form.TwoPaths (TwoPaths source target) rest h fits texts =
     ap (option_map (with_words rest)) (paths_again source target fits texts)
+payload_again form.PathFlags (PathFlags path flags) rest h fits texts =
+    ap (option_map (with_words rest)) (path_flags_again path flags fits texts)
 payload_again form.Sets (Sets permitted effective inheritable) rest h fits texts =
     ap (option_map (with_words rest)) (sets_again permitted effective inheritable fits)
 payload_again form.Ids (Ids ids) rest h fits texts = ap (option_map (λ ids. (Ids ids, rest))) (ids_again ids fits)
-payload_again form.Family (Family family) rest h fits texts = ap (option_map (λ family. (Family family, rest))) (number_again family fits)
+payload_again form.Number (Number number) rest h fits texts = ap (option_map (λ number. (Number number, rest))) (number_again number fits)
 payload_again form.Program (Code bytes) rest h fits texts = ap (option_map (λ bytes. (Code bytes, rest))) (code_again bytes fits h)
 payload_again _ _ rest h fits texts = absurd (false≢true h)
 
@@ -225,8 +234,10 @@ pub payload_shown : (payload : Payload) → FitsPayload payload → AllByRecursi
 payload_shown Nothing h = tt
 payload_shown (OnePath path) h = (escaped_shown path, tt)
 payload_shown (TwoPaths source target) h = (escaped_shown source, (escaped_shown target, tt))
+payload_shown (PathFlags path flags) h =
+    (escaped_shown path, (number_shown flags (let small : flags < 2 ^ 32 = h.1 in omega (arith, small)), tt))
 payload_shown (Sets permitted effective inheritable) h =
     (small_set permitted h.0, (small_set effective h.1, (small_set inheritable h.2, tt)))
 payload_shown (Ids ids) h = (ids_shown ids h, tt)
-payload_shown (Family family) h = (number_shown family (let small : family < 2 ^ 32 = h in omega (arith, small)), tt)
+payload_shown (Number number) h = (number_shown number (let small : number < 2 ^ 32 = h in omega (arith, small)), tt)
 payload_shown (Code bytes) h = (code_shown bytes h, tt)

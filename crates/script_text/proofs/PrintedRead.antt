@@ -101,13 +101,13 @@ name_bytes table abi nr line n e = n.calls abi (position_or_len (has_number nr) 
 
 name_again : (table : Table) (abi nr : ℕ) (line : CallLine) → AreOnce (calls_in table abi) → AreNamed table
     → numbered nr (calls_in table abi) ≡ Some line → named_in table abi line.name
-    ≡ Some (record { abi = abi; nr = nr; form = form_of_name line.name })
+    ≡ Some (record { abi = abi; nr = nr; form = form_of_name line.kernel line.name })
 name_again table abi nr line o n e =
     let calls = calls_in table abi in
     let both = and_parts (not (length line.name == 0)) (list_all is_name_byte line.name) (name_bytes table abi nr line n e) in
     ap (named_by table abi line.name) (no_hash line.name (name_has_no 35 refl line.name both.1))
     ∙ ap (option_map (call_named abi line.name)) (same_line calls nr line o e)
-    ∙ ap (λ k. Some (record { abi = abi; nr = k; form = form_of_name line.name })) (its_number calls nr line e)
+    ∙ ap (λ k. Some (record { abi = abi; nr = k; form = form_of_name line.kernel line.name })) (its_number calls nr line e)
 
 name_has_no_colon : (name : List ℕ) → is_name name ≡ true → HasNo 58 name
 name_has_no_colon name h = name_has_no 58 refl name (and_parts (not (length name == 0)) (list_all is_name_byte name) h).1
@@ -145,41 +145,41 @@ by_hash table call k e =
     }
 
 by_name : (table : Table) (call : Call) (line : CallLine) → Known table call → numbered call.nr (calls_in table call.abi) ≡ Some line
-    → has_form (form_of_name line.name) call.payload ≡ true
+    → has_form (form_of_name line.kernel line.name) call.payload ≡ true
     → Shows table call (spelling table call.abi line.name ∷ payload_words call.payload)
 by_name table call line k e h =
     let name = name_bytes table call.abi call.nr line k.named' e in
     record {
       word = spelling table call.abi line.name;
       behind = payload_words call.payload;
-      form' = form_of_name line.name;
+      form' = form_of_name line.kernel line.name;
       are = refl;
-      named' = names_there table call.abi line.name (record { abi = call.abi; nr = call.nr; form = form_of_name line.name }) k.other
+      named' = names_there table call.abi line.name (record { abi = call.abi; nr = call.nr; form = form_of_name line.kernel line.name }) k.other
           k.written.abi (name_has_no_colon line.name name) (name_again table call.abi call.nr line k.once k.named' e);
-      payload = λ rest. payload_again (form_of_name line.name) call.payload rest h k.held.fits.payload k.held.texts;
+      payload = λ rest. payload_again (form_of_name line.kernel line.name) call.payload rest h k.held.fits.payload k.held.texts;
       shown = (spelling_shown table call.abi line.name k.named'.second (name_shown line.name name), payload_shown call.payload k.held.fits.payload);
     }
 
 -- a call in the table goes by its name or by its number, as its payload is
 line_shows : (table : Table) (call : Call) (line : CallLine) (has : Bool) → Known table call
-    → numbered call.nr (calls_in table call.abi) ≡ Some line → has_form (form_of_name line.name) call.payload ≡ has
+    → numbered call.nr (calls_in table call.abi) ≡ Some line → has_form (form_of_name line.kernel line.name) call.payload ≡ has
     → (has ≡ false → call.payload ≡ Nothing)
     → Shows table call (cond has (spelling table call.abi line.name ∷ payload_words call.payload) (numbered_words table call))
 line_shows table call line true k e h none = by_name table call line k e h
 line_shows table call line false k e h none = by_hash table call k (none refl)
 
 same_form : (table : Table) (call : Call) (line : CallLine) → numbered call.nr (calls_in table call.abi) ≡ Some line
-    → HasItsForm table call → has_form (form_of_name line.name) call.payload ≡ true
-same_form table call line e h = ap (λ (l : CallLine). has_form (form_of_name l.name) call.payload)
+    → HasItsForm table call → has_form (form_of_name line.kernel line.name) call.payload ≡ true
+same_form table call line e h = ap (λ (l : CallLine). has_form (form_of_name l.kernel l.name) call.payload)
     (same_Some line h.line (sym e ∙ h.in_table)) ∙ h.form
 
 shows_by : (table : Table) (call : Call) (found : Option CallLine) → Known table call → numbered call.nr (calls_in table call.abi) ≡ found
     → (call.payload ≡ Nothing) ⊎ HasItsForm table call → Shows table call (named_words table call found)
 shows_by table call None k e (inl none) = by_hash table call k none
 shows_by table call None k e (inr has) = absurd (none-some has.line (sym e ∙ has.in_table))
-shows_by table call (Some line) k e (inl none) = line_shows table call line (has_form (form_of_name line.name) call.payload) k e refl
+shows_by table call (Some line) k e (inl none) = line_shows table call line (has_form (form_of_name line.kernel line.name) call.payload) k e refl
     (λ b. none)
-shows_by table call (Some line) k e (inr has) = line_shows table call line (has_form (form_of_name line.name) call.payload) k e refl
+shows_by table call (Some line) k e (inr has) = line_shows table call line (has_form (form_of_name line.kernel line.name) call.payload) k e refl
     (λ b. absurd (false≢true (sym b ∙ same_form table call line e has)))
 
 numbers_taken : (call : Call) (form' : PayloadForm) → IsCall call

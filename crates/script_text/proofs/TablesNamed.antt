@@ -6,6 +6,7 @@ use Rattle.std.specs.Option.{option_map, option_map_or, option_or, option_to_lis
 use Rattle.std.specs.List.{AllByRecursion, cons_option, filter, filter_map, onto_first, slice_split}
 use Rattle.std.proofs.lemmas.List.Splits.{slice_split-cons_yes, slice_split-cons_no}
 use Rattle.std.specs.Str.{bytes_eq}
+use Rattle.std.proofs.lemmas.Option.{same_Some, slice_get-map}
 use Rattle.kernel_model.specs.text_forms.line_text.Lines.{Line, words_of}
 use Rattle.kernel_model.proofs.OfCallTable.Meant.{meaning}
 use Rattle.kernel_model.specs.call_table.Kinds.{Entry, Kind, abi, call, family, group, malformed, abi_line, entry_of, call_line}
@@ -14,6 +15,9 @@ use Rattle.kernel_model.specs.call_table.Names.{is_name, behind_at}
 use Rattle.kernel_model.specs.call_table.Numbers.{cap_of, number_of}
 use Rattle.kernel_model.specs.call_table.Reading.{line_kind, call_of, calls_of, native_lines, opened_by, second_of, table_of}
 use Rattle.kernel_model.specs.call_table.Table.{Abi, Table, calls_in}
+use Rattle.kernel_model.specs.call_table.Kernels.{calls_by, known_by, read_by, second_by}
+use Rattle.kernel_model.specs.call_table.declared.call_names.kernel.Kernel.{Kernel}
+use Rattle.kernel_model.specs.call_table.declared.call_names.kernel.Kernel.TheVariants.{Base}
 use Rattle.kernel_model.specs.call_table.declared.listed.CallLine.{CallLine}
 use Rattle.script_text.specs.PrintedAgain.{AreNamed, IsWord}
 use Rattle.script_text.proofs.Spaced.{HasNo}
@@ -77,7 +81,7 @@ kind_named (word ∷ words) entry e = by_word words entry (bytes_eq word (codes 
     (bytes_eq word (codes "family")) (bytes_eq word (codes "abi")) e
 
 listed_named : (place : ℕ) (entry : Entry) (line : CallLine) (o : Option ℕ)
-    → option_map (λ number. record { name = entry.name; number = number; cap = option_and_then cap_of entry.cap_word; abi = place }) o
+    → option_map (λ number. record { name = entry.name; number = number; cap = option_and_then cap_of entry.cap_word; abi = place; kernel = Base }) o
     ≡ Some line → line.name ≡ entry.name
 listed_named place entry line None e = cc
 listed_named place entry line (Some number) e = sym (ap name_of e)
@@ -235,3 +239,33 @@ tables_named bytes table e =
       calls = each_called table (subst AreCalled (sym m.calls) (lines_called 0 (native_lines m.rest))) second;
       second = second_word table.second second;
     }
+
+-- a kernel that reads the names leaves them
+calls_known : (kernel : Kernel) (calls : List CallLine) → AreCalled calls → AreCalled (calls_by kernel calls)
+calls_known kernel calls own at line e = by (slice_get calls at) refl (sym (slice_get-map (read_by kernel) calls at) ∙ e)
+  where
+    by : (o : Option CallLine) → slice_get calls at ≡ o → option_map (read_by kernel) o ≡ Some line → is_name line.name ≡ true
+    by None there e = cc
+    by (Some before) there e = ap (λ (l : CallLine). is_name l.name) (sym (same_Some (read_by kernel before) line e)) ∙ own at before there
+
+second_known : (kernel : Kernel) (o : Option Abi) (place : ℕ)
+    → option_map_or (λ (found : Abi). found.calls) (slice_get (option_to_list (option_map (second_by kernel) o)) place) []
+    ≡ calls_by kernel (option_map_or (λ (found : Abi). found.calls) (slice_get (option_to_list o) place) [])
+second_known kernel None place = refl
+second_known kernel (Some second) zero = refl
+second_known kernel (Some second) (suc place) = refl
+
+each_known : (kernel : Kernel) (table : Table) (place : ℕ) → calls_in (known_by kernel table) place ≡ calls_by kernel (calls_in table place)
+each_known kernel table zero = refl
+each_known kernel table (suc place) = second_known kernel table.second place
+
+word_known : (kernel : Kernel) (o : Option Abi) → IfSome o (λ second. IsWord second.name)
+    → IfSome (option_map (second_by kernel) o) (λ second. IsWord second.name)
+word_known kernel None h = h
+word_known kernel (Some second) h = h
+
+pub known_named : (kernel : Kernel) (table : Table) → AreNamed table → AreNamed (known_by kernel table)
+known_named kernel table named = record {
+  calls = λ place. subst AreCalled (sym (each_known kernel table place)) (calls_known kernel (calls_in table place) (named.calls place));
+  second = word_known kernel table.second named.second;
+}

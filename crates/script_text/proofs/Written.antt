@@ -28,7 +28,7 @@ use Rattle.kernel_model.specs.call_table.call_words.Words.{spelled}
 use Rattle.kernel_model.proofs.OfCallTable.Back.{spelled_there}
 use Rattle.kernel_model.specs.declared.kernel_calls.call.Call.{Call}
 use Rattle.kernel_model.specs.declared.kernel_calls.payload.Payload.{Payload}
-use Rattle.kernel_model.specs.declared.kernel_calls.payload.Payload.TheVariants.{Nothing, OnePath, TwoPaths, Sets, Ids, Family, Code}
+use Rattle.kernel_model.specs.declared.kernel_calls.payload.Payload.TheVariants.{Nothing, OnePath, TwoPaths, PathFlags, Sets, Ids, Number, Code}
 use Rattle.kernel_model.specs.text_forms.Numbers.{decimal_value}
 use Rattle.script_text.specs.Marks.{behind_hash}
 use Rattle.script_text.specs.Numbers.{some_pid, pid_of, numbers_of, six_words}
@@ -56,7 +56,7 @@ pid_from_one word pid e = option_and_then_some some_pid (decimal_value word) pid
 -- by its number it carries nothing, and by its name what the name carries
 data IsNamed (table : Table) (call : Named) : Type 0 where
   by_number : call.form ≡ form.Nothing → IsNamed table call
-  by_name : (line : CallLine) → numbered call.nr (calls_in table call.abi) ≡ Some line → call.form ≡ form_of_name line.name
+  by_name : (line : CallLine) → numbered call.nr (calls_in table call.abi) ≡ Some line → call.form ≡ form_of_name line.kernel line.name
       → IsNamed table call
 
 its_name : (calls : List CallLine) (word : List ℕ) (line : CallLine) → named word calls ≡ Some line → word ≡ line.name
@@ -96,7 +96,7 @@ in_abi table abi word call once e = by (behind_hash word) e
           sym same.0,
           by_name line (ap (λ k. numbered call.nr (calls_in table k)) (sym same.0)
               ∙ ap (λ n. numbered n (calls_in table abi)) (sym same.1) ∙ line_found (calls_in table abi) word line once is)
-              (sym same.2 ∙ ap form_of_name (its_name (calls_in table abi) word line is)),
+              (sym same.2 ∙ ap (form_of_name line.kernel) (its_name (calls_in table abi) word line is)),
         )
 
     by : (o : Option (List ℕ)) → named_by table abi word o ≡ Some call → (call.abi ≡ abi) × IsNamed table call
@@ -164,6 +164,16 @@ has_its_form form.TwoPaths (source ∷ target ∷ words) taken e = by (path_of s
     by None to e = cc
     by (Some from) None e = cc
     by (Some from) (Some to) e = taken_form form.TwoPaths (TwoPaths from to) words taken e refl
+has_its_form form.PathFlags [] taken e = cc
+has_its_form form.PathFlags (word ∷ []) taken e = cc
+has_its_form form.PathFlags (path ∷ flags ∷ words) taken e = by (path_of path) (number_of flags) e
+  where
+    by : (at : Option Path) (bits : Option ℕ)
+        → option_map (with_words words) (option_and_then (λ at. option_map (λ bits. PathFlags at bits) bits) at) ≡ Some taken
+        → has_form form.PathFlags taken.0 ≡ true
+    by None bits e = cc
+    by (Some at) None e = cc
+    by (Some at) (Some bits) e = taken_form form.PathFlags (PathFlags at bits) words taken e refl
 has_its_form form.Sets [] taken e = cc
 has_its_form form.Sets (one ∷ []) taken e = cc
 has_its_form form.Sets (one ∷ two ∷ []) taken e = cc
@@ -181,12 +191,12 @@ has_its_form form.Ids (word ∷ words) taken e = by (ids_of word) e
     by : (o : Option (List ℕ)) → option_map (λ ids. (Ids ids, words)) o ≡ Some taken → has_form form.Ids taken.0 ≡ true
     by None e = cc
     by (Some ids) e = taken_form form.Ids (Ids ids) words taken e refl
-has_its_form form.Family [] taken e = cc
-has_its_form form.Family (word ∷ words) taken e = by (number_of word) e
+has_its_form form.Number [] taken e = cc
+has_its_form form.Number (word ∷ words) taken e = by (number_of word) e
   where
-    by : (o : Option ℕ) → option_map (λ family. (Family family, words)) o ≡ Some taken → has_form form.Family taken.0 ≡ true
+    by : (o : Option ℕ) → option_map (λ number. (Number number, words)) o ≡ Some taken → has_form form.Number taken.0 ≡ true
     by None e = cc
-    by (Some family) e = taken_form form.Family (Family family) words taken e refl
+    by (Some number) e = taken_form form.Number (Number number) words taken e refl
 has_its_form form.Program [] taken e = cc
 has_its_form form.Program (word ∷ words) taken e = by (code_of word) refl e
   where
@@ -199,9 +209,10 @@ nothing_only : (payload : Payload) → has_form form.Nothing payload ≡ true �
 nothing_only Nothing h = refl
 nothing_only (OnePath path) h = absurd (false≢true h)
 nothing_only (TwoPaths source target) h = absurd (false≢true h)
+nothing_only (PathFlags path flags) h = absurd (false≢true h)
 nothing_only (Sets permitted effective inheritable) h = absurd (false≢true h)
 nothing_only (Ids ids) h = absurd (false≢true h)
-nothing_only (Family family) h = absurd (false≢true h)
+nothing_only (Number number) h = absurd (false≢true h)
 nothing_only (Code bytes) h = absurd (false≢true h)
 
 -- the parts of a line that gives a call

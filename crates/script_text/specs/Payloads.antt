@@ -12,7 +12,7 @@ use Rattle.kernel_model.specs.call_table.declared.call_names.payload.PayloadForm
 use Rattle.kernel_model.specs.call_table.Numbers.{is_lower_hex, number_of}
 use Rattle.hex.specs.Hex.{decode_of}
 use Rattle.kernel_model.specs.declared.kernel_calls.payload.Payload.{Payload}
-use Rattle.kernel_model.specs.declared.kernel_calls.payload.Payload.TheVariants.{Nothing, OnePath, TwoPaths, Sets, Ids, Family, Code}
+use Rattle.kernel_model.specs.declared.kernel_calls.payload.Payload.TheVariants.{Nothing, OnePath, TwoPaths, PathFlags, Sets, Ids, Number, Code}
 use Rattle.kernel_model.specs.text_forms.Numbers.{number_value}
 use Rattle.script_text.specs.Escapes.{escaped_text}
 use Rattle.script_text.specs.Marks.{between_brackets, between_commas}
@@ -54,6 +54,9 @@ with_words words payload = (payload, words)
 abbrev pub two_paths : List ℕ → List ℕ → Option Payload
 two_paths source target = option_and_then (λ from. option_map (λ to. TwoPaths from to) (path_of target)) (path_of source)
 
+abbrev pub path_flags : List ℕ → List ℕ → Option Payload
+path_flags path flags = option_and_then (λ at. option_map (λ bits. PathFlags at bits) (number_of flags)) (path_of path)
+
 abbrev pub three_sets : List ℕ → List ℕ → List ℕ → Option Payload
 three_sets permitted effective inheritable =
     option_and_then (λ p. option_and_then (λ e. option_map (λ i. Sets p e i) (set_of inheritable)) (set_of effective)) (set_of permitted)
@@ -63,9 +66,10 @@ abbrev pub payload_of : PayloadForm → List (List ℕ) → Option Taken
 payload_of form.Nothing words = Some (Nothing, words)
 payload_of form.OnePath (word ∷ words) = option_map (λ path. (OnePath path, words)) (path_of word)
 payload_of form.TwoPaths (source ∷ target ∷ words) = option_map (with_words words) (two_paths source target)
+payload_of form.PathFlags (path ∷ flags ∷ words) = option_map (with_words words) (path_flags path flags)
 payload_of form.Sets (permitted ∷ effective ∷ inheritable ∷ words) =
     option_map (with_words words) (three_sets permitted effective inheritable)
 payload_of form.Ids (word ∷ words) = option_map (λ ids. (Ids ids, words)) (ids_of word)
-payload_of form.Family (word ∷ words) = option_map (λ family. (Family family, words)) (number_of word)
+payload_of form.Number (word ∷ words) = option_map (λ number. (Number number, words)) (number_of word)
 payload_of form.Program (word ∷ words) = option_map (λ bytes. (Code bytes, words)) (code_of word)
 payload_of _ _ = None

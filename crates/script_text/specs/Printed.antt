@@ -12,7 +12,7 @@ use Rattle.kernel_model.specs.call_table.call_words.Words.{spelling}
 use Rattle.hex.specs.Hex.{encode_lower}
 use Rattle.kernel_model.specs.declared.kernel_calls.call.Call.{Call}
 use Rattle.kernel_model.specs.declared.kernel_calls.payload.Payload.{Payload}
-use Rattle.kernel_model.specs.declared.kernel_calls.payload.Payload.TheVariants.{Nothing, OnePath, TwoPaths, Sets, Ids, Family, Code}
+use Rattle.kernel_model.specs.declared.kernel_calls.payload.Payload.TheVariants.{Nothing, OnePath, TwoPaths, PathFlags, Sets, Ids, Number, Code}
 use Rattle.kernel_model.specs.text_forms.Escaped.{escaped_word}
 use Rattle.script_text.specs.Numbers.{without_last_zeros}
 use Rattle.script_text.specs.Reading.{form_of_name}
@@ -22,9 +22,10 @@ abbrev pub has_form : PayloadForm → Payload → Bool
 has_form form.Nothing Nothing = true
 has_form form.OnePath (OnePath path) = true
 has_form form.TwoPaths (TwoPaths source target) = true
+has_form form.PathFlags (PathFlags path flags) = true
 has_form form.Sets (Sets permitted effective inheritable) = true
 has_form form.Ids (Ids ids) = true
-has_form form.Family (Family family) = true
+has_form form.Number (Number number) = true
 has_form form.Program (Code bytes) = length bytes % 8 == 0
 has_form _ _ = false
 
@@ -54,9 +55,10 @@ abbrev pub payload_words : Payload → List (List ℕ)
 payload_words Nothing = []
 payload_words (OnePath path) = escaped_word (text_of path) ∷ []
 payload_words (TwoPaths source target) = escaped_word (text_of source) ∷ escaped_word (text_of target) ∷ []
+payload_words (PathFlags path flags) = escaped_word (text_of path) ∷ decimal flags ∷ []
 payload_words (Sets permitted effective inheritable) = decimal permitted ∷ decimal effective ∷ decimal inheritable ∷ []
 payload_words (Ids ids) = ids_word ids ∷ []
-payload_words (Family family) = decimal family ∷ []
+payload_words (Number number) = decimal number ∷ []
 payload_words (Code bytes) = code_word bytes ∷ []
 
 abbrev pub hash_word : ℕ → List ℕ
@@ -69,7 +71,7 @@ numbered_words table call = spelling table call.abi (hash_word call.nr) ∷ []
 -- a call of the table whose payload is of its form is printed by its name with its payload; any other is printed by its number
 abbrev pub named_words : Table → Call → Option CallLine → List (List ℕ)
 named_words table call None = numbered_words table call
-named_words table call (Some line) = cond (has_form (form_of_name line.name) call.payload)
+named_words table call (Some line) = cond (has_form (form_of_name line.kernel line.name) call.payload)
     (spelling table call.abi line.name ∷ payload_words call.payload) (numbered_words table call)
 
 -- the words of the call's words, in decimal, without the zeros at the end

@@ -6,14 +6,16 @@ use Rattle.kernel_model.specs.abs_path.Paths.{text_of}
 use Rattle.kernel_model.specs.text_forms.line_text.Lines.{words_of}
 use Rattle.kernel_model.specs.call_table.Lookups.{numbered, AreOnce}
 use Rattle.kernel_model.specs.call_table.Names.{is_name}
+use Rattle.kernel_model.specs.call_table.Kernels.{known_by}
 use Rattle.kernel_model.specs.call_table.Reading.{table_of}
+use Rattle.kernel_model.specs.call_table.declared.call_names.kernel.Kernel.{Kernel}
 use Rattle.kernel_model.specs.call_table.Table.{Table, abi_at, calls_in}
 use Rattle.kernel_model.specs.call_table.declared.listed.CallLine.{CallLine}
 use Rattle.kernel_model.specs.call_table.call_words.Words.{HasOtherName}
 use Rattle.kernel_model.specs.kernel_calls.Calls.{IsCall}
 use Rattle.kernel_model.specs.declared.kernel_calls.call.Call.{Call}
 use Rattle.kernel_model.specs.declared.kernel_calls.payload.Payload.{Payload}
-use Rattle.kernel_model.specs.declared.kernel_calls.payload.Payload.TheVariants.{Nothing, OnePath, TwoPaths, Sets, Ids, Family, Code}
+use Rattle.kernel_model.specs.declared.kernel_calls.payload.Payload.TheVariants.{Nothing, OnePath, TwoPaths, PathFlags, Sets, Ids, Number, Code}
 use Rattle.script_text.specs.Printed.{call_text, has_form}
 use Rattle.script_text.specs.Reading.{call_of, form_of_name}
 
@@ -37,16 +39,17 @@ abbrev pub HasTexts : Payload → Type 0
 HasTexts Nothing = Unit {0}
 HasTexts (OnePath path) = IsText (text_of path)
 HasTexts (TwoPaths source target) = IsText (text_of source) × IsText (text_of target)
+HasTexts (PathFlags path flags) = IsText (text_of path)
 HasTexts (Sets permitted effective inheritable) = Unit {0}
 HasTexts (Ids ids) = Unit {0}
-HasTexts (Family family) = Unit {0}
+HasTexts (Number number) = Unit {0}
 HasTexts (Code bytes) = Unit {0}
 
 -- the call's ABI has its number, and the payload is of the form of the name that it gives it
 pub record HasItsForm (table : Table) (call : Call) : Type 0 where
   pub line : CallLine
   pub in_table : numbered call.nr (calls_in table call.abi) ≡ Some line
-  pub form : has_form (form_of_name line.name) call.payload ≡ true
+  pub form : has_form (form_of_name line.kernel line.name) call.payload ≡ true
 
 -- a call that can be written: it has a process and an ABI of the table, and carries nothing, or what its name carries
 pub record IsWritten (table : Table) (call : Call) : Type 0 where
@@ -73,3 +76,7 @@ IsReadAs table call text = AreNamed table → IsWritten table call → call_of t
 -- the calls and the ABIs of a table that was read have such names
 abbrev pub TablesAreNamed : Type 0
 TablesAreNamed = (bytes : List ℕ) (table : Table) → table_of bytes ≡ Ok table → AreNamed table
+
+-- and so do they when a kernel reads the names
+abbrev pub KnownTablesAreNamed : Type 0
+KnownTablesAreNamed = (kernel : Kernel) (table : Table) → AreNamed table → AreNamed (known_by kernel table)

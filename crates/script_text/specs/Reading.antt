@@ -2,6 +2,7 @@
 use Rattle.std.specs.Prelude.{ℕ, nat_le, cond, Option, Some, None, option_and_then, Result, Ok, Err, List, [], ◌∷◌, length}
 use Rattle.std.specs.Option.{option_map}
 use Rattle.kernel_model.specs.call_table.call_names.Known.{known_call, form_of}
+use Rattle.kernel_model.specs.call_table.declared.call_names.kernel.Kernel.{Kernel}
 use Rattle.kernel_model.specs.call_table.declared.call_names.known.KnownCall.{KnownCall}
 use Rattle.kernel_model.specs.call_table.declared.call_names.known.KnownCall.TheVariants.{Modelled, Absent}
 use Rattle.kernel_model.specs.call_table.declared.call_names.payload.PayloadForm.{PayloadForm}
@@ -30,15 +31,15 @@ form_of_known None = form.Nothing
 form_of_known (Some Absent) = form.Nothing
 form_of_known (Some (Modelled rule)) = form_of rule
 
--- what calls of this name carry beside their words
-abbrev pub form_of_name : List ℕ → PayloadForm
-form_of_name name = form_of_known (known_call name)
+-- what calls of this name carry beside their words, in a kernel
+abbrev pub form_of_name : Kernel → List ℕ → PayloadForm
+form_of_name kernel name = form_of_known (known_call kernel name)
 
 abbrev pub bare_number : ℕ → ℕ → Named
 bare_number abi nr = record { abi = abi; nr = nr; form = form.Nothing }
 
 abbrev pub call_named : ℕ → List ℕ → CallLine → Named
-call_named abi name line = record { abi = abi; nr = line.number; form = form_of_name name }
+call_named abi name line = record { abi = abi; nr = line.number; form = form_of_name line.kernel name }
 
 abbrev pub named_by : Table → ℕ → List ℕ → Option (List ℕ) → Option Named
 named_by table abi word None = option_map (call_named abi word) (named word (calls_in table abi))

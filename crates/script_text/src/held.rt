@@ -32,7 +32,7 @@ fn payload_is_text(payload: &Payload)
     ensures { HasTexts payload.now }
 {
     match payload {
-        Payload::OnePath(path) => path_is_text(path),
+        Payload::OnePath(path) | Payload::PathFlags(path, _) => path_is_text(path),
         Payload::TwoPaths(source, target) => {
             path_is_text(source);
             path_is_text(target);
@@ -40,7 +40,7 @@ fn payload_is_text(payload: &Payload)
         Payload::Nothing
         | Payload::Sets(_, _, _)
         | Payload::Ids(_)
-        | Payload::Family(_)
+        | Payload::Number(_)
         | Payload::Code(_) => {}
     }
 }

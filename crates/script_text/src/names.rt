@@ -6,7 +6,9 @@ ghost use Rattle.script_text.specs.Reading.{form_of_name, named_in, named_call};
 ghost use Rattle.script_text.specs.Marks.{behind_hash};
 ghost use Rattle.script_text.specs.Views.{view_named};
 
-use kernel_model::{CallTable, KnownCall, PayloadForm, form_of, known_call, read_decimal, spelled};
+use kernel_model::{
+    CallTable, Kernel, KnownCall, PayloadForm, form_of, known_call, read_decimal, spelled,
+};
 
 /// A call, and what it carries beside its words.
 #[derive(Clone, Copy)]
@@ -19,11 +21,11 @@ pub(crate) struct NamedCall {
     pub form: PayloadForm,
 }
 
-/// Returns the form of the payload that calls of this name carry.
-pub(crate) fn form_of_name(name: &str) -> PayloadForm
-    ensures { result ≡ form_of_name name.now }
+/// Returns the form of the payload that calls of this name carry, in a kernel.
+pub(crate) fn form_of_name(kernel: Kernel, name: &str) -> PayloadForm
+    ensures { result ≡ form_of_name kernel name.now }
 {
-    match known_call(name) {
+    match known_call(kernel, name) {
         Some(KnownCall::Modelled(rule)) => form_of(rule),
         Some(KnownCall::Absent) | None => PayloadForm::Nothing,
     }
@@ -52,11 +54,14 @@ fn call_in(calls: &CallTable, abi: u8, word: &str) -> Option<NamedCall>
             nr: read_number(digits)?,
             form: PayloadForm::Nothing,
         }),
-        None => Some(NamedCall {
-            abi,
-            nr: calls.number_in(abi, word)?,
-            form: form_of_name(word),
-        }),
+        None => {
+            let line = calls.call_named(abi, word)?;
+            Some(NamedCall {
+                abi,
+                nr: line.number,
+                form: form_of_name(line.kernel, word),
+            })
+        }
     }
 }
 

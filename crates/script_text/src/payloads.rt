@@ -5,7 +5,7 @@ ghost use Rattle.std.specs.List.{list_all, slice_split};
 ghost use Rattle.kernel_model.specs.call_table.Numbers.{is_lower_hex, number_of};
 ghost use Rattle.script_text.specs.Marks.{before, behind, between_brackets, between_commas};
 ghost use Rattle.script_text.specs.Numbers.{all_read};
-ghost use Rattle.script_text.specs.Payloads.{path_of, set_of, ids_of, is_code, code_of, two_paths, three_sets, payload_of};
+ghost use Rattle.script_text.specs.Payloads.{path_of, set_of, ids_of, is_code, code_of, path_flags, two_paths, three_sets, payload_of};
 ghost use Rattle.script_text.specs.Progress.{ReadsAs, ReadsList, TakesPayload};
 ghost use Rattle.script_text.specs.declared.error.ScriptCause.TheVariants.{Payload as PayloadCause};
 
@@ -42,6 +42,15 @@ fn read_paths(alloc: Global, source: &str, target: &str) -> Result<Payload, Line
     let source = read_path(alloc, source)?;
     let target = read_path(alloc, target)?;
     Ok(Payload::TwoPaths(source, target))
+}
+
+// a path, and the number of its flags
+fn read_path_flags(alloc: Global, path: &str, flags: &str) -> Result<Payload, LineFault>
+    ensures { ReadsAs (path_flags path.now flags.now) PayloadCause result }
+{
+    let path = read_path(alloc, path)?;
+    let flags = read_payload_number(flags)?;
+    Ok(Payload::PathFlags(path, flags))
 }
 
 // a set of capabilities, as the number of its bits
@@ -125,8 +134,8 @@ fn read_ids(alloc: Global, word: &str) -> Result<IdList, LineFault>
     Ok(IdList::new(read_each(alloc, pieces.as_slice())?))
 }
 
-// the number of a family
-fn read_family(word: &str) -> Result<u32, LineFault>
+// a number that a call carries
+fn read_payload_number(word: &str) -> Result<u32, LineFault>
     ensures { ReadsAs (number_of word.now) PayloadCause result }
 {
     read_number(word).ok_or(NO_PAYLOAD)
@@ -198,6 +207,10 @@ pub(crate) fn take_payload<'w, 't>(
             payload: read_paths(alloc, source, target)?,
             rest,
         }),
+        (PayloadForm::PathFlags, [path, flags, rest @ ..]) => Ok(TakenPayload {
+            payload: read_path_flags(alloc, path, flags)?,
+            rest,
+        }),
         (PayloadForm::Sets, [permitted, effective, inheritable, rest @ ..]) => Ok(TakenPayload {
             payload: read_sets(permitted, effective, inheritable)?,
             rest,
@@ -206,8 +219,8 @@ pub(crate) fn take_payload<'w, 't>(
             payload: Payload::Ids(read_ids(alloc, ids)?),
             rest,
         }),
-        (PayloadForm::Family, [family, rest @ ..]) => Ok(TakenPayload {
-            payload: Payload::Family(read_family(family)?),
+        (PayloadForm::Number, [number, rest @ ..]) => Ok(TakenPayload {
+            payload: Payload::Number(read_payload_number(number)?),
             rest,
         }),
         (PayloadForm::Program, [code, rest @ ..]) => Ok(TakenPayload {

@@ -23,9 +23,10 @@ fn has_form(form: PayloadForm, payload: &Payload) -> bool
         (PayloadForm::Nothing, Payload::Nothing)
         | (PayloadForm::OnePath, Payload::OnePath(_))
         | (PayloadForm::TwoPaths, Payload::TwoPaths(_, _))
+        | (PayloadForm::PathFlags, Payload::PathFlags(_, _))
         | (PayloadForm::Sets, Payload::Sets(_, _, _))
         | (PayloadForm::Ids, Payload::Ids(_))
-        | (PayloadForm::Family, Payload::Family(_)) => true,
+        | (PayloadForm::Number, Payload::Number(_)) => true,
         (PayloadForm::Program, Payload::Code(code)) => code.list().len() % 8 == 0,
         _ => false,
     }
@@ -106,13 +107,17 @@ fn push_payload(alloc: Global, out: &mut Vec<u8>, payload: &Payload) -> Result<(
             push_path(out, source)?;
             push_path(out, target)
         }
+        Payload::PathFlags(path, flags) => {
+            push_path(out, path)?;
+            push_number(out, u64::from(*flags))
+        }
         Payload::Sets(permitted, effective, inheritable) => {
             push_number(out, permitted.bits())?;
             push_number(out, effective.bits())?;
             push_number(out, inheritable.bits())
         }
         Payload::Ids(ids) => push_list(out, ids.list()),
-        Payload::Family(family) => push_number(out, u64::from(*family)),
+        Payload::Number(number) => push_number(out, u64::from(*number)),
         Payload::Code(code) => push_code(alloc, out, code.list()),
     }
 }
@@ -136,10 +141,11 @@ fn push_named(
 ) -> Result<(), AllocError>
     ensures { OnOk result (out.new.items ≡ out.old.items ++ each_behind (codes " ") (front_words calls.now call.now)) }
 {
-    let Some(name) = calls.name_in(call.abi, call.nr) else {
+    let Some(line) = calls.call_numbered(call.abi, call.nr) else {
         return push_numbered(out, call, calls);
     };
-    if !has_form(form_of_name(name), &call.payload) {
+    let name = line.name.as_str();
+    if !has_form(form_of_name(line.kernel, name), &call.payload) {
         return push_numbered(out, call, calls);
     }
     push_space(out)?;

@@ -5,13 +5,13 @@ ghost use Rattle.unit_inputs.specs.command_answers.CommandErrors.{Prepares};
 ghost use Rattle.exec_settings.specs.unit_names.Cutting.{name_of};
 ghost use Rattle.unit_inputs.specs.Asking.{AsksInOrder, input_asks};
 ghost use Rattle.unit_inputs.specs.ReadsFor.{ReadsFor};
-ghost use Rattle.unit_inputs.specs.Inputs.{input_refusals, inputs_of, inputs_view};
+ghost use Rattle.unit_inputs.specs.Inputs.{input_refusals, inputs_of, inputs_view, kernel_of};
 
 use crate::calls::read_table;
 use crate::command_answers::CommandError;
 use crate::site::read_site;
 use crate::units::read_unit;
-use exec_settings::{CallTable, Resolved, SiteTable};
+use exec_settings::{CallTable, Kernel, Resolved, SiteTable, Version};
 use host_io::Shelf;
 use std::alloc::Global;
 
@@ -20,10 +20,20 @@ use std::alloc::Global;
 pub struct UnitInputs {
     /// The unit with its files in force, read by the rules of the site's systemd.
     pub unit: Box<Resolved>,
-    /// The table of system calls from calls.txt.
+    /// The table of system calls from calls.txt, read by the kernel of the site's systemd.
     pub calls: Box<CallTable>,
     /// The site from site.toml.
     pub site: Box<SiteTable>,
+}
+
+// Returns the kernel of a site: it is Linux if the site has a version of systemd.
+fn kernel_of(systemd: Option<Version>) -> Kernel
+    ensures { result ≡ kernel_of systemd }
+{
+    match systemd {
+        None => Kernel::Base,
+        Some(_) => Kernel::Linux,
+    }
 }
 
 /// Reads the inputs of a command on a unit: the unit, as `dropin_merge` resolves it, then calls.txt and site.toml.
@@ -42,8 +52,9 @@ pub fn read_inputs<S: Shelf>(
     ensures reads_for_the_unit { ReadsFor S.told S.faults unit.now shelf.old shelf.new result }
 {
     let mut unit = read_unit(alloc, shelf, unit)?;
-    let calls = read_table(alloc, shelf)?;
+    let mut calls = read_table(alloc, shelf)?;
     let site = read_site(alloc, shelf)?;
     unit.read_by(site.systemd());
+    calls.known_by(kernel_of(site.systemd()));
     Ok(UnitInputs { unit, calls, site })
 }

@@ -114,9 +114,10 @@ PATHS = """
 PING = '[[row]]\npath = "/usr/bin/ping"\nkind = "exe"\ncaps = ["CAP_NET_RAW"]\neffective = true\n'
 # Calls of the table of a witness: those of a launch and of questions, and some that protections close.
 CALLS = """
-    read write open openat openat2 creat truncate stat execve execveat exit_group getpid capset prctl seccomp setgroups setgid setresgid setuid
-    setresuid unshare clone clone3 fork mmap mprotect pkey_mprotect shmat socket personality sched_setscheduler chmod fchmod fchmodat fchmodat2 mkdir
-    mkdirat mknod mknodat mount umount2 ptrace _sysctl init_module syslog clock_settime iopl sethostname
+    read write open openat openat2 creat truncate stat execve execveat exit_group getpid capset prctl seccomp setgroups setgid setresgid setregid
+    setuid setresuid setreuid unshare clone clone3 fork mmap mprotect pkey_mprotect shmat socket socketpair personality sched_setscheduler
+    sched_setattr chmod fchmod fchmodat fchmodat2 mkdir mkdirat mknod mknodat mount umount2 ptrace _sysctl init_module syslog clock_settime iopl
+    sethostname
 """.split()
 BOTH = (252, 257)
 
@@ -219,6 +220,14 @@ WITNESSES = [
     ("personality-question", BOTH, "LockPersonality=yes\n", "1 personality 4294967295 -> errno 1", "1 personality 4294967295\n"),
     ("clone3", BOTH, "RestrictNamespaces=yes\n", "1 clone 128 -> errno 1", "1 clone 128\n"),
     ("suid-newer-calls", BOTH, "RestrictSUIDSGID=yes\n", "1 fchmodat2 0 0 2048 -> errno 1", "1 fchmodat2 0 0 2048\n"),
+    ("socketpair", BOTH, "RestrictAddressFamilies=AF_INET\n", "open socket AF_UNIX"),
+    ("tmpfile-bits", BOTH, "RestrictSUIDSGID=yes\n", "open suid-bit"),
+    ("sched-setattr", BOTH, "User=root\nRestrictRealtime=yes\n", "open realtime"),
+    ("", BOTH, "RestrictRealtime=yes\n", "denied realtime"),
+    ("other-calls", BOTH, "SystemCallFilter=~open openat creat truncate\n", "open read /srv/x"),
+    ("other-calls", BOTH, "User=root\nSystemCallFilter=~clone unshare\n", "open ns uts"),
+    ("other-calls", BOTH, "User=root\nSystemCallFilter=~setuid setresuid\n", "open uid 33"),
+    ("other-calls", BOTH, "User=root\nSystemCallFilter=~setgid setresgid setgroups\n", "open gid 33"),
 ]  # fmt: skip
 
 

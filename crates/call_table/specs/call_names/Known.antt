@@ -1,25 +1,34 @@
--- The modelled kernel knows some system calls by name, syscalls(2): it has a rule for each, or lacks it.
-use Rattle.std.specs.Prelude.{ℕ, Bool, List, [], ◌∷◌, codes, Option, is_some}
+-- The modelled kernels know some system calls by name, syscalls(2): a kernel has a rule for each, or lacks it.
+use Rattle.std.specs.Prelude.{ℕ, Bool, List, [], ◌∷◌, codes, Option, Some, None, is_some}
 use Rattle.std.specs.Map.{lookup}
 use Rattle.std.specs.Str.{bytes_eq}
+use Rattle.call_table.specs.declared.call_names.kernel.Kernel.{Kernel}
+use Rattle.call_table.specs.declared.call_names.kernel.Kernel.TheVariants.{Base, Linux}
 use Rattle.call_table.specs.declared.call_names.payload.PayloadForm.{PayloadForm}
-use Rattle.call_table.specs.declared.call_names.payload.PayloadForm.TheVariants.{Nothing, OnePath, TwoPaths, Sets, Ids, Family, Program}
+use Rattle.call_table.specs.declared.call_names.payload.PayloadForm.TheVariants.{Nothing, OnePath, TwoPaths, PathFlags, Sets, Ids, Number, Program}
 use Rattle.call_table.specs.declared.call_names.known.KnownCall.{KnownCall}
 use Rattle.call_table.specs.declared.call_names.known.KnownCall.TheVariants.{Modelled, Absent}
 use Rattle.call_table.specs.declared.call_names.rule.Argument.{Argument}
 use Rattle.call_table.specs.declared.call_names.rule.Argument.TheVariants.{Second, Third}
 use Rattle.call_table.specs.declared.call_names.rule.CallRule.{CallRule}
-use Rattle.call_table.specs.declared.call_names.rule.CallRule.TheVariants.{See, Open, Create, Truncate, Execve, SetMode, Map, Protect}
-use Rattle.call_table.specs.declared.call_names.rule.CallRule.TheVariants.{Attach, Schedule, Personality, Socket, Socketcall, Enter, Fork}
-use Rattle.call_table.specs.declared.call_names.rule.CallRule.TheVariants.{Clone, Unshare, Exit, Mount, Umount, Setuid, Setgid, Setresuid}
-use Rattle.call_table.specs.declared.call_names.rule.CallRule.TheVariants.{Setresgid, Setgroups, Capset, Prctl, Seccomp}
+use Rattle.call_table.specs.declared.call_names.rule.CallRule.TheVariants.{See, Open, OpenWith, Create, Truncate, Execve, SetMode, Map, Protect}
+use Rattle.call_table.specs.declared.call_names.rule.CallRule.TheVariants.{Attach, Schedule, SetAttributes, Personality, Socket, Socketcall}
+use Rattle.call_table.specs.declared.call_names.rule.CallRule.TheVariants.{Socketpair, Enter, Fork}
+use Rattle.call_table.specs.declared.call_names.rule.CallRule.TheVariants.{Openat2, Clone, Clone3, Unshare, Exit, Mount, Umount, Setuid, Setgid, Setresuid}
+use Rattle.call_table.specs.declared.call_names.rule.CallRule.TheVariants.{Setresgid, Setreuid, Setregid, Setgroups, Capset}
+use Rattle.call_table.specs.declared.call_names.rule.CallRule.TheVariants.{Prctl, Seccomp}
 
 -- arguments are counted from 0
 abbrev pub place_of : Argument → ℕ
 place_of Second = 1
 place_of Third = 2
 
--- each known name with its rule, or as a call that the kernel lacks
+-- the mode of open(2) and openat(2) follows their flags
+abbrev pub mode_place_of : Argument → ℕ
+mode_place_of Second = 2
+mode_place_of Third = 3
+
+-- each name that the base kernel knows, with its rule, or as a call that the kernel lacks
 abbrev pub known_calls : List (List ℕ × KnownCall)
 known_calls =
     (codes "stat", Modelled See) ∷
@@ -85,26 +94,53 @@ known_calls =
     (codes "prctl", Modelled Prctl) ∷
     (codes "seccomp", Modelled Seccomp) ∷ []
 
--- the entry of a name, or nothing if the name is unknown
-unfoldable pub known_call : List ℕ → Option KnownCall
-known_call name = lookup (bytes_eq name) known_calls
+-- what Linux has in place of the base kernel's entries of these names: open(2) and openat(2) give the mode of a file that they make,
+-- which the base kernel does not look at; openat2(2), execveat(2), clone3(2) and fchmodat2(2) are like open(2), execve(2), clone(2) and
+-- fchmodat(2); sched_setattr(2) takes a policy, socketpair(2) makes two sockets, and setreuid(2) and setregid(2) set the real and the
+-- effective id
+abbrev pub linux_calls : List (List ℕ × KnownCall)
+linux_calls =
+    (codes "open", Modelled (OpenWith Second)) ∷
+    (codes "openat", Modelled (OpenWith Third)) ∷
+    (codes "openat2", Modelled Openat2) ∷
+    (codes "execveat", Modelled Execve) ∷
+    (codes "clone3", Modelled Clone3) ∷
+    (codes "fchmodat2", Modelled (SetMode Third)) ∷
+    (codes "sched_setattr", Modelled SetAttributes) ∷
+    (codes "socketpair", Modelled Socketpair) ∷
+    (codes "setreuid", Modelled Setreuid) ∷
+    (codes "setregid", Modelled Setregid) ∷ []
 
--- the kernel has a rule for the call, or lacks it
-abbrev pub is_known : List ℕ → Bool
-is_known name = is_some (known_call name)
+-- the entry of a name in a kernel, given the entry that Linux has in place of the base kernel's, if there is one
+abbrev pub entry_in : Option KnownCall → Kernel → Option KnownCall → Option KnownCall
+entry_in None kernel base = base
+entry_in (Some own) Base base = base
+entry_in (Some own) Linux base = Some own
+
+-- the entry of a name in this kernel, or nothing if the name is unknown
+unfoldable pub known_call : Kernel → List ℕ → Option KnownCall
+known_call kernel name = entry_in (lookup (bytes_eq name) linux_calls) kernel (lookup (bytes_eq name) known_calls)
+
+-- this kernel has a rule for the call, or lacks it
+abbrev pub is_known : Kernel → List ℕ → Bool
+is_known kernel name = is_some (known_call kernel name)
 
 -- the payload of a call of the rule
 abbrev pub form_of : CallRule → PayloadForm
 form_of See = OnePath
 form_of (Open flags) = OnePath
+form_of (OpenWith flags) = OnePath
 form_of Create = OnePath
 form_of Truncate = OnePath
 form_of Execve = OnePath
 form_of Umount = OnePath
 form_of Mount = TwoPaths
+form_of Openat2 = PathFlags
 form_of Capset = Sets
 form_of Setgroups = Ids
-form_of Socketcall = Family
+form_of Socketcall = Number
+form_of SetAttributes = Number
+form_of Clone3 = Number
 form_of Seccomp = Program
 form_of (SetMode mode) = Nothing
 form_of Map = Nothing
@@ -113,6 +149,7 @@ form_of Attach = Nothing
 form_of Schedule = Nothing
 form_of Personality = Nothing
 form_of Socket = Nothing
+form_of Socketpair = Nothing
 form_of Enter = Nothing
 form_of Fork = Nothing
 form_of Clone = Nothing
@@ -122,4 +159,6 @@ form_of Setuid = Nothing
 form_of Setgid = Nothing
 form_of Setresuid = Nothing
 form_of Setresgid = Nothing
+form_of Setreuid = Nothing
+form_of Setregid = Nothing
 form_of Prctl = Nothing

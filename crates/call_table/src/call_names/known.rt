@@ -1,9 +1,11 @@
-//! Defines the table of known calls, by their names.
+//! Defines the tables of known calls, by their names.
 
 ghost use Rattle.std.specs.Prelude.{◌≡◌, map, find, option_copied};
+ghost use Rattle.std.specs.Map.{lookup};
 ghost use Rattle.std.specs.Str.{bytes_eq};
-ghost use Rattle.call_table.specs.call_names.Known.{known_calls, known_call, is_known};
+ghost use Rattle.call_table.specs.call_names.Known.{known_calls, linux_calls, entry_in, known_call, is_known};
 
+use crate::call_names::kernel::Kernel;
 use crate::call_names::rule::Argument::{Second, Third};
 use crate::call_names::rule::CallRule;
 use KnownCall::{Absent, Modelled};
@@ -17,7 +19,7 @@ pub enum KnownCall {
     Absent,
 }
 
-/// The calls that the kernel knows, by their names in syscalls(2).
+/// The calls that the base kernel knows, by their names in syscalls(2).
 const KNOWN_CALLS: &[(&str, KnownCall)] = &[
     ("stat", Modelled(CallRule::See)),
     ("lstat", Modelled(CallRule::See)),
@@ -83,10 +85,30 @@ const KNOWN_CALLS: &[(&str, KnownCall)] = &[
     ("seccomp", Modelled(CallRule::Seccomp)),
 ];
 
+/// The calls that Linux has a rule for in place of what the base kernel has.
+const LINUX_CALLS: &[(&str, KnownCall)] = &[
+    ("open", Modelled(CallRule::OpenWith(Second))),
+    ("openat", Modelled(CallRule::OpenWith(Third))),
+    ("openat2", Modelled(CallRule::Openat2)),
+    ("execveat", Modelled(CallRule::Execve)),
+    ("clone3", Modelled(CallRule::Clone3)),
+    ("fchmodat2", Modelled(CallRule::SetMode(Third))),
+    ("sched_setattr", Modelled(CallRule::SetAttributes)),
+    ("socketpair", Modelled(CallRule::Socketpair)),
+    ("setreuid", Modelled(CallRule::Setreuid)),
+    ("setregid", Modelled(CallRule::Setregid)),
+];
+
 fn known_calls() -> &'static [(&'static str, KnownCall)]
     ensures { map (λ row. (row.0.now, row.1)) result.now ≡ known_calls }
 {
     KNOWN_CALLS
+}
+
+fn linux_calls() -> &'static [(&'static str, KnownCall)]
+    ensures { map (λ row. (row.0.now, row.1)) result.now ≡ linux_calls }
+{
+    LINUX_CALLS
 }
 
 fn line_named<'a>(lines: &'a [(&'a str, KnownCall)], name: &str) -> Option<&'a (&'a str, KnownCall)>
@@ -95,19 +117,40 @@ fn line_named<'a>(lines: &'a [(&'a str, KnownCall)], name: &str) -> Option<&'a (
     lines.iter().find(|line| name == line.0)
 }
 
-/// Returns the kernel's treatment of the call of this name, or None if the kernel does not know the name.
-#[tactic(auto, unfolding(crate::specs::call_names::Known::known_call))]
-pub fn known_call(name: &str) -> Option<KnownCall>
-    ensures by_the_table { result ≡ known_call name.now }
+// Returns the entry of a name among these lines.
+fn entry_of(lines: &[(&str, KnownCall)], name: &str) -> Option<KnownCall>
+    ensures { result ≡ lookup (bytes_eq name.now) (map (λ row. (row.0.now, row.1)) lines.now) }
 {
-    let line = line_named(known_calls(), name)?;
+    let line = line_named(lines, name)?;
     Some(line.1)
 }
 
-/// Returns whether the kernel knows the name: it has a rule of its own for the call, or lacks it. Every other call is
-/// plain.
-pub fn is_known(name: &str) -> bool
-    ensures in_the_table { result ≡ is_known name.now }
+// Returns the entry of a name in a kernel, given the entry that Linux has in place of the base kernel's.
+fn entry_in(own: Option<KnownCall>, kernel: Kernel, base: Option<KnownCall>) -> Option<KnownCall>
+    ensures { result ≡ entry_in own kernel base }
 {
-    known_call(name).is_some()
+    match (own, kernel) {
+        (Some(own), Kernel::Linux) => Some(own),
+        _ => base,
+    }
+}
+
+/// Returns this kernel's treatment of the call of this name, or None if the kernel does not know the name.
+#[tactic(auto, unfolding(crate::specs::call_names::Known::known_call))]
+pub fn known_call(kernel: Kernel, name: &str) -> Option<KnownCall>
+    ensures by_the_table { result ≡ known_call kernel name.now }
+{
+    entry_in(
+        entry_of(linux_calls(), name),
+        kernel,
+        entry_of(known_calls(), name),
+    )
+}
+
+/// Returns whether this kernel knows the name: it has a rule of its own for the call, or lacks it. Every other call is
+/// plain.
+pub fn is_known(kernel: Kernel, name: &str) -> bool
+    ensures in_the_table { result ≡ is_known kernel name.now }
+{
+    known_call(kernel, name).is_some()
 }

@@ -14,12 +14,15 @@ pub enum PayloadForm {
     OnePath,
     /// Two paths, source and target.
     TwoPaths,
+    /// One path, and the flags by which it is opened.
+    PathFlags,
     /// Three sets of capabilities: permitted, effective and inheritable.
     Sets,
     /// A list of ids.
     Ids,
-    /// The family of a socket, the first of the words to which socketcall(2) points.
-    Family,
+    /// One number: the family of a socket, the first of the words to which socketcall(2) points; the policy of
+    /// sched_setattr(2), or the flags of clone3(2).
+    Number,
     /// The bytes of a program, seccomp(2).
     Program,
 }
@@ -31,14 +34,16 @@ pub fn form_of(rule: CallRule) -> PayloadForm
     match rule {
         CallRule::See
         | CallRule::Open(_)
+        | CallRule::OpenWith(_)
         | CallRule::Create
         | CallRule::Truncate
         | CallRule::Execve
         | CallRule::Umount => PayloadForm::OnePath,
         CallRule::Mount => PayloadForm::TwoPaths,
+        CallRule::Openat2 => PayloadForm::PathFlags,
         CallRule::Capset => PayloadForm::Sets,
         CallRule::Setgroups => PayloadForm::Ids,
-        CallRule::Socketcall => PayloadForm::Family,
+        CallRule::Socketcall | CallRule::SetAttributes | CallRule::Clone3 => PayloadForm::Number,
         CallRule::Seccomp => PayloadForm::Program,
         CallRule::SetMode(_)
         | CallRule::Map
@@ -47,6 +52,7 @@ pub fn form_of(rule: CallRule) -> PayloadForm
         | CallRule::Schedule
         | CallRule::Personality
         | CallRule::Socket
+        | CallRule::Socketpair
         | CallRule::Enter
         | CallRule::Fork
         | CallRule::Clone
@@ -56,6 +62,8 @@ pub fn form_of(rule: CallRule) -> PayloadForm
         | CallRule::Setgid
         | CallRule::Setresuid
         | CallRule::Setresgid
+        | CallRule::Setreuid
+        | CallRule::Setregid
         | CallRule::Prctl => PayloadForm::Nothing,
     }
 }

@@ -10,7 +10,7 @@ pub enum CallKind {
     ForPath(Wish),
     /// Nothing but the call itself, which no rule of the kernel names.
     PlainCall,
-    /// A socket of the family of this number, socket(2), socketcall(2).
+    /// A socket of the family of this number, socket(2), socketcall(2), socketpair(2).
     ForFamily(u32),
     /// A namespace of this type, clone(2), unshare(2).
     ForNamespace(NamespaceType),
@@ -24,6 +24,10 @@ pub enum CallKind {
     AttachesReadOnlyX,
     /// A realtime policy, sched(7).
     SchedulesRealtime,
+    /// A set-id bit of a file that open(2) or openat(2) makes.
+    OpensMode,
+    /// A realtime policy by sched_setattr(2), which needs CAP_SYS_NICE.
+    SetsRealtime,
     /// Another execution domain, personality(2).
     TakesPersonality,
     /// A mode with a set-user-id or set-group-id bit, chmod(2), inode(7).

@@ -12,7 +12,7 @@ pub enum Question {
     Path(Wish, usize),
     /// Make the call of this number in the table's list of all calls, which no rule of the kernel names, by any ABI.
     Call(usize),
-    /// Make a socket of the family of this number, socket(2), socketcall(2).
+    /// Make a socket of the family of this number, socket(2), socketcall(2), socketpair(2).
     Socket(usize),
     /// Make a namespace of this type, clone(2), unshare(2).
     Namespace(NamespaceType),

@@ -1,4 +1,4 @@
--- The rule of a call of the table, which its name decides.
+-- The rule of a call of the table, which its name and the kernel that reads it decide.
 use Rattle.std.specs.Prelude.{ℕ, List, Option, Some, None, option_and_then, map}
 use Rattle.call_table.specs.Table.{Table, second_calls}
 use Rattle.call_table.specs.call_names.Known.{known_call, form_of}
@@ -19,7 +19,7 @@ rule_by (Some (Modelled rule)) cap = Some (Known rule)
 
 -- the rule of a line of the table; None if the kernel lacks the call
 unfoldable pub rule_of : CallLine → Option Rule
-rule_of line = rule_by (known_call line.name) line.cap
+rule_of line = rule_by (known_call line.kernel line.name) line.cap
 
 -- the rule of a number; also None if no line has the number
 abbrev pub rule_at : List CallLine → ℕ → Option Rule

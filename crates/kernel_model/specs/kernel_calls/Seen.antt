@@ -1,6 +1,7 @@
 -- The calls that the code's values represent.
 use Rattle.kernel_model.specs.kernel_calls.Operation.{Operation, See, Open, Create, Truncate, Execve, SetMode, Map, Protect, Attach, Schedule}
-use Rattle.kernel_model.specs.kernel_calls.Operation.{Personality, Socket, Socketcall, Enter, Fork, Clone, Unshare, Exit, Mount, Umount, Setuid}
+use Rattle.kernel_model.specs.kernel_calls.Operation.{SetAttributes, Personality, Socket, Socketcall, Socketpair, Enter, Fork, Clone, Unshare, Exit, Mount, Umount}
+use Rattle.kernel_model.specs.kernel_calls.Operation.{Setuid}
 use Rattle.kernel_model.specs.kernel_calls.Operation.{Setgid, Setresuid, Setresgid, Setgroups, Capset, Prctl, Seccomp, Plain, Asked, Lacking}
 use Rattle.kernel_model.specs.kernel_calls.Operation.{Misformed, Does}
 use Rattle.kernel_model.specs.declared.kernel_calls.operation.Operation.{Operation as Lent}
@@ -11,7 +12,7 @@ use Rattle.kernel_model.specs.declared.kernel_calls.asked.Asked.TheVariants as a
 -- the code borrows a call's payload
 abbrev pub seen : Lent → Operation
 seen (lent.See path) = See path.now
-seen (lent.Open flags path) = Open flags path.now
+seen (lent.Open flags mode path) = Open flags mode path.now
 seen (lent.Create path) = Create path.now
 seen (lent.Truncate path) = Truncate path.now
 seen (lent.Execve path) = Execve path.now
@@ -20,9 +21,11 @@ seen (lent.Map protection) = Map protection
 seen (lent.Protect protection) = Protect protection
 seen (lent.Attach flags) = Attach flags
 seen (lent.Schedule policy) = Schedule policy
+seen (lent.SetAttributes policy) = SetAttributes policy
 seen (lent.Personality persona) = Personality persona
 seen (lent.Socket family) = Socket family
 seen (lent.Socketcall op family) = Socketcall op family
+seen (lent.Socketpair family) = Socketpair family
 seen lent.Enter = Enter
 seen lent.Fork = Fork
 seen (lent.Clone flags) = Clone flags

@@ -44,10 +44,10 @@ fn set_fits(set: CapSet)
     let _word = set.bits();
 }
 
-fn family_fits(family: u32)
-    ensures { family < 2 ^ 32 }
+fn number_fits(number: u32)
+    ensures { number < 2 ^ 32 }
 {
-    let _family = family;
+    let _number = number;
 }
 
 fn payload_fits(payload: &Payload)
@@ -60,13 +60,17 @@ fn payload_fits(payload: &Payload)
             path_fits(source);
             path_fits(target);
         }
+        Payload::PathFlags(path, flags) => {
+            path_fits(path);
+            number_fits(*flags);
+        }
         Payload::Sets(permitted, effective, inheritable) => {
             set_fits(*permitted);
             set_fits(*effective);
             set_fits(*inheritable);
         }
         Payload::Ids(list) => ids_fit(list.list()),
-        Payload::Family(family) => family_fits(*family),
+        Payload::Number(number) => number_fits(*number),
         Payload::Code(code) => bytes_fit(code.list()),
     }
 }

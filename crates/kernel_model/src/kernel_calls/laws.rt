@@ -20,12 +20,12 @@ ghost use Rattle.kernel_model.specs.kernel_calls.Words.{low_word};
 pub fn each_call_has_one_rule()
     ensures by_its_line { (calls : List CallLine) (at : ℕ) (line : CallLine)
         → AreOnce calls → slice_get calls at ≡ Some line → rule_at calls line.number ≡ rule_of line }
-    ensures absent { (line : CallLine) → ((rule_of line ≡ None) ↔ (known_call line.name ≡ Some Absent)) }
+    ensures absent { (line : CallLine) → ((rule_of line ≡ None) ↔ (known_call line.kernel line.name ≡ Some Absent)) }
     ensures plain { (line : CallLine) (cap : Option ℕ)
-        → ((rule_of line ≡ Some (Plain cap)) ↔ ((is_known line.name ≡ false) × (line.cap ≡ cap))) }
+        → ((rule_of line ≡ Some (Plain cap)) ↔ ((is_known line.kernel line.name ≡ false) × (line.cap ≡ cap))) }
     ensures absent_calls_are_lacking { (table : Table) (call : Call) (at : ℕ) (line : CallLine)
         → AreOnce (calls_in table call.abi) → slice_get (calls_in table call.abi) at ≡ Some line → call.nr ≡ line.number
-        → ((asked_of table call ≡ Lacking) ↔ (known_call line.name ≡ Some Absent)) }
+        → ((asked_of table call ≡ Lacking) ↔ (known_call line.kernel line.name ≡ Some Absent)) }
 {}
 
 /// If the kernel has a call, the call asks for something if and only if its payload has the rule's form.

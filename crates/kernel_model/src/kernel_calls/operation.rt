@@ -12,6 +12,7 @@ use crate::kernel_calls::rule::Rule;
 use crate::kernel_calls::words::low_word;
 use abs_path::AbsPath;
 use call_table::call_names::CallRule;
+use kern_mounts::linux_numbers::limits::NO_ID;
 use site_table::CapSet;
 
 /// What a call asks for, with the words and the payload that its rule uses.
@@ -19,13 +20,13 @@ use site_table::CapSet;
 pub enum Operation<'a> {
     /// stat(2), access(2) and similar calls, which look a path up.
     See(&'a AbsPath),
-    /// open(2) and openat(2), with the flags.
-    Open(u32, &'a AbsPath),
+    /// open(2) and openat(2), with the flags and the mode. The base kernel does not look at the mode: it is 0.
+    Open(u32, u32, &'a AbsPath),
     /// creat(2).
     Create(&'a AbsPath),
     /// truncate(2).
     Truncate(&'a AbsPath),
-    /// execve(2).
+    /// execve(2) and execveat(2).
     Execve(&'a AbsPath),
     /// chmod(2), mkdir(2), mknod(2) and similar calls, with the mode.
     SetMode(u32),
@@ -37,17 +38,21 @@ pub enum Operation<'a> {
     Attach(u32),
     /// sched_setscheduler(2), with the policy.
     Schedule(u32),
+    /// sched_setattr(2), with the policy.
+    SetAttributes(u32),
     /// personality(2), with the persona.
     Personality(u32),
     /// socket(2), with the address family.
     Socket(u32),
     /// socketcall(2), with the operation and the address family that it points to.
     Socketcall(u32, u32),
+    /// socketpair(2), with the address family.
+    Socketpair(u32),
     /// setns(2).
     Enter,
     /// fork(2) and vfork(2).
     Fork,
-    /// clone(2), with the flags.
+    /// clone(2) and clone3(2), with the flags.
     Clone(u32),
     /// unshare(2), with the flags.
     Unshare(u32),
@@ -61,9 +66,9 @@ pub enum Operation<'a> {
     Setuid(u32),
     /// setgid(2), with the gid.
     Setgid(u32),
-    /// setresuid(2), with the real, the effective and the saved uid.
+    /// setresuid(2), with the real, the effective and the saved uid. setreuid(2) leaves the saved one.
     Setresuid(u32, u32, u32),
-    /// setresgid(2), with the real, the effective and the saved gid.
+    /// setresgid(2), with the real, the effective and the saved gid. setregid(2) leaves the saved one.
     Setresgid(u32, u32, u32),
     /// setgroups(2), with the gids.
     Setgroups(&'a [u32]),
@@ -92,6 +97,7 @@ fn bare_operation<'a>(rule: CallRule, args: &[u64; 6]) -> Option<Operation<'a>>
         CallRule::Schedule => Operation::Schedule(second),
         CallRule::Personality => Operation::Personality(first),
         CallRule::Socket => Operation::Socket(first),
+        CallRule::Socketpair => Operation::Socketpair(first),
         CallRule::Enter => Operation::Enter,
         CallRule::Fork => Operation::Fork,
         CallRule::Clone => Operation::Clone(first),
@@ -101,6 +107,8 @@ fn bare_operation<'a>(rule: CallRule, args: &[u64; 6]) -> Option<Operation<'a>>
         CallRule::Setgid => Operation::Setgid(first),
         CallRule::Setresuid => Operation::Setresuid(first, second, third),
         CallRule::Setresgid => Operation::Setresgid(first, second, third),
+        CallRule::Setreuid => Operation::Setresuid(first, second, NO_ID),
+        CallRule::Setregid => Operation::Setresgid(first, second, NO_ID),
         CallRule::Prctl => {
             Operation::Prctl(first, second, third, low_word(args, 3), low_word(args, 4))
         }
@@ -115,7 +123,11 @@ fn path_operation<'a>(rule: CallRule, args: &[u64; 6], path: &'a AbsPath) -> Opt
 {
     let operation = match rule {
         CallRule::See => Operation::See(path),
-        CallRule::Open(flags) => Operation::Open(low_word(args, flags.place()), path),
+        CallRule::Open(flags) => Operation::Open(low_word(args, flags.place()), 0, path),
+        CallRule::OpenWith(flags) => {
+            let mode = low_word(args, flags.mode_place());
+            Operation::Open(low_word(args, flags.place()), mode, path)
+        }
         CallRule::Create => Operation::Create(path),
         CallRule::Truncate => Operation::Truncate(path),
         CallRule::Execve => Operation::Execve(path),
@@ -140,6 +152,10 @@ fn known_operation<'a>(
             CallRule::Mount => Some(Operation::Mount(source, target, low_word(args, 3))),
             _ => None,
         },
+        Payload::PathFlags(path, flags) => match rule {
+            CallRule::Openat2 => Some(Operation::Open(*flags, 0, path)),
+            _ => None,
+        },
         Payload::Sets(permitted, effective, inheritable) => match rule {
             CallRule::Capset => Some(Operation::Capset(*permitted, *effective, *inheritable)),
             _ => None,
@@ -148,8 +164,10 @@ fn known_operation<'a>(
             CallRule::Setgroups => Some(Operation::Setgroups(list.list())),
             _ => None,
         },
-        Payload::Family(family) => match rule {
-            CallRule::Socketcall => Some(Operation::Socketcall(low_word(args, 0), *family)),
+        Payload::Number(number) => match rule {
+            CallRule::Socketcall => Some(Operation::Socketcall(low_word(args, 0), *number)),
+            CallRule::SetAttributes => Some(Operation::SetAttributes(*number)),
+            CallRule::Clone3 => Some(Operation::Clone(*number)),
             _ => None,
         },
         Payload::Code(code) => match rule {

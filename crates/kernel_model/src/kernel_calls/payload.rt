@@ -23,12 +23,15 @@ pub enum Payload {
     OnePath(AbsPath),
     /// Two paths, source and target, mount(2).
     TwoPaths(AbsPath, AbsPath),
+    /// A path, and the flags by which it is opened, to which openat2(2) points.
+    PathFlags(AbsPath, u32),
     /// Three sets of capabilities: permitted, effective and inheritable, capset(2).
     Sets(CapSet, CapSet, CapSet),
     /// Ids of groups, setgroups(2).
     Ids(IdList),
-    /// The number of an address family, the first of the words that socketcall(2) points to.
-    Family(u32),
+    /// The number of an address family, the first of the words that socketcall(2) points to; the policy that
+    /// sched_setattr(2) points to; or the flags that clone3(2) points to.
+    Number(u32),
     /// The bytes of a program, seccomp(2).
     Code(Bytes),
 }
@@ -42,9 +45,10 @@ impl Payload {
             Payload::Nothing => PayloadForm::Nothing,
             Payload::OnePath(_) => PayloadForm::OnePath,
             Payload::TwoPaths(_, _) => PayloadForm::TwoPaths,
+            Payload::PathFlags(_, _) => PayloadForm::PathFlags,
             Payload::Sets(_, _, _) => PayloadForm::Sets,
             Payload::Ids(_) => PayloadForm::Ids,
-            Payload::Family(_) => PayloadForm::Family,
+            Payload::Number(_) => PayloadForm::Number,
             Payload::Code(_) => PayloadForm::Program,
         }
     }

@@ -25,10 +25,10 @@ fn rule_by(known: Option<KnownCall>, cap: Option<u8>) -> Option<Rule>
     }
 }
 
-/// Returns the rule of a line of a table, which its name decides; None if the kernel lacks the call.
+/// Returns the rule of a line of a table, which its kernel gives to its name; None if the kernel lacks the call.
 #[tactic(auto, unfolding(crate::specs::kernel_calls::Rules::rule_of))]
 pub fn rule_of(line: &CallLine) -> Option<Rule>
     ensures by_its_name { result ≡ rule_of line.now }
 {
-    rule_by(known_call(line.name.as_str()), line.cap)
+    rule_by(known_call(line.kernel, line.name.as_str()), line.cap)
 }

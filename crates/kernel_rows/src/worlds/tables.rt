@@ -1,12 +1,13 @@
 //! Reads the tables of every world.
 use asked_service::{CallTable, SiteTable};
-use row_tools::{HeldText, calls_of, site_of};
+use row_tools::{HeldText, calls_of, linux_calls_of, site_of};
 use std::alloc::{AllocError, Global};
 
-/// A table of calls and a site.
+/// A table of calls, once as the base kernel and once as Linux reads their names, and a site.
 #[derive(Drop)]
 pub struct Tables {
     pub calls: Box<CallTable>,
+    pub linux: Box<CallTable>,
     pub site: Box<SiteTable>,
 }
 
@@ -31,6 +32,7 @@ pub fn tables_of(alloc: Global, lines: &[String]) -> Option<Tables> {
     let site = text_before(alloc, lines, "site").ok()?;
     Some(Tables {
         calls: calls_of(alloc, calls.as_str())?,
+        linux: linux_calls_of(alloc, calls.as_str())?,
         site: site_of(alloc, site.as_str())?,
     })
 }

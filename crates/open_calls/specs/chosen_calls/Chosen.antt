@@ -7,7 +7,7 @@ use Rattle.std.specs.Str.{bytes_eq}
 use Rattle.ceilings.specs.abs_path.Paths.{Path}
 use Rattle.ceilings.specs.call_table.Table.{every_call}
 use Rattle.ceilings.specs.call_table.declared.listed.CallLine.{CallLine}
-use Rattle.ceilings.specs.linux_numbers.Capabilities.{cap_sys_admin, cap_setuid, cap_setgid}
+use Rattle.ceilings.specs.linux_numbers.Capabilities.{cap_sys_admin, cap_sys_nice, cap_setuid, cap_setgid}
 use Rattle.ceilings.specs.site_table.declared.row.Row.{Row}
 use Rattle.ceilings.specs.kernel_model.kern_files.MountCall.{ms_remount_bind}
 use Rattle.ceilings.specs.kernel_model.kernel_calls.Rules.{rule_of}
@@ -19,13 +19,14 @@ use Rattle.ceilings.specs.kernel_ways.Entering.{pid_in}
 use Rattle.ceilings.specs.kernel_model.declared.kernel_calls.rule.Rule.{Rule}
 use Rattle.ceilings.specs.kernel_model.declared.kernel_calls.rule.Rule.TheVariants.{Plain}
 use Rattle.ceilings.specs.kernel_laws.Bound.{attaching, is_barred, is_owner, is_to_exec, is_mounting, is_user, can_run, ceiling, power_of}
-use Rattle.ceilings.specs.kernel_laws.Kinds.{family_payload}
+use Rattle.ceilings.specs.kernel_laws.Kinds.{family_payload, path_payload, realtime_payload, space_payload}
 use Rattle.ceilings.specs.kernel_laws.Launched.{Launch, lets, lets_line}
 use Rattle.ceilings.specs.kernel_laws.PlainCalls.{bare_call}
 use Rattle.ceilings.specs.kernel_laws.declared.question_types.kind.CallKind.{CallKind}
 use Rattle.ceilings.specs.kernel_laws.declared.question_types.kind.CallKind.TheVariants.{ForPath, ForFamily, ForNamespace, MapsWx}
-use Rattle.ceilings.specs.kernel_laws.declared.question_types.kind.CallKind.TheVariants.{ProtectsX, SchedulesRealtime}
-use Rattle.ceilings.specs.kernel_laws.declared.question_types.kind.CallKind.TheVariants.{TakesPersonality, SetsMode, TakesUid, TakesGid}
+use Rattle.ceilings.specs.kernel_laws.declared.question_types.kind.CallKind.TheVariants.{ProtectsX, SchedulesRealtime, SetsRealtime}
+use Rattle.ceilings.specs.kernel_laws.declared.question_types.kind.CallKind.TheVariants.{TakesPersonality, SetsMode, OpensMode, TakesUid}
+use Rattle.ceilings.specs.kernel_laws.declared.question_types.kind.CallKind.TheVariants.{TakesGid}
 use Rattle.ceilings.specs.kernel_laws.declared.question_types.kind.CallKind.TheVariants.{PlainCall}
 use Rattle.ceilings.specs.kernel_laws.declared.question_types.wish.Wish.{Wish}
 use Rattle.ceilings.specs.kernel_laws.declared.question_types.wish.Wish.TheVariants.{Exec as ToExec}
@@ -51,15 +52,23 @@ unmarked = 0x1022
 abbrev pub is_held_off : Launch → Wish → Row → Bool
 is_held_off launch wish row = is_to_exec wish && is_barred launch row
 
+-- what the first call for a wish carries: a path, and with openat2(2) flags
+abbrev pub wish_payload : Launch → Wish → Path → Payload
+wish_payload launch wish path = path_payload wish (own_rule (line_of launch (ForPath wish))) path
+
 -- the row is exposed, and the first call for the wish names it
 abbrev pub operation_calls : Launch → Power → ℕ → Wish → Row → List Call
 operation_calls launch power flags wish row = exposing_calls launch power flags wish row.path ++ call_by launch (ForPath wish)
-    (OnePath (exposing_path launch power wish row.path)) ∷ []
+    (wish_payload launch wish (exposing_path launch power wish row.path)) ∷ []
 
 -- ---- in a user namespace of its own, user_namespaces(7)
+-- what the first call for a type of namespace carries
+abbrev pub own_payload : Launch → NamespaceType → Payload
+own_payload launch space = space_payload (own_rule (line_of launch (ForNamespace space))) space
+
 -- the call that makes one, of process 1
 abbrev pub user_call : Launch → Call
-user_call launch = call_by launch (ForNamespace namespace.User) Nothing
+user_call launch = call_by launch (ForNamespace namespace.User) (own_payload launch namespace.User)
 
 -- who is in it: process 1 by unshare(2), its first child by clone(2)
 abbrev pub pid_inside : Launch → ℕ
@@ -163,8 +172,19 @@ abbrev pub space_calls : Launch → Path → NamespaceType → List Call
 space_calls launch program space =
     if is_user space then user_call launch ∷ []
     else if has (ceiling launch).effective cap_sys_admin then gaining launch program cap_sys_admin ++ call_by launch
-    (ForNamespace space) Nothing ∷ []
-    else user_call launch ∷ call_inside launch (ForNamespace space) Nothing ∷ []
+    (ForNamespace space) (own_payload launch space) ∷ []
+    else user_call launch ∷ call_inside launch (ForNamespace space) (own_payload launch space) ∷ []
+
+-- a realtime policy needs no capability if sched_setscheduler(2) passes, else CAP_SYS_NICE for sched_setattr(2)
+abbrev pub realtime_calls : Launch → Path → List Call
+realtime_calls launch program =
+    if lets launch SchedulesRealtime then call_by launch SchedulesRealtime Nothing ∷ []
+    else gaining_if launch program (Some cap_sys_nice) ++ call_by launch SetsRealtime realtime_payload ∷ []
+
+-- a set-id bit, by a call that gives a mode if one passes, else by open(2) of a file that is made at the program's path
+abbrev pub suid_calls : Launch → Path → List Call
+suid_calls launch program =
+    if lets launch SetsMode then call_by launch SetsMode Nothing ∷ [] else call_by launch OpensMode (OnePath program) ∷ []
 
 -- the calls that are chosen to show a question
 unfoldable pub calls_for : Launch → Path → Question → List Call
@@ -175,9 +195,9 @@ calls_for launch program (asking.Namespace space) = space_calls launch program s
 calls_for launch program asking.MapWx = call_by launch MapsWx Nothing ∷ []
 calls_for launch program asking.ProtectX = call_by launch ProtectsX Nothing ∷ []
 calls_for launch program asking.ShmX = call_by launch (attaching launch) Nothing ∷ []
-calls_for launch program asking.Realtime = call_by launch SchedulesRealtime Nothing ∷ []
+calls_for launch program asking.Realtime = realtime_calls launch program
 calls_for launch program asking.Personality = call_by launch TakesPersonality Nothing ∷ []
-calls_for launch program asking.SuidBit = call_by launch SetsMode Nothing ∷ []
+calls_for launch program asking.SuidBit = suid_calls launch program
 calls_for launch program (asking.Cap number) = gaining launch program number
 calls_for launch program (asking.Uid id) = uid_calls launch program id
 calls_for launch program (asking.Gid id) = gid_calls launch program id

@@ -2,6 +2,7 @@
 -- native ABI before the other; without one, the first of the table.
 use Rattle.std.specs.Prelude.{ℕ, Bool, false, codes, List, [], ◌∷◌, find, Option, None, option_and_then, unwrap_or}
 use Rattle.std.specs.Option.{option_or, option_map_or}
+use Rattle.ceilings.specs.call_table.declared.call_names.kernel.Kernel.TheVariants.{Base}
 use Rattle.ceilings.specs.call_table.declared.listed.CallLine.{CallLine}
 use Rattle.ceilings.specs.call_table.Lookups.{named}
 use Rattle.ceilings.specs.call_table.Table.{calls_in, every_call}
@@ -15,7 +16,7 @@ use Rattle.ceilings.specs.kernel_laws.Launched.{Launch, chosen_words, lets_line}
 use Rattle.ceilings.specs.kernel_laws.declared.question_types.kind.CallKind.{CallKind}
 use Rattle.ceilings.specs.kernel_laws.declared.question_types.kind.CallKind.TheVariants.{ForPath, PlainCall, ForFamily, ForNamespace}
 use Rattle.ceilings.specs.kernel_laws.declared.question_types.kind.CallKind.TheVariants.{MapsWx, ProtectsX, AttachesX, AttachesReadOnlyX, SchedulesRealtime}
-use Rattle.ceilings.specs.kernel_laws.declared.question_types.kind.CallKind.TheVariants.{TakesPersonality, SetsMode, ChangesMounts}
+use Rattle.ceilings.specs.kernel_laws.declared.question_types.kind.CallKind.TheVariants.{SetsRealtime, TakesPersonality, SetsMode, OpensMode, ChangesMounts}
 use Rattle.ceilings.specs.kernel_laws.declared.question_types.kind.CallKind.TheVariants.{RemovesMounts, SetsCaps, TakesUid, TakesGid}
 use Rattle.ceilings.specs.kernel_laws.declared.question_types.wish.Wish.TheVariants.{See as ToSee, Read as ToRead, Write as ToWrite}
 use Rattle.ceilings.specs.kernel_laws.declared.question_types.wish.Wish.TheVariants.{Exec as ToExec}
@@ -36,9 +37,11 @@ names_of ProtectsX = codes "mprotect" ∷ codes "pkey_mprotect" ∷ []
 names_of AttachesX = codes "shmat" ∷ []
 names_of AttachesReadOnlyX = codes "shmat" ∷ []
 names_of SchedulesRealtime = codes "sched_setscheduler" ∷ []
+names_of SetsRealtime = codes "sched_setattr" ∷ []
 names_of TakesPersonality = codes "personality" ∷ []
 names_of SetsMode = codes "chmod" ∷ codes "fchmod" ∷ codes "fchmodat" ∷ codes "mkdir" ∷ codes "mkdirat" ∷ codes "mknod" ∷ codes "mknodat"
     ∷ []
+names_of OpensMode = codes "open" ∷ codes "openat" ∷ []
 names_of ChangesMounts = codes "mount" ∷ []
 names_of RemovesMounts = codes "umount2" ∷ []
 names_of SetsCaps = codes "capset" ∷ []
@@ -61,7 +64,7 @@ first_line launch kind = option_or (line_in launch kind 0)
 
 -- a line of no table
 abbrev pub no_line : CallLine
-no_line = record { name = []; abi = 0; number = 0; cap = None }
+no_line = record { name = []; abi = 0; number = 0; cap = None; kernel = Base }
 
 -- that line, where there is one
 unfoldable pub line_of : Launch → CallKind → CallLine
