@@ -6,12 +6,14 @@ about what cannot be converted.
 from __future__ import annotations
 
 import re
-from typing import Iterable, Optional, Sequence
+from typing import Iterable, Mapping, Optional, Sequence
 
 from .record import dataclass, field
 
 PATH_FIRST = {"stat", "lstat", "access", "open", "creat", "truncate", "execve", "umount2"}
 PATH_SECOND = {"openat", "newfstatat", "statx", "faccessat", "faccessat2"}
+# Calls that carry something only if the site has the key `systemd`. A script has them by their numbers, which any site reads.
+BY_NUMBER = {"openat2", "execveat", "clone3", "sched_setattr"}
 FORKS = {"fork", "vfork", "clone", "clone3"}
 # Flags that filters and the kernel's rules look at, by their names in strace(1).
 FLAGS = {
@@ -52,10 +54,10 @@ class Traced:
         return arguments(self.inner)
 
 
-def names(table: str) -> set[str]:
-    """The names of the native ABI's calls, by the text of a table."""
+def names(table: str) -> dict[str, str]:
+    """The names of the native ABI's calls with their numbers, by the text of a table."""
     lines = (line.split() for line in table.split("\n"))
-    return {words[1] for words in lines if len(words) >= 3 and words[0] == "call"}
+    return {words[1]: words[2] for words in lines if len(words) >= 3 and words[0] == "call"}
 
 
 def arguments(text: str) -> list[str]:
@@ -202,7 +204,7 @@ def signals_of(log: Iterable[str]) -> set[str]:
 class Script:
     """The lines of a script, with the numbers of processes, and what cannot be converted."""
 
-    known: set[str]
+    known: Mapping[str, str]
     lines: list[str] = field(default_factory=list)
     messages: list[str] = field(default_factory=list)
     numbers: dict[str, int] = field(default_factory=dict)
@@ -221,7 +223,7 @@ class Script:
             self.threads.add(call.value)
             return
         if call.name == "clone3":
-            self.tell("the model has no clone3, so clone makes the child")
+            self.tell("clone makes the child of clone3, which not every site has")
             self.lines.append(f"{self.numbers[call.who]} clone")
         self.count += 1
         self.numbers[call.value] = self.count
@@ -246,13 +248,14 @@ class Script:
             if carried is None:
                 self.tell(f"strace did not print what {name} carries")
                 return
-            self.lines.append(" ".join([str(self.numbers[who]), name, *carried]))
+            written = f"#{self.known[name]}" if name in BY_NUMBER else name
+            self.lines.append(" ".join([str(self.numbers[who]), written, *carried]))
             if name in FORKS and call.value.isdigit():
                 self._children(call)
 
 
-def script_of(log: Iterable[str], known: set[str]) -> Script:
-    """The script of a log, over the calls of a table."""
+def script_of(log: Iterable[str], known: Mapping[str, str]) -> Script:
+    """The script of a log, over the calls of a table with their numbers."""
     script = Script(known)
     for call in calls_of(log):
         script.put(call)

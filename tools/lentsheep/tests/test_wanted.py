@@ -53,10 +53,20 @@ class Logs(unittest.TestCase):
         self.assertEqual({"SIGHUP"}, signals_of(LOG.split("\n")))
 
     def test_script(self):
-        script = script_of(LOG.split("\n"), {"execve", "vfork", "setuid", "socket"})
+        script = script_of(LOG.split("\n"), {"execve": "59", "vfork": "58", "setuid": "105", "socket": "41"})
         wanted = ["1 execve /usr/sbin/webd", "1 socket 10 1", "1 socket 1 524290", "1 vfork", "2 setuid 33"]
         self.assertEqual(wanted, script.lines)
         self.assertIn("the table has no call openat", script.messages)
+
+    def test_script_by_number(self):
+        log = [
+            '10 clone3({flags=CLONE_VM|CLONE_VFORK, exit_signal=SIGCHLD, stack=0x7f00, stack_size=0x9000}, 88) = 11',
+            '11 openat2(AT_FDCWD, "/etc/web", {flags=O_RDONLY|O_CLOEXEC, resolve=RESOLVE_BENEATH}, 24) = 3',
+        ]  # fmt: skip
+        script = script_of(log, {"clone": "56", "clone3": "435", "openat2": "437"})
+        # what these carry depends on the site, and a number carries nothing on any site
+        self.assertEqual(["1 #435", "1 clone", "2 #437 18446744073709551516 0 0 24"], script.lines)
+        self.assertEqual(["clone makes the child of clone3, which not every site has"], script.messages)
 
     def test_shortened(self):
         lines = ["1 read", "1 fork", "1 read", "1 fork", "2 read"]
