@@ -8,7 +8,8 @@ mod tables;
 
 use crate::replies::reply_text;
 pub use crate::worlds::tables::{Tables, tables_of};
-use asked_service::{Call, CallTable, SiteTable, World, read_script};
+use asked_service::{Call, CallTable, SiteTable, World};
+use report_text::read_script;
 use row_tools::{Follow, Shown, number, said};
 use std::alloc::{AllocError, Global};
 use std::io;

@@ -35,7 +35,7 @@ fn know_alike(
     requires mounts { CanBeMounted (host_of asked.now.site.now) plan.now }
     ensures whichever_programs { AreSameThere asked.now settings.now plan.now (given_bytes programs.now) folder.now }
 {
-    let _mentions = settings.mentions.list();
+    let _mentions = settings.mentions.leaves_the_root();
     let _program = settings.program.text();
     alike(
         asked.unit,
