@@ -25,6 +25,12 @@ DOING = {
     "suid-bit": ("chmod", "fchmod", "fchmodat", "mkdir", "mkdirat", "mknod", "mknodat"),
 }  # fmt: skip
 
+#: The calls that the kernel of the key `systemd` has besides: `other-calls`.
+ALSO_DOING = {
+    "read": ("openat2",), "write": ("openat2",), "exec": ("execveat",), "ns": ("clone3",), "uid": ("setreuid",), "gid": ("setregid",),
+    "suid-bit": ("open", "openat", "fchmodat2"),
+}  # fmt: skip
+
 
 @dataclass(frozen=True)
 class Judged:
@@ -104,7 +110,8 @@ class Judged:
 
     def refuses_doing(self, kind: str) -> bool:
         """Whether SystemCallFilter= refuses every call by which questions of a kind are done."""
-        return not any(self.passes(call) for call in DOING.get(kind, ())) and kind in DOING
+        also = ALSO_DOING.get(kind, ()) if self.follows("other-calls") else ()
+        return kind in DOING and not any(self.passes(call) for call in (*DOING[kind], *also))
 
     def lacks_capability(self, answer: Answer) -> bool:
         """Whether a call or a family asks for a capability that the service cannot have, there either."""
