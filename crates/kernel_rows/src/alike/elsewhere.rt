@@ -10,6 +10,7 @@ ghost use Rattle.asked_service.specs.kernel_laws.Launched.{launch_of};
 ghost use Rattle.asked_service.specs.launcher.Answers.{given_bytes};
 ghost use Rattle.asked_service.specs.mount_plan.Answers.{Plans};
 ghost use Rattle.asked_service.specs.mount_plan.Host.{host_of};
+ghost use Rattle.asked_service.specs.path_settings.Mentioned.{AreKept};
 ghost use Rattle.asked_service.specs.site_table.Table.{kind_at};
 ghost use Rattle.asked_service.specs.site_table.declared.kinds.RowKind.TheVariants.{Dir};
 ghost use Rattle.asked_service.specs.unit_launch.Launching.{IsLaunched};
@@ -19,7 +20,22 @@ use abs_path::AbsPath;
 use asked_service::{
     Ceiling, FilterProgram, Launched, MountStep, RowKind, Settings, alike, blind, ceiling,
 };
+use mount_plan::Mentioned;
 use std::alloc::{AllocError, Global};
+
+// Does nothing. Its contract says that there are few mentions and that each is whole, as a call of `list` guarantees.
+fn know_mentions(mentions: &Mentioned)
+    ensures kept { AreKept mentions.now }
+{
+    match mentions {
+        Mentioned::Base(mentions) => {
+            let _list = mentions.list();
+        }
+        Mentioned::Systemd(entries) => {
+            let _list = entries.list();
+        }
+    }
+}
 
 // States the law at these settings and their plan, which meet its premises, and at any programs. It does nothing.
 fn know_alike(
@@ -35,7 +51,7 @@ fn know_alike(
     requires mounts { CanBeMounted (host_of asked.now.site.now) plan.now }
     ensures whichever_programs { AreSameThere asked.now settings.now plan.now (given_bytes programs.now) folder.now }
 {
-    let _mentions = settings.mentions.leaves_the_root();
+    know_mentions(&settings.mentions);
     let _program = settings.program.text();
     alike(
         asked.unit,

@@ -5,7 +5,7 @@ pub returns : goal.returns
 returns c = record {
   whichever_programs = λ last steps launches blind agree.
       c.alike.ensures.to_what_is_blind c.args.settings.now c.args.plan.now last steps c.requires.accepted c.requires.settings
-      (record { few = c.list-mentions.ensures.at_most_192; whole = c.list-mentions.ensures.whole })
+      c.know_mentions.ensures.kept
       (record { normal = c.text-program.ensures.normal; short = subst (λ (text : List ℕ). length text ≤ 512) c.text-program.ensures.whole c.text-program.ensures.short })
       c.requires.plan c.requires.mounts launches blind agree;
 }
