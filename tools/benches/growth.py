@@ -14,6 +14,8 @@ from benches.timing import watched
 MOST_SECONDS, MOST_MEMORY = 10, 2 << 30
 # The program reads at most so many bytes of a file.
 LONGEST = 1 << 20
+# More files than any command reads: 1,024 units, and 256 drop-ins of one.
+MOST_FILES = 1 << 12
 # Growth is seen above these: seconds of user time and MB more than the run with the empty input takes.
 LEAST_SECONDS, LEAST_MEMORY = 0.02, 2.0
 # An exponent up to this counts as no faster than the input, since times are never exact.
@@ -108,7 +110,7 @@ def grown(
     count = FIRST
     while count <= LAST and not is_over():
         files = make(count)
-        if max(map(len, files.values())) > LONGEST:
+        if max(map(len, files.values())) > LONGEST or len(files) > MOST_FILES:
             break
         cost = cost_of(words, files, less)
         # a refusal is no answer to the whole input; of the launch it is one
