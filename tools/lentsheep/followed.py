@@ -27,6 +27,7 @@ FOLLOWED = frozenset(
     newer-values
     nnp-from-filters
     nnp-from-more
+    nosuid-exec
     old-names-close
     old-names-open
     other-calls

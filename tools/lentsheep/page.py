@@ -266,10 +266,10 @@ def mounts(plan: Plan) -> str:
     """The mounts of the service."""
     rows = [
         (escape(it.place), escape(it.source or it.what), "" if it.writable is None else "rw" if it.writable else "ro",
-         "" if it.executable is None else "exec" if it.executable else "noexec")
+         "" if it.executable is None else "exec" if it.executable else "noexec", "nosuid" if it.nosuid else "")
         for it in plan.mounts
     ]  # fmt: skip
-    return table(("Place", "What is there", "", ""), rows, "code")
+    return table(("Place", "What is there", "", "", ""), rows, "code")
 
 
 def pictures(filters: Filters, names: Mapping[str, int]) -> str:

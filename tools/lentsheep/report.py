@@ -28,7 +28,7 @@ _KILLED = Pattern(r"launch killed step ([0-9]+)")
 _PRIVILEGED = Pattern(r"launch privileged ([^ ]+)")
 _SUMMARY = Pattern(r"(?:summary|before|after) denied ([0-9]+) open ([0-9]+)")
 _NOTE = Pattern(r"note ([^ ]+) ([0-9]+) ([a-z-]+)")
-_MOUNT = Pattern(r"mount ([^ ]+) (?:(hidden)|(?:host ([^ ]+)|(empty)) (ro|rw) (exec|noexec))")
+_MOUNT = Pattern(r"mount ([^ ]+) (?:(hidden)|(?:host ([^ ]+)|(empty)) (ro|rw) (exec|noexec)( nosuid)?)")
 _FILTER = Pattern(r"filter ([^ ]+) ([0-9]+)")
 _INSTRUCTION = Pattern(r"[0-9a-f]{16}")
 _REPLY = Pattern(r"(.+) -> (?:(ok|errno) ([0-9]+)|(killed))")
@@ -139,12 +139,12 @@ def _plan(lines: list[str], cut: bool, refusal: Refusal | None) -> Plan:
     count, unread = None, []
     for line in lines:
         if found := _MOUNT.fullmatch(line):
-            place, hidden, source, _, writes, runs = found.groups()
+            place, hidden, source, _, writes, runs, plainly = found.groups()
             if hidden:
                 mounts.append(Mount(unescaped(place), "hidden"))
             else:
                 what, host = ("host", unescaped(source)) if source else ("empty", None)
-                mounts.append(Mount(unescaped(place), what, host, writes == "rw", runs == "exec"))
+                mounts.append(Mount(unescaped(place), what, host, writes == "rw", runs == "exec", plainly is not None))
         elif numbers := _numbers(line, "mounts"):
             count = numbers[0]
         else:

@@ -152,6 +152,8 @@ class Mount:
     source: str | None = None
     writable: bool | None = None
     executable: bool | None = None
+    #: Whether set-id bits and capabilities of programs have no effect there.
+    nosuid: bool = False
 
 
 @dataclass(frozen=True)

@@ -18,19 +18,18 @@ use Rattle.kernel_ways.specs.kern_mounts.declared.step.What.TheVariants.{Host, E
 use Rattle.kernel_ways.specs.kern_mounts.declared.step.MountStep.{MountStep}
 use Rattle.kernel_ways.specs.kernel_laws.Bound.{gathered, when, is_barred, can_run, file_gain, gain_at, caps_before}
 use Rattle.kernel_ways.specs.kernel_laws.Launched.{Launch}
-use Rattle.kernel_ways.specs.kernel_laws.declared.question_types.wish.Wish.{Wish}
-use Rattle.kernel_ways.specs.kernel_laws.declared.question_types.wish.Wish.TheVariants.{Exec as ToExec}
+use Rattle.kernel_ways.specs.kern_mounts.declared.step.Flags.{Flags}
 use Rattle.kernel_ways.specs.kernel_laws.declared.question_types.power.Power.{Power}
 use Rattle.kernel_ways.specs.kernel_laws.declared.question_types.power.Power.TheVariants.{None as Nowise, Unmount as Unmounting}
 use Rattle.kernel_ways.specs.kernel_laws.declared.question_types.power.Power.TheVariants.{Mount as Mounting}
-use Rattle.kernel_ways.specs.kernel_laws.Reach.{fits, shows_row, serves, reach_from, reaches}
+use Rattle.kernel_ways.specs.kernel_laws.Reach.{shows_row, serves_with, first_with, reaches_with, runs_marked}
 use Rattle.kernel_ways.proofs.OfKernelLaws.Bound.{gathered_has, gathered_within, within_when}
 use Rattle.kernel_ways.specs.Spared.{caps_by}
 
-serves_grow : (row : Path) (wish : Wish) (entry : MountStep) (later : Table) → serves false row wish entry later ≡ true
-    → serves true row wish entry later ≡ true
-serves_grow row wish entry later h =
-    let p = and_parts (fits wish entry.flags) (shows_row false entry later row entry.what) h in
+serves_grow : (row : Path) (test : Flags → Bool) (entry : MountStep) (later : Table) → serves_with false row test entry later ≡ true
+    → serves_with true row test entry later ≡ true
+serves_grow row test entry later h =
+    let p = and_parts (test entry.flags) (shows_row false entry later row entry.what) h in
     and_from _ _ p.0 (by entry.what p.1)
   where
     by : (what : What) → shows_row false entry later row what ≡ true → shows_row true entry later row what ≡ true
@@ -39,25 +38,25 @@ serves_grow row wish entry later h =
     by Empty h = cc
     by (Hidden directory) h = cc
 
-from_grow : (row : Path) (wish : Wish) (table : Table) (at : ℕ) → is_some (reach_from false row wish table at) ≡ true
-    → is_some (reach_from true row wish table at) ≡ true
-from_grow row wish [] at h = cc
-from_grow row wish (entry ∷ later) at h = by (serves false row wish entry later) refl (serves true row wish entry later) refl h
-    (from_grow row wish later (at + 1))
+from_grow : (row : Path) (test : Flags → Bool) (table : Table) (at : ℕ) → is_some (first_with false row test table at) ≡ true
+    → is_some (first_with true row test table at) ≡ true
+from_grow row test [] at h = cc
+from_grow row test (entry ∷ later) at h = by (serves_with false row test entry later) refl (serves_with true row test entry later) refl h
+    (from_grow row test later (at + 1))
   where
-    by : (b : Bool) → serves false row wish entry later ≡ b → (c : Bool) → serves true row wish entry later ≡ c
-        → is_some (cond b (Some at) (reach_from false row wish later (at + 1))) ≡ true
-        → (is_some (reach_from false row wish later (at + 1)) ≡ true → is_some (reach_from true row wish later (at + 1)) ≡ true)
-        → is_some (cond c (Some at) (reach_from true row wish later (at + 1))) ≡ true
+    by : (b : Bool) → serves_with false row test entry later ≡ b → (c : Bool) → serves_with true row test entry later ≡ c
+        → is_some (cond b (Some at) (first_with false row test later (at + 1))) ≡ true
+        → (is_some (first_with false row test later (at + 1)) ≡ true → is_some (first_with true row test later (at + 1)) ≡ true)
+        → is_some (cond c (Some at) (first_with true row test later (at + 1))) ≡ true
     by b e true f h more = refl
-    by true e false f h more = let both : true ≡ false = sym (serves_grow row wish entry later e) ∙ f in cc
+    by true e false f h more = let both : true ≡ false = sym (serves_grow row test entry later e) ∙ f in cc
     by false e false f h more = more h
 
-reaches_grow : (power : Power) (table : Table) (row : Path) (wish : Wish) → reaches Nowise table row wish ≡ true
-    → reaches power table row wish ≡ true
-reaches_grow Nowise table row wish h = h
-reaches_grow Unmounting table row wish h = from_grow row wish table 0 h
-reaches_grow Mounting table row wish h = refl
+reaches_grow : (power : Power) (table : Table) (row : Path) (test : Flags → Bool) → reaches_with Nowise table row test ≡ true
+    → reaches_with power table row test ≡ true
+reaches_grow Nowise table row test h = h
+reaches_grow Unmounting table row test h = from_grow row test table 0 h
+reaches_grow Mounting table row test h = refl
 
 when_grow : (b c : Bool) (set : ℕ) → (b ≡ true → c ≡ true) → IsWithin (when b set) (when c set)
 when_grow true c set h = within_when c set set (h refl) (within_self set)
@@ -66,9 +65,9 @@ when_grow false c set h = none_within (when c set)
 module _ (launch : Launch) (power : Power) where
   pub run_grows : (row : Row) → can_run launch Nowise row ≡ true → can_run launch power row ≡ true
   run_grows row h =
-      let p = and_parts (is_exe row.kind && reaches Nowise launch.table row.path ToExec) (not (is_barred launch row)) h in
-      let q = and_parts (is_exe row.kind) (reaches Nowise launch.table row.path ToExec) p.0 in
-      and_from _ _ (and_from _ _ q.0 (reaches_grow power launch.table row.path ToExec q.1)) p.1
+      let p = and_parts (is_exe row.kind && reaches_with Nowise launch.table row.path runs_marked) (not (is_barred launch row)) h in
+      let q = and_parts (is_exe row.kind) (reaches_with Nowise launch.table row.path runs_marked) p.0 in
+      and_from _ _ (and_from _ _ q.0 (reaches_grow power launch.table row.path runs_marked q.1)) p.1
 
   before_grows : IsWithin (caps_before launch Nowise) (caps_before launch power)
   before_grows = union_within _ _ _ (within_union_left _ _ _ (within_self _))

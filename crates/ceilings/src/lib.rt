@@ -35,13 +35,13 @@ pub use kernel_ways::linux_numbers::capabilities::{
     CAP_LAST_CAP, CAP_SETGID, CAP_SETUID, CAP_SYS_ADMIN, CAP_SYS_NICE,
 };
 pub use kernel_ways::{
-    FilterProgram, LaunchError, Launched, Mentioned, MountSteps, PlanError, Resolved, Settings,
-    SettingsError, Version, blindness, is_covered, is_read, launch, openness, plan, reach,
-    settings,
+    FilterProgram, LaunchError, Launched, Mentioned, MountSteps, Need, PlanError, Resolved,
+    Settings, SettingsError, Version, blindness, is_covered, is_read, launch, openness, plan,
+    reach, reach_for, settings,
 };
 pub use leads::{RowLeads, reach_by};
 pub use making::ceiling;
 pub use memory::{attaching, refuses_memory};
 pub use passing::PathCalls;
-pub use programs::{can_run, is_barred};
+pub use programs::{can_run, is_barred, runs_plainly};
 pub use ruled::{LineRules, can_make_user};

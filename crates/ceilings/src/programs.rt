@@ -1,12 +1,12 @@
 //! Tests which programs of a site a service can run.
 
 ghost use Rattle.std.specs.Prelude.{◌≡◌};
-ghost use Rattle.kernel_ways.specs.kernel_laws.Bound.{can_run, is_barred};
+ghost use Rattle.kernel_ways.specs.kernel_laws.Bound.{can_run, is_barred, runs_plainly};
 ghost use Rattle.kernel_ways.specs.kernel_laws.Launched.{IsLaunchedWorld, launch_of};
 
 use crate::first::{launched_process, launched_table};
 use kernel_model::{Row, RowKind, World};
-use kernel_ways::{Power, Wish, reach};
+use kernel_ways::{Need, Power, reach_for};
 
 /// Returns whether the row's effective bit is set and the bounding set of the launch withholds one of its
 /// capabilities. Then execve(2) refuses the row, unless the row's marks are not looked at or the bounding set is full
@@ -18,7 +18,8 @@ pub fn is_barred(world: &World<'_>, row: &Row) -> bool
     row.effective && !row.caps.within(launched_process(world).creds.bounding())
 }
 
-/// Returns whether the row is a program that some mount table of the power leads to and that is not barred.
+/// Returns whether the row is a program that is not barred, and to which some mount table of the power leads where
+/// execve(2) looks at its marks.
 pub fn can_run(world: &World<'_>, power: Power, row: &Row) -> bool
     requires launched { IsLaunchedWorld world.now }
     ensures runs { result ≡ can_run (launch_of world.now) power row.now }
@@ -27,7 +28,16 @@ pub fn can_run(world: &World<'_>, power: Power, row: &Row) -> bool
         RowKind::Dir | RowKind::File => false,
         RowKind::Exe => {
             !is_barred(world, row)
-                && reach(launched_table(world), &row.path, Wish::Exec, power).is_some()
+                && reach_for(launched_table(world), &row.path, Need::Marked, power).is_some()
         }
     }
+}
+
+/// Returns whether some mount table of the power leads to the row where execve(2) does not look at its marks (mount(2),
+/// MS_NOSUID). There execve refuses no row for them.
+pub fn runs_plainly(world: &World<'_>, power: Power, row: &Row) -> bool
+    requires launched { IsLaunchedWorld world.now }
+    ensures unmarked { result ≡ runs_plainly (launch_of world.now) power row.now }
+{
+    reach_for(launched_table(world), &row.path, Need::Unmarked, power).is_some()
 }

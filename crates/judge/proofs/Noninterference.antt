@@ -51,13 +51,13 @@ kept_normal : (mentions : Mentioned) → AreKept mentions → AllByRecursion (λ
 kept_normal (Base list) kept = paths_normal (λ mention. mention.path) is_whole list
     (λ mention whole. (and_parts (is_normal mention.path) (nat_le (length (text_of mention.path)) 512)
     (and_parts (is_path mention.path) (has_whole_source mention.kind) whole).0).0) kept.whole
-kept_normal (Systemd list) kept = paths_normal (λ one. one.path) is_whole_entry list
+kept_normal (Systemd list no_new_privs) kept = paths_normal (λ one. one.path) is_whole_entry list
     (λ one whole. (and_parts (is_normal one.path) (nat_le (length (text_of one.path)) 512)
     (and_parts (is_path one.path) (has_entry_source one.mode) whole).0).0) kept.whole
 
 hosts_root : (mentions : Mentioned) → leaves_the_root mentions ≡ true → HasTheHostsRoot mentions
 hosts_root (Base list) leave = tt
-hosts_root (Systemd list) leave = leave
+hosts_root (Systemd list no_new_privs) leave = leave
 
 -- ---- a folder of a site
 module _ (folder : Path) (unit : Resolved) (table : calls.Table) (site other : Site) (made : Settings) (plan : Table)

@@ -1,30 +1,30 @@
 //! Tests which rows of the site can be seen, read, written and executed.
 
 ghost use Rattle.std.specs.Prelude.{◌≡◌, ◌&&◌, not, option_copied, slice_get};
-ghost use Rattle.ceilings.specs.kernel_laws.Bound.{can_reach, ceiling, is_barred, is_mounting, is_to_exec, open_at, power_of};
+ghost use Rattle.ceilings.specs.kernel_laws.Bound.{can_reach, ceiling, is_barred, is_to_exec, open_at, power_of, runs_plainly};
 ghost use Rattle.ceilings.specs.kernel_laws.Launched.{IsLaunchedWorld, launch_of, can_make_user};
 ghost use Rattle.ceilings.specs.kernel_laws.declared.question_types.question.Question.TheVariants.{Path as ByPath};
 ghost use Rattle.ceilings.specs.Leads.{leads_of};
 ghost use Rattle.ceilings.specs.Own.{IsCeilingOf};
 
 use crate::lines::makes_user;
-use ceilings::{Ceiling, Row, RowLeads, is_barred, reach_by};
-use questions::{Power, Wish, World};
+use ceilings::{Ceiling, Row, RowLeads, is_barred, reach_by, runs_plainly};
+use questions::{Wish, World};
 
-// Returns whether the wish is to execute a barred row, the power does not mount, and no user namespace can be made.
-// Then execve refuses the row by its marks: it does not look at them only on a mount with MS_NOSUID, which mount(2)
-// makes, and the bounding set is full only in a newer user namespace.
+// Returns whether the wish is to execute a barred row, no mount with nosuid leads to it, and no user namespace can be
+// made. Then execve refuses the row by its marks: it does not look at them only on such a mount, and the bounding set is
+// full only in a newer user namespace.
 fn is_refused(world: &World<'_>, top: &Ceiling, wish: Wish, row: &Row) -> bool
     requires launched { IsLaunchedWorld world.now }
     requires its_own_ceiling { IsCeilingOf (launch_of world.now) top.now }
-    ensures { result ≡ (((is_to_exec wish && not (is_mounting top.now.power))
-        && is_barred (launch_of world.now) row.now) && not (can_make_user (launch_of world.now))) }
+    ensures { result ≡ (((is_to_exec wish && is_barred (launch_of world.now) row.now)
+        && not (runs_plainly (launch_of world.now) top.now.power row.now)) && not (can_make_user (launch_of world.now))) }
 {
-    match (wish, top.power) {
-        (Wish::Exec, Power::None | Power::Unmount) => {
-            is_barred(world, row) && !makes_user(world, top)
+    match wish {
+        Wish::Exec => {
+            is_barred(world, row) && !runs_plainly(world, top.power, row) && !makes_user(world, top)
         }
-        _ => false,
+        Wish::See | Wish::Read | Wish::Write => false,
     }
 }
 

@@ -51,14 +51,13 @@ abbrev pub FindsProc : (Path → Option Bool) → List MountStep → Type 0
 FindsProc rows table = IsDirectory (finds rows table proc) ⊎ IsHiddenDirectory table proc
 
 -- a table that a launch can mount. The first entry shows the host's root. The places are short, in ascending byte order, and
--- all different. Besides the root there are at most 192 entries. No entry has nosuid, and a hidden entry has no flags. /proc is
--- found as a directory, or is the place of a hidden directory
+-- all different. Besides the root there are at most 192 entries. A hidden entry has no flags. /proc is found as a directory, or
+-- is the place of a hidden directory
 pub record CanBeMounted (rows : Path → Option Bool) (table : List MountStep) : Type 0 where
   pub begins_at_root : BeginsAtRoot table
   pub places_are_short : AllByRecursion HasShortPlace table
   pub places_ascend : AreAscending (map (λ step. step.place) table)
   pub few : length table ≤ 193
-  pub none_is_no_suid : AllByRecursion IsNotNoSuid table
   pub hidden_without_flags : AllByRecursion IsPlainIfHidden table
   pub finds_proc : FindsProc rows table
 

@@ -10,7 +10,7 @@ use Rattle.kernel_model.proofs.OfCapSets.Members.{within_self, within_through, c
 use Rattle.kernel_model.specs.site_table.declared.row.Row.{Row}
 use Rattle.kernel_model.specs.kern_creds.declared.creds.Creds.{Creds}
 use Rattle.kernel_laws.specs.Bounds.{Bounds, IsSettled, Admits, Keeps}
-use Rattle.kernel_laws.specs.declared.question_types.wish.Wish.TheVariants.{Exec as ToExec}
+use Rattle.kernel_laws.specs.Reach.{runs_marked}
 use Rattle.kernel_laws.specs.declared.question_types.power.Power.{Power}
 use Rattle.kernel_laws.specs.declared.question_types.power.Power.TheVariants.{None as Nowise, Mount as Mounting}
 use Rattle.kernel_laws.specs.declared.question_types.kind.CallKind.TheVariants.{ChangesMounts, RemovesMounts, SetsCaps}
@@ -168,8 +168,8 @@ module _ (launch : Launch) (uids gids : Bool) (power : Power) (l : IsLaunched la
   -- a row that some process can run with its marks honoured
   runs : (row : Row) → CanRun launch power row → (row.effective ≡ true → IsWithin row.caps c.bounding) → can_run launch power row ≡ true
   runs row r h =
-      let lead = leads launch.site.rows r.table r.path row ToExec r.found (ap not r.runs) in
-      let there = reaches_if power launch.table r.table row.path ToExec r.allowed lead in
+      let lead = leads launch.site.rows r.table r.path row runs_marked r.found (and_from _ _ (ap not r.runs) (ap not r.suid)) in
+      let there = reaches_if power launch.table r.table row.path runs_marked r.allowed lead in
       and_from _ _ (and_from _ _ r.exe there) (ap not (by row.effective h))
     where
       by : (b : Bool) → (b ≡ true → IsWithin row.caps c.bounding) → (b && not (within row.caps c.bounding)) ≡ false

@@ -17,23 +17,23 @@ use Rattle.kernel_model.proofs.OfKernMounts.Entries.{entry_leads}
 use Rattle.kernel_model.specs.kern_mounts.Split.{Table}
 use Rattle.kernel_model.specs.kern_mounts.Unmounts.{IsTrimmed}
 use Rattle.kernel_model.specs.kern_files.Looking.{flags_at, flags_by}
-use Rattle.kernel_laws.specs.declared.question_types.wish.Wish.{Wish}
+use Rattle.kernel_model.specs.kern_mounts.declared.step.Flags.{Flags}
 use Rattle.kernel_laws.specs.declared.question_types.power.Power.{Power}
 use Rattle.kernel_laws.specs.declared.question_types.power.Power.TheVariants.{None as Nowise, Unmount as Unmounting, Mount as Mounting}
-use Rattle.kernel_laws.specs.Reach.{fits, Leads, shows_row, serves, reach_from, reaches}
+use Rattle.kernel_laws.specs.Reach.{LeadsWith, shows_row, serves_with, first_with, reaches_with}
 use Rattle.kernel_laws.specs.Ceiling.{CanHave}
 use Rattle.kernel_model.proofs.OfKernMounts.Paths.{behind}
 use Rattle.kernel_model.proofs.OfKernMounts.Splits.{None_have, split_some, split_of}
 use Rattle.kernel_model.proofs.OfKernMounts.Unmounting.{part_has, trimmed_part}
 
-pub reach_complete : (uncover : Bool) (target : Path) (wish : Wish) (earlier : Table) (entry : MountStep) (later : Table) (at : ℕ)
-    → serves uncover target wish entry later ≡ true → is_some (reach_from uncover target wish (earlier ++ entry ∷ later) at) ≡ true
-reach_complete uncover target wish [] entry later at s = rw s refl
-reach_complete uncover target wish (head ∷ earlier) entry later at s =
-    by (serves uncover target wish head (earlier ++ entry ∷ later)) (reach_complete uncover target wish earlier entry later (at + 1) s)
+pub reach_complete : (uncover : Bool) (target : Path) (test : Flags → Bool) (earlier : Table) (entry : MountStep) (later : Table) (at : ℕ)
+    → serves_with uncover target test entry later ≡ true → is_some (first_with uncover target test (earlier ++ entry ∷ later) at) ≡ true
+reach_complete uncover target test [] entry later at s = rw s refl
+reach_complete uncover target test (head ∷ earlier) entry later at s =
+    by (serves_with uncover target test head (earlier ++ entry ∷ later)) (reach_complete uncover target test earlier entry later (at + 1) s)
   where
-    by : (b : Bool) → is_some (reach_from uncover target wish (earlier ++ entry ∷ later) (at + 1)) ≡ true
-        → is_some (cond b (Some at) (reach_from uncover target wish (earlier ++ entry ∷ later) (at + 1))) ≡ true
+    by : (b : Bool) → is_some (first_with uncover target test (earlier ++ entry ∷ later) (at + 1)) ≡ true
+        → is_some (cond b (Some at) (first_with uncover target test (earlier ++ entry ∷ later) (at + 1))) ≡ true
     by true more = refl
     by false more = more
 
@@ -41,37 +41,37 @@ pub none_any : (p : MountStep → Bool) (table : Table) → None_have p table �
 none_any p [] h = refl
 none_any p (entry ∷ table) h = or_from (p entry) (list_any p table) h.0 (none_any p table h.1)
 
-serves_if : (uncover : Bool) (target : Path) (wish : Wish) (entry : MountStep) (later : Table) (source rest : Path)
-    → entry.what ≡ Host source → target ≡ source ++ rest → fits wish entry.flags ≡ true →
-    (uncover || not (list_any (leads_to (entry.place ++ rest)) later)) ≡ true → serves uncover target wish entry later ≡ true
-serves_if uncover target wish entry later source rest host target_is f o =
+serves_if : (uncover : Bool) (target : Path) (test : Flags → Bool) (entry : MountStep) (later : Table) (source rest : Path)
+    → entry.what ≡ Host source → target ≡ source ++ rest → test entry.flags ≡ true →
+    (uncover || not (list_any (leads_to (entry.place ++ rest)) later)) ≡ true → serves_with uncover target test entry later ≡ true
+serves_if uncover target test entry later source rest host target_is f o =
     let prefix : is_prefix source target ≡ true = ap (is_prefix source) target_is ∙ prefix-append source rest in
     let own : rest_of source target ≡ rest = ap (rest_of source) target_is ∙ rest-append source rest in
     let open' : (uncover || not (list_any (leads_to (entry.place ++ rest_of source target)) later)) ≡ true = ap (λ (r : Path). uncover || not (list_any (leads_to (entry.place ++ r)) later)) own ∙ o in
     and_from _ _ f (ap (shows_row uncover entry later target) host ∙ and_from _ _ prefix open')
 
-pub reach_nowise-complete : (target : Path) (wish : Wish) (table : Table) → Leads table target wish
-    → is_some (reach_from false target wish table 0) ≡ true
-reach_nowise-complete target wish table l =
+pub reach_nowise-complete : (target : Path) (test : Flags → Bool) (table : Table) → LeadsWith table target test
+    → is_some (first_with false target test table 0) ≡ true
+reach_nowise-complete target test table l =
     let is = split_some (leads_to l.path) table l.split l.belongs in
     let clear : list_any (leads_to (l.split.entry.place ++ l.rest)) l.split.later ≡ false = rw l.path_is at (none_any (leads_to l.path) l.split.later is.last) in
-    let s = serves_if false target wish l.split.entry l.split.later l.source l.rest l.host l.row_is l.flags (ap not clear) in
-    rw is.whole (reach_complete false target wish l.split.earlier l.split.entry l.split.later 0 s)
+    let s = serves_if false target test l.split.entry l.split.later l.source l.rest l.host l.row_is l.flags (ap not clear) in
+    rw is.whole (reach_complete false target test l.split.earlier l.split.entry l.split.later 0 s)
 
-pub reach_unmounting-complete : (target : Path) (wish : Wish) (table now : Table) → IsTrimmed now table → Leads now target wish
-    → is_some (reach_from true target wish table 0) ≡ true
-reach_unmounting-complete target wish table now part l =
+pub reach_unmounting-complete : (target : Path) (test : Flags → Bool) (table now : Table) → IsTrimmed now table → LeadsWith now target test
+    → is_some (first_with true target test table 0) ≡ true
+reach_unmounting-complete target test table now part l =
     let is = split_some (leads_to l.path) now l.split l.belongs in
     let has = part_has (trimmed_part part) l.split.entry l.split.earlier l.split.later is.whole in
-    let s = serves_if true target wish l.split.entry has.1 l.source l.rest l.host l.row_is l.flags refl in
-    rw has.2 (reach_complete true target wish has.0 l.split.entry has.1 0 s)
+    let s = serves_if true target test l.split.entry has.1 l.source l.rest l.host l.row_is l.flags refl in
+    rw has.2 (reach_complete true target test has.0 l.split.entry has.1 0 s)
 
 -- at each power, a path that leads to the row on a table that a process can have shows in the closed form
-pub reaches_if : (power : Power) (launched table : Table) (target : Path) (wish : Wish) → CanHave power launched table
-    → Leads table target wish → reaches power launched target wish ≡ true
-reaches_if Nowise launched table target wish same l = reach_nowise-complete target wish launched (let P : Table → Type 0 = λ t. Leads t target wish in subst P same l)
-reaches_if Unmounting launched table target wish part l = reach_unmounting-complete target wish launched table part l
-reaches_if Mounting launched table target wish any l = refl
+pub reaches_if : (power : Power) (launched table : Table) (target : Path) (test : Flags → Bool) → CanHave power launched table
+    → LeadsWith table target test → reaches_with power launched target test ≡ true
+reaches_if Nowise launched table target test same l = reach_nowise-complete target test launched (let P : Table → Type 0 = λ t. LeadsWith t target test in subst P same l)
+reaches_if Unmounting launched table target test part l = reach_unmounting-complete target test launched table part l
+reaches_if Mounting launched table target test any l = refl
 
 -- ---- a path that finds a row leads there
 find_is : (rows : List Row) (path : Path) (found : Row) → row_at rows path ≡ Some found → found.path ≡ path
@@ -124,9 +124,9 @@ shows rows table path target e = by (entry_of table path) refl e
     by None is e = cc
     by (Some entry) is e = shows_by rows table path target entry is entry.what refl e
 
-pub leads : (rows : List Row) (table : Table) (path : Path) (target : Row) (wish : Wish) → finds (row_at rows) table path ≡ row target
-    → fits wish (flags_at table path) ≡ true → Leads table target.path wish
-leads rows table path target wish e f =
+pub leads : (rows : List Row) (table : Table) (path : Path) (target : Row) (test : Flags → Bool) → finds (row_at rows) table path ≡ row target
+    → test (flags_at table path) ≡ true → LeadsWith table target.path test
+leads rows table path target test e f =
     let s = shows rows table path target e in
     let split = split_of path table s.entry s.belongs in
     let own : entry_of table path ≡ Some split.0.entry = s.belongs ∙ ap (λ (m : MountStep). Some m) (sym split.2) in
@@ -141,7 +141,7 @@ leads rows table path target wish e f =
       path_is = behind split.0.entry.place path prefix;
       row_is = find_is rows (s.source ++ rest_of s.entry.place path) target s.at_place
           ∙ ap (λ (m : MountStep). s.source ++ rest_of m.place path) (sym split.2);
-      flags = ap (λ (o : Option MountStep). fits wish (flags_by o)) (sym own) ∙ f;
+      flags = ap (λ (o : Option MountStep). test (flags_by o)) (sym own) ∙ f;
     }
 
 pub listed : (rows : List Row) (table : Table) (path : Path) (target : Row) → finds (row_at rows) table path ≡ row target

@@ -12,8 +12,8 @@ use Rattle.kernel_model.specs.kern_mounts.declared.step.What.{What}
 use Rattle.kernel_model.specs.kern_mounts.declared.step.What.TheVariants.{Host, Empty, Hidden}
 use Rattle.kernel_model.specs.kern_mounts.declared.step.MountStep.{MountStep}
 use Rattle.kernel_model.specs.kern_mounts.Split.{Table, split_at}
-use Rattle.kernel_laws.specs.declared.question_types.wish.Wish.{Wish}
-use Rattle.kernel_laws.specs.Reach.{fits, Leads, shows_row, serves, reach_from}
+use Rattle.kernel_model.specs.kern_mounts.declared.step.Flags.{Flags}
+use Rattle.kernel_laws.specs.Reach.{LeadsWith, shows_row, serves_with, first_with}
 use Rattle.kernel_laws.specs.ReachLaws.{ReachOfTheTable, ReachByUnmounts}
 use Rattle.kernel_model.proofs.OfKernMounts.Paths.{behind}
 use Rattle.kernel_model.proofs.OfKernMounts.Splits.{None_have, split_is}
@@ -24,41 +24,41 @@ pub any_none : (p : MountStep → Bool) (table : Table) → list_any p table ≡
 any_none p [] h = tt
 any_none p (entry ∷ table) h = let parts = or_false (p entry) (list_any p table) h in (parts.0, any_none p table parts.1)
 
-record Serving (uncover : Bool) (row : Path) (wish : Wish) (table : Table) : Type 0 where
+record Serving (uncover : Bool) (row : Path) (test : Flags → Bool) (table : Table) : Type 0 where
   earlier : Table
   entry : MountStep
   later : Table
   whole : table ≡ earlier ++ entry ∷ later
-  served : serves uncover row wish entry later ≡ true
+  served : serves_with uncover row test entry later ≡ true
 
-serving : (uncover : Bool) (row : Path) (wish : Wish) (table : Table) (at : ℕ) → is_some (reach_from uncover row wish table at) ≡ true
-    → Serving uncover row wish table
-serving uncover row wish [] at e = cc
-serving uncover row wish (entry ∷ later) at e = by (serves uncover row wish entry later) refl e (serving uncover row wish later (at + 1))
+serving : (uncover : Bool) (row : Path) (test : Flags → Bool) (table : Table) (at : ℕ) → is_some (first_with uncover row test table at) ≡ true
+    → Serving uncover row test table
+serving uncover row test [] at e = cc
+serving uncover row test (entry ∷ later) at e = by (serves_with uncover row test entry later) refl e (serving uncover row test later (at + 1))
   where
-    by : (b : Bool) → serves uncover row wish entry later ≡ b
-        → is_some (cond b (Some at) (reach_from uncover row wish later (at + 1))) ≡ true →
-        (is_some (reach_from uncover row wish later (at + 1)) ≡ true → Serving uncover row wish later)
-        → Serving uncover row wish (entry ∷ later)
+    by : (b : Bool) → serves_with uncover row test entry later ≡ b
+        → is_some (cond b (Some at) (first_with uncover row test later (at + 1))) ≡ true →
+        (is_some (first_with uncover row test later (at + 1)) ≡ true → Serving uncover row test later)
+        → Serving uncover row test (entry ∷ later)
     by true s e more = record { earlier = []; entry = entry; later = later; whole = refl; served = s }
     by false s e more = let m = more e in record { earlier = entry ∷ m.earlier; entry = m.entry; later = m.later; whole = ap (λ (t : Table). entry ∷ t) m.whole; served = m.served }
 
 -- what it means that an entry serves
-pub record Served (uncover : Bool) (row : Path) (wish : Wish) (entry : MountStep) (later : Table) : Type 0 where
+pub record Served (uncover : Bool) (row : Path) (test : Flags → Bool) (entry : MountStep) (later : Table) : Type 0 where
   pub source : Path
   pub host : entry.what ≡ Host source
   pub rest : Path
   pub row_is : row ≡ source ++ rest
-  pub flags : fits wish entry.flags ≡ true
+  pub flags : test entry.flags ≡ true
   pub clear : (uncover || not (list_any (leads_to (entry.place ++ rest)) later)) ≡ true
 
-pub served_of : (uncover : Bool) (row : Path) (wish : Wish) (entry : MountStep) (later : Table)
-    → serves uncover row wish entry later ≡ true → Served uncover row wish entry later
-served_of uncover row wish entry later s =
-    let parts = and_parts (fits wish entry.flags) (shows_row uncover entry later row entry.what) s in by parts.0 entry.what refl parts.1
+pub served_of : (uncover : Bool) (row : Path) (test : Flags → Bool) (entry : MountStep) (later : Table)
+    → serves_with uncover row test entry later ≡ true → Served uncover row test entry later
+served_of uncover row test entry later s =
+    let parts = and_parts (test entry.flags) (shows_row uncover entry later row entry.what) s in by parts.0 entry.what refl parts.1
   where
-    by : fits wish entry.flags ≡ true → (what : What) → entry.what ≡ what → shows_row uncover entry later row what ≡ true
-        → Served uncover row wish entry later
+    by : test entry.flags ≡ true → (what : What) → entry.what ≡ what → shows_row uncover entry later row what ≡ true
+        → Served uncover row test entry later
     by f (Host source) e s =
         let parts = and_parts (is_prefix source row) (uncover || not (list_any (leads_to (entry.place ++ rest_of source row)) later)) s in
         record { source = source; host = e; rest = rest_of source row; row_is = behind source row parts.0; flags = f; clear = parts.1 }
@@ -66,9 +66,9 @@ served_of uncover row wish entry later s =
     by f (Hidden directory) e s = cc
 
 -- an entry that serves, and that no later one covers, leads to the row
-abbrev pub served_leads : (table : Table) (row : Path) (wish : Wish) (earlier : Table) (entry : MountStep) (later : Table)
-    → table ≡ earlier ++ entry ∷ later → Served false row wish entry later → Leads table row wish
-served_leads table row wish earlier entry later whole v =
+abbrev pub served_leads : (table : Table) (row : Path) (test : Flags → Bool) (earlier : Table) (entry : MountStep) (later : Table)
+    → table ≡ earlier ++ entry ∷ later → Served false row test entry later → LeadsWith table row test
+served_leads table row test earlier entry later whole v =
     let path = entry.place ++ v.rest in
     record {
       path = path;
@@ -83,17 +83,17 @@ served_leads table row wish earlier entry later whole v =
       flags = v.flags;
     }
 
-nowise_leads : (row : Path) (wish : Wish) (table : Table) → is_some (reach_from false row wish table 0) ≡ true → Leads table row wish
-nowise_leads row wish table e = let s = serving false row wish table 0 e in served_leads table row wish s.earlier s.entry s.later s.whole (served_of false row wish s.entry s.later s.served)
+nowise_leads : (row : Path) (test : Flags → Bool) (table : Table) → is_some (first_with false row test table 0) ≡ true → LeadsWith table row test
+nowise_leads row test table e = let s = serving false row test table 0 e in served_leads table row test s.earlier s.entry s.later s.whole (served_of false row test s.entry s.later s.served)
 
 pub reach_of_the_table : ReachOfTheTable
-reach_of_the_table table row wish = (nowise_leads row wish table, reach_nowise-complete row wish table)
+reach_of_the_table table row test = (nowise_leads row test table, reach_nowise-complete row test table)
 
 pub reach_by_unmounts : ReachByUnmounts
-reach_by_unmounts table row wish root ordered = (
+reach_by_unmounts table row test root ordered = (
   (λ e.
-      let s = serving true row wish table 0 e in
-      let v = served_of true row wish s.entry s.later s.served in
+      let s = serving true row test table 0 e in
+      let v = served_of true row test s.entry s.later s.served in
       let u = stands_uncovered table s.entry v.rest ordered (s.earlier, s.later, s.whole) in (
         u.0,
         u.3,
@@ -106,8 +106,8 @@ reach_by_unmounts table row wish root ordered = (
           rest = v.rest;
           path_is = u.6 ∙ ap (λ (m : MountStep). m.place ++ v.rest) (sym u.5);
           row_is = v.row_is;
-          flags = ap (λ (m : MountStep). fits wish m.flags) u.5 ∙ v.flags;
+          flags = ap (λ (m : MountStep). test m.flags) u.5 ∙ v.flags;
         },
       )),
-  (λ now u l. reach_unmounting-complete row wish table now (unmounts_trim u root) l),
+  (λ now u l. reach_unmounting-complete row test table now (unmounts_trim u root) l),
 )

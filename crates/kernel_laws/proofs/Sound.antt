@@ -2,7 +2,6 @@
 use Rattle.std.proofs.Common.{◌≡◌, ℕ, Bool, true, false, Option, Some, None, Result, Ok, Err, ◌⊎◌, inl, inr, refl, cond, ap, ◌∙◌, sym}
 use Rattle.std.proofs.Common.{subst, eqb}
 use Rattle.std.specs.Prelude.{not, nat_lt, length, ◌&&◌}
-use Rattle.std.specs.List.{AllByRecursion}
 use Rattle.std.proofs.lemmas.Bool.{eqb-true, and_parts, and_from}
 use Rattle.kernel_model.specs.abs_path.Paths.{Path}
 use Rattle.kernel_model.specs.cap_sets.Sets.{has, cut, none}
@@ -11,21 +10,16 @@ use Rattle.kernel_model.specs.site_table.declared.row.Row.{Row}
 use Rattle.kernel_model.specs.site_table.Table.{row_at}
 use Rattle.kernel_model.specs.kern_creds.declared.creds.Creds.{Creds}
 use Rattle.kernel_model.specs.kern_creds.Exec.{is_refused, exec_done_in, exec_in}
-use Rattle.kernel_model.specs.kern_mounts.Entry.{entry_of}
 use Rattle.kernel_model.specs.kern_mounts.Finds.{Found, row, finds}
 use Rattle.kernel_model.specs.kern_mounts.declared.step.Flags.{Flags}
-use Rattle.kernel_model.specs.kern_mounts.declared.step.MountStep.{MountStep}
-use Rattle.kernel_model.proofs.OfKernMounts.Entries.{entry_is}
 use Rattle.std.specs.Int.RustNames.{bit_and}
 use Rattle.kernel_model.specs.kern_files.Bits.{has_some, has_all}
-use Rattle.kernel_model.specs.kern_mounts.Split.{Table}
 use Rattle.kernel_model.specs.site_table.Kinds.{is_dir, is_exe}
-use Rattle.kernel_model.specs.kern_mounts.Unmounts.{IsPart, nothing, keeps, leaves}
 use Rattle.kernel_model.specs.kernel_calls.Operation as d
 use Rattle.kernel_model.specs.kernel_calls.Operation.{Operation}
 use Rattle.kernel_model.specs.Effects as f
 use Rattle.kernel_model.specs.Effects.{Effect, effect_of, looks, creds_effect, with_admin, newuser, other_spaces, newns}
-use Rattle.kernel_model.specs.kern_files.Looking.{flags_by, flags_at, access_mode, is_writing, see_answer, write_answer, open_answer}
+use Rattle.kernel_model.specs.kern_files.Looking.{flags_at, access_mode, is_writing, see_answer, write_answer, open_answer}
 use Rattle.filter_settings.specs.linux_numbers.Errnos.{eperm, eagain, eacces, enospc, eisdir, einval, erofs}
 use Rattle.kernel_model.specs.declared.kern_files.program.Program.{Program}
 use Rattle.kernel_model.specs.kern_files.Executing.{marks_of, program_answer, executed_in, exec_answer_in}
@@ -39,17 +33,13 @@ use Rattle.kernel_model.specs.Runs.{IsDone}
 use Rattle.kernel_laws.specs.declared.question_types.wish.Wish.{Wish}
 use Rattle.kernel_laws.specs.declared.question_types.wish.Wish.TheVariants.{See as ToSee, Read as ToRead, Write as ToWrite, Exec as ToExec}
 use Rattle.filter_settings.specs.declared.filter_rules.namespace_types.NamespaceType.{NamespaceType}
-use Rattle.kernel_laws.specs.declared.question_types.power.Power.{Power}
-use Rattle.kernel_laws.specs.declared.question_types.power.Power.TheVariants.{None as Nowise, Unmount as Unmounting, Mount as Mounting}
 use Rattle.filter_settings.specs.declared.filter_rules.namespace_types.NamespaceType.TheVariants as namespace
 use Rattle.kernel_laws.specs.Questions.{flag_of}
 use Rattle.kernel_laws.specs.Denied.{path_for, asks_space, asks_map, asks_attach}
 use Rattle.kernel_laws.specs.Kinds.{asks_attach_read}
 use Rattle.kernel_laws.specs.Reach.{fits}
 use Rattle.kernel_laws.specs.Bound.{is_user}
-use Rattle.kernel_laws.specs.Ceiling.{CanHave}
 use Rattle.kernel_laws.proofs.Ran.{ran_program}
-use Rattle.kernel_model.proofs.OfKernMounts.Unmounting.{trimmed_part}
 
 -- ---- effects that are done
 -- the reply to an effect on a process
@@ -163,28 +153,6 @@ run_taken world pid process (d.Execve own) path target e g h =
     ap (λ (p : Path). is_refused process.creds (marks_of target) (flags_at (table_of world process.namespace) p).no_suid) (sym here)
     ∙ r.taken
 run_taken world pid process operation path target e g h = cc
-
--- ---- tables without no-suid entries
-part_all : (P : MountStep → Type 0) {part table : Table} → IsPart part table → AllByRecursion P table → AllByRecursion P part
-part_all P nothing h = tt
-part_all P (keeps entry p) h = (h.0, part_all P p h.1)
-part_all P (leaves entry p) h = part_all P p h.1
-
-abbrev pub Honours : MountStep → Type 0
-Honours step = step.flags.no_suid ≡ false
-
-pub honours_at : (table : Table) (path : Path) → AllByRecursion Honours table → (flags_at table path).no_suid ≡ false
-honours_at table path h = by (entry_of table path) refl
-  where
-    by : (o : Option MountStep) → entry_of table path ≡ o → (flags_by o).no_suid ≡ false
-    by None is = refl
-    by (Some step) is = entry_is Honours table path step h is
-
-pub honours_below : (power : Power) (launched table : Table) → (power ≡ Mounting → ⊥) → CanHave power launched table
-    → AllByRecursion Honours launched → AllByRecursion Honours table
-honours_below Nowise launched table low same h = subst (AllByRecursion Honours) (sym same) h
-honours_below Unmounting launched table low part h = part_all Honours (trimmed_part part) h
-honours_below Mounting launched table low any h = absurd (low refl)
 
 -- ---- flags of namespaces
 in_mask : (number mask flags : ℕ) → has mask number ≡ true → has flags number ≡ true → has_some mask flags ≡ true

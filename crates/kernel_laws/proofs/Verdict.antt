@@ -24,6 +24,7 @@ use Rattle.kernel_model.specs.site_table.declared.row.Row.{Row}
 use Rattle.kernel_model.specs.site_table.Table.{Site, row_at}
 use Rattle.kernel_model.specs.kern_creds.Exec.{is_refused}
 use Rattle.kernel_model.specs.kern_mounts.Finds.{row, finds}
+use Rattle.kernel_model.specs.kern_mounts.Split.{Table}
 use Rattle.kernel_laws.specs.Bounds.{Bounds, Keeps, KeepsIn}
 use Rattle.kernel_model.specs.declared.kernel_calls.call.Call.{Call}
 use Rattle.kernel_model.specs.kernel_calls.Calls.{IsCall}
@@ -51,11 +52,11 @@ use Rattle.kernel_laws.specs.declared.question_types.kind.CallKind.TheVariants a
 use Rattle.kernel_laws.specs.Questions.{is_plain, IsAsked}
 use Rattle.kernel_laws.specs.Denied.{path_for, ReachesRow, ReachesCall, Performs, Reaches, Holds, IsDenied, is_family, asks_family}
 use Rattle.kernel_laws.specs.Denied.{asks_space, asks_map, asks_protect, asks_attach, asks_realtime, is_realtime, asks_personality, asks_mode}
-use Rattle.kernel_laws.specs.Reach.{Leads, reaches}
+use Rattle.kernel_laws.specs.Reach.{Leads, fits, reaches, runs_unmarked}
 use Rattle.kernel_laws.specs.Kinds.{asks, asks_number}
 use Rattle.kernel_laws.specs.Launched.{Launch, data_at, lets, lets_line, can_make_user, IsLaunched, launch_of}
 use Rattle.kernel_laws.specs.Ceiling.{IsHeld, IsStable, TableIn}
-use Rattle.kernel_laws.specs.Bound.{power_of, ceiling, is_open, can_reach, is_to_exec, is_user, is_mounting, is_barred, can_have_cap}
+use Rattle.kernel_laws.specs.Bound.{power_of, ceiling, is_open, can_reach, is_to_exec, is_user, is_barred, can_have_cap, runs_plainly}
 use Rattle.kernel_laws.specs.Bound.{can_have_for, if_listed, is_call_open}
 use Rattle.kernel_laws.specs.NewerTables.{CanHaveNewer}
 use Rattle.kernel_laws.proofs.NewerTables.{tables_stable, rows_are_reached}
@@ -71,7 +72,7 @@ use Rattle.kernel_laws.proofs.Reach.{leads, reaches_if}
 use Rattle.kernel_laws.proofs.Held.{AllHeld, launched_held, ceiling_step, ceiling_run, cap_within, uid_within, gid_within}
 use Rattle.kernel_laws.proofs.KeptExec.{off}
 use Rattle.kernel_laws.proofs.Newer.{ids_of}
-use Rattle.kernel_laws.proofs.Sound.{DoneBy, MadeSpace, wish_fits, run_taken, honours_at, honours_below, space_done, cap_done}
+use Rattle.kernel_laws.proofs.Sound.{DoneBy, MadeSpace, wish_fits, run_taken, space_done, cap_done}
 use Rattle.kernel_laws.proofs.Sound.{map_done, attach_done}
 
 module _ (launch : Launch) (l : IsLaunched launch) (below : Mounts → Type 0) (stable : IsStable launch (power_of launch) below) where
@@ -115,31 +116,41 @@ module _ (launch : Launch) (l : IsLaunched launch) (below : Mounts → Type 0) (
   has_top now call held w first number h = (kept_first now call held w first).effective.each number h
 
   -- ---- paths
+  -- execve runs no barred row where it looks at the marks of programs
   not_barred : (now : World) (call : Call) → All now → (w : WasDone now call) → is_newer w.process ≡ false → (path : Path) (target : Row)
-      → is_mounting power ≡ false
+      → finds (row_at launch.site.rows) (table_of now w.process.namespace) path ≡ row target
+      → fits ToExec (flags_at (table_of now w.process.namespace) path) ≡ true
       → is_refused w.process.creds (marks_of target) (flags_at (table_of now w.process.namespace) path).no_suid ≡ false
-      → is_barred launch target ≡ false
-  not_barred now call held w first path target low r =
-      let h = held_of now call held w in
-      let table = table_of now w.process.namespace in
-      let allowed = (first_allowed launch power top below now w.process h first).entries in
-      let suid : (flags_at table path).no_suid ≡ false = honours_at table path (honours_below power launch.table table (λ e. let no' : is_mounting power ≡ true = ap is_mounting e in cc) allowed l.honours) in
-      let own : (not false && target.effective) && not (within target.caps w.process.creds.bounding) ≡ false = ap (λ b. (not b && target.effective) && not (within target.caps w.process.creds.bounding)) (sym suid) ∙ r in
-      by target.effective (within target.caps w.process.creds.bounding) refl own (kept_first now call held w first).bounding
+      → runs_plainly launch power target ≡ false → is_barred launch target ≡ false
+  not_barred now call held w first path target found runs r elsewhere = by (flags_at (table_of now w.process.namespace) path).no_suid refl
     where
-      by : (e b : Bool) → within target.caps w.process.creds.bounding ≡ b → (e && not b) ≡ false
-          → IsWithin w.process.creds.bounding launch.creds.bounding → (e && not (within target.caps launch.creds.bounding)) ≡ false
-      by false b is g within' = refl
-      by true false is g within' = cc
-      by true true is g within' = ap not (within-from_IsWithin _ _ (within_through _ _ _ (IsWithin-from_within _ _ is) within'))
+      table : Table
+      table = table_of now w.process.namespace
 
-  free : (exec low barred make : Bool) → (exec ≡ true → low ≡ false → make ≡ false → barred ≡ false)
-      → not (((exec && not low) && barred) && not make) ≡ true
-  free true true barred make h = refl
-  free true false true true h = refl
-  free true false false make h = refl
-  free true false true false h = let no' : true ≡ false = h refl refl refl in cc
-  free false low barred make h = refl
+      marked : (e b : Bool) → within target.caps w.process.creds.bounding ≡ b → (e && not b) ≡ false
+          → IsWithin w.process.creds.bounding launch.creds.bounding → (e && not (within target.caps launch.creds.bounding)) ≡ false
+      marked false b is g within' = refl
+      marked true false is g within' = cc
+      marked true true is g within' = ap not (within-from_IsWithin _ _ (within_through _ _ _ (IsWithin-from_within _ _ is) within'))
+
+      by : (b : Bool) → (flags_at table path).no_suid ≡ b → is_barred launch target ≡ false
+      by true is =
+          let h = held_of now call held w in
+          let allowed = (first_allowed launch power top below now w.process h first).entries in
+          let lead = leads launch.site.rows table path target runs_unmarked found (and_from _ _ runs is) in
+          let there = reaches_if power launch.table table target.path runs_unmarked allowed lead in
+          let no' : true ≡ false = sym there ∙ elsewhere in cc
+      by false is =
+          let own : (not false && target.effective) && not (within target.caps w.process.creds.bounding) ≡ false = ap (λ b. (not b && target.effective) && not (within target.caps w.process.creds.bounding)) (sym is) ∙ r in
+          marked target.effective (within target.caps w.process.creds.bounding) refl own (kept_first now call held w first).bounding
+
+  free : (exec barred plain make : Bool) → (exec ≡ true → plain ≡ false → make ≡ false → barred ≡ false)
+      → not (((exec && barred) && not plain) && not make) ≡ true
+  free true true true make h = refl
+  free true true false true h = refl
+  free true true false false h = let no' : true ≡ false = h refl refl refl in cc
+  free true false plain make h = refl
+  free false barred plain make h = refl
 
   -- who is in a newer user namespace has shown that one can be made
   first_if : (now : World) (call : Call) → All now → (w : WasDone now call) → can_make_user launch ≡ false → is_newer w.process ≡ false
@@ -156,7 +167,7 @@ module _ (launch : Launch) (l : IsLaunched launch) (below : Mounts → Type 0) (
 
   reaches_in : LeadsToReached → (ours : Bool) (mounts : Mounts) (target : Path) (wish : Wish) → TableIn ours launch power below mounts
       → Leads (steps_of mounts) target wish → reaches power launch.table target wish ≡ true
-  reaches_in less true mounts target wish allowed lead = reaches_if power launch.table (steps_of mounts) target wish allowed.entries lead
+  reaches_in less true mounts target wish allowed lead = reaches_if power launch.table (steps_of mounts) target (fits wish) allowed.entries lead
   reaches_in less false mounts target wish allowed lead = less mounts target wish allowed lead
 
   only_exec : (wish : Wish) → is_to_exec wish ≡ true → wish ≡ ToExec
@@ -178,13 +189,14 @@ module _ (launch : Launch) (l : IsLaunched launch) (below : Mounts → Type 0) (
       let listed : slice_get launch.site.rows place ≡ Some r.target = ap (λ (s : Site). slice_get s.rows place) (sym held.site) ∙ r.listed in
       let passes = kind_lets now call fit held w (k.ForPath wish) (ap is_some wanted) in
       let fit' = wish_fits now call.pid w.process wish w.operation r.path r.target wanted found w.done in
-      let lead = leads launch.site.rows table r.path r.target wish seen fit' in
+      let lead = leads launch.site.rows table r.path r.target (fits wish) seen fit' in
       let h = held_of now call held w in
       let there = reaches_in less (eqb h.owner 1) (mounts_of now w.process.namespace) r.target.path wish (own_allowed launch power top below now w.process h) lead in
-      let open' = free (is_to_exec wish) (is_mounting power) (is_barred launch r.target) (can_make_user launch) (λ exec low off.
+      let open' = free (is_to_exec wish) (is_barred launch r.target) (runs_plainly launch power r.target) (can_make_user launch) (λ exec elsewhere off.
       let is_exec = only_exec wish exec in
+      let runs : fits ToExec (flags_at table r.path) ≡ true = ap (λ (v : Wish). fits v (flags_at table r.path)) (sym is_exec) ∙ fit' in
       let wanted' : path_for ToExec w.operation ≡ Some r.path = ap (λ (v : Wish). path_for v w.operation) (sym is_exec) ∙ wanted in
-      not_barred now call held w (first_if now call held w off) r.path r.target low (run_taken now call.pid w.process w.operation r.path r.target wanted' found w.done)) in
+      not_barred now call held w (first_if now call held w off) r.path r.target seen runs (run_taken now call.pid w.process w.operation r.path r.target wanted' found w.done) elsewhere) in
       ap (if_listed (can_reach launch power wish)) listed ∙ and_from _ _ (and_from _ _ passes there) open'
 
   -- ---- plain calls

@@ -9,7 +9,7 @@ use Rattle.kernel_model.specs.site_table.declared.row.Row.{Row}
 use Rattle.filter_settings.specs.linux_numbers.Capabilities.{cap_sys_admin, cap_sys_nice, cap_setuid, cap_setgid}
 use Rattle.kernel_laws.specs.Bounds.{Bounds}
 use Rattle.kernel_model.specs.site_table.Kinds.{is_exe}
-use Rattle.kernel_laws.specs.Reach.{reaches}
+use Rattle.kernel_laws.specs.Reach.{reaches, reaches_with, runs_marked, runs_unmarked}
 use Rattle.kernel_model.specs.declared.kernel_calls.rule.Rule.{Rule}
 use Rattle.kernel_model.specs.declared.kernel_calls.rule.Rule.TheVariants.{Plain}
 use Rattle.kernel_model.specs.kernel_calls.Rules.{rule_of}
@@ -50,9 +50,13 @@ is_owner id (Some owner) = owner == id
 abbrev pub is_barred : Launch → Row → Bool
 is_barred launch row = row.effective && not (within row.caps launch.creds.bounding)
 
--- a program that some table leads to, and that execve does not refuse
+-- a program that some table leads to where execve looks at its marks, and that execve does not refuse
 abbrev pub can_run : Launch → Power → Row → Bool
-can_run launch power row = (is_exe row.kind && reaches power launch.table row.path ToExec) && not (is_barred launch row)
+can_run launch power row = (is_exe row.kind && reaches_with power launch.table row.path runs_marked) && not (is_barred launch row)
+
+-- some table leads to the row where execve does not look at its marks. There it refuses no row for them, and they give nothing
+abbrev pub runs_plainly : Launch → Power → Row → Bool
+runs_plainly launch power row = reaches_with power launch.table row.path runs_unmarked
 
 -- the capabilities that execve of a row, and capset after it, make effective. A program that runs as root has all of the bounding set.
 -- Any other has the file's capabilities that are in the bounding set, by its effective bit or by capset
@@ -154,12 +158,6 @@ abbrev pub can_have_for : Bounds → Option Rule → Bool
 can_have_for top (Some (Plain cap)) = can_have_cap top cap
 can_have_for top _ = true
 
--- the service can mount
-abbrev pub is_mounting : Power → Bool
-is_mounting Mounting = true
-is_mounting Unmounting = false
-is_mounting Nowise = false
-
 -- the row is to be executed
 abbrev pub is_to_exec : Wish → Bool
 is_to_exec ToExec = true
@@ -172,12 +170,12 @@ abbrev pub is_user : NamespaceType → Bool
 is_user User = true
 is_user _ = false
 
--- a row can be seen, read, written or run: a call for it passes, some table shows it, and execve does not refuse it. In a newer user
--- namespace execve refuses none, because the bounding set is full there
+-- a row can be seen, read, written or run: a call for it passes, some table shows it, and execve does not refuse it. Execve refuses none
+-- by marks that it does not look at, and none in a newer user namespace, because the bounding set is full there
 abbrev pub can_reach : Launch → Power → Wish → Row → Bool
 can_reach launch power wish row =
     (lets launch (ForPath wish) && reaches power launch.table row.path wish)
-    && not (((is_to_exec wish && not (is_mounting power)) && is_barred launch row) && not (can_make_user launch))
+    && not (((is_to_exec wish && is_barred launch row) && not (runs_plainly launch power row)) && not (can_make_user launch))
 
 -- the test holds of the listed thing, if there is one
 abbrev pub if_listed : {X : Type 0} → (X → Bool) → Option X → Bool

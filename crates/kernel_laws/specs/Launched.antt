@@ -2,7 +2,7 @@
 use Rattle.std.specs.Prelude.{◌≡◌, ℕ, ◌<◌, ◌^◌, ◌&&◌, nat_lt, Bool, true, false, if◌then◌else◌, List, [], ◌∷◌, length, All, slice_get}
 use Rattle.std.specs.Prelude.{Option, Some, None}
 use Rattle.std.specs.Option.{option_or}
-use Rattle.std.specs.List.{AllByRecursion, list_any}
+use Rattle.std.specs.List.{list_any}
 use Rattle.filter_settings.specs.bpf_code.declared.machine.Insn.{Insn}
 use Rattle.filter_settings.specs.bpf_code.declared.machine.CallData.{CallData}
 use Rattle.filter_settings.specs.bpf_code.declared.decision.Decision.{Decision}
@@ -24,7 +24,6 @@ use Rattle.kernel_model.specs.kern_mounts.Mounts.{ArePlain as ArePlainMounts}
 use Rattle.kernel_model.specs.kern_mounts.Split.{Table}
 use Rattle.kernel_model.specs.kern_mounts.Table.{StartsAtRoot}
 use Rattle.kernel_model.specs.kern_mounts.Unmounts.{IsOrdered}
-use Rattle.kernel_model.specs.kern_mounts.declared.step.MountStep.{MountStep}
 use Rattle.kernel_model.specs.declared.kernel_calls.payload.Payload.{Payload}
 use Rattle.kernel_model.specs.declared.kernel_calls.rule.Rule.{Rule}
 use Rattle.kernel_model.specs.kernel_calls.Rules.{rule_of, rule_at}
@@ -119,10 +118,9 @@ pub record IsLaunched (launch : Launch) : Type 0 where
   -- what is inheritable is effective, unless some call of capset(2) passes
   pub inheritable_effective : lets launch SetsCaps ≡ false → IsWithin launch.creds.inheritable launch.creds.effective
   pub root : launch.creds.uids.effective ≡ 0 → IsWithin launch.creds.bounding launch.creds.effective
-  -- the table starts at `/`, no later place leads to an earlier one, and no entry is without set-user-id programs
+  -- the table starts at `/`, and no later place leads to an earlier one
   pub rooted : StartsAtRoot launch.table
   pub ordered : IsOrdered launch.table
-  pub honours : AllByRecursion (λ (step : MountStep). step.flags.no_suid ≡ false) launch.table
   -- the programs refuse for good or let through, and look at no more words than the chosen ones need
   pub plain : (input : CallData) → IsCallData input → ArePlain (answers_of launch.stack input)
   pub chosen : (kind : CallKind) (abi nr : ℕ) (args : List ℕ) (rule : Rule) (payload : Payload) (operation : Operation) → nr < 2 ^ 32

@@ -21,8 +21,16 @@ fits ToRead flags = true
 fits ToWrite flags = not flags.read_only
 fits ToExec flags = not flags.no_exec
 
--- a path of this very table finds the row, with the flags that the wish needs
-pub record Leads (table : Table) (row : Path) (wish : Wish) : Type 0 where
+-- execve(2) can run programs, and looks at their set-id bits and capabilities, mount(2), MS_NOSUID
+abbrev pub runs_marked : Flags → Bool
+runs_marked flags = not flags.no_exec && not flags.no_suid
+
+-- execve(2) can run programs, and does not look at these
+abbrev pub runs_unmarked : Flags → Bool
+runs_unmarked flags = not flags.no_exec && flags.no_suid
+
+-- a path of this very table finds the row, on a mount whose flags pass the test
+pub record LeadsWith (table : Table) (row : Path) (test : Flags → Bool) : Type 0 where
   pub path : Path
   pub split : Split
   pub belongs : split_at path table ≡ Some split
@@ -31,7 +39,11 @@ pub record Leads (table : Table) (row : Path) (wish : Wish) : Type 0 where
   pub rest : Path
   pub path_is : path ≡ split.entry.place ++ rest
   pub row_is : row ≡ source ++ rest
-  pub flags : fits wish split.entry.flags ≡ true
+  pub flags : test split.entry.flags ≡ true
+
+-- with the flags that the wish needs
+abbrev pub Leads : Table → Path → Wish → Type 0
+Leads table row wish = LeadsWith table row (fits wish)
 
 -- the entry shows the row at a path that no later entry covers, or that can be uncovered
 abbrev pub shows_row : Bool → MountStep → Table → Path → What → Bool
@@ -40,22 +52,35 @@ shows_row uncover entry later row (Host source) = is_prefix source row &&
 shows_row uncover entry later row Empty = false
 shows_row uncover entry later row (Hidden directory) = false
 
--- and its flags allow what is wished
-abbrev pub serves : Bool → Path → Wish → MountStep → Table → Bool
-serves uncover row wish entry later = fits wish entry.flags && shows_row uncover entry later row entry.what
+-- and its flags pass the test
+abbrev pub serves_with : Bool → Path → (Flags → Bool) → MountStep → Table → Bool
+serves_with uncover row test entry later = test entry.flags && shows_row uncover entry later row entry.what
 
 -- the place of the first entry that serves, counted from a number
-abbrev pub reach_from : Bool → Path → Wish → Table → ℕ → Option ℕ
-reach_from uncover row wish [] at = None
-reach_from uncover row wish (entry ∷ later) at = if serves uncover row wish entry later then Some at else reach_from uncover row wish
+abbrev pub first_with : Bool → Path → (Flags → Bool) → Table → ℕ → Option ℕ
+first_with uncover row test [] at = None
+first_with uncover row test (entry ∷ later) at = if serves_with uncover row test entry later then Some at else first_with uncover row test
     later (at + 1)
 
--- the place of the entry that leads to the row; with mount every row can be shown, so the first entry's
-abbrev pub reach : Power → Table → Path → Wish → Option ℕ
-reach Nowise table row wish = reach_from false row wish table 0
-reach Unmounting table row wish = reach_from true row wish table 0
-reach Mounting table row wish = Some 0
+-- the place of the entry that leads to the row; with mount every row can be shown with any flags, so the first entry's
+abbrev pub reach_with : Power → Table → Path → (Flags → Bool) → Option ℕ
+reach_with Nowise table row test = first_with false row test table 0
+reach_with Unmounting table row test = first_with true row test table 0
+reach_with Mounting table row test = Some 0
 
 -- some entry leads to the row
+abbrev pub reaches_with : Power → Table → Path → (Flags → Bool) → Bool
+reaches_with power table row test = is_some (reach_with power table row test)
+
+-- the same for flags that allow what is wished
+abbrev pub serves : Bool → Path → Wish → MountStep → Table → Bool
+serves uncover row wish entry later = serves_with uncover row (fits wish) entry later
+
+abbrev pub reach_from : Bool → Path → Wish → Table → ℕ → Option ℕ
+reach_from uncover row wish table at = first_with uncover row (fits wish) table at
+
+abbrev pub reach : Power → Table → Path → Wish → Option ℕ
+reach power table row wish = reach_with power table row (fits wish)
+
 abbrev pub reaches : Power → Table → Path → Wish → Bool
-reaches power table row wish = is_some (reach power table row wish)
+reaches power table row wish = reaches_with power table row (fits wish)

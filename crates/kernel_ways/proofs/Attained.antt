@@ -8,23 +8,26 @@ use Rattle.launcher.proofs.OfCapSets.Members.{has_cut, has_union, has_none}
 use Rattle.launcher.specs.site_table.declared.row.Row.{Row}
 use Rattle.launcher.specs.kern_creds.declared.creds.Creds.{Creds}
 use Rattle.launcher.specs.kern_creds.declared.ids.Ids.{Ids}
-use Rattle.launcher.specs.kern_creds.Exec.{exec_done, owner_or, is_set_id}
+use Rattle.launcher.specs.kern_creds.Exec.{exec_done, exec_uids, honours, owner_or, is_set_id}
+use Rattle.launcher.specs.kern_creds.declared.file.FileCreds.{FileCreds}
 use Rattle.launcher.specs.kern_creds.Capset.{with_sets}
 use Rattle.launcher.specs.kern_creds.RootChange.{with_uids, after_switch, after_leaving_root, has_root}
 use Rattle.launcher.specs.kernel_laws.Bound.{is_owner, is_barred, can_run, file_gain, gain_at, gathered, when, caps_before, caps_at}
 use Rattle.launcher.specs.kernel_laws.Bound.{with_root, power_by, power_of}
 use Rattle.launcher.specs.kernel_model.declared.kernel_calls.call.Call.{Call}
 use Rattle.launcher.specs.kernel_model.kern_files.Executing.{marks_of}
+use Rattle.launcher.specs.kernel_model.kern_files.Looking.{flags_at}
 use Rattle.launcher.specs.kernel_laws.declared.question_types.kind.CallKind.TheVariants.{SetsCaps, TakesUid, TakesGid, ChangesMounts}
 use Rattle.launcher.specs.kernel_laws.declared.question_types.kind.CallKind.TheVariants.{RemovesMounts}
-use Rattle.launcher.specs.kernel_laws.declared.question_types.wish.Wish.TheVariants.{Exec as ToExec}
 use Rattle.launcher.specs.kernel_laws.declared.question_types.power.Power.{Power}
 use Rattle.launcher.specs.kernel_laws.declared.question_types.power.Power.TheVariants.{None as Nowise, Unmount as Unmounting}
 use Rattle.launcher.specs.kernel_laws.declared.question_types.power.Power.TheVariants.{Mount as Mounting}
 use Rattle.launcher.specs.kernel_laws.Launched.{Launch, IsLaunched, lets}
 use Rattle.launcher.specs.site_table.Kinds.{is_exe}
 use Rattle.launcher.specs.kern_mounts.Split.{Table}
-use Rattle.launcher.specs.kernel_laws.Reach.{reaches}
+use Rattle.launcher.specs.kernel_laws.Reach.{reaches_with, runs_marked}
+use Rattle.reach_paths.proofs.Found.{can_be_remounted}
+use Rattle.reach_paths.specs.declared.needs.Need.TheVariants.{Marked}
 use Rattle.kernel_ways.specs.Offers.{Offers}
 use Rattle.kernel_ways.specs.Taking.{id_call, sets_call}
 use Rattle.kernel_ways.specs.Ways.{place_of, Way, here, by_creds}
@@ -32,10 +35,10 @@ use Rattle.kernel_ways.proofs.Solo.{way_join}
 use Rattle.kernel_ways.proofs.Avoiding.{Avoids, avoid_one, avoid_join}
 use Rattle.kernel_ways.proofs.Lines.{some_line}
 use Rattle.kernel_ways.proofs.Privileged.{ids_by, effective_by, capset_call, uid_call}
-use Rattle.kernel_ways.proofs.Exposing.{exposed, marks_count, HasPower}
+use Rattle.kernel_ways.proofs.Exposing.{exposed, HasPower}
 use Rattle.kernel_ways.proofs.Rows.{IsKnown, known_at, known_found, owner_alone, no_bit}
 use Rattle.kernel_ways.proofs.Gains as gains
-use Rattle.kernel_ways.proofs.Gains.{Basis, Runnable, runs, common_small}
+use Rattle.kernel_ways.proofs.Gains.{Basis, Runnable, RunnableBy, runs, common_small}
 
 -- a member of the union over the rows is a member of some row's part
 pub gathered_from : (f : Row → ℕ) (rows : List Row) (number : ℕ) → has (gathered f rows) number ≡ true
@@ -103,6 +106,15 @@ stays_zero None id like z = z
 stays_zero (Some owner) id (inl e) z = e
 stays_zero (Some owner) id (inr e) z = cc
 
+-- and so it does where the marks of the file are not looked at
+pub runs_as_zero : (creds : Creds) (file : FileCreds) (no_suid : Bool) → (is_owner 0 file.setuid ≡ true) ⊎ (file.setuid ≡ None)
+    → eqb creds.uids.effective 0 ≡ true → eqb (exec_uids creds file no_suid).effective 0 ≡ true
+runs_as_zero creds file no_suid like zero = by (honours creds no_suid)
+  where
+    by : (b : Bool) → eqb (cond b (owner_or file.setuid creds.uids.effective) creds.uids.effective) 0 ≡ true
+    by true = stays_zero file.setuid creds.uids.effective like zero
+    by false = zero
+
 module _ (launch : Launch) (l : IsLaunched launch) (o : Offers launch) where
   -- credentials from which uid 0 can be had again by the same row
   pub record Gained (spares : Bool) (from : Creds) (start now : Table) (number : ℕ) : Type 0 where
@@ -112,7 +124,9 @@ module _ (launch : Launch) (l : IsLaunched launch) (o : Offers launch) where
     pub basis : Basis launch creds
     pub holds : has creds.effective number ≡ true
     pub target : Row
-    pub again : Runnable launch now target
+    -- the mount of the row has nosuid
+    pub no_suid : Bool
+    pub again : RunnableBy no_suid launch now target
     pub rootlike : IsRootlike target
     pub no_uid : spares ≡ true → Avoids launch TakesUid calls
     pub no_gid : Avoids launch TakesGid calls
@@ -126,17 +140,21 @@ module _ (launch : Launch) (l : IsLaunched launch) (o : Offers launch) where
   program_marks : (program.setuid ≡ None) × (program.caps ≡ none)
   program_marks = unmarked program.setuid program.setgid program.caps o.program.plain
 
-  program_runs : Runnable launch launch.table program
+  -- whether the mount of the program has nosuid: its marks are none
+  abbrev program_no_suid : Bool
+  program_no_suid = (flags_at launch.table o.program.found.path).no_suid
+
+  program_runs : RunnableBy program_no_suid launch launch.table program
   program_runs = record {
     found = o.program.found;
     known = program_known;
     exe = o.program.exe;
-    suid = marks_count launch.table l.honours o.program.found.path;
+    suid = refl;
     free = ap (λ b. b && not (within program.caps launch.creds.bounding)) (no_bit launch.site program o.site program_known program_marks.1);
   }
 
-  basis_exec : (creds : Creds) (target : Row) → Basis launch creds → Basis launch (exec_done creds (marks_of target) false)
-  basis_exec creds target b = record { bounding = b.bounding; inheritable = b.inheritable; mark = b.mark }
+  basis_exec : (creds : Creds) (target : Row) (no_suid : Bool) → Basis launch creds → Basis launch (exec_done creds (marks_of target) no_suid)
+  basis_exec creds target no_suid b = record { bounding = b.bounding; inheritable = b.inheritable; mark = b.mark }
 
   basis_launch : Basis launch launch.creds
   basis_launch = record { bounding = refl; inheritable = refl; mark = refl }
@@ -154,14 +172,22 @@ module _ (launch : Launch) (l : IsLaunched launch) (o : Offers launch) where
   pub exposed_runs : (power : Power) (creds : Creds) (target : Row) → IsKnown launch.site target → HasPower launch creds power
       → can_run launch power target ≡ true → Shown creds power target
   exposed_runs power creds target known h c =
-      let parts = and_parts (is_exe target.kind && reaches power launch.table target.path ToExec) (not (is_barred launch target)) c in
-      let inner = and_parts (is_exe target.kind) (reaches power launch.table target.path ToExec) parts.0 in
-      let x = exposed launch l o creds target known ToExec power h inner.1 in
+      let parts = and_parts (is_exe target.kind && reaches_with power launch.table target.path runs_marked) (not (is_barred launch target)) c in
+      let inner = and_parts (is_exe target.kind) (reaches_with power launch.table target.path runs_marked) parts.0 in
+      let x = exposed launch l o creds target known runs_marked (can_be_remounted Marked) power h inner.1 in
+      let flags = flags_at x.now x.found.path in
+      let allowed = and_parts (not flags.no_exec) (not flags.no_suid) x.found.is_allowed in
       record {
         calls = x.calls;
         now = x.now;
         way = x.way;
-        runnable = record { found = x.found; known = known; exe = inner.0; suid = x.suid; free = not-true (is_barred launch target) parts.1 };
+        runnable = record {
+          found = record { path = x.found.path; can_be_named = x.found.can_be_named; is_found = x.found.is_found; is_allowed = allowed.0 };
+          known = known;
+          exe = inner.0;
+          suid = not-true flags.no_suid allowed.1;
+          free = not-true (is_barred launch target) parts.1;
+        };
         still = x.still;
         no_uid = x.no_uid;
         no_gid = x.no_gid;
@@ -170,7 +196,7 @@ module _ (launch : Launch) (l : IsLaunched launch) (o : Offers launch) where
   -- held at launch
   pub at_launch : (spares : Bool) (number : ℕ) → has launch.creds.effective number ≡ true
       → Gained spares launch.creds launch.table launch.table number
-  at_launch spares number h = record { calls = []; creds = launch.creds; way = here; basis = basis_launch; holds = h; target = program; again = program_runs; rootlike = inr program_marks.0; no_uid = λ e. tt; no_gid = tt }
+  at_launch spares number h = record { calls = []; creds = launch.creds; way = here; basis = basis_launch; holds = h; target = program; no_suid = program_no_suid; again = program_runs; rootlike = inr program_marks.0; no_uid = λ e. tt; no_gid = tt }
 
   module _ (free : launch.creds.no_new_privs ≡ false) where
     off_of : (creds : Creds) → Basis launch creds → creds.no_new_privs ≡ false
@@ -182,7 +208,7 @@ module _ (launch : Launch) (l : IsLaunched launch) (o : Offers launch) where
         → has launch.creds.bounding number ≡ true → Gained spares creds table table number
     owner_gains spares creds table target number b r None e z h = cc
     owner_gains spares creds table target number b r (Some owner) e z h =
-        let ran = runs launch l o creds table target b.bounding r in
+        let ran = runs launch l o false creds table target b.bounding r in
         let off = off_of creds b in
         let uid = ap (λ id. eqb id 0) (gains.uid_after creds (marks_of target) off) ∙ ap (λ (w : Option ℕ). eqb (owner_or w creds.uids.effective) 0) e ∙ z in
         let w = gains.zero_gives creds (marks_of target) off uid in
@@ -191,9 +217,10 @@ module _ (launch : Launch) (l : IsLaunched launch) (o : Offers launch) where
           calls = ran.call ∷ [];
           creds = exec_done creds (marks_of target) false;
           way = by_creds ran.call ran.makes here;
-          basis = basis_exec creds target b;
+          basis = basis_exec creds target false b;
           holds = w.each number own;
           target = target;
+          no_suid = false;
           again = r;
           rootlike = inl (ap (is_owner 0) e ∙ z);
           no_uid = λ e. (avoid_one launch creds table _ ran.call _ ran.makes TakesUid refl, tt);
@@ -205,22 +232,23 @@ module _ (launch : Launch) (l : IsLaunched launch) (o : Offers launch) where
         → Runnable launch table target → target.setuid ≡ None → (bit : Bool) → target.effective ≡ bit → (bit || lets launch SetsCaps) ≡ true
         → has (cut target.caps launch.creds.bounding) number ≡ true → Gained spares creds table table number
     file_gains spares creds table target number b r plain true e z h =
-        let ran = runs launch l o creds table target b.bounding r in
+        let ran = runs launch l o false creds table target b.bounding r in
         let own : has (cut target.caps creds.bounding) number ≡ true = ap (λ s. has (cut target.caps s) number) b.bounding ∙ h in
         record {
           calls = ran.call ∷ [];
           creds = exec_done creds (marks_of target) false;
           way = by_creds ran.call ran.makes here;
-          basis = basis_exec creds target b;
+          basis = basis_exec creds target false b;
           holds = (gains.bit_gives creds (marks_of target) (off_of creds b) e).each number own;
           target = target;
+          no_suid = false;
           again = r;
           rootlike = inr plain;
           no_uid = λ e. (avoid_one launch creds table _ ran.call _ ran.makes TakesUid refl, tt);
           no_gid = (avoid_one launch creds table _ ran.call _ ran.makes TakesGid refl, tt);
         }
     file_gains spares creds table target number b r plain false e z h =
-        let ran = runs launch l o creds table target b.bounding r in
+        let ran = runs launch l o false creds table target b.bounding r in
         let after : Creds = exec_done creds (marks_of target) false in
         let common = cut target.caps creds.bounding in
         let own : has common number ≡ true = ap (λ s. has (cut target.caps s) number) b.bounding ∙ h in
@@ -236,6 +264,7 @@ module _ (launch : Launch) (l : IsLaunched launch) (o : Offers launch) where
           basis = record { bounding = b.bounding; inheritable = b.inheritable; mark = b.mark };
           holds = own;
           target = target;
+          no_suid = false;
           again = r;
           rootlike = inr plain;
           no_uid = λ e. (avoid_one launch creds table _ ran.call _ ran.makes TakesUid refl, (avoid_one launch after table set.operation own_call _ set.makes TakesUid (set.no_uid refl), tt));
@@ -266,9 +295,9 @@ module _ (launch : Launch) (l : IsLaunched launch) (o : Offers launch) where
     -- uid 0, and execve behind it
     root_gains : (from creds : Creds) (start table : Table) (number : ℕ) (calls : List Call) → Avoids launch TakesGid calls
         → Way launch from start calls creds table → Basis launch creds → has creds.effective 7 ≡ true → (target : Row)
-        → Runnable launch table target → IsRootlike target → lets launch TakesUid ≡ true
+        → (no_suid : Bool) → RunnableBy no_suid launch table target → IsRootlike target → lets launch TakesUid ≡ true
         → has launch.creds.bounding number ≡ true → Gained false from start table number
-    root_gains from creds start table number calls no_gid way basis h target r like s own =
+    root_gains from creds start table number calls no_gid way basis h target no_suid r like s own =
         let line = some_line launch l TakesUid s in
         let own_call = id_call (place_of line.line) line.own 0 in
         let change = uid_call launch o creds table 0 (omega arith) line h in
@@ -276,18 +305,19 @@ module _ (launch : Launch) (l : IsLaunched launch) (o : Offers launch) where
         let after = with_uids creds ids in
         let b = basis_uids launch creds ids basis in
         let off = off_of after b in
-        let ran = runs launch l o after table target b.bounding r in
+        let ran = runs launch l o no_suid after table target b.bounding r in
         let uid : eqb after.uids.effective 0 ≡ true = ap (λ (ids : Ids). eqb ids.effective 0) (uids_after creds ids) ∙ ap (λ id. eqb id 0) (effective_by line.own creds.uids 0) in
-        let root = ap (λ id. eqb id 0) (gains.uid_after after (marks_of target) off) ∙ stays_zero target.setuid after.uids.effective like uid in
-        let w = gains.zero_gives after (marks_of target) off root in
+        let root = runs_as_zero after (marks_of target) no_suid like uid in
+        let w = gains.root_gives after (marks_of target) no_suid off root in
         let has_own : has after.bounding number ≡ true = ap (λ s. has s number) b.bounding ∙ own in
         record {
           calls = calls ++ (own_call ∷ ran.call ∷ []);
-          creds = exec_done after (marks_of target) false;
+          creds = exec_done after (marks_of target) no_suid;
           way = way_join way (by_creds own_call change.makes (by_creds ran.call ran.makes here));
-          basis = basis_exec after target b;
+          basis = basis_exec after target no_suid b;
           holds = w.each number has_own;
           target = target;
+          no_suid = false;
           again = r;
           rootlike = like;
           no_uid = λ e. cc;
@@ -314,7 +344,7 @@ module _ (launch : Launch) (l : IsLaunched launch) (o : Offers launch) where
             let g = gain_row spares creds x.now target number b x.runnable h in
             record {
               end = x.now;
-              gained = record { calls = x.calls ++ g.calls; creds = g.creds; way = way_join x.way g.way; basis = g.basis; holds = g.holds; target = g.target; again = g.again; rootlike = g.rootlike; no_uid = λ e. avoid_join launch TakesUid x.calls g.calls x.no_uid (g.no_uid e); no_gid = avoid_join launch TakesGid x.calls g.calls x.no_gid g.no_gid };
+              gained = record { calls = x.calls ++ g.calls; creds = g.creds; way = way_join x.way g.way; basis = g.basis; holds = g.holds; target = g.target; no_suid = g.no_suid; again = g.again; rootlike = g.rootlike; no_uid = λ e. avoid_join launch TakesUid x.calls g.calls x.no_uid (g.no_uid e); no_gid = avoid_join launch TakesGid x.calls g.calls x.no_gid g.no_gid };
               still = x.still;
             }
 
@@ -332,7 +362,7 @@ module _ (launch : Launch) (l : IsLaunched launch) (o : Offers launch) where
     then_root : (end : Table) (number : ℕ) → Gained false launch.creds launch.table end 7 → lets launch TakesUid ≡ true
         → has launch.creds.bounding number ≡ true → Gained false launch.creds launch.table end number
     then_root end number g s own = root_gains launch.creds g.creds launch.table end number g.calls g.no_gid g.way g.basis g.holds g.target
-        g.again g.rootlike s own
+        g.no_suid g.again g.rootlike s own
 
     -- what root adds
     root_part : (end : Table) (number : ℕ) (before : ℕ) → (has before 7 ≡ true → Gained false launch.creds launch.table end 7)
@@ -371,7 +401,7 @@ module _ (launch : Launch) (l : IsLaunched launch) (o : Offers launch) where
           by (inr h) =
               let x = rows_gain false power admin.creds number admin.basis (inr (admin.holds, same)) h in
               let g = x.gained in
-              (x.end, record { calls = admin.calls ++ g.calls; creds = g.creds; way = way_join admin.way g.way; basis = g.basis; holds = g.holds; target = g.target; again = g.again; rootlike = g.rootlike; no_uid = λ e. cc; no_gid = avoid_join launch TakesGid admin.calls g.calls admin.no_gid g.no_gid })
+              (x.end, record { calls = admin.calls ++ g.calls; creds = g.creds; way = way_join admin.way g.way; basis = g.basis; holds = g.holds; target = g.target; no_suid = g.no_suid; again = g.again; rootlike = g.rootlike; no_uid = λ e. cc; no_gid = avoid_join launch TakesGid admin.calls g.calls admin.no_gid g.no_gid })
 
       powered : (number : ℕ) → has (with_root launch (lets launch TakesUid) (caps_before launch power)) number ≡ true
           → (end : Table) × Gained false launch.creds launch.table end number

@@ -1,5 +1,5 @@
 -- The calls that expose a row, by name: each is done, and then a path finds it.
-use Rattle.std.proofs.Common.{◌≡◌, map, ℕ, true, List, [], ◌∷◌, ◌++◌, Some, None, Ok, refl, cond, ap, ◌∙◌, sym, subst, arith, ◌<◌}
+use Rattle.std.proofs.Common.{◌≡◌, map, ℕ, Bool, true, List, [], ◌∷◌, ◌++◌, Some, None, Ok, refl, cond, ap, ◌∙◌, sym, subst, arith, ◌<◌}
 use Rattle.std.specs.Prelude.{◌^◌, ◌%◌, ◌-◌, slice_get}
 use Rattle.std.specs.List.{AllByRecursion}
 use Rattle.launcher.specs.abs_path.Paths.{Path, proc}
@@ -37,8 +37,7 @@ use Rattle.launcher.specs.kernel_model.Runs.{run}
 use Rattle.launcher.specs.kernel_model.World.{World, living_of, table_of, table_or}
 use Rattle.launcher.specs.kernel_model.declared.process.Process.{Process}
 use Rattle.launcher.specs.kernel_laws.Launched.{Launch, passes, launch_of}
-use Rattle.launcher.specs.kernel_laws.declared.question_types.wish.Wish.{Wish}
-use Rattle.launcher.specs.kernel_laws.Reach.{fits}
+use Rattle.launcher.specs.kern_mounts.declared.step.Flags.{Flags}
 use Rattle.reach_paths.proofs.Mounted.{mounted_twice}
 use Rattle.reach_paths.proofs.Naming.{named_both, rest_short}
 use Rattle.reach_paths.proofs.Parts.{part_all}
@@ -104,7 +103,7 @@ module _ (launch : Launch) (o : Offers launch) (creds : Creds) (nr : CallAt) whe
       proc_named = record { normal = refl; short = omega arith }
 
 pub unmounts_show_row : UnmountsShowRow
-unmounts_show_row launch creds nr target wish at l o can known shows =
+unmounts_show_row launch creds nr target test at l o can known shows =
     let path : Path = shows.entry.place ++ shows.rest in
     let ordered : IsOrdered (shows.earlier ++ shows.entry ∷ shows.later) = subst IsOrdered shows.whole (ascending_is_ordered launch.table o.plan.places_ascend) in
     let u = uncovered shows.earlier shows.entry shows.rest shows.later (ordered_after shows.earlier shows.entry shows.later ordered) in
@@ -127,7 +126,7 @@ unmounts_show_row launch creds nr target wish at l o can known shows =
         is_found = ap (found_at (row_at launch.site.rows) path) by
             ∙ ap (λ w. found_by (row_at launch.site.rows) w shows.entry.place path) shows.host
             ∙ ap (λ (p : Path). row_or_nothing (row_at launch.site.rows p)) there ∙ ap row_or_nothing known;
-        is_allowed = ap (λ e. fits wish (flags_by e)) by ∙ shows.flags;
+        is_allowed = ap (λ e. test (flags_by e)) by ∙ shows.flags;
       };
     }
 
@@ -141,9 +140,9 @@ two_mounts_show_rows launch creds nr flags l o can small again other =
 -- ---- from the launched world itself
 -- what process 1 alone finds on its table, it finds in its world
 found_alone : (launch : Launch) (creds : Creds) (table : Table) (world : World) (calls : List Call) (path : Path) (target : Row)
-    (wish : Wish) → world.site ≡ launch.site → IsDoneTo launch creds table world calls
-    → FindsAt (row_at launch.site.rows) table path target wish → FindsAfter world calls path target wish
-found_alone launch creds table world calls path target wish told d found =
+    (test : Flags → Bool) → world.site ≡ launch.site → IsDoneTo launch creds table world calls
+    → FindsAt (row_at launch.site.rows) table path target test → FindsAfter world calls path target test
+found_alone launch creds table world calls path target test told d found =
     let s = d.solo in
     let process : Process = solo_process launch creds s.namespace in
     let own : table_of (run world calls) s.namespace ≡ table =
@@ -153,24 +152,24 @@ found_alone launch creds table world calls path target wish told d found =
       done = d.done;
       process = process;
       lives = ap (λ (w : World). living_of w 1) s.is;
-      finds_row = subst (λ (t : Table). FindsAt (row_at world.site.rows) t path target wish) (sym own)
-          (subst (λ (s : Site). FindsAt (row_at s.rows) table path target wish) (sym told) found);
+      finds_row = subst (λ (t : Table). FindsAt (row_at world.site.rows) t path target test) (sym own)
+          (subst (λ (s : Site). FindsAt (row_at s.rows) table path target test) (sym told) found);
     }
 
 pub unmounts_show_row_at_once : UnmountsShowRowAtOnce
-unmounts_show_row_at_once world nr target wish at s can known shows =
+unmounts_show_row_at_once world nr target test at s can known shows =
     let launch = launch_of world in
-    let u = unmounts_show_row launch launch.creds nr target wish at s.launched.launched s.offers can known shows in
+    let u = unmounts_show_row launch launch.creds nr target test at s.launched.launched s.offers can known shows in
     let path : Path = shows.entry.place ++ shows.rest in
     let calls : List Call = umount_calls nr (covering path shows.later) in
     let d = ways_are_done launch launch.creds launch.creds launch.table u.now world calls (served_is_solo world s) u.way in
-    found_alone launch launch.creds u.now world calls path target wish refl d u.finds_row
+    found_alone launch launch.creds u.now world calls path target test refl d u.finds_row
 
 pub two_mounts_show_rows_at_once : TwoMountsShowRowsAtOnce
-two_mounts_show_rows_at_once world nr flags target wish s can small again other known allowed =
+two_mounts_show_rows_at_once world nr flags target test s can small again other known allowed =
     let launch = launch_of world in
     let u = two_mounts_show_rows launch launch.creds nr flags s.launched.launched s.offers can small again other in
     let below = u.each_row target known in
     let d = ways_are_done launch launch.creds launch.creds launch.table u.now world (mount_calls nr flags) (served_is_solo world s) u.way in
-    found_alone launch launch.creds u.now world (mount_calls nr flags) (proc ++ target.path) target wish refl d
-    (record { can_be_named = below.can_be_named; is_found = below.is_found; is_allowed = ap (fits wish) below.flags_are ∙ allowed })
+    found_alone launch launch.creds u.now world (mount_calls nr flags) (proc ++ target.path) target test refl d
+    (record { can_be_named = below.can_be_named; is_found = below.is_found; is_allowed = ap (test) below.flags_are ∙ allowed })

@@ -1,39 +1,33 @@
 -- What a power exposes, calls expose.
-use Rattle.std.proofs.Common.{◌≡◌, ℕ, Bool, true, false, List, [], ◌∷◌, ◌++◌, Option, Some, None, refl, ap, ◌∙◌, sym, subst, arith, ◌<◌}
+use Rattle.std.proofs.Common.{◌≡◌, ℕ, Bool, true, false, List, [], ◌∷◌, ◌++◌, refl, ap, ◌∙◌, sym, subst, arith, ◌<◌}
 use Rattle.std.proofs.Common.{◌⊎◌, inl, inr}
 use Rattle.std.specs.Prelude.{◌^◌}
 use Rattle.std.specs.List.{AllByRecursion}
-use Rattle.launcher.specs.abs_path.Paths.{Path, proc}
+use Rattle.launcher.specs.abs_path.Paths.{proc}
 use Rattle.launcher.specs.cap_sets.Sets.{has}
 use Rattle.launcher.specs.site_table.declared.row.Row.{Row}
 use Rattle.launcher.specs.site_table.Table.{row_at}
 use Rattle.launcher.specs.kern_creds.declared.creds.Creds.{Creds}
-use Rattle.launcher.specs.kern_mounts.Entry.{leads_to, entry_of}
-use Rattle.launcher.specs.kern_mounts.Launch.{HasShortPlace, IsNotNoSuid}
+use Rattle.launcher.specs.kern_mounts.Launch.{HasShortPlace}
 use Rattle.launcher.specs.kern_mounts.Split.{Table}
 use Rattle.launcher.specs.kern_mounts.Table.{StartsAtRoot}
 use Rattle.launcher.specs.kern_mounts.Unmounts.{Unmounts, still, then_one}
-use Rattle.launcher.specs.kern_mounts.declared.step.MountStep.{MountStep}
-use Rattle.launcher.proofs.OfKernMounts.Splits.{split_of, split_some}
-use Rattle.launcher.proofs.OfKernMounts.Unmounting.{removes_plain, trims_plain, trimmed_part, trimmed_top, unmounts_trim, append_all}
+use Rattle.launcher.proofs.OfKernMounts.Unmounting.{removes_plain, trims_plain, trimmed_part, trimmed_top, append_all}
 use Rattle.launcher.specs.kernel_model.kern_files.Bits.{has_all}
-use Rattle.launcher.specs.kernel_model.kern_files.Looking.{flags_at, flags_by}
-use Rattle.launcher.specs.kernel_model.kern_files.MountCall.{ms_bind, ms_remount_bind, has_other_kind, flags_of}
+use Rattle.launcher.specs.kernel_model.kern_files.MountCall.{ms_bind, ms_remount_bind, has_other_kind}
 use Rattle.launcher.specs.kernel_model.kernel_calls.Calls.{IsPath}
 use Rattle.launcher.specs.kernel_model.declared.kernel_calls.call.Call.{Call}
 use Rattle.launcher.specs.kernel_laws.Bound.{power_by, power_of, caps_at}
 use Rattle.launcher.specs.kernel_laws.declared.question_types.kind.CallKind.TheVariants.{ChangesMounts, RemovesMounts, TakesUid, TakesGid}
-use Rattle.launcher.specs.kernel_laws.declared.question_types.wish.Wish.{Wish}
-use Rattle.launcher.specs.kernel_laws.declared.question_types.wish.Wish.TheVariants.{See as ToSee, Read as ToRead, Write as ToWrite}
-use Rattle.launcher.specs.kernel_laws.declared.question_types.wish.Wish.TheVariants.{Exec as ToExec}
 use Rattle.launcher.specs.kernel_laws.declared.question_types.power.Power.{Power}
 use Rattle.launcher.specs.kernel_laws.declared.question_types.power.Power.TheVariants.{None as Nowise, Unmount as Unmounting}
 use Rattle.launcher.specs.kernel_laws.declared.question_types.power.Power.TheVariants.{Mount as Mounting}
 use Rattle.launcher.specs.kernel_laws.Launched.{Launch, IsLaunched, lets}
-use Rattle.launcher.specs.kernel_laws.Reach.{fits, reaches}
+use Rattle.launcher.specs.kernel_laws.Reach.{reaches_with}
+use Rattle.launcher.specs.kern_mounts.declared.step.Flags.{Flags}
 use Rattle.reach_paths.specs.Finding.{FindsRow}
 use Rattle.reach_paths.specs.Mounting.{IsBelowProc}
-use Rattle.reach_paths.proofs.Found.{exactly}
+use Rattle.reach_paths.proofs.Found.{CanBeRemounted, exactly}
 use Rattle.reach_paths.proofs.Mounted.{mounted_twice}
 use Rattle.reach_paths.proofs.Parts.{part_all}
 use Rattle.kernel_ways.specs.Offers.{Offers}
@@ -113,12 +107,11 @@ module _ (launch : Launch) (o : Offers launch) (creds : Creds) (admin : has cred
       }
 
 -- ---- all powers
-pub record Exposed (launch : Launch) (creds : Creds) (power : Power) (target : Row) (wish : Wish) : Type 0 where
+pub record Exposed (launch : Launch) (creds : Creds) (power : Power) (target : Row) (test : Flags → Bool) : Type 0 where
   pub calls : List Call
   pub now : Table
   pub way : Way launch creds launch.table calls creds now
-  pub found : FindsRow (row_at launch.site.rows) now wish target
-  pub suid : (flags_at now found.path).no_suid ≡ false
+  pub found : FindsRow (row_at launch.site.rows) now test target
   pub still : power ≡ Nowise → now ≡ launch.table
   pub no_uid : Avoids launch TakesUid calls
   pub no_gid : Avoids launch TakesGid calls
@@ -127,57 +120,37 @@ pub record Exposed (launch : Launch) (creds : Creds) (power : Power) (target : R
 abbrev pub HasPower : Launch → Creds → Power → Type 0
 HasPower launch creds power = (power ≡ Nowise) ⊎ ((has creds.effective 21 ≡ true) × (power_of launch ≡ power))
 
--- programs keep their marks wherever a path leads
-pub marks_count : (table : Table) → AllByRecursion IsNotNoSuid table → (path : Path) → (flags_at table path).no_suid ≡ false
-marks_count table each path = by (entry_of table path) refl
-  where
-    by : (entry : Option MountStep) → entry_of table path ≡ entry → (flags_by entry).no_suid ≡ false
-    by None e = refl
-    by (Some entry) e =
-        let split = split_of path table entry e in
-        let is = split_some (leads_to path) table split.0 split.1 in
-        let all : AllByRecursion IsNotNoSuid (split.0.earlier ++ split.0.entry ∷ split.0.later) = subst (AllByRecursion IsNotNoSuid) is.whole each in
-        ap (λ (step : MountStep). step.flags.no_suid) (sym split.2) ∙ append_all IsNotNoSuid split.0.earlier split.0.entry split.0.later all
-
-pub remounted_fits : (wish : Wish) → fits wish (flags_of ms_remount_bind) ≡ true
-remounted_fits ToSee = refl
-remounted_fits ToRead = refl
-remounted_fits ToWrite = refl
-remounted_fits ToExec = refl
-
-module _ (launch : Launch) (l : IsLaunched launch) (o : Offers launch) (creds : Creds) (target : Row) (known : IsKnown launch.site target) (wish : Wish) where
-  at_once : reaches Nowise launch.table target.path wish ≡ true → Exposed launch creds Nowise target wish
+module _ (launch : Launch) (l : IsLaunched launch) (o : Offers launch) (creds : Creds) (target : Row) (known : IsKnown launch.site target) (test : Flags → Bool) (remount : CanBeRemounted test) where
+  at_once : reaches_with Nowise launch.table target.path test ≡ true → Exposed launch creds Nowise target test
   at_once e =
-      let f = (exactly Nowise launch.table target.path wish launch.site target o.site o.plan known).0 e in
-      let P : Table → Type 0 = λ t. FindsRow (row_at launch.site.rows) t wish target in
+      let f = (exactly Nowise launch.table target.path test remount launch.site target o.site o.plan known).0 e in
+      let P : Table → Type 0 = λ t. FindsRow (row_at launch.site.rows) t test target in
       let found : P launch.table = subst P f.1 f.2 in
-      record { calls = []; now = launch.table; way = here; found = found; suid = marks_count launch.table l.honours found.path; still = λ e. refl; no_uid = tt; no_gid = tt }
+      record { calls = []; now = launch.table; way = here; found = found; still = λ e. refl; no_uid = tt; no_gid = tt }
 
-  unmounting : has creds.effective 21 ≡ true → lets launch RemovesMounts ≡ true → reaches Unmounting launch.table target.path wish ≡ true
-      → Exposed launch creds Unmounting target wish
+  unmounting : has creds.effective 21 ≡ true → lets launch RemovesMounts ≡ true → reaches_with Unmounting launch.table target.path test ≡ true
+      → Exposed launch creds Unmounting target test
   unmounting admin passes e =
-      let f = (exactly Unmounting launch.table target.path wish launch.site target o.site o.plan known).0 e in
+      let f = (exactly Unmounting launch.table target.path test remount launch.site target o.site o.plan known).0 e in
       let way = way_unmounts launch o creds admin (some_line launch l RemovesMounts passes) l.rooted o.plan.places_are_short f.1 in
-      let honours = part_all IsNotNoSuid (trimmed_part (unmounts_trim f.1 l.rooted)) l.honours in
-      record { calls = way.calls; now = f.0; way = way.way; found = f.2; suid = marks_count f.0 honours f.2.path; still = λ e. cc; no_uid = way.no_uid; no_gid = way.no_gid }
+      record { calls = way.calls; now = f.0; way = way.way; found = f.2; still = λ e. cc; no_uid = way.no_uid; no_gid = way.no_gid }
 
-  mounting : has creds.effective 21 ≡ true → lets launch ChangesMounts ≡ true → Exposed launch creds Mounting target wish
+  mounting : has creds.effective 21 ≡ true → lets launch ChangesMounts ≡ true → Exposed launch creds Mounting target test
   mounting admin passes =
-      let two = way_mounts launch o creds admin (some_line launch l ChangesMounts passes) ms_remount_bind (omega arith) refl refl in
+      let two = way_mounts launch o creds admin (some_line launch l ChangesMounts passes) remount.word remount.small remount.again remount.single in
       let below = two.each_row target known in
       record {
         calls = two.calls;
         now = two.now;
         way = two.way;
-        found = record { path = proc ++ target.path; can_be_named = below.can_be_named; is_found = below.is_found; is_allowed = ap (fits wish) below.flags_are ∙ remounted_fits wish };
-        suid = ap (λ f. f.no_suid) below.flags_are;
+        found = record { path = proc ++ target.path; can_be_named = below.can_be_named; is_found = below.is_found; is_allowed = ap test below.flags_are ∙ remount.passes };
         still = λ e. cc;
         no_uid = two.no_uid;
         no_gid = two.no_gid;
       }
 
-  pub exposed : (power : Power) → HasPower launch creds power → reaches power launch.table target.path wish ≡ true
-      → Exposed launch creds power target wish
+  pub exposed : (power : Power) → HasPower launch creds power → reaches_with power launch.table target.path test ≡ true
+      → Exposed launch creds power target test
   exposed Nowise h e = at_once e
   exposed Unmounting (inl none') e = cc
   exposed Unmounting (inr both) e =

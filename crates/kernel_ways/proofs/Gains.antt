@@ -1,5 +1,5 @@
 -- What execve of a row gives, and capset behind it.
-use Rattle.std.proofs.Common.{◌≡◌, ℕ, Bool, true, false, ap, ◌∙◌, sym, subst, cond, arith, ◌<◌, eqb}
+use Rattle.std.proofs.Common.{◌≡◌, ℕ, Bool, true, false, refl, ap, ◌∙◌, sym, subst, cond, arith, ◌<◌, eqb}
 use Rattle.std.specs.Prelude.{not, ◌&&◌, ◌||◌, ◌^◌}
 use Rattle.std.proofs.lemmas.Bool.{and_from, or_left, or_right}
 use Rattle.std.proofs.lemmas.Nat.{and_le_r}
@@ -27,6 +27,7 @@ use Rattle.launcher.specs.site_table.Kinds.{is_exe}
 use Rattle.launcher.specs.kern_mounts.Split.{Table}
 use Rattle.reach_paths.specs.Finding.{FindsRow}
 use Rattle.launcher.proofs.OfKernelLaws.KeptExec.{above_if}
+use Rattle.launcher.specs.kernel_laws.Reach.{fits}
 use Rattle.kernel_ways.specs.Offers.{Offers}
 use Rattle.kernel_ways.specs.Ways.{place_of, Makes}
 use Rattle.kernel_ways.proofs.Operations.{exec_path}
@@ -39,15 +40,32 @@ pub record Basis (launch : Launch) (creds : Creds) : Type 0 where
   pub inheritable : creds.inheritable ≡ launch.creds.inheritable
   pub mark : creds.no_new_privs ≡ launch.creds.no_new_privs
 
--- a row that can be run on this table with its marks looked at
-pub record Runnable (launch : Launch) (table : Table) (target : Row) : Type 0 where
-  pub found : FindsRow (row_at launch.site.rows) table ToExec target
+-- a row that can be run on this table, by whether its mount has nosuid
+pub record RunnableBy (no_suid : Bool) (launch : Launch) (table : Table) (target : Row) : Type 0 where
+  pub found : FindsRow (row_at launch.site.rows) table (fits ToExec) target
   pub known : IsKnown launch.site target
   pub exe : is_exe target.kind ≡ true
-  pub suid : (flags_at table found.path).no_suid ≡ false
+  pub suid : (flags_at table found.path).no_suid ≡ no_suid
   pub free : is_barred launch target ≡ false
 
+-- with its marks looked at
+abbrev pub Runnable : Launch → Table → Row → Type 0
+Runnable launch table target = RunnableBy false launch table target
+
 -- ---- the credentials after it
+-- uid 0 gives the bounding set at once, even where marks are not looked at
+pub root_gives : (creds : Creds) (file : FileCreds) (no_suid : Bool) → creds.no_new_privs ≡ false
+    → eqb (exec_uids creds file no_suid).effective 0 ≡ true → IsWithin creds.bounding (exec_done creds file no_suid).effective
+root_gives creds file no_suid off root =
+    let uids = exec_uids creds file no_suid in
+    let gains = exec_gains creds file no_suid in
+    let ambient = exec_ambient creds file no_suid in
+    let whole : IsWithin creds.bounding gains = above_if (eqb uids.real 0 || eqb uids.effective 0) (union creds.inheritable creds.bounding) _ creds.bounding
+    (λ z. within_union_right _ _ _ (within_self _)) (λ z. let yes = or_right (eqb uids.real 0) (eqb uids.effective 0) root in let no' : true ≡ false = sym yes ∙ z in cc) in
+    above_if (eqb uids.effective 0 || (honours creds no_suid && file.effective)) (exec_done creds file no_suid).permitted ambient creds.bounding
+    (λ y. above_if creds.no_new_privs (cut gains creds.permitted) gains creds.bounding (λ n. let no' : false ≡ true = sym off ∙ n in cc) (λ n. whole))
+    (λ y. let yes = or_left (eqb uids.effective 0) (honours creds no_suid && file.effective) root in let no' : true ≡ false = sym yes ∙ y in cc)
+
 module _ (creds : Creds) (file : FileCreds) (off : creds.no_new_privs ≡ false) where
   abbrev pub done : Creds
   done = exec_done creds file false
@@ -106,25 +124,31 @@ common_small caps bounding h = omega (arith, and_le_r caps bounding, h)
 
 -- ---- its call
 module _ (launch : Launch) (l : IsLaunched launch) (o : Offers launch) where
+  -- a row that is not barred is not refused
+  pub not_refused : (no_suid : Bool) (creds : Creds) (target : Row) → creds.bounding ≡ launch.creds.bounding → is_barred launch target ≡ false
+      → is_refused creds (marks_of target) no_suid ≡ false
+  not_refused true creds target bounding free = refl
+  not_refused false creds target bounding free = ap (λ s. target.effective && not (within target.caps s)) bounding ∙ free
+
   -- by a line that execve follows
-  pub runs_by : (line : Line launch (ForPath ToExec)) (creds : Creds) (table : Table) (target : Row)
-      → creds.bounding ≡ launch.creds.bounding → (r : Runnable launch table target)
+  pub runs_by : (no_suid : Bool) (line : Line launch (ForPath ToExec)) (creds : Creds) (table : Table) (target : Row)
+      → creds.bounding ≡ launch.creds.bounding → (r : RunnableBy no_suid launch table target)
       → Makes launch creds table (d.Execve r.found.path) (first_by (place_of line.line) line.args (pay.OnePath r.found.path))
-      (SetCreds (exec_done creds (marks_of target) false))
-  runs_by line creds table target bounding r =
+      (SetCreds (exec_done creds (marks_of target) no_suid))
+  runs_by no_suid line creds table target bounding r =
       let path = r.found.path in
       let admitted : is_refused creds (marks_of target) (flags_at table path).no_suid ≡ false =
-      ap (λ b. is_refused creds (marks_of target) b) r.suid ∙ ap (λ s. target.effective && not (within target.caps s)) bounding ∙ r.free in
+      ap (λ b. is_refused creds (marks_of target) b) r.suid ∙ not_refused no_suid creds target bounding r.free in
       let x = exec_path launch creds table path r.found.can_be_named target r.found.is_found r.exe r.found.is_allowed admitted line in
       let P : Bool → Type 0 = λ b. Makes launch creds table (d.Execve path) (first_by (place_of line.line) line.args (pay.OnePath path)) (SetCreds (exec_done creds (marks_of target) b)) in subst P r.suid x
 
-  pub record Ran (creds : Creds) (table : Table) (target : Row) : Type 0 where
+  pub record RanBy (no_suid : Bool) (creds : Creds) (table : Table) (target : Row) : Type 0 where
     pub call : Call
     pub path : Path
-    pub makes : Makes launch creds table (d.Execve path) call (SetCreds (exec_done creds (marks_of target) false))
+    pub makes : Makes launch creds table (d.Execve path) call (SetCreds (exec_done creds (marks_of target) no_suid))
 
-  pub runs : (creds : Creds) (table : Table) (target : Row) → creds.bounding ≡ launch.creds.bounding → Runnable launch table target
-      → Ran creds table target
-  runs creds table target bounding r =
+  pub runs : (no_suid : Bool) (creds : Creds) (table : Table) (target : Row) → creds.bounding ≡ launch.creds.bounding
+      → RunnableBy no_suid launch table target → RanBy no_suid creds table target
+  runs no_suid creds table target bounding r =
       let line = some_line launch l (ForPath ToExec) o.execs in
-      record { call = first_by (place_of line.line) line.args (pay.OnePath r.found.path); path = r.found.path; makes = runs_by line creds table target bounding r }
+      record { call = first_by (place_of line.line) line.args (pay.OnePath r.found.path); path = r.found.path; makes = runs_by no_suid line creds table target bounding r }

@@ -81,7 +81,7 @@ module _ (launch : Launch) (l : IsLaunched launch) (o : Offers launch) where
       → can_run launch power target ≡ true → RanRow spares target
   ran_row spares power p at target listed c =
       let x = exposed_runs launch l o power p.creds target (known_at launch.site o.site at target listed) p.at_hand c in
-      let ran = runs launch l o p.creds x.now target p.basis.bounding x.runnable in
+      let ran = runs launch l o false p.creds x.now target p.basis.bounding x.runnable in
       let run = ran.call ∷ [] in
       record {
         calls = p.calls ++ (x.calls ++ run);

@@ -72,7 +72,8 @@ use Rattle.launcher.proofs.Leading.{Leads, launched_leads}
 use Rattle.launcher.proofs.Solo.{At, solo, only, does, own_table}
 use Rattle.launcher.specs.mount_plan.Host.{host_of as site_host}
 use Rattle.reach_paths.specs.Finding.{FindsRow}
-use Rattle.reach_paths.proofs.Found.{exactly}
+use Rattle.reach_paths.proofs.Found.{can_be_remounted, exactly}
+use Rattle.reach_paths.specs.declared.needs.Need.TheVariants.{ForWish}
 use Rattle.kernel_ways.specs.Laws.{IsServedWorld}
 use Rattle.kernel_ways.specs.Launching.{LaunchedIsServed, LaunchedRunsProgram}
 use Rattle.kernel_ways.specs.Offers.{Offers, HasProgram, RunsProgram}
@@ -248,11 +249,11 @@ module _ (launch : Launch) (l : IsLaunched launch) (whole : IsWhole launch.calls
       → HasProgram launch
   has_program path program found exe leave plain =
       let allowed : fits ToExec (flags_at launch.table path) ≡ true = ap not leave in
-      let lead = leads launch.site.rows launch.table path program ToExec found allowed in
-      let reached = (reach_of_the_table launch.table program.path ToExec).1 lead in
+      let lead = leads launch.site.rows launch.table path program (fits ToExec) found allowed in
+      let reached = (reach_of_the_table launch.table program.path (fits ToExec)).1 lead in
       let known' = known_found launch.site launch.table path program found in
-      let f = (exactly Nowise launch.table program.path ToExec launch.site program site can known').0 reached in
-      record { program = program; found = subst (λ (t : Table). FindsRow (row_at launch.site.rows) t ToExec program) f.1 f.2; exe = exe; plain = plain }
+      let f = (exactly Nowise launch.table program.path (fits ToExec) (can_be_remounted (ForWish ToExec)) launch.site program site can known').0 reached in
+      record { program = program; found = subst (λ (t : Table). FindsRow (row_at launch.site.rows) t (fits ToExec) program) f.1 f.2; exe = exe; plain = plain }
 
 -- programs that were read from bytes that decide as filters do
 read_means : (settings : FilterSettings) (table : calls.Table) (programs : List (List ℕ)) (stack : List (List Insn))
@@ -316,6 +317,6 @@ launched_is_served settings table site wanted plan last steps whole arch is refu
 pub launched_runs_program : LaunchedRunsProgram
 launched_runs_program settings table site wanted plan last steps whole arch is refusing can small keeps meant named e =
     let f = facts settings table site wanted plan last steps whole arch is refusing can small keeps meant e in
-    let found : FindsRow (row_at f.0.site.rows) f.0.table ToExec f.1.program = record { path = wanted.program; can_be_named = named; is_found = f.1.found; is_allowed = ap not f.1.leave } in
+    let found : FindsRow (row_at f.0.site.rows) f.0.table (fits ToExec) f.1.program = record { path = wanted.program; can_be_named = named; is_found = f.1.found; is_allowed = ap not f.1.leave } in
     let runs : RunsProgram f.0 wanted.program = (record { program = f.1.program; found = found; exe = f.1.exe; plain = f.1.plain }, refl) in
     subst (λ (l : Launch). RunsProgram l wanted.program) (sym f.1.is) runs

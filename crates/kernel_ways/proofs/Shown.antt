@@ -1,11 +1,11 @@
 -- What the ceiling leaves open is shown by a list of calls.
-use Rattle.std.proofs.Common.{◌≡◌, ℕ, Bool, true, false, List, [], ◌∷◌, ◌++◌, Option, Some, None, refl, ap, ◌∙◌, sym, subst, arith, inl}
+use Rattle.std.proofs.Common.{◌≡◌, ℕ, Bool, true, false, List, [], ◌∷◌, ◌++◌, Option, Some, None, refl, ap, ◌∙◌, sym, subst, inl}
 use Rattle.std.proofs.Common.{inr, zero, suc}
 use Rattle.std.specs.Prelude.{slice_get, not, nat_lt, ◌&&◌, ◌||◌}
 use Rattle.std.proofs.lemmas.Slice.Eq.{bytes_eq-Decides}
 use Rattle.std.proofs.lemmas.Bool.{and_parts, or_cases, not-true, eq-eqb}
-use Rattle.launcher.specs.abs_path.Paths.{Path, proc}
-use Rattle.launcher.specs.cap_sets.Sets.{has, within}
+use Rattle.launcher.specs.abs_path.Paths.{Path}
+use Rattle.launcher.specs.cap_sets.Sets.{has}
 use Rattle.launcher.specs.call_table.declared.listed.CallLine.{CallLine}
 use Rattle.launcher.specs.call_table.Lookups.{numbered}
 use Rattle.launcher.specs.site_table.declared.row.Row.{Row}
@@ -14,8 +14,8 @@ use Rattle.launcher.specs.site_table.Table.{IsRowOf, row_at}
 use Rattle.launcher.specs.kern_creds.declared.creds.Creds.{Creds}
 use Rattle.launcher.specs.kern_creds.Exec.{exec_done, is_refused}
 use Rattle.launcher.specs.kern_mounts.Finds.{row, finds}
-use Rattle.launcher.specs.kernel_laws.Bound.{is_barred, is_to_exec, is_mounting, is_user, can_reach, can_have_cap, can_have_for, if_listed}
-use Rattle.launcher.specs.kernel_laws.Bound.{caps_at, power_of, ceiling, is_open, is_call_open}
+use Rattle.launcher.specs.kernel_laws.Bound.{is_barred, is_to_exec, is_user, can_reach, can_have_cap, can_have_for, if_listed, runs_plainly}
+use Rattle.launcher.specs.kernel_laws.Bound.{power_of, ceiling, is_open, is_call_open}
 use Rattle.launcher.specs.kernel_model.declared.kernel_calls.call.Call.{Call}
 use Rattle.launcher.specs.kernel_model.kernel_calls.Calls.{IsPath}
 use Rattle.launcher.specs.kernel_laws.Denied.{asks_space, asks_family, is_family}
@@ -32,9 +32,6 @@ use Rattle.launcher.specs.kernel_laws.declared.question_types.wish.Wish.TheVaria
 use Rattle.launcher.specs.kernel_laws.declared.question_types.wish.Wish.TheVariants.{Exec as ToExec}
 use Rattle.launcher.specs.filter_settings.declared.filter_rules.namespace_types.NamespaceType.{NamespaceType}
 use Rattle.launcher.specs.kernel_laws.declared.question_types.question.Question.{Question}
-use Rattle.launcher.specs.kernel_laws.declared.question_types.power.Power.{Power}
-use Rattle.launcher.specs.kernel_laws.declared.question_types.power.Power.TheVariants.{None as Nowise, Unmount as Unmounting}
-use Rattle.launcher.specs.kernel_laws.declared.question_types.power.Power.TheVariants.{Mount as Mounting}
 use Rattle.launcher.specs.kernel_laws.declared.question_types.kind.CallKind.TheVariants as kinds
 use Rattle.launcher.specs.filter_settings.declared.filter_rules.namespace_types.NamespaceType.TheVariants as namespace
 use Rattle.launcher.specs.kernel_laws.declared.question_types.question.Question.TheVariants as asking
@@ -42,7 +39,12 @@ use Rattle.launcher.specs.kernel_laws.Launched.{Launch, IsLaunched, launch_of, l
 use Rattle.launcher.specs.site_table.Kinds.{is_dir, is_exe}
 use Rattle.launcher.specs.kern_mounts.Split.{Table}
 use Rattle.reach_paths.specs.Finding.{FindsRow}
-use Rattle.launcher.specs.kernel_laws.Reach.{fits, reaches}
+use Rattle.launcher.specs.kernel_laws.Reach.{fits, reaches, reaches_with, runs_unmarked}
+use Rattle.launcher.specs.kern_mounts.declared.step.Flags.{Flags}
+use Rattle.reach_paths.specs.Needs.{allows}
+use Rattle.reach_paths.specs.declared.needs.Need.{Need}
+use Rattle.reach_paths.specs.declared.needs.Need.TheVariants.{ForWish, Unmarked}
+use Rattle.reach_paths.proofs.Found.{can_be_remounted}
 use Rattle.launcher.specs.kernel_model.kernel_calls.Rules.{rule_of}
 use Rattle.launcher.specs.kernel_model.World.{World}
 use Rattle.launcher.proofs.OfKernelLaws.Filters.{at_position}
@@ -57,10 +59,10 @@ use Rattle.kernel_ways.proofs.Performing as performing
 use Rattle.std.proofs.Common.{cond}
 use Rattle.kernel_ways.proofs.Performing.{CapAtHand, is_free, makes_bit, read_attaches, schedules, sets_mode, sets_realtime}
 use Rattle.kernel_ways.proofs.Rows.{IsKnown, known_at}
-use Rattle.kernel_ways.proofs.Exposing.{exposed, way_mounts, mounts_pass}
-use Rattle.kernel_ways.proofs.Attained.{Gained, attained, admin_gained}
+use Rattle.kernel_ways.proofs.Exposing.{exposed}
+use Rattle.kernel_ways.proofs.Attained.{Gained, attained}
 use Rattle.kernel_ways.proofs.Ids.{powered, uid_taken, gid_taken}
-use Rattle.kernel_ways.proofs.Gains.{Basis}
+use Rattle.kernel_ways.proofs.Gains.{Basis, not_refused}
 use Rattle.kernel_ways.proofs.Showing.{calls_show, creds_show}
 use Rattle.kernel_ways.proofs.Starts.{starts_solo, performs}
 use Rattle.launcher.specs.call_table.Table.{every_call, calls_in}
@@ -69,10 +71,6 @@ use Rattle.std.specs.Str.{bytes_eq}
 use Rattle.kernel_ways.proofs.Entering.{calls_show_inside}
 use Rattle.kernel_ways.proofs.InUser.{enters, own_space, exec_inside}
 use Rattle.launcher.specs.cap_sets.Sets.{all, IsWithin}
-
--- a remount without set-id bits, mount(2)
-abbrev unmarked : ℕ
-unmarked = 4130
 
 at_place : {X : Type 0} (P : X → Type 0) (xs : List X) (at : ℕ) (x : X) → AllByRecursion P xs → slice_get xs at ≡ Some x → P x
 at_place P [] at x all e = cc
@@ -107,66 +105,61 @@ module _ (world : World) (launch : Launch) (l : IsLaunched launch) (o : Offers l
     own_known : IsKnown launch.site target
     own_known = known_at launch.site o.site place target listed
 
-    pub record Led (wish : Wish) : Type 0 where
+    pub record Led (test : Flags → Bool) : Type 0 where
       pub calls : List Call
       pub creds : Creds
       pub now : Table
       pub way : Way launch launch.creds launch.table calls creds now
       pub basis : Basis launch creds
-      pub found : FindsRow rows now wish target
-      pub suid : (flags_at now found.path).no_suid ≡ false
+      pub found : FindsRow rows now test target
 
-    led : (wish : Wish) → reaches (power_of launch) launch.table target.path wish ≡ true → Led wish
-    led wish e =
+    led : (need : Need) → reaches_with (power_of launch) launch.table target.path (allows need) ≡ true → Led (allows need)
+    led need e =
         let p = powered launch l o (power_of launch) refl in
-        let x = exposed launch l o p.creds target own_known wish (power_of launch) p.at_hand e in
-        record { calls = p.calls ++ x.calls; creds = p.creds; now = x.now; way = way_join p.way x.way; basis = p.basis; found = x.found; suid = x.suid }
+        let x = exposed launch l o p.creds target own_known (allows need) (can_be_remounted need) (power_of launch) p.at_hand e in
+        record { calls = p.calls ++ x.calls; creds = p.creds; now = x.now; way = way_join p.way x.way; basis = p.basis; found = x.found }
 
-    shown_see : lets launch (kinds.ForPath ToSee) ≡ true → Led ToSee → IsShown world (asking.Path ToSee place)
+    shown_see : lets launch (kinds.ForPath ToSee) ≡ true → Led (fits ToSee) → IsShown world (asking.Path ToSee place)
     shown_see passes x =
         by_path ToSee place target listed x.creds x.now x.way x.found.path x.found.is_found
         (see_path launch x.creds x.now x.found.path x.found.can_be_named target x.found.is_found
         (some_line launch l (kinds.ForPath ToSee) passes))
 
-    shown_read : lets launch (kinds.ForPath ToRead) ≡ true → Led ToRead → IsShown world (asking.Path ToRead place)
+    shown_read : lets launch (kinds.ForPath ToRead) ≡ true → Led (fits ToRead) → IsShown world (asking.Path ToRead place)
     shown_read passes x =
         by_path ToRead place target listed x.creds x.now x.way x.found.path x.found.is_found
         (read_path launch x.creds x.now x.found.path x.found.can_be_named target x.found.is_found
         (some_line launch l (kinds.ForPath ToRead) passes))
 
-    shown_write : lets launch (kinds.ForPath ToWrite) ≡ true → is_dir target.kind ≡ false → Led ToWrite
+    shown_write : lets launch (kinds.ForPath ToWrite) ≡ true → is_dir target.kind ≡ false → Led (fits ToWrite)
         → IsShown world (asking.Path ToWrite place)
     shown_write passes file x =
         by_path ToWrite place target listed x.creds x.now x.way x.found.path x.found.is_found
         (write_path launch x.creds x.now x.found.path x.found.can_be_named target x.found.is_found file x.found.is_allowed
         (some_line launch l (kinds.ForPath ToWrite) passes))
 
-    shown_exec : lets launch (kinds.ForPath ToExec) ≡ true → is_exe target.kind ≡ true → is_barred launch target ≡ false → Led ToExec
+    shown_exec : lets launch (kinds.ForPath ToExec) ≡ true → is_exe target.kind ≡ true → is_barred launch target ≡ false → Led (fits ToExec)
         → IsShown world (asking.Path ToExec place)
     shown_exec passes exe free x =
         let admitted : is_refused x.creds (marks_of target) (flags_at x.now x.found.path).no_suid ≡ false =
-        ap (λ b. is_refused x.creds (marks_of target) b) x.suid ∙ ap (λ s. target.effective && not (within target.caps s)) x.basis.bounding ∙ free in
+        not_refused launch l o (flags_at x.now x.found.path).no_suid x.creds target x.basis.bounding free in
         by_path ToExec place target listed x.creds x.now x.way x.found.path x.found.is_found
         (exec_call x.creds x.now x.found.path x.found.can_be_named target x.found.is_found exe x.found.is_allowed admitted
         (some_line launch l (kinds.ForPath ToExec) passes))
 
     -- a barred row is run where marks are not looked at
-    shown_unmarked : lets launch (kinds.ForPath ToExec) ≡ true → is_exe target.kind ≡ true → power_of launch ≡ Mounting
+    shown_unmarked : lets launch (kinds.ForPath ToExec) ≡ true → is_exe target.kind ≡ true → Led runs_unmarked
         → IsShown world (asking.Path ToExec place)
-    shown_unmarked passes exe e =
-        let g = admin_gained launch l o Mounting e (λ x. cc) in
-        let pass = mounts_pass (has (caps_at launch Nowise) 21) (lets launch kinds.ChangesMounts) (lets launch kinds.RemovesMounts) e in
-        let two = way_mounts launch o g.creds g.holds (some_line launch l kinds.ChangesMounts pass.1) unmarked (omega arith) refl refl in
-        let below = two.each_row target own_known in
-        let path = proc ++ target.path in
-        let allowed : fits ToExec (flags_at two.now path) ≡ true = ap (fits ToExec) below.flags_are in
-        let admitted : is_refused g.creds (marks_of target) (flags_at two.now path).no_suid ≡ false = ap (λ f. is_refused g.creds (marks_of target) f.no_suid) below.flags_are in
-        by_path ToExec place target listed g.creds two.now (way_join g.way two.way) path below.is_found
-        (exec_call g.creds two.now path below.can_be_named target below.is_found exe allowed admitted
+    shown_unmarked passes exe x =
+        let flags = flags_at x.now x.found.path in
+        let allowed = and_parts (not flags.no_exec) flags.no_suid x.found.is_allowed in
+        let admitted : is_refused x.creds (marks_of target) flags.no_suid ≡ false = ap (λ b. is_refused x.creds (marks_of target) b) allowed.1 in
+        by_path ToExec place target listed x.creds x.now x.way x.found.path x.found.is_found
+        (exec_call x.creds x.now x.found.path x.found.can_be_named target x.found.is_found exe allowed.0 admitted
         (some_line launch l (kinds.ForPath ToExec) passes))
 
     -- or in a user namespace of its own, where the bounding set is full
-    shown_inside : lets launch (kinds.ForPath ToExec) ≡ true → is_exe target.kind ≡ true → can_make_user launch ≡ true → Led ToExec
+    shown_inside : lets launch (kinds.ForPath ToExec) ≡ true → is_exe target.kind ≡ true → can_make_user launch ≡ true → Led (fits ToExec)
         → IsShown world (asking.Path ToExec place)
     shown_inside passes exe user x =
         let both = and_parts (nat_lt 0 launch.site.user_namespaces) (lets launch (kinds.ForNamespace namespace.User)) user in
@@ -176,28 +169,27 @@ module _ (world : World) (launch : Launch) (l : IsLaunched launch) (o : Offers l
 
     can_parts : (wish : Wish) → can_reach launch (power_of launch) wish target ≡ true
         → (lets launch (kinds.ForPath wish) ≡ true) × (reaches (power_of launch) launch.table target.path wish ≡ true) ×
-        ((((is_to_exec wish && not (is_mounting (power_of launch))) && is_barred launch target) && not (can_make_user launch)) ≡ false)
+        ((((is_to_exec wish && is_barred launch target) && not (runs_plainly launch (power_of launch) target)) && not (can_make_user launch)) ≡ false)
     can_parts wish e =
-        let both = and_parts (lets launch (kinds.ForPath wish) && reaches (power_of launch) launch.table target.path wish) (not (((is_to_exec wish && not (is_mounting (power_of launch))) && is_barred launch target) && not (can_make_user launch))) e in
+        let both = and_parts (lets launch (kinds.ForPath wish) && reaches (power_of launch) launch.table target.path wish) (not (((is_to_exec wish && is_barred launch target) && not (runs_plainly launch (power_of launch) target)) && not (can_make_user launch))) e in
         let inner = and_parts (lets launch (kinds.ForPath wish)) (reaches (power_of launch) launch.table target.path wish) both.0 in
-        (inner.0, inner.1, not-true (((is_to_exec wish && not (is_mounting (power_of launch))) && is_barred launch target) && not (can_make_user launch)) both.1)
+        (inner.0, inner.1, not-true (((is_to_exec wish && is_barred launch target) && not (runs_plainly launch (power_of launch) target)) && not (can_make_user launch)) both.1)
 
     pub shown_row : (wish : Wish) → IsFit launch.site (asking.Path wish place) → can_reach launch (power_of launch) wish target ≡ true
         → IsShown world (asking.Path wish place)
-    shown_row ToSee fit e = let p = can_parts ToSee e in shown_see p.0 (led ToSee p.1)
-    shown_row ToRead fit e = let p = can_parts ToRead e in shown_read p.0 (led ToRead p.1)
-    shown_row ToWrite fit e = let p = can_parts ToWrite e in shown_write p.0 (fit target listed) (led ToWrite p.1)
-    shown_row ToExec fit e = let p = can_parts ToExec e in by p.0 p.1 (is_barred launch target) refl (power_of launch) refl (can_make_user launch) refl p.2
+    shown_row ToSee fit e = let p = can_parts ToSee e in shown_see p.0 (led (ForWish ToSee) p.1)
+    shown_row ToRead fit e = let p = can_parts ToRead e in shown_read p.0 (led (ForWish ToRead) p.1)
+    shown_row ToWrite fit e = let p = can_parts ToWrite e in shown_write p.0 (fit target listed) (led (ForWish ToWrite) p.1)
+    shown_row ToExec fit e = let p = can_parts ToExec e in by p.0 p.1 (is_barred launch target) refl (runs_plainly launch (power_of launch) target) refl (can_make_user launch) refl p.2
       where
         by : lets launch (kinds.ForPath ToExec) ≡ true → reaches (power_of launch) launch.table target.path ToExec ≡ true → (b : Bool)
-            → is_barred launch target ≡ b → (power : Power) → power_of launch ≡ power → (make : Bool) → can_make_user launch ≡ make
-            → ((not (is_mounting power) && b) && not make) ≡ false → IsShown world (asking.Path ToExec place)
-        by passes r false f power g make u e = shown_exec passes (fit target listed) f (led ToExec r)
-        by passes r true f Mounting g make u e = shown_unmarked passes (fit target listed) g
-        by passes r true f Unmounting g true u e = shown_inside passes (fit target listed) u (led ToExec r)
-        by passes r true f Nowise g true u e = shown_inside passes (fit target listed) u (led ToExec r)
-        by passes r true f Unmounting g false u e = cc
-        by passes r true f Nowise g false u e = cc
+            → is_barred launch target ≡ b → (plain : Bool) → runs_plainly launch (power_of launch) target ≡ plain
+            → (make : Bool) → can_make_user launch ≡ make
+            → ((b && not plain) && not make) ≡ false → IsShown world (asking.Path ToExec place)
+        by passes r false f plain g make u e = shown_exec passes (fit target listed) f (led (ForWish ToExec) r)
+        by passes r true f true g make u e = shown_unmarked passes (fit target listed) (led Unmarked g)
+        by passes r true f false g true u e = shown_inside passes (fit target listed) u (led (ForWish ToExec) r)
+        by passes r true f false g false u e = cc
 
   -- ---- what needs a capability, or none
   pub record Having (number : Option ℕ) : Type 0 where

@@ -18,6 +18,7 @@ use Rattle.launcher.specs.kernel_laws.Kinds.{AreWords}
 use Rattle.launcher.specs.kernel_laws.Launched.{Launch, passes, lets}
 use Rattle.launcher.specs.kernel_laws.declared.question_types.kind.CallKind.TheVariants.{ForPath}
 use Rattle.launcher.specs.kernel_laws.declared.question_types.wish.Wish.TheVariants.{Exec as ToExec}
+use Rattle.launcher.specs.kernel_laws.Reach.{fits}
 use Rattle.reach_paths.specs.Finding.{dirs_of, FindsRow}
 use Rattle.kernel_ways.specs.Ways.{CallAt, IsCallAt, rule_there, passes_at}
 
@@ -46,7 +47,7 @@ PassesAlike launch = (nr : CallAt) (rule : Rule) (args other : List ℕ) → IsC
 -- the program that the launch ran: a row without set-id bits and capabilities, which a path of the launched table finds
 pub record HasProgram (launch : Launch) : Type 0 where
   pub program : Row
-  pub found : FindsRow (row_at launch.site.rows) launch.table ToExec program
+  pub found : FindsRow (row_at launch.site.rows) launch.table (fits ToExec) program
   pub exe : is_exe program.kind ≡ true
   pub plain : is_privileged (marks_of program) ≡ false
 

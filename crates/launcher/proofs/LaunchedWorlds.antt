@@ -294,7 +294,6 @@ launched_is_world settings table site wanted plan last steps whole arch refusing
       root = l.as_launched.root;
       rooted = begins plan can.begins_at_root;
       ordered = ascending_is_ordered plan can.places_ascend;
-      honours = can.none_is_no_suid;
       plain = plain;
       chosen = settings_choose launch' settings arch (archs_differ table whole.sound) means plain;
     } in

@@ -1,5 +1,5 @@
 -- Plans by the rules that read the mentions: those of the base profile, or those of systemd.
-use Rattle.std.proofs.Common.{◌≡◌, ◌≤◌, true, List, length, Result, Ok, Err, refl, ap, sym, ◌∙◌, subst}
+use Rattle.std.proofs.Common.{◌≡◌, ◌≤◌, Bool, true, List, length, Result, Ok, Err, refl, ap, sym, ◌∙◌, subst}
 use Rattle.std.specs.List.{AllByRecursion, list_all}
 use Rattle.path_settings.specs.abs_path.Paths.{Path, is_normal}
 use Rattle.path_settings.specs.declared.mentions.Mention.{Mention}
@@ -39,22 +39,22 @@ use Rattle.mount_plan.proofs.Planned.{are_normal, are_whole, as_planned, by_rule
 use Rattle.mount_plan.proofs.Planned as base_plan
 
 -- a plan of entries is the table of the made ones
-pub made_by : (row_at : Host) (list : List MountEntry) (table : List MountStep) → planned row_at (Systemd list) ≡ Ok table
-    → table ≡ table_of row_at list
+pub made_by : (row_at : Host) (no_new_privs : Bool) (list : List MountEntry) (table : List MountStep) → planned row_at (Systemd list no_new_privs) ≡ Ok table
+    → table ≡ table_of row_at no_new_privs list
 unfolding planned
-made_by row_at list table e = by (made_of row_at list) e
+made_by row_at no_new_privs list table e = by (made_of row_at list) e
   where
-    by : (found : Result (List MountEntry) Refusal) → unless_refused (λ made. table_of row_at list) found ≡ Ok table
-        → table ≡ table_of row_at list
-    by (Ok made) e = let same : table_of row_at list ≡ table = cc in sym same
+    by : (found : Result (List MountEntry) Refusal) → unless_refused (λ made. table_of row_at no_new_privs list) found ≡ Ok table
+        → table ≡ table_of row_at no_new_privs list
+    by (Ok made) e = let same : table_of row_at no_new_privs list ≡ table = cc in sym same
     by (Err refusal) e = let bad : ⊥ = cc in absurd bad
 
 pub plans_have_form : PlansHaveForm
 plans_have_form site (Base mentions) table is_site whole leave e =
     let plan = kept_by (host_of site) mentions table e in
     subst (HasForm (host_of site) (Base mentions)) (sym plan.2) (has_form site mentions plan.0 is_site whole leave plan.1)
-plans_have_form site (Systemd list) table is_site whole leave e =
-    subst (HasForm (host_of site) (Systemd list)) (sym (made_by (host_of site) list table e)) (entries.has_form site list is_site leave)
+plans_have_form site (Systemd list no_new_privs) table is_site whole leave e =
+    subst (HasForm (host_of site) (Systemd list no_new_privs)) (sym (made_by (host_of site) no_new_privs list table e)) (entries.has_form site no_new_privs list is_site leave)
 
 -- the parts of a host that a plan of the base profile does not show do not change it
 pub base_plan_is_blind : (folder : Path) (row_at other : Host) (mentions : List Mention) (table : List MountStep)
@@ -70,59 +70,59 @@ base_plan_is_blind folder row_at other mentions table normal e sources agree not
     ap (unless_refused (base.table_of other)) same.0 ∙ ap Ok (same.1 ∙ sym plan.2)
 
 -- the same of a plan of entries
-entries_made : (row_at : Host) (list : List MountEntry) (table : List MountStep) → planned row_at (Systemd list) ≡ Ok table
+entries_made : (row_at : Host) (no_new_privs : Bool) (list : List MountEntry) (table : List MountStep) → planned row_at (Systemd list no_new_privs) ≡ Ok table
     → (made : List MountEntry) × (made_of row_at list ≡ Ok made)
 unfolding planned
-entries_made row_at list table e = by (made_of row_at list) refl e
+entries_made row_at no_new_privs list table e = by (made_of row_at list) refl e
   where
     by : (found : Result (List MountEntry) Refusal) → made_of row_at list ≡ found
-        → unless_refused (λ made. table_of row_at list) found ≡ Ok table → (made : List MountEntry) × (made_of row_at list ≡ Ok made)
+        → unless_refused (λ made. table_of row_at no_new_privs list) found ≡ Ok table → (made : List MountEntry) × (made_of row_at list ≡ Ok made)
     by (Ok made) is e = (made, is)
     by (Err refusal) is e = let bad : ⊥ = cc in absurd bad
 
-entries_are_blind : (folder : Path) (row_at other : Host) (list : List MountEntry) (table : List MountStep)
-    → AllByRecursion (λ path. is_normal path ≡ true) (paths_of (Systemd list)) → leaves_the_root list ≡ true
-    → planned row_at (Systemd list) ≡ Ok table → HaveSameSources row_at other (Systemd list) → AgreeButBelow folder row_at other
-    → ShowsNothingOf table folder → planned other (Systemd list) ≡ Ok table
+entries_are_blind : (folder : Path) (row_at other : Host) (no_new_privs : Bool) (list : List MountEntry) (table : List MountStep)
+    → AllByRecursion (λ path. is_normal path ≡ true) (paths_of (Systemd list no_new_privs)) → leaves_the_root list ≡ true
+    → planned row_at (Systemd list no_new_privs) ≡ Ok table → HaveSameSources row_at other (Systemd list no_new_privs) → AgreeButBelow folder row_at other
+    → ShowsNothingOf table folder → planned other (Systemd list no_new_privs) ≡ Ok table
 unfolding planned
-entries_are_blind folder row_at other list table normal root e sources agree nothing =
+entries_are_blind folder row_at other no_new_privs list table normal root e sources agree nothing =
     let free = leave_the_root list root in
-    let made = entries_made row_at list table e in
+    let made = entries_made row_at no_new_privs list table e in
     let settled = are_settled row_at list made.0 made.1 in
-    let unseen : ShowsNothingOf (table_of row_at list) folder =
-    subst (λ (steps : List MountStep). ShowsNothingOf steps folder) (made_by row_at list table e) nothing in
-    ap (unless_refused (λ found. table_of other list)) (same_made_of folder row_at other list free settled normal sources agree unseen)
+    let unseen : ShowsNothingOf (table_of row_at no_new_privs list) folder =
+    subst (λ (steps : List MountStep). ShowsNothingOf steps folder) (made_by row_at no_new_privs list table e) nothing in
+    ap (unless_refused (λ found. table_of other no_new_privs list)) (same_made_of folder row_at other no_new_privs list free settled normal sources agree unseen)
     ∙ ap (λ (steps : List MountStep). unless_refused (λ found. steps) (made_of row_at list))
-    (same_table folder row_at other list free settled normal sources agree unseen) ∙ e
+    (same_table folder row_at other no_new_privs list free settled normal sources agree unseen) ∙ e
 
 -- ---- the answer for entries
 -- the table of the made entries is the plan
-pub entries_planned : (row_at : Host) (list : List MountEntry) (made : List MountEntry) → made_of row_at list ≡ Ok made
-    → planned row_at (Systemd list) ≡ Ok (table_of row_at list)
+pub entries_planned : (row_at : Host) (no_new_privs : Bool) (list : List MountEntry) (made : List MountEntry) → made_of row_at list ≡ Ok made
+    → planned row_at (Systemd list no_new_privs) ≡ Ok (table_of row_at no_new_privs list)
 unfolding planned
-entries_planned row_at list made e = ap (unless_refused (λ found. table_of row_at list)) e
+entries_planned row_at no_new_privs list made e = ap (unless_refused (λ found. table_of row_at no_new_privs list)) e
 
-pub entries_refused : (row_at : Host) (list : List MountEntry) (refusal : Refusal) → made_of row_at list ≡ Err refusal
-    → planned row_at (Systemd list) ≡ Err refusal
+pub entries_refused : (row_at : Host) (no_new_privs : Bool) (list : List MountEntry) (refusal : Refusal) → made_of row_at list ≡ Err refusal
+    → planned row_at (Systemd list no_new_privs) ≡ Err refusal
 unfolding planned
-entries_refused row_at list refusal e = ap (unless_refused (λ found. table_of row_at list)) e
+entries_refused row_at no_new_privs list refusal e = ap (unless_refused (λ found. table_of row_at no_new_privs list)) e
 
 -- each path belongs to an entry that has what the view has there
-pub entries_seen : (row_at : Host) (list : List MountEntry) → LeaveTheRoot list
-    → IfOk (views row_at (Systemd list)) (λ view. FindsAsView view (table_of row_at list))
-entries_seen row_at list free = by (made_of row_at list)
+pub entries_seen : (row_at : Host) (no_new_privs : Bool) (list : List MountEntry) → LeaveTheRoot list
+    → IfOk (views row_at (Systemd list no_new_privs)) (λ view. FindsAsView view (table_of row_at no_new_privs list))
+entries_seen row_at no_new_privs list free = by (made_of row_at list)
   where
     by : (found : Result (List MountEntry) Refusal)
-        → IfOk (unless_refused (λ made. view row_at list) found) (λ seen. FindsAsView seen (table_of row_at list))
-    by (Ok made) = finds_as_view row_at list free
+        → IfOk (unless_refused (λ made. view row_at no_new_privs list) found) (λ seen. FindsAsView seen (table_of row_at no_new_privs list))
+    by (Ok made) = finds_as_view row_at no_new_privs list free
     by (Err refusal) = tt
 
 -- ---- blindness
 pub plan_is_blind : PlanIsBlind
 plan_is_blind folder row_at other (Base mentions) table normal root e sources agree nothing =
     base_plan_is_blind folder row_at other mentions table normal e sources agree nothing
-plan_is_blind folder row_at other (Systemd list) table normal root e sources agree nothing =
-    entries_are_blind folder row_at other list table normal root e sources agree nothing
+plan_is_blind folder row_at other (Systemd list no_new_privs) table normal root e sources agree nothing =
+    entries_are_blind folder row_at other no_new_privs list table normal root e sources agree nothing
 
 -- ---- what the call of a plan answers
 pub record IsAnswer (row_at : Host) (mentions : Mentioned) (answer : Result (List MountStep) PlanError) : Type 0 where
@@ -147,28 +147,28 @@ base_answer site mentions list is is_site whole leave few answer h = subst (λ (
       fits = λ short. base_plan.can_be_mounted site list is_site whole free few short answer h;
     })
 
-pub entries_answer : (site : Site) (mentions : Mentioned) (list : List MountEntry) → mentions ≡ Systemd list → IsSite site
+pub entries_answer : (site : Site) (mentions : Mentioned) (list : List MountEntry) (no_new_privs : Bool) → mentions ≡ Systemd list no_new_privs → IsSite site
     → list_all entry.is_whole list ≡ true → mentioned.leaves_the_root mentions ≡ true → length list ≤ 192
-    → (made : List MountEntry) → made_of (host_of site) list ≡ Ok made → (table : List MountStep) → table ≡ table_of (host_of site) list
+    → (made : List MountEntry) → made_of (host_of site) list ≡ Ok made → (table : List MountStep) → table ≡ table_of (host_of site) no_new_privs list
     → IsAnswer (host_of site) mentions (Ok table)
-entries_answer site mentions list is is_site whole leave few made e table t =
+entries_answer site mentions list no_new_privs is is_site whole leave few made e table t =
     subst (λ (m : Mentioned). IsAnswer (host_of site) m (Ok table)) (sym is)
-    (subst (λ (steps : List MountStep). IsAnswer (host_of site) (Systemd list) (Ok steps)) (sym t) (
+    (subst (λ (steps : List MountStep). IsAnswer (host_of site) (Systemd list no_new_privs) (Ok steps)) (sym t) (
     let row_at = host_of site in
     let free : leaves_the_root list ≡ true = ap mentioned.leaves_the_root (sym is) ∙ leave in
     record {
-      table = entries_planned row_at list made e;
+      table = entries_planned row_at no_new_privs list made e;
       rules = tt;
-      seen = entries_seen row_at list (leave_the_root list free);
-      places = places_mentioned row_at list;
-      fits = λ short. entries.can_be_mounted site list is_site whole free few short;
+      seen = entries_seen row_at no_new_privs list (leave_the_root list free);
+      places = places_mentioned row_at no_new_privs list;
+      fits = λ short. entries.can_be_mounted site no_new_privs list is_site whole free few short;
     }))
 
-pub entries_error : (row_at : Host) (mentions : Mentioned) (list : List MountEntry) → mentions ≡ Systemd list → (error : PlanError)
-    → Tables row_at list (Err error) → Plans row_at mentions (Err error)
-entries_error row_at mentions list is error h = subst (λ (m : Mentioned). Plans row_at m (Err error)) (sym is) (by error h)
+pub entries_error : (row_at : Host) (mentions : Mentioned) (list : List MountEntry) (no_new_privs : Bool) → mentions ≡ Systemd list no_new_privs → (error : PlanError)
+    → Tables row_at no_new_privs list (Err error) → Plans row_at mentions (Err error)
+entries_error row_at mentions list no_new_privs is error h = subst (λ (m : Mentioned). Plans row_at m (Err error)) (sym is) (by error h)
   where
-    by : (error : PlanError) → Tables row_at list (Err error) → Plans row_at (Systemd list) (Err error)
+    by : (error : PlanError) → Tables row_at no_new_privs list (Err error) → Plans row_at (Systemd list no_new_privs) (Err error)
     by Memory h = tt
-    by (Missing path) h = entries_refused row_at list (missing path) h
-    by (Kind path) h = entries_refused row_at list (wrong_kind path) h
+    by (Missing path) h = entries_refused row_at no_new_privs list (missing path) h
+    by (Kind path) h = entries_refused row_at no_new_privs list (wrong_kind path) h

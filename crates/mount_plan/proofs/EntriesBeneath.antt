@@ -45,7 +45,7 @@ carried (RecursiveBind source read_only) front place path h leads =
     ∙ ap (λ rest. source ++ rest) (sym (rest_through front place path h leads)))
 carried PrivateTmp front place path h leads = refl
 carried PrivateDevices front place path h leads = refl
-carried (Tmpfs read_only no_exec) front place path h leads = refl
+carried (Tmpfs read_only no_exec no_suid) front place path h leads = refl
 carried _ front place path h leads = ap on_host (prefix_and_rest place path leads)
 
 pub node_object : (mode : MountMode) (place path : Path) → is_node mode ≡ true → object_by mode place path ≡ on_host path
@@ -105,7 +105,7 @@ put_kept row_at here path (RecursiveBind source read_only) optional h put =
     bind_kept (row_at source) here (entry path (RecursiveBind source read_only) optional) put h
 put_kept row_at here path PrivateTmp optional h put = tmp_kept here (entry path PrivateTmp optional) h
 put_kept row_at here path PrivateDevices optional h put = tmp_kept here (entry path PrivateDevices optional) h
-put_kept row_at here path (Tmpfs read_only no_exec) optional h put = tmp_kept here (entry path (Tmpfs read_only no_exec) optional) h
+put_kept row_at here path (Tmpfs read_only no_exec no_suid) optional h put = tmp_kept here (entry path (Tmpfs read_only no_exec no_suid) optional) h
 put_kept row_at here path Node optional h put = bind_kept (row_at path) here (entry path Node optional) put h
 put_kept row_at here path _ optional h put = absurd (false≢true put)
 

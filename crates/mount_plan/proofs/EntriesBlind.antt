@@ -64,14 +64,14 @@ same_source row_at other one same = by (source_path one) same
     by None e = refl
     by (Some path) e = ap is_some e
 
-module _ (folder : Path) (row_at other : Host) (entries : List MountEntry) (free : LeaveTheRoot entries) (settled : AreSettled row_at entries) (normal : AllByRecursion (λ path. is_normal path ≡ true) (map (λ one. one.path) entries)) (sources : AllByRecursion (λ one. source_row other one ≡ source_row row_at one) entries) (agree : AgreeButBelow folder row_at other) (nothing : ShowsNothingOf (table_of row_at entries) folder) where
+module _ (folder : Path) (row_at other : Host) (no_new_privs : Bool) (entries : List MountEntry) (free : LeaveTheRoot entries) (settled : AreSettled row_at entries) (normal : AllByRecursion (λ path. is_normal path ≡ true) (map (λ one. one.path) entries)) (sources : AllByRecursion (λ one. source_row other one ≡ source_row row_at one) entries) (agree : AgreeButBelow folder row_at other) (nothing : ShowsNothingOf (table_of row_at no_new_privs entries) folder) where
   -- the object of the view at a path does not lie at the folder or below it
-  not_below : (path own : Path) → (view row_at entries path).object ≡ on_host own → is_prefix folder own ≡ false
+  not_below : (path own : Path) → (view row_at no_new_privs entries path).object ≡ on_host own → is_prefix folder own ≡ false
   not_below path own shows =
-      let found = finds_as_view row_at entries free path in
+      let found = finds_as_view row_at no_new_privs entries free path in
       by found.0 found.0.what refl found.1 (found.2.origin ∙ shows)
     where
-      by : (step : MountStep) (what' : What) → step.what ≡ what' → entry_of (table_of row_at entries) path ≡ Some step
+      by : (step : MountStep) (what' : What) → step.what ≡ what' → entry_of (table_of row_at no_new_privs entries) path ≡ Some step
           → shown_by step.what step.place path ≡ on_host own → is_prefix folder own ≡ false
       by step (what.Host source) is belongs shown =
           let place : on_host (source ++ rest_of step.place path) ≡ on_host own = sym (ap (λ (w : What). shown_by w step.place path) is) ∙ shown in
@@ -86,7 +86,7 @@ module _ (folder : Path) (row_at other : Host) (entries : List MountEntry) (free
   IsSameBeneath path = beneath_in other (putting row_at entries) path ≡ beneath_in row_at (putting row_at entries) path
 
   -- the object beneath a path is the same in both hosts
-  by_folder : (front : Path) (part : List ℕ) (object : Object) → (view row_at entries front).object ≡ object
+  by_folder : (front : Path) (part : List ℕ) (object : Object) → (view row_at no_new_privs entries front).object ≡ object
       → beneath_by other (object_behind object (rest_of front (front ++ part ∷ [])))
       ≡ beneath_by row_at (object_behind object (rest_of front (front ++ part ∷ [])))
   by_folder front part (on_host own) is = ap beneath_row (agree (own ++ rest_of front (front ++ part ∷ []))
@@ -109,7 +109,7 @@ module _ (folder : Path) (row_at other : Host) (entries : List MountEntry) (free
       by : (o : Option MountEntry) → longest_such (lies_beneath (front ++ part ∷ [])) (putting row_at entries) ≡ o
           → IsSameBeneath (front ++ part ∷ [])
       by None e =
-          let at = not_below front front (view_front row_at entries normal settled front part bare None e none) in
+          let at = not_below front front (view_front row_at entries normal settled front part bare no_new_privs None e none) in
           ap (λ o. beneath_by other (object_from o (front ++ part ∷ []))) e
           ∙ ap beneath_row (agree (front ++ part ∷ []) (below_last folder front part ∙ at))
           ∙ sym (ap (λ o. beneath_by row_at (object_from o (front ++ part ∷ []))) e)
@@ -153,7 +153,7 @@ module _ (folder : Path) (row_at other : Host) (entries : List MountEntry) (free
               λ next is. (let at : one ≡ next = cc in subst (λ (m : MountEntry). is_prefix m.path front ≡ true) at over) in
               found (ap (beneath_by other) (sym carry)
               ∙ by_folder front part (object_by one.mode one.path front)
-              (view_front row_at entries normal settled front part bare (Some one) e same)
+              (view_front row_at entries normal settled front part bare no_new_privs (Some one) e same)
               ∙ ap (beneath_by row_at) carry)
 
   -- ---- so both hosts make the same entries
@@ -222,21 +222,22 @@ module _ (folder : Path) (row_at other : Host) (entries : List MountEntry) (free
       (listed entries) (λ one same next e.
       subst IsSameBeneath (sym (mounted_there row_at (putting row_at entries) (nodes entries) one next e)) same) listed_beneath)
 
-  pub same_table : table_of other entries ≡ table_of row_at entries
+  pub same_table : table_of other no_new_privs entries ≡ table_of row_at no_new_privs entries
   same_table =
       let put : List MountEntry = putting row_at entries in
       let begun : List MountEntry = beginning row_at entries in
-      ap (λ (some : List MountEntry). steps_among other entries some (beginning other entries) (made other entries)) same_put
-      ∙ ap (λ (some : List MountEntry). steps_among other entries put some (made other entries)) same_beginning
-      ∙ ap (λ (some : List MountEntry). steps_among other entries put begun some) same_made
-      ∙ ap (λ (steps : List MountStep). root_step entries begun (made row_at entries) ∷ steps)
-      (mapped_same (step_among other entries put begun) (step_among row_at entries put begun) (others row_at entries)
-      (all_weaker (λ one. IsSameBeneath one.path) (λ one. step_among other entries put begun one ≡ step_among row_at entries put begun one)
+      ap (λ (some : List MountEntry). steps_among other no_new_privs entries some (beginning other entries) (made other entries)) same_put
+      ∙ ap (λ (some : List MountEntry). steps_among other no_new_privs entries put some (made other entries)) same_beginning
+      ∙ ap (λ (some : List MountEntry). steps_among other no_new_privs entries put begun some) same_made
+      ∙ ap (λ (steps : List MountStep). root_step no_new_privs entries begun (made row_at entries) (made row_at entries) ∷ steps)
+      (mapped_same (step_among other no_new_privs entries put begun (made row_at entries)) (step_among row_at no_new_privs entries put begun (made row_at entries)) (others row_at entries)
+      (all_weaker (λ one. IsSameBeneath one.path) (λ one. step_among other no_new_privs entries put begun (made row_at entries) one
+      ≡ step_among row_at no_new_privs entries put begun (made row_at entries) one)
       (others row_at entries)
       (λ one same. ap (λ (here : Beneath). record {
         place = one.path;
         what = what_of (object_among put one) (hides_dir here);
-        flags = flags_among entries begun one;
+        flags = flags_among no_new_privs entries begun (made row_at entries) one;
       }) same)
       (all_filtered (λ one. IsSameBeneath one.path) (λ one. not (is_root one.path)) (made row_at entries) made_beneath)))
 

@@ -1,5 +1,5 @@
 -- The form of a plan of made entries.
-use Rattle.std.proofs.Common.{◌≡◌, ◌⊎◌, inl, inr, ◌≤◌, true, cond, List, [], ◌∷◌, length, Option, Some, None}
+use Rattle.std.proofs.Common.{◌≡◌, ◌⊎◌, inl, inr, ◌≤◌, Bool, true, cond, List, [], ◌∷◌, length, Option, Some, None}
 use Rattle.std.proofs.Common.{refl, sym, ap, ◌∙◌, subst, arith}
 use Rattle.std.specs.Prelude.{nat_le, not}
 use Rattle.std.specs.List.{AllByRecursion, list_all}
@@ -28,12 +28,12 @@ use Rattle.mount_plan.proofs.EntriesAsView.{has_one, is_last, last_leading}
 use Rattle.mount_plan.proofs.EntriesFound.{entry_is}
 use Rattle.mount_plan.proofs.EntriesMade.{each_kept}
 use Rattle.mount_plan.proofs.EntriesProc.{BindsDirectory, binds_directory, node_binds, proc_beneath, shows_by}
-use Rattle.mount_plan.proofs.EntriesTable.{LeaveTheRoot, begins_at_root, hidden_plain, keep_user_ids, leave_the_root, mapped_length, one_more}
+use Rattle.mount_plan.proofs.EntriesTable.{LeaveTheRoot, begins_at_root, hidden_plain, leave_the_root, mapped_length, one_more}
 use Rattle.mount_plan.proofs.EntriesTable.{others, others_ascend, others_below, short_places_of, table_ascends}
 use Rattle.mount_plan.proofs.FindsProc.{ShowsDirectory, above_proc, shown_found}
 use Rattle.mount_plan.proofs.Hosts.{proc_row}
 
-module _ (row_at : Host) (entries : List MountEntry) (free : LeaveTheRoot entries) (row : row_at proc ≡ Some true) where
+module _ (row_at : Host) (no_new_privs : Bool) (entries : List MountEntry) (free : LeaveTheRoot entries) (row : row_at proc ≡ Some true) where
   -- what is made is kept, or it is a node
   abbrev IsKeptOrNode : MountEntry → Type 0
   IsKeptOrNode one = (is_kept (fate_at row_at entries one) ≡ true) ⊎ (is_node one.mode ≡ true)
@@ -46,7 +46,7 @@ module _ (row_at : Host) (entries : List MountEntry) (free : LeaveTheRoot entrie
 
   -- the entry at /proc shows a directory there
   shows_there : (one : MountEntry) → one.path ≡ proc → IsKeptOrNode one
-      → ShowsDirectory row_at proc (step_among row_at entries (putting row_at entries) (beginning row_at entries) one).what one.path
+      → ShowsDirectory row_at proc (step_among row_at no_new_privs entries (putting row_at entries) (beginning row_at entries) (made row_at entries) one).what one.path
   shows_there one at kept =
       let here : beneath_in row_at (putting row_at entries) one.path ≡ beneath.Row true =
       ap (beneath_in row_at (putting row_at entries)) at ∙ row_beneath in
@@ -60,42 +60,42 @@ module _ (row_at : Host) (entries : List MountEntry) (free : LeaveTheRoot entrie
       (shows_by row_at one.mode (object_in (putting row_at entries) proc) (hides_dir (beneath_in row_at (putting row_at entries) proc)) row
       (proc_beneath entries free row_at) (ap hides_dir row_beneath) binds)
 
-  pub finds_proc : FindsProc row_at (table_of row_at entries)
+  pub finds_proc : FindsProc row_at (table_of row_at no_new_privs entries)
   finds_proc = by (last_leading (others row_at entries) proc) refl
     where
-      by : (o : Option MountEntry) → last_leading (others row_at entries) proc ≡ o → FindsProc row_at (table_of row_at entries)
-      by None e = shown_found row_at (table_of row_at entries) proc
-          (root_step entries (beginning row_at entries) (made row_at entries))
-          (entry_is row_at entries free proc ∙ ap (λ o. Some (option_map_or
-          (step_among row_at entries (putting row_at entries) (beginning row_at entries)) o
-          (root_step entries (beginning row_at entries) (made row_at entries)))) e)
+      by : (o : Option MountEntry) → last_leading (others row_at entries) proc ≡ o → FindsProc row_at (table_of row_at no_new_privs entries)
+      by None e = shown_found row_at (table_of row_at no_new_privs entries) proc
+          (root_step no_new_privs entries (beginning row_at entries) (made row_at entries) (made row_at entries))
+          (entry_is row_at no_new_privs entries free proc ∙ ap (λ o. Some (option_map_or
+          (step_among row_at no_new_privs entries (putting row_at entries) (beginning row_at entries) (made row_at entries)) o
+          (root_step no_new_privs entries (beginning row_at entries) (made row_at entries) (made row_at entries)))) e)
           row
       by (Some one) e =
           let fits = is_last proc (others row_at entries) one (others_ascend row_at entries) e in
           let kept = has_one IsKeptOrNode (others row_at entries) one others_kept fits.among in
           let out = has_one (λ other. not (is_root other.path) ≡ true) (others row_at entries) one (others_below row_at entries) fits.among in
-          shown_found row_at (table_of row_at entries) proc
-          (step_among row_at entries (putting row_at entries) (beginning row_at entries) one)
-          (entry_is row_at entries free proc ∙ ap (λ o. Some (option_map_or
-          (step_among row_at entries (putting row_at entries) (beginning row_at entries)) o
-          (root_step entries (beginning row_at entries) (made row_at entries)))) e)
+          shown_found row_at (table_of row_at no_new_privs entries) proc
+          (step_among row_at no_new_privs entries (putting row_at entries) (beginning row_at entries) (made row_at entries) one)
+          (entry_is row_at no_new_privs entries free proc ∙ ap (λ o. Some (option_map_or
+          (step_among row_at no_new_privs entries (putting row_at entries) (beginning row_at entries) (made row_at entries)) o
+          (root_step no_new_privs entries (beginning row_at entries) (made row_at entries) (made row_at entries)))) e)
           (elim (above_proc one.path fits.leads) [
             | inl root ↦ absurd (false≢true (sym (ap (λ (p : Path). not (is_root p)) root) ∙ out))
             | inr same ↦ shows_there one same kept
           ])
 
 -- the form of the table of the made entries
-pub has_form : (site : Site) (entries : List MountEntry) → IsSite site → leaves_the_root entries ≡ true
-    → HasForm (host_of site) (Systemd entries) (table_of (host_of site) entries)
-has_form site entries is_site leave =
+pub has_form : (site : Site) (no_new_privs : Bool) (entries : List MountEntry) → IsSite site → leaves_the_root entries ≡ true
+    → HasForm (host_of site) (Systemd entries no_new_privs) (table_of (host_of site) no_new_privs entries)
+has_form site no_new_privs entries is_site leave =
     let row_at = host_of site in
     record {
-      begins_at_root = begins_at_root row_at entries;
-      places_ascend = table_ascends row_at entries;
-      one_more_than_mentions = (let more = one_more row_at entries in omega (arith, more, mapped_length (λ (one : MountEntry). one.path) entries));
-      none_is_no_suid = keep_user_ids row_at entries;
-      hidden_without_flags = hidden_plain row_at entries;
-      finds_proc = finds_proc row_at entries (leave_the_root entries leave) (proc_row site is_site);
+      begins_at_root = begins_at_root row_at no_new_privs entries;
+      places_ascend = table_ascends row_at no_new_privs entries;
+      one_more_than_mentions = (let more = one_more row_at no_new_privs entries in omega (arith, more, mapped_length (λ (one : MountEntry). one.path) entries));
+      leaves_privileges = tt;
+      hidden_without_flags = hidden_plain row_at no_new_privs entries;
+      finds_proc = finds_proc row_at no_new_privs entries (leave_the_root entries leave) (proc_row site is_site);
     }
 
 -- short and whole entries have short and normal paths
@@ -114,17 +114,16 @@ fit_paths (one ∷ entries) whole short =
     )
 
 -- a plan of short entries can be mounted
-pub can_be_mounted : (site : Site) (entries : List MountEntry) → IsSite site → list_all is_whole entries ≡ true
+pub can_be_mounted : (site : Site) (no_new_privs : Bool) (entries : List MountEntry) → IsSite site → list_all is_whole entries ≡ true
     → leaves_the_root entries ≡ true → length entries ≤ 192 → AreShort entries
-    → CanBeMounted (host_of site) (table_of (host_of site) entries)
-can_be_mounted site entries is_site whole leave few short =
-    let form = has_form site entries is_site leave in
+    → CanBeMounted (host_of site) (table_of (host_of site) no_new_privs entries)
+can_be_mounted site no_new_privs entries is_site whole leave few short =
+    let form = has_form site no_new_privs entries is_site leave in
     record {
       begins_at_root = form.begins_at_root;
-      places_are_short = short_places_of (host_of site) entries (fit_paths entries whole short);
+      places_are_short = short_places_of (host_of site) no_new_privs entries (fit_paths entries whole short);
       places_ascend = form.places_ascend;
-      few = (let more = one_more (host_of site) entries in omega (arith, few, more));
-      none_is_no_suid = form.none_is_no_suid;
+      few = (let more = one_more (host_of site) no_new_privs entries in omega (arith, few, more));
       hidden_without_flags = form.hidden_without_flags;
       finds_proc = form.finds_proc;
     }

@@ -13,7 +13,7 @@ use Rattle.path_settings.specs.declared.systemd.modes.MountMode.{MountMode}
 use Rattle.path_settings.specs.declared.systemd.modes.MountMode.TheVariants.{Hidden, Node}
 use Rattle.path_settings.specs.systemd.Modes.{hides, is_node, is_origin}
 use Rattle.path_settings.specs.systemd.Made.{beneath_in, is_longest_such, lies_beneath, made, object_by, object_from, object_in, putting}
-use Rattle.path_settings.specs.systemd.View.{beginning, is_no_exec, is_read_only, leads_to, object_of, sight_from, view}
+use Rattle.path_settings.specs.systemd.View.{beginning, is_no_exec, is_no_suid, is_read_only, leads_to, object_of, sight_from, view}
 use Rattle.path_settings.specs.view_map.Kept.{Host}
 use Rattle.path_settings.specs.view_map.Object.{Object, on_host, empty, hidden, object_behind}
 use Rattle.path_settings.proofs.OfAbsPath.Prefixes.{prefix_and_rest}
@@ -23,7 +23,7 @@ use Rattle.kern_mounts.specs.Entry as entry
 use Rattle.kern_mounts.specs.declared.step.MountStep.{MountStep}
 use Rattle.kern_mounts.specs.declared.step.What.TheVariants as what
 use Rattle.mount_plan.specs.AsView.{Agrees, FindsAsView}
-use Rattle.mount_plan.specs.Plan.{flags_of, hides_dir}
+use Rattle.mount_plan.specs.Plan.{flags_in, hides_dir}
 use Rattle.kern_mounts.specs.Table.{no_flags}
 use Rattle.mount_plan.specs.systemd.Table.{flags_among, root_flags, root_step, step_among, table_of}
 use Rattle.mount_plan.proofs.EntriesAsView.{find_none, last_leading, longest_is_last}
@@ -86,12 +86,12 @@ hides_object : (mode : MountMode) (place path : Path) → hides mode ≡ true
 hides_object Hidden place path h = (refl, refl)
 hides_object _ place path h = absurd (false≢true h)
 
-seen_flags : (object : Object) (rest : Path) (read_only no_exec : Bool) → IsSeen object
-    → flags_of (object_behind object rest) read_only no_exec
-    ≡ record { read_only = read_only; no_exec = no_exec; no_suid = false }
-seen_flags (on_host path) rest read_only no_exec seen = refl
-seen_flags empty rest read_only no_exec seen = refl
-seen_flags hidden rest read_only no_exec seen = absurd seen
+seen_flags : (object : Object) (rest : Path) (read_only no_exec no_suid : Bool) → IsSeen object
+    → flags_in (object_behind object rest) read_only no_exec no_suid
+    ≡ record { read_only = read_only; no_exec = no_exec; no_suid = no_suid }
+seen_flags (on_host path) rest read_only no_exec no_suid seen = refl
+seen_flags empty rest read_only no_exec no_suid seen = refl
+seen_flags hidden rest read_only no_exec no_suid seen = absurd seen
 
 -- ---- the host's root beneath the made entries
 and_nothing : (b : Bool) → (b && false) ≡ false
@@ -125,44 +125,48 @@ root_beneath row_at entries free = ap (λ o. object_from o []) (find_none (is_lo
       none whole some h.1,
     )
 
-module _ (row_at : Host) (entries : List MountEntry) (free : LeaveTheRoot entries) where
+module _ (row_at : Host) (no_new_privs : Bool) (entries : List MountEntry) (free : LeaveTheRoot entries) where
   abbrev step : MountEntry → MountStep
-  step = step_among row_at entries (putting row_at entries) (beginning row_at entries)
+  step = step_among row_at no_new_privs entries (putting row_at entries) (beginning row_at entries) (made row_at entries)
 
   -- ---- one entry
-  flags_agree : (one : MountEntry) (rest : Path) → flags_among entries (beginning row_at entries) one
-      ≡ flags_of (object_behind (object_of row_at entries one) rest) (is_read_only entries one) (is_no_exec row_at entries one)
+  flags_agree : (one : MountEntry) (rest : Path) → flags_among no_new_privs entries (beginning row_at entries) (made row_at entries) one
+      ≡ flags_in (object_behind (object_of row_at entries one) rest) (is_read_only entries one) (is_no_exec row_at entries one)
+      (is_no_suid row_at no_new_privs entries one)
   flags_agree one rest = by (hides one.mode) refl
     where
-      by : (b : Bool) → hides one.mode ≡ b → flags_among entries (beginning row_at entries) one
-          ≡ flags_of (object_behind (object_of row_at entries one) rest) (is_read_only entries one) (is_no_exec row_at entries one)
+      by : (b : Bool) → hides one.mode ≡ b → flags_among no_new_privs entries (beginning row_at entries) (made row_at entries) one
+          ≡ flags_in (object_behind (object_of row_at entries one) rest) (is_read_only entries one) (is_no_exec row_at entries one)
+          (is_no_suid row_at no_new_privs entries one)
       by true is =
           let h = hides_object one.mode one.path one.path is in
           ap (λ b. cond b no_flags (record {
             read_only = is_read_only entries one;
             no_exec = is_no_exec row_at entries one;
-            no_suid = false;
+            no_suid = is_no_suid row_at no_new_privs entries one;
           })) is
-          ∙ sym (ap (λ b. flags_of (object_behind (cond b (object_by one.mode one.path one.path)
-          (object_in (putting row_at entries) one.path)) rest) (is_read_only entries one) (is_no_exec row_at entries one)) h.0
-          ∙ ap (λ (o : Object). flags_of (object_behind o rest) (is_read_only entries one) (is_no_exec row_at entries one)) h.1)
+          ∙ sym (ap (λ b. flags_in (object_behind (cond b (object_by one.mode one.path one.path)
+          (object_in (putting row_at entries) one.path)) rest) (is_read_only entries one) (is_no_exec row_at entries one)
+          (is_no_suid row_at no_new_privs entries one)) h.0
+          ∙ ap (λ (o : Object). flags_in (object_behind o rest) (is_read_only entries one) (is_no_exec row_at entries one)
+          (is_no_suid row_at no_new_privs entries one)) h.1)
       by false is =
           ap (λ b. cond b no_flags (record {
             read_only = is_read_only entries one;
             no_exec = is_no_exec row_at entries one;
-            no_suid = false;
+            no_suid = is_no_suid row_at no_new_privs entries one;
           })) is
           ∙ sym (seen_flags (object_of row_at entries one) rest (is_read_only entries one) (is_no_exec row_at entries one)
-          (object_seen row_at entries one is))
+          (is_no_suid row_at no_new_privs entries one) (object_seen row_at entries one is))
 
-  agree_at : (one : MountEntry) (path : Path) → Agrees (sight_from row_at entries (Some one) path) path (step one)
+  agree_at : (one : MountEntry) (path : Path) → Agrees (sight_from row_at no_new_privs entries (Some one) path) path (step one)
   agree_at one path = record {
     origin = shown_behind (object_of row_at entries one) (hides_dir (beneath_in row_at (putting row_at entries) one.path)) one.path path;
     flags = flags_agree one (rest_of one.path path);
   }
 
   -- ---- the root
-  host_at : (path : Path) → Agrees (sight_from row_at entries None path) path (root_step entries (beginning row_at entries) [])
+  host_at : (path : Path) → Agrees (sight_from row_at no_new_privs entries None path) path (root_step no_new_privs entries (beginning row_at entries) (made row_at entries) [])
   host_at path = record {
     origin = shown_behind (on_host []) true [] path ∙ ap on_host (prefix_and_rest [] path refl);
     flags = refl;
@@ -174,12 +178,12 @@ module _ (row_at : Host) (entries : List MountEntry) (free : LeaveTheRoot entrie
       ∙ ap (object_in (putting row_at entries)) at ∙ root_beneath row_at entries free
 
   root_at : (root : MountEntry) (some : List MountEntry) (path : Path) → root.path ≡ [] → is_origin root.mode ≡ false
-      → Agrees (sight_from row_at entries (Some root) path) path (root_step entries (beginning row_at entries) (root ∷ some))
+      → Agrees (sight_from row_at no_new_privs entries (Some root) path) path (root_step no_new_privs entries (beginning row_at entries) (made row_at entries) (root ∷ some))
   root_at root some path at plain = record {
     origin = shown_behind (on_host []) true [] path
         ∙ ap (λ (p : Path). object_behind (on_host []) (rest_of p path)) (sym at)
         ∙ ap (λ (o : Object). object_behind o (rest_of root.path path)) (sym (root_object root at plain));
-    flags = ap (λ o. root_flags entries (beginning row_at entries) o)
+    flags = ap (λ o. root_flags no_new_privs entries (beginning row_at entries) (made row_at entries) o)
         (ap (λ b. cond b (Some root) (find (λ one. is_root one.path) some)) (ap is_root at))
         ∙ flags_agree root (rest_of root.path path);
   }
@@ -196,10 +200,10 @@ module _ (row_at : Host) (entries : List MountEntry) (free : LeaveTheRoot entrie
       by true rest = ap (λ (steps : List MountStep). step one ∷ steps) rest
       by false rest = rest
 
-  pub entry_is : (path : Path) → entry_of (table_of row_at entries) path
-      ≡ Some (option_map_or step (last_leading (others row_at entries) path) (root_step entries (beginning row_at entries) (made row_at entries)))
-  entry_is path = ap (last_or (Some (root_step entries (beginning row_at entries) (made row_at entries)))) (leading path (others row_at entries))
-      ∙ last_step step (root_step entries (beginning row_at entries) (made row_at entries)) (filter (leads_to path) (others row_at entries))
+  pub entry_is : (path : Path) → entry_of (table_of row_at no_new_privs entries) path
+      ≡ Some (option_map_or step (last_leading (others row_at entries) path) (root_step no_new_privs entries (beginning row_at entries) (made row_at entries) (made row_at entries)))
+  entry_is path = ap (last_or (Some (root_step no_new_privs entries (beginning row_at entries) (made row_at entries) (made row_at entries)))) (leading path (others row_at entries))
+      ∙ last_step step (root_step no_new_privs entries (beginning row_at entries) (made row_at entries) (made row_at entries)) (filter (leads_to path) (others row_at entries))
 
   bare_root : (some : List MountEntry) → AllByRecursion (λ one. not (is_root one.path) ≡ true) some
       → AllByRecursion (λ one. is_root one.path ≡ false) some
@@ -212,24 +216,24 @@ module _ (row_at : Host) (entries : List MountEntry) (free : LeaveTheRoot entrie
 
   -- without an entry at the root
   hostly : (some : List MountEntry) (path : Path) → find (λ one. is_root one.path) some ≡ None → (o : Option MountEntry)
-      → Agrees (sight_from row_at entries o path) path (option_map_or step o (root_step entries (beginning row_at entries) some))
-  hostly some path none None = subst (λ (found : Option MountEntry). Agrees (sight_from row_at entries None path) path (record {
+      → Agrees (sight_from row_at no_new_privs entries o path) path (option_map_or step o (root_step no_new_privs entries (beginning row_at entries) (made row_at entries) some))
+  hostly some path none None = subst (λ (found : Option MountEntry). Agrees (sight_from row_at no_new_privs entries None path) path (record {
     place = [];
     what = what.Host [];
-    flags = root_flags entries (beginning row_at entries) found;
+    flags = root_flags no_new_privs entries (beginning row_at entries) (made row_at entries) found;
   })) (sym none) (host_at path)
   hostly some path none (Some one) = agree_at one path
 
   -- with one
   rooted : (root : MountEntry) (some : List MountEntry) (path : Path) → root.path ≡ [] → is_origin root.mode ≡ false → (o : Option MountEntry)
-      → Agrees (sight_from row_at entries (Some (option_map_or (λ one. one) o root)) path) path
-      (option_map_or step o (root_step entries (beginning row_at entries) (root ∷ some)))
+      → Agrees (sight_from row_at no_new_privs entries (Some (option_map_or (λ one. one) o root)) path) path
+      (option_map_or step o (root_step no_new_privs entries (beginning row_at entries) (made row_at entries) (root ∷ some)))
   rooted root some path at plain None = root_at root some path at plain
   rooted root some path at plain (Some one) = agree_at one path
 
   abbrev AgreeAt : List MountEntry → Path → Option MountEntry → List MountEntry → Type 0
-  AgreeAt some path last found = Agrees (sight_from row_at entries last path) path
-      (option_map_or step (last_leading found path) (root_step entries (beginning row_at entries) some))
+  AgreeAt some path last found = Agrees (sight_from row_at no_new_privs entries last path) path
+      (option_map_or step (last_leading found path) (root_step no_new_privs entries (beginning row_at entries) (made row_at entries) some))
 
   agree_all : (some : List MountEntry) → RootFirst some → LeaveTheRoot some → (path : Path)
       → AgreeAt some path (last_leading some path) (filter (λ one. not (is_root one.path)) some)
@@ -246,9 +250,9 @@ module _ (row_at : Host) (entries : List MountEntry) (free : LeaveTheRoot entrie
       (rooted root some path at (plain.0 at) (last_leading some path)))
 
   -- each path belongs to the entry that shows what the view has there
-  pub finds_as_view : FindsAsView (view row_at entries) (table_of row_at entries)
+  pub finds_as_view : FindsAsView (view row_at no_new_privs entries) (table_of row_at no_new_privs entries)
   finds_as_view path = (
-    option_map_or step (last_leading (others row_at entries) path) (root_step entries (beginning row_at entries) (made row_at entries)),
+    option_map_or step (last_leading (others row_at entries) path) (root_step no_new_privs entries (beginning row_at entries) (made row_at entries) (made row_at entries)),
     entry_is path,
     subst (λ (last : Option MountEntry). AgreeAt (made row_at entries) path last (others row_at entries))
         (sym (longest_is_last path (made row_at entries) (made_ascends row_at entries)))

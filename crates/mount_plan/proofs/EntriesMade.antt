@@ -198,7 +198,7 @@ seen_by DisconnectedTmp place path h = tt
 seen_by (RecursiveBind source read_only) place path h = tt
 seen_by PrivateTmp place path h = tt
 seen_by PrivateDevices place path h = tt
-seen_by (Tmpfs read_only no_exec) place path h = tt
+seen_by (Tmpfs read_only no_exec no_suid) place path h = tt
 seen_by _ place path h = tt
 
 pub seen_in : (put : List MountEntry) (path : Path) → AllByRecursion (λ one. hides one.mode ≡ false) put → IsSeen (object_in put path)

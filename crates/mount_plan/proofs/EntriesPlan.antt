@@ -1,5 +1,5 @@
 -- The steps of the code together make the plan of the entries.
-use Rattle.std.proofs.Common.{◌≡◌, List, [], ◌∷◌, ◌++◌, filter, Some, None, Ok, Err, refl, sym, ap, ◌∙◌}
+use Rattle.std.proofs.Common.{◌≡◌, Bool, List, [], ◌∷◌, ◌++◌, filter, Some, None, Ok, Err, refl, sym, ap, ◌∙◌}
 use Rattle.std.specs.List.{filter_map}
 use Rattle.path_settings.specs.declared.systemd.entries.MountEntry.{MountEntry}
 use Rattle.path_settings.specs.systemd.Listed.{listed}
@@ -42,20 +42,20 @@ module _ (row_at : Host) (entries list devices : List MountEntry) (all_listed : 
   none_refuses (first ∷ more) e = let bad : ⊥ = cc in absurd bad
 
   -- the first refusal is the answer
-  pub is_refused : (put : List MountEntry) → put ≡ putting row_at entries → (error : PlanError)
-      → Refuses (first_of (refusals_in row_at put list)) (Err error) → Tables row_at entries (Err error)
-  is_refused put is Memory h = tt
-  is_refused put is (Missing path) h = first_refuses (refusals row_at entries) (missing path) (ap first_of (sym (all_refusals put is)) ∙ h)
-  is_refused put is (Kind path) h = first_refuses (refusals row_at entries) (wrong_kind path) (ap first_of (sym (all_refusals put is)) ∙ h)
+  pub is_refused : (put : List MountEntry) → put ≡ putting row_at entries → (no_new_privs : Bool) (error : PlanError)
+      → Refuses (first_of (refusals_in row_at put list)) (Err error) → Tables row_at no_new_privs entries (Err error)
+  is_refused put is no_new_privs Memory h = tt
+  is_refused put is no_new_privs (Missing path) h = first_refuses (refusals row_at entries) (missing path) (ap first_of (sym (all_refusals put is)) ∙ h)
+  is_refused put is no_new_privs (Kind path) h = first_refuses (refusals row_at entries) (wrong_kind path) (ap first_of (sym (all_refusals put is)) ∙ h)
 
   -- if there is none, the made entries are
   pub is_made_of : (put : List MountEntry) → put ≡ putting row_at entries → first_of (refusals_in row_at put list) ≡ None
       → made_of row_at entries ≡ Ok (made row_at entries)
   is_made_of put is h = none_refuses (refusals row_at entries) (ap first_of (sym (all_refusals put is)) ∙ h)
 
-pub is_table : (row_at : Host) (entries put begun found : List MountEntry) → put ≡ putting row_at entries → begun ≡ beginning row_at entries
-    → found ≡ made row_at entries → steps_among row_at entries put begun found ≡ table_of row_at entries
-is_table row_at entries put begun found p b m =
-    ap (λ (some : List MountEntry). steps_among row_at entries some begun found) p
-    ∙ ap (λ (some : List MountEntry). steps_among row_at entries (putting row_at entries) some found) b
-    ∙ ap (λ (some : List MountEntry). steps_among row_at entries (putting row_at entries) (beginning row_at entries) some) m
+pub is_table : (row_at : Host) (no_new_privs : Bool) (entries put begun found : List MountEntry) → put ≡ putting row_at entries → begun ≡ beginning row_at entries
+    → found ≡ made row_at entries → steps_among row_at no_new_privs entries put begun found ≡ table_of row_at no_new_privs entries
+is_table row_at no_new_privs entries put begun found p b m =
+    ap (λ (some : List MountEntry). steps_among row_at no_new_privs entries some begun found) p
+    ∙ ap (λ (some : List MountEntry). steps_among row_at no_new_privs entries (putting row_at entries) some found) b
+    ∙ ap (λ (some : List MountEntry). steps_among row_at no_new_privs entries (putting row_at entries) (beginning row_at entries) some) m

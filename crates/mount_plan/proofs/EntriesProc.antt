@@ -161,7 +161,7 @@ shows_by row_at (RecursiveBind source read_only) here is_dir row at dir binds =
     ap row_at (append-nil (source ++ []) ∙ append-nil source) ∙ binds
 shows_by row_at PrivateTmp here is_dir row at dir binds = refl
 shows_by row_at PrivateDevices here is_dir row at dir binds = refl
-shows_by row_at (Tmpfs read_only no_exec) here is_dir row at dir binds = refl
+shows_by row_at (Tmpfs read_only no_exec no_suid) here is_dir row at dir binds = refl
 shows_by row_at Node here is_dir row at dir binds = row
 shows_by row_at _ here is_dir row at dir binds =
     subst (λ (o : Object). ShowsDirectory row_at proc (what_of o is_dir) proc) (sym at) row

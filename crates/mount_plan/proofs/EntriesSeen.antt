@@ -253,10 +253,10 @@ module _ (row_at : Host) (entries : List MountEntry) where
                     (sym (only_there (made row_at entries) (made_ascends row_at entries) other one (listed_made other first put.1) among at))
 
       -- the folder shows what lies beneath
-      pub view_front : (o : Option MountEntry) → longest_such (lies_beneath path) (putting row_at entries) ≡ o
+      pub view_front : (no_new_privs : Bool) (o : Option MountEntry) → longest_such (lies_beneath path) (putting row_at entries) ≡ o
           → ((other : MountEntry) → o ≡ Some other → is_prefix other.path front ≡ true)
-          → (view row_at entries front).object ≡ object_from o front
-      view_front o e leads = by (longest_such (leads_to front) (made row_at entries)) refl
+          → (view row_at no_new_privs entries front).object ≡ object_from o front
+      view_front no_new_privs o e leads = by (longest_such (leads_to front) (made row_at entries)) refl
         where
           there : (other : MountEntry) → o ≡ Some other → (m : MountEntry) × IsOneOf (made row_at entries) m × (m.path ≡ other.path)
           there other is = stays path bare other
@@ -274,7 +274,7 @@ module _ (row_at : Host) (entries : List MountEntry) where
               absurd (one_is_longest (leads_to front) (made row_at entries) (there other is).0 (there other is).1 (over other is) none)
 
           by : (found : Option MountEntry) → longest_such (leads_to front) (made row_at entries) ≡ found
-              → (sight_from row_at entries found front).object ≡ object_from o front
+              → (sight_from row_at no_new_privs entries found front).object ≡ object_from o front
           by None none = none_made none o refl
           by (Some one) is = shows (is_origin one.mode) refl
             where

@@ -36,7 +36,7 @@ short_own (RecursiveBind at read_only) path own source = subst (λ (p : Path). l
     (sym (ap (λ rest. at ++ rest) (rest_of_itself path) ∙ append-nil at)) (short_path at source)
 short_own PrivateTmp path own source = tt
 short_own PrivateDevices path own source = tt
-short_own (Tmpfs read_only no_exec) path own source = tt
+short_own (Tmpfs read_only no_exec no_suid) path own source = tt
 short_own _ path own source = short_path path own
 
 -- an entry that does not put an object is made only over a row of the host
@@ -57,7 +57,7 @@ over_row source here optional DisconnectedTmp plain h = absurd (false≢true (sy
 over_row source here optional (RecursiveBind at read_only) plain h = absurd (false≢true (sym plain))
 over_row source here optional PrivateTmp plain h = absurd (false≢true (sym plain))
 over_row source here optional PrivateDevices plain h = absurd (false≢true (sym plain))
-over_row source here optional (Tmpfs read_only no_exec) plain h = absurd (false≢true (sym plain))
+over_row source here optional (Tmpfs read_only no_exec no_suid) plain h = absurd (false≢true (sym plain))
 over_row source here optional Node plain h = absurd (false≢true (sym plain))
 over_row source here optional _ plain h = there_row here optional h
 

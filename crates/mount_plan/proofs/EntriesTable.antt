@@ -1,5 +1,5 @@
 -- The form of the table of the made entries.
-use Rattle.std.proofs.Common.{◌≡◌, ◌≤◌, ◌⊎◌, inl, inr, ◌+◌, Bool, true, false, cond, List, [], ◌∷◌, filter, map, find, length, Option}
+use Rattle.std.proofs.Common.{◌≡◌, ◌≤◌, ◌⊎◌, inl, inr, ◌+◌, Bool, true, false, cond, List, [], ◌∷◌, filter, map, length, Option}
 use Rattle.std.proofs.Common.{Some, None, refl, sym, ap, ◌∙◌, subst, arith}
 use Rattle.std.specs.Prelude.{◌&&◌, not}
 use Rattle.std.specs.List.{AllByRecursion, Contains, cons_option, filter_map}
@@ -13,53 +13,28 @@ use Rattle.path_settings.specs.systemd.Entries.{leaves_the_root}
 use Rattle.path_settings.specs.systemd.Modes.{hides, is_origin}
 use Rattle.path_settings.specs.systemd.Listed.{listed, listed_at, paths_of}
 use Rattle.path_settings.specs.systemd.Made.{beneath_in, has_source, longest_such, made, mounted_in, nodes, object_by, object_in, putting}
-use Rattle.path_settings.specs.systemd.View.{begins_by, begins_for, beginning, is_read_only}
+use Rattle.path_settings.specs.systemd.View.{begins_by, begins_for, beginning, is_read_only, set_no_suid}
 use Rattle.path_settings.specs.abs_path.Prefix.{is_same}
 use Rattle.path_settings.proofs.OfAbsPath.Prefixes.{same_path}
 use Rattle.path_settings.specs.view_map.Kept.{Host}
 use Rattle.path_settings.specs.view_map.Object.{Object, on_host, empty, hidden}
 use Rattle.path_settings.proofs.SystemdLaws.{listed_ascends}
 use Rattle.path_settings.proofs.ViewMapLists.{all_filtered, all_mapped, all_weaker, mapped_all, filter_is, find_passes}
-use Rattle.kern_mounts.specs.Launch.{BeginsAtRoot, HasShortPlace, IsNotNoSuid, IsPlainIfHidden, OnHidden}
+use Rattle.kern_mounts.specs.Launch.{BeginsAtRoot, HasShortPlace, IsPlainIfHidden, OnHidden}
 use Rattle.kern_mounts.specs.declared.step.Flags.{Flags}
 use Rattle.mount_plan.specs.Form.{HasPlacesOf}
 use Rattle.mount_plan.specs.Plan.{hides_dir, what_of}
 use Rattle.mount_plan.proofs.Counted.{with_placed_length}
 use Rattle.kern_mounts.specs.Table.{no_flags}
-use Rattle.mount_plan.specs.systemd.Table.{object_among, flags_among, no_exec_among, step_among, root_flags, table_of}
+use Rattle.mount_plan.specs.systemd.Table.{object_among, flags_among, no_exec_among, step_among, table_of}
 use Rattle.mount_plan.proofs.EntriesMade.{IsSeen, made_is, mounted_cases, none_hides, seen_by, seen_in}
 
 -- the made entries that are not at the root
 abbrev pub others : Host → List MountEntry → List MountEntry
 others row_at entries = filter (λ one. not (is_root one.path)) (made row_at entries)
 
-pub begins_at_root : (row_at : Host) (entries : List MountEntry) → BeginsAtRoot (table_of row_at entries)
-begins_at_root row_at entries = (refl, refl)
-
--- ---- no entry takes privileges from programs, and a hidden one has no flags
-no_suid_flags : (entries begun : List MountEntry) (one : MountEntry) → (flags_among entries begun one).no_suid ≡ false
-no_suid_flags entries begun one = by (hides one.mode) (is_read_only entries one)
-    (no_exec_among entries one (begins_by (longest_such (begins_for one.path) begun)))
-  where
-    by : (b read_only no_exec : Bool)
-        → (cond b no_flags (record { read_only = read_only; no_exec = no_exec; no_suid = false })).no_suid ≡ false
-    by true read_only no_exec = refl
-    by false read_only no_exec = refl
-
-root_no_suid : (entries begun : List MountEntry) (o : Option MountEntry) → (root_flags entries begun o).no_suid ≡ false
-root_no_suid entries begun None = refl
-root_no_suid entries begun (Some one) = no_suid_flags entries begun one
-
-pub keep_user_ids : (row_at : Host) (entries : List MountEntry) → AllByRecursion IsNotNoSuid (table_of row_at entries)
-keep_user_ids row_at entries = (
-  root_no_suid entries (beginning row_at entries) (find (λ one. is_root one.path) (made row_at entries)),
-  each (others row_at entries),
-)
-  where
-    each : (some : List MountEntry)
-        → AllByRecursion IsNotNoSuid (map (step_among row_at entries (putting row_at entries) (beginning row_at entries)) some)
-    each [] = tt
-    each (one ∷ some) = (no_suid_flags entries (beginning row_at entries) one, each some)
+pub begins_at_root : (row_at : Host) (no_new_privs : Bool) (entries : List MountEntry) → BeginsAtRoot (table_of row_at no_new_privs entries)
+begins_at_root row_at no_new_privs entries = (refl, refl)
 
 -- ---- places
 -- fewer elements of an ascending list ascend
@@ -135,16 +110,16 @@ pub others_ascend : (row_at : Host) (entries : List MountEntry) → AreAscending
 others_ascend row_at entries = filter_ascends (λ one. not (is_root one.path)) (made row_at entries) (made_ascends row_at entries)
 
 -- the places of the steps are the paths of their entries
-pub places_again : (row_at : Host) (entries put begun some : List MountEntry)
-    → map (λ step. step.place) (map (step_among row_at entries put begun) some) ≡ map (λ one. one.path) some
-places_again row_at entries put begun [] = refl
-places_again row_at entries put begun (one ∷ some) =
-    ap (λ (more : List Path). one.path ∷ more) (places_again row_at entries put begun some)
+pub places_again : (row_at : Host) (no_new_privs : Bool) (entries put begun found some : List MountEntry)
+    → map (λ step. step.place) (map (step_among row_at no_new_privs entries put begun found) some) ≡ map (λ one. one.path) some
+places_again row_at no_new_privs entries put begun found [] = refl
+places_again row_at no_new_privs entries put begun found (one ∷ some) =
+    ap (λ (more : List Path). one.path ∷ more) (places_again row_at no_new_privs entries put begun found some)
 
-pub table_ascends : (row_at : Host) (entries : List MountEntry) → AreAscending (map (λ step. step.place) (table_of row_at entries))
-table_ascends row_at entries =
+pub table_ascends : (row_at : Host) (no_new_privs : Bool) (entries : List MountEntry) → AreAscending (map (λ step. step.place) (table_of row_at no_new_privs entries))
+table_ascends row_at no_new_privs entries =
     subst (λ (paths : List Path). AllByRecursion (λ path. is_before [] path ≡ true) paths × AreAscending paths)
-    (sym (places_again row_at entries (putting row_at entries) (beginning row_at entries) (others row_at entries))) (
+    (sym (places_again row_at no_new_privs entries (putting row_at entries) (beginning row_at entries) (made row_at entries) (others row_at entries))) (
       all_mapped (λ (one : MountEntry). one.path) (λ path. is_before [] path ≡ true) (others row_at entries)
           (all_weaker (λ one. not (is_root one.path) ≡ true) (λ one. is_before [] one.path ≡ true) (others row_at entries)
           (λ one bare. root_before one.path bare) (others_below row_at entries)),
@@ -153,11 +128,12 @@ table_ascends row_at entries =
 
 -- ---- properties of the places
 -- each place is the root or the path of an entry
-pub places_mentioned : (row_at : Host) (entries : List MountEntry) → HasPlacesOf (Systemd entries) (table_of row_at entries)
-places_mentioned row_at entries =
+pub places_mentioned : (row_at : Host) (no_new_privs : Bool) (entries : List MountEntry)
+    → HasPlacesOf (Systemd entries no_new_privs) (table_of row_at no_new_privs entries)
+places_mentioned row_at no_new_privs entries =
     let IsOne : Path → Type 0 = λ place. (place ≡ []) ⊎ Contains (map (λ (one : MountEntry). one.path) entries) place in (
       inl refl,
-      all_mapped (step_among row_at entries (putting row_at entries) (beginning row_at entries)) (λ step. IsOne step.place)
+      all_mapped (step_among row_at no_new_privs entries (putting row_at entries) (beginning row_at entries) (made row_at entries)) (λ step. IsOne step.place)
           (others row_at entries)
           (all_filtered (λ one. IsOne one.path) (λ one. not (is_root one.path)) (made row_at entries)
           (made_is (λ one. IsOne one.path) row_at entries
@@ -169,14 +145,14 @@ places_mentioned row_at entries =
     )
 
 -- each place is a normal path, and as short as the paths of the entries
-pub short_places_of : (row_at : Host) (entries : List MountEntry)
+pub short_places_of : (row_at : Host) (no_new_privs : Bool) (entries : List MountEntry)
     → AllByRecursion (λ one. (is_normal one.path ≡ true) × (length (text_of one.path) ≤ 250)) entries
-    → AllByRecursion HasShortPlace (table_of row_at entries)
-short_places_of row_at entries fit = (
+    → AllByRecursion HasShortPlace (table_of row_at no_new_privs entries)
+short_places_of row_at no_new_privs entries fit = (
   record { normal = refl; short = omega arith },
-  all_mapped (step_among row_at entries (putting row_at entries) (beginning row_at entries)) HasShortPlace (others row_at entries)
+  all_mapped (step_among row_at no_new_privs entries (putting row_at entries) (beginning row_at entries) (made row_at entries)) HasShortPlace (others row_at entries)
       (all_weaker (λ one. (is_normal one.path ≡ true) × (length (text_of one.path) ≤ 250))
-      (λ one. HasShortPlace (step_among row_at entries (putting row_at entries) (beginning row_at entries) one)) (others row_at entries)
+      (λ one. HasShortPlace (step_among row_at no_new_privs entries (putting row_at entries) (beginning row_at entries) (made row_at entries) one)) (others row_at entries)
       (λ one fits. record { normal = fits.0; short = fits.1 })
       (all_filtered (λ one. (is_normal one.path ≡ true) × (length (text_of one.path) ≤ 250)) (λ one. not (is_root one.path))
       (made row_at entries)
@@ -202,20 +178,21 @@ plain_anyway (on_host path) is_dir flags is = tt
 plain_anyway empty is_dir flags is = tt
 plain_anyway hidden is_dir flags is = is
 
-pub hidden_plain : (row_at : Host) (entries : List MountEntry) → AllByRecursion IsPlainIfHidden (table_of row_at entries)
-hidden_plain row_at entries = (tt, each (others row_at entries))
+pub hidden_plain : (row_at : Host) (no_new_privs : Bool) (entries : List MountEntry) → AllByRecursion IsPlainIfHidden (table_of row_at no_new_privs entries)
+hidden_plain row_at no_new_privs entries = (tt, each (others row_at entries))
   where
-    own : (one : MountEntry) (b : Bool) → hides one.mode ≡ b → IsPlainIfHidden (step_among row_at entries (putting row_at entries) (beginning row_at entries) one)
-    own one true is = plain_anyway (object_among (putting row_at entries) one) (hides_dir (beneath_in row_at (putting row_at entries) one.path)) (flags_among entries (beginning row_at entries) one)
+    own : (one : MountEntry) (b : Bool) → hides one.mode ≡ b → IsPlainIfHidden (step_among row_at no_new_privs entries (putting row_at entries) (beginning row_at entries) (made row_at entries) one)
+    own one true is = plain_anyway (object_among (putting row_at entries) one) (hides_dir (beneath_in row_at (putting row_at entries) one.path)) (flags_among no_new_privs entries (beginning row_at entries) (made row_at entries) one)
         (ap (λ b. cond b no_flags (record {
           read_only = is_read_only entries one;
-          no_exec = no_exec_among entries one (begins_by (longest_such (begins_for one.path) (beginning row_at entries)));
-          no_suid = false;
+          no_exec = no_exec_among entries one (begins_by (longest_such (begins_for one.path) (beginning row_at entries))).no_exec;
+          no_suid = set_no_suid no_new_privs (made row_at entries) one.path
+              (begins_by (longest_such (begins_for one.path) (beginning row_at entries))).no_suid;
         })) is)
-    own one false is = plain_if_seen (object_among (putting row_at entries) one) (hides_dir (beneath_in row_at (putting row_at entries) one.path)) (flags_among entries (beginning row_at entries) one)
+    own one false is = plain_if_seen (object_among (putting row_at entries) one) (hides_dir (beneath_in row_at (putting row_at entries) one.path)) (flags_among no_new_privs entries (beginning row_at entries) (made row_at entries) one)
         (object_seen row_at entries one is)
 
-    each : (some : List MountEntry) → AllByRecursion IsPlainIfHidden (map (step_among row_at entries (putting row_at entries) (beginning row_at entries)) some)
+    each : (some : List MountEntry) → AllByRecursion IsPlainIfHidden (map (step_among row_at no_new_privs entries (putting row_at entries) (beginning row_at entries) (made row_at entries)) some)
     each [] = tt
     each (one ∷ some) = (own one (hides one.mode) refl, each some)
 
@@ -240,9 +217,9 @@ pub mapped_length : {X Y : Type 0} (f : X → Y) (xs : List X) → length (map f
 mapped_length f [] = refl
 mapped_length f (x ∷ xs) = let rest = mapped_length f xs in omega arith
 
-pub one_more : (row_at : Host) (entries : List MountEntry) → length (table_of row_at entries) ≤ length entries + 1
-one_more row_at entries =
-    let steps = mapped_length (step_among row_at entries (putting row_at entries) (beginning row_at entries)) (others row_at entries) in
+pub one_more : (row_at : Host) (no_new_privs : Bool) (entries : List MountEntry) → length (table_of row_at no_new_privs entries) ≤ length entries + 1
+one_more row_at no_new_privs entries =
+    let steps = mapped_length (step_among row_at no_new_privs entries (putting row_at entries) (beginning row_at entries) (made row_at entries)) (others row_at entries) in
     let a = filter_few (λ one. not (is_root one.path)) (made row_at entries) in
     let b = picked_few (mounted_in row_at (putting row_at entries) (nodes entries)) (listed entries) in
     let c = picked_few (listed_at entries) (paths_of entries) in

@@ -87,7 +87,7 @@ shows_by : (row_at : Host) (kind : Kind) (front : Path) (is_dir : Bool) → fron
     → BindsDirectory row_at kind →
     ShowsDirectory row_at proc (what_of (object_by kind front proc) is_dir) proc
 shows_by row_at Hide front is_dir same says dir binds = (refl, dir)
-shows_by row_at (Tmp read_only no_exec) front is_dir same says dir binds = refl
+shows_by row_at (Tmp read_only no_exec no_suid) front is_dir same says dir binds = refl
 shows_by row_at (Bind source read_only recursive) front is_dir same says dir binds =
     ap (λ (p : Path). row_at ((source ++ rest_of p proc) ++ [])) same ∙ ap row_at (append-nil (source ++ []) ∙ append-nil source) ∙ binds
 shows_by row_at _ front is_dir same says dir binds = absurd (false≢true says)

@@ -78,7 +78,7 @@ has_form site mentions kept is_site whole leave e =
           (kept_is (λ mention. mention.path ≡ [] → is_origin mention.kind ≡ false) row_at mentions kept free e);
       places_ascend = table_ascends row_at kept;
       one_more_than_mentions = (let more = one_more row_at mentions kept normal e in omega (arith, more, paths_length mentions));
-      none_is_no_suid = keep_user_ids row_at kept;
+      leaves_privileges = keep_user_ids row_at kept;
       hidden_without_flags = hidden_plain row_at kept;
       finds_proc = finds_proc row_at mentions kept free normal (proc_row site is_site) e;
     }
@@ -100,7 +100,6 @@ can_be_mounted site mentions is_site whole leave few short r h = if_planned (hos
           (are_short mentions short) e;
       places_ascend = form.places_ascend;
       few = (let more = one_more (host_of site) mentions kept (are_normal mentions (are_whole mentions whole)) e in omega (arith, few, more));
-      none_is_no_suid = form.none_is_no_suid;
       hidden_without_flags = form.hidden_without_flags;
       finds_proc = form.finds_proc;
     }) r h

@@ -119,7 +119,7 @@ flag_beside source beneath.Empty put mention flag h = inl (by mention.kind put f
     by : (kind : Kind) (put : Bool) → is_origin kind ≡ false → is_kept (seen_fate source beneath.Empty put mention.optional kind) ≡ true
         → put ≡ true
     by Hide put flag h = absurd (false≢true (sym flag))
-    by (Tmp read_only no_exec) put flag h = absurd (false≢true (sym flag))
+    by (Tmp read_only no_exec no_suid) put flag h = absurd (false≢true (sym flag))
     by (Bind at read_only recursive) put flag h = absurd (false≢true (sym flag))
     by _ true flag h = refl
     by _ false flag h = absurd (false≢true h)
@@ -128,7 +128,7 @@ flag_beside source beneath.NoRow put mention flag h = inl (by mention.kind put m
     by : (kind : Kind) (put optional : Bool) → is_origin kind ≡ false → is_kept (seen_fate source beneath.NoRow put optional kind) ≡ true
         → put ≡ true
     by Hide put optional flag h = absurd (false≢true (sym flag))
-    by (Tmp read_only no_exec) put optional flag h = absurd (false≢true (sym flag))
+    by (Tmp read_only no_exec no_suid) put optional flag h = absurd (false≢true (sym flag))
     by (Bind at read_only recursive) put optional flag h = absurd (false≢true (sym flag))
     by _ true optional flag h = refl
     by _ false true flag h = absurd (false≢true h)
@@ -164,7 +164,7 @@ put_is_kept row_at here mentions more e put =
   where
     says : (kind : Kind) → (is_tmp kind || is_bind kind) ≡ true → is_origin kind ≡ true
     says Hide h = refl
-    says (Tmp read_only no_exec) h = refl
+    says (Tmp read_only no_exec no_suid) h = refl
     says (Bind source read_only recursive) h = refl
     says _ h = h
 
@@ -239,7 +239,7 @@ short_at row_at mentions kept mention rows keeps whole among = by (origin_of kep
     from : (one : ℕ × Mention) → origin_of kept mention.path ≡ Some one → is_whole one.1 ≡ true → is_prefix one.1.path mention.path ≡ true
         → (kind : Kind) → one.1.kind ≡ kind → HasShortHost (object_by kind one.1.path mention.path)
     from one e all leads Hide k = tt
-    from one e all leads (Tmp read_only no_exec) k = tt
+    from one e all leads (Tmp read_only no_exec no_suid) k = tt
     from one e all leads (Bind source read_only recursive) k = elim_same (is_same one.1.path mention.path) refl
       where
         elim_same : (b : Bool) → is_same one.1.path mention.path ≡ b → length (tail_of (source ++ rest_of one.1.path mention.path)) ≤ 512

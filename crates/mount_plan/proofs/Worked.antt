@@ -64,7 +64,7 @@ not_reopened : planned (says srv_a Rw ∷ says srv Hide ∷ []) ≡ Ok
 not_reopened = refl
 
 -- a hidden file; a hidden object below an empty file system is a directory
-hidden_kinds : planned (says srv_log Hide ∷ says srv_a (Tmp true false) ∷ says (codes "srv" ∷ codes "a" ∷ codes "x" ∷ []) Hide ∷ [])
+hidden_kinds : planned (says srv_log Hide ∷ says srv_a (Tmp true false false) ∷ says (codes "srv" ∷ codes "a" ∷ codes "x" ∷ []) Hide ∷ [])
     ≡ Ok (step [] (what.Host []) no_flags ∷ step srv_a what.Empty (record no_flags { read_only = true })
     ∷ step (codes "srv" ∷ codes "a" ∷ codes "x" ∷ []) (what.Hidden true) no_flags ∷ step srv_log (what.Hidden false) no_flags ∷ [])
 hidden_kinds = refl
@@ -74,5 +74,5 @@ missing_path : planned (says tmp_x Ro ∷ says (codes "none" ∷ []) Ro ∷ []) 
 missing_path = refl
 
 -- an empty file system does not cover a file
-over_a_file : planned (says srv_log (Tmp false false) ∷ []) ≡ Err (wrong_kind srv_log)
+over_a_file : planned (says srv_log (Tmp false false false) ∷ []) ≡ Err (wrong_kind srv_log)
 over_a_file = refl

@@ -1,5 +1,5 @@
 -- The answers of the parts of a plan. Memory may run out in any of them.
-use Rattle.std.specs.Prelude.{◌≡◌, ⊤, List, [], ◌∷◌, ◌++◌, Option, Some, None, Result, Ok, Err, Vec}
+use Rattle.std.specs.Prelude.{◌≡◌, ⊤, Bool, List, [], ◌∷◌, ◌++◌, Option, Some, None, Result, Ok, Err, Vec}
 use Rattle.std.specs.declared.alloc.Global.{Global}
 use Rattle.path_settings.specs.declared.mentions.Mention.{Mention}
 use Rattle.path_settings.specs.view_map.Kept.{Refusal, missing, wrong_kind, Host, kept_of}
@@ -45,13 +45,13 @@ PlansBase row_at mentions (Err Memory) = ⊤
 PlansBase row_at mentions (Err (Missing path)) = kept_of row_at mentions ≡ Err (missing path)
 PlansBase row_at mentions (Err (Kind path)) = kept_of row_at mentions ≡ Err (wrong_kind path)
 
--- the answer is the table of the made entries, or the first refusal
-abbrev pub Tables : Host → List MountEntry → Result (Vec MountStep Global) PlanError → Type 0
-Tables row_at entries (Ok table) =
-    (made : List MountEntry) × (made_of row_at entries ≡ Ok made) × (table.items ≡ systemd.table_of row_at entries)
-Tables row_at entries (Err Memory) = ⊤
-Tables row_at entries (Err (Missing path)) = made_of row_at entries ≡ Err (missing path)
-Tables row_at entries (Err (Kind path)) = made_of row_at entries ≡ Err (wrong_kind path)
+-- the answer is the table of the made entries, by whether NoNewPrivileges= or DynamicUser= is on, or the first refusal
+abbrev pub Tables : Host → Bool → List MountEntry → Result (Vec MountStep Global) PlanError → Type 0
+Tables row_at no_new_privs entries (Ok table) =
+    (made : List MountEntry) × (made_of row_at entries ≡ Ok made) × (table.items ≡ systemd.table_of row_at no_new_privs entries)
+Tables row_at no_new_privs entries (Err Memory) = ⊤
+Tables row_at no_new_privs entries (Err (Missing path)) = made_of row_at entries ≡ Err (missing path)
+Tables row_at no_new_privs entries (Err (Kind path)) = made_of row_at entries ≡ Err (wrong_kind path)
 
 -- the answer is the plan, or the first refusal, by the rules that read the mentions
 abbrev pub Plans : Host → Mentioned → Result (List MountStep) PlanError → Type 0

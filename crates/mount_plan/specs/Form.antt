@@ -1,8 +1,9 @@
 -- The form of a plan, whatever its mentions are.
-use Rattle.std.specs.Prelude.{◌≡◌, ◌≤◌, ◌+◌, ◌⊎◌, true, List, [], length, map, Ok}
+use Rattle.std.specs.Prelude.{◌≡◌, ◌≤◌, ◌+◌, ◌⊎◌, ⊤, true, List, [], length, map, Ok}
 use Rattle.std.specs.List.{AllByRecursion, Contains}
 use Rattle.path_settings.specs.abs_path.ByteOrder.{AreAscending}
 use Rattle.path_settings.specs.declared.mentioned.Mentioned.{Mentioned}
+use Rattle.path_settings.specs.declared.mentioned.Mentioned.TheVariants.{Base, Systemd}
 use Rattle.path_settings.specs.Mentioned.{are_whole, leaves_the_root}
 use Rattle.path_settings.specs.view_map.Kept.{Host}
 use Rattle.kern_mounts.specs.declared.step.MountStep.{MountStep}
@@ -15,14 +16,19 @@ use Rattle.mount_plan.specs.Planned.{paths_of, planned}
 abbrev pub HasPlacesOf : Mentioned → List MountStep → Type 0
 HasPlacesOf mentioned table = AllByRecursion (λ step. (step.place ≡ []) ⊎ Contains (paths_of mentioned) step.place) table
 
+-- in the base profile no entry takes privileges from programs
+abbrev pub LeavesPrivileges : Mentioned → List MountStep → Type 0
+LeavesPrivileges (Base mentions) table = AllByRecursion IsNotNoSuid table
+LeavesPrivileges (Systemd entries no_new_privs) table = ⊤
+
 -- the first entry is the root on the host; the places are in byte order, and no two are the same; there is at most one more place than
--- mentions; no entry takes privileges from programs, and a hidden object has no flags; /proc is found as a directory, or is the place of
--- a hidden directory
+-- mentions; in the base profile no entry takes privileges from programs; a hidden object has no flags; /proc is found as a directory, or
+-- is the place of a hidden directory
 pub record HasForm (rows : Host) (mentioned : Mentioned) (table : List MountStep) : Type 0 where
   pub begins_at_root : BeginsAtRoot table
   pub places_ascend : AreAscending (map (λ step. step.place) table)
   pub one_more_than_mentions : length table ≤ length (paths_of mentioned) + 1
-  pub none_is_no_suid : AllByRecursion IsNotNoSuid table
+  pub leaves_privileges : LeavesPrivileges mentioned table
   pub hidden_without_flags : AllByRecursion IsPlainIfHidden table
   pub finds_proc : FindsProc rows table
 

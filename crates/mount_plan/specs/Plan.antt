@@ -22,9 +22,13 @@ what_of empty is_dir = what.Empty
 what_of hidden is_dir = what.Hidden is_dir
 
 -- the flags of an object; a hidden object cannot be used at all, and has none
+abbrev pub flags_in : Object → Bool → Bool → Bool → Flags
+flags_in hidden read_only no_exec no_suid = no_flags
+flags_in _ read_only no_exec no_suid = record { read_only = read_only; no_exec = no_exec; no_suid = no_suid }
+
+-- the same in the base profile, which leaves the privileges of programs as they are
 abbrev pub flags_of : Object → Bool → Bool → Flags
-flags_of hidden read_only no_exec = no_flags
-flags_of _ read_only no_exec = record { read_only = read_only; no_exec = no_exec; no_suid = false }
+flags_of object read_only no_exec = flags_in object read_only no_exec false
 
 -- the same by what a mount shows
 abbrev pub flags_by : What → Bool → Bool → Flags

@@ -32,12 +32,12 @@ ShowsNothingOf table folder = (path place : Path) → host_place table path ≡ 
 -- the source of each bind, and of each node, is a directory in both hosts, another row in both, or no row in both
 abbrev pub HaveSameSources : Host → Host → Mentioned → Type 0
 HaveSameSources row_at other (Base mentions) = AreSameSources row_at other mentions
-HaveSameSources row_at other (Systemd entries) = AllByRecursion (λ one. source_row other one ≡ source_row row_at one) entries
+HaveSameSources row_at other (Systemd entries no_new_privs) = AllByRecursion (λ one. source_row other one ≡ source_row row_at one) entries
 
 -- by the rules of systemd the plan begins with the host's root, so no entry may say which object is there
 abbrev pub HasTheHostsRoot : Mentioned → Type 0
 HasTheHostsRoot (Base mentions) = ⊤
-HasTheHostsRoot (Systemd entries) = leaves_the_root entries ≡ true
+HasTheHostsRoot (Systemd entries no_new_privs) = leaves_the_root entries ≡ true
 
 -- the parts of a host that a plan does not show do not change it
 abbrev pub PlanIsBlind : Type 0

@@ -4,8 +4,8 @@ ghost use Rattle.mount_plan.specs.Form.{PlansHaveForm};
 ghost use Rattle.mount_plan.specs.Resting.{PlanIsBlind, PlanRestsOnItsPlaces};
 
 /// Every plan has this form, whatever the length of its paths is. The first mount is the host's root, and the places ascend.
-/// No mount takes privileges from programs, and a hidden object has no flags. /proc is found as a directory, or is the
-/// place of a hidden directory.
+/// In the base profile no mount takes privileges from programs. A hidden object has no flags. /proc is found as a directory,
+/// or is the place of a hidden directory.
 pub fn plans_have_a_form()
     ensures of_every_plan { PlansHaveForm }
 {}

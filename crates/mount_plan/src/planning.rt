@@ -84,8 +84,11 @@ pub fn plan(alloc: Global, mentions: &Mentioned, site: &SiteTable) -> Result<Mou
     let _rows = site.rows();
     match mentions {
         Mentioned::Base(list) => plan_of(alloc, site, list.list()),
-        Mentioned::Systemd(entries) => {
-            let steps = plan_entries(alloc, site, entries.list())?;
+        Mentioned::Systemd {
+            entries,
+            no_new_privs,
+        } => {
+            let steps = plan_entries(alloc, site, *no_new_privs, entries.list())?;
             Ok(MountSteps::new(steps))
         }
     }

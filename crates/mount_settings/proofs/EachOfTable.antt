@@ -56,7 +56,7 @@ from_own path Rw optional = refl
 from_own path Exec optional = refl
 from_own path NoExec optional = refl
 from_own path Hide optional = refl
-from_own path (Tmp read_only no_exec) optional = refl
+from_own path (Tmp read_only no_exec no_suid) optional = refl
 from_own path (Bind source read_only recursive) optional = refl
 
 private_is_short : (switches : Switches) (keys : FurtherKeys) (path : WrittenPath) (private : Path)

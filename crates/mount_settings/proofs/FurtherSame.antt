@@ -12,8 +12,8 @@ any_same a b c d e a' b' c' d' e' ea eb ec ed ee = cc
 
 -- the keys with these values
 abbrev pub keys_with : Bool → Bool → Bool → PrivateMounts → Bool → Bool → Bool → Bool → Bool → Bool → Bool → ControlGroups → Bool → OwnTmp
-    → FurtherKeys
-keys_with a b d e f g h i j k l m n o = record {
+    → Bool → FurtherKeys
+keys_with a b d e f g h i j k l m n o p = record {
   protect_proc = a;
   proc_subset = b;
   mount_api_vfs = d;
@@ -28,9 +28,10 @@ keys_with a b d e f g h i j k l m n o = record {
   control_groups = m;
   keeps_runtime = n;
   own_tmp = o;
+  no_new_privs = p;
 }
 
-pub keys_same : (a a' b b' d d' f f' g g' h h' i i' j j' k k' l l' n n' : Bool) (e e' : PrivateMounts) (m m' : ControlGroups) (o o' : OwnTmp)
-    → a ≡ a' → b ≡ b' → d ≡ d' → e ≡ e' → f ≡ f' → g ≡ g' → h ≡ h' → i ≡ i' → j ≡ j' → k ≡ k' → l ≡ l' → m ≡ m' → n ≡ n' → o ≡ o'
-    → keys_with a b d e f g h i j k l m n o ≡ keys_with a' b' d' e' f' g' h' i' j' k' l' m' n' o'
-keys_same a a' b b' d d' f f' g g' h h' i i' j j' k k' l l' n n' e e' m m' o o' ea eb ed ee ef eg eh ei ej ek el em en eo = cc
+pub keys_same : (a a' b b' d d' f f' g g' h h' i i' j j' k k' l l' n n' p p' : Bool) (e e' : PrivateMounts) (m m' : ControlGroups) (o o' : OwnTmp)
+    → a ≡ a' → b ≡ b' → d ≡ d' → e ≡ e' → f ≡ f' → g ≡ g' → h ≡ h' → i ≡ i' → j ≡ j' → k ≡ k' → l ≡ l' → m ≡ m' → n ≡ n' → o ≡ o' → p ≡ p'
+    → keys_with a b d e f g h i j k l m n o p ≡ keys_with a' b' d' e' f' g' h' i' j' k' l' m' n' o' p'
+keys_same a a' b b' d d' f f' g g' h h' i i' j j' k k' l l' n n' p p' e e' m m' o o' ea eb ed ee ef eg eh ei ej ek el em en eo ep = cc

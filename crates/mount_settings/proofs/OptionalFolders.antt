@@ -131,7 +131,7 @@ shows_the_same mention = by mention.path mention.kind
     by path Exec = refl
     by path NoExec = refl
     by path Hide = refl
-    by path (Tmp read_only no_exec) = refl
+    by path (Tmp read_only no_exec no_suid) = refl
     by path (Bind source read_only true) = refl
     by path (Bind source read_only false) = refl
 

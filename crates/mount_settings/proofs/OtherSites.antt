@@ -22,7 +22,7 @@ use Rattle.mount_settings.specs.Settings.{as_written, deciding_in, entries_by, m
 use Rattle.mount_settings.specs.systemd.Folders.{asked_at, asked_folder, asked_folders, brought_folders, chosen_path, folders, from_path, is_there}
 use Rattle.mount_settings.specs.systemd.Folders.{placed_folder, private_path, shown_path}
 use Rattle.mount_settings.specs.systemd.Keys.{unit_keys}
-use Rattle.mount_settings.specs.systemd.Mentions.{by_table, implied_of, stands}
+use Rattle.mount_settings.specs.systemd.Mentions.{by_table, implied_of, sets_no_new_privs, stands}
 use Rattle.mount_settings.specs.systemd.OwnMounts.{has_own_mounts}
 
 -- tests that agree on each element keep the same elements
@@ -71,7 +71,7 @@ module _ (site other : Site) where
     shown_row source path Exec optional from own = own
     shown_row source path NoExec optional from own = own
     shown_row source path Hide optional from own = own
-    shown_row source path (Tmp read_only no_exec) optional from own = own
+    shown_row source path (Tmp read_only no_exec no_suid) optional from own = own
     shown_row source path (Bind old read_only recursive) optional from own = from
 
     asked_rows : (mention : Mention) (paths : List Path) → AllByRecursion SameRow (map (asked_at mention) paths)
@@ -127,9 +127,11 @@ module _ (site other : Site) where
         let table = by_table version switches protections keys in
         let written : List MountEntry = map entry_of (as_written paths) in
         let parts = both_all SameAt (map (λ one. one.path) table) (map (λ mention. mention.path) (asked_folders switches keys paths)) same in
-        ap (λ (more : List MountEntry). Systemd (written ++ cond own (more ++ map entry_of (brought_folders other switches keys paths)) []))
+        ap (λ (more : List MountEntry). Systemd (written ++ cond own (more ++ map entry_of (brought_folders other switches keys paths)) [])
+        (sets_no_new_privs switches keys))
         (filter_agrees (stands other) (stands site) table (paths_agree (λ one. one.path) table parts.0))
-        ∙ ap (λ (more : List Mention). Systemd (written ++ cond own (filter (stands site) table ++ map entry_of more) []))
+        ∙ ap (λ (more : List Mention). Systemd (written ++ cond own (filter (stands site) table ++ map entry_of more) [])
+        (sets_no_new_privs switches keys))
         (folders_same switches keys (folders paths)
         (paths_agree (λ mention. mention.path) (asked_folders switches keys paths) parts.1))
 

@@ -87,7 +87,7 @@ moved_leaves source mention short holds = at mention.path mention.kind mention.o
     at path Exec optional holds = holds
     at path NoExec optional holds = holds
     at path Hide optional holds = holds
-    at path (Tmp read_only no_exec) optional holds = holds
+    at path (Tmp read_only no_exec no_suid) optional holds = holds
     at path (Bind own read_only recursive) optional holds = holds
 
 moved_short : MayMove is_short
@@ -100,7 +100,7 @@ moved_short source mention short holds = at mention.path mention.kind mention.op
     at path Exec optional holds = holds
     at path NoExec optional holds = holds
     at path Hide optional holds = holds
-    at path (Tmp read_only no_exec) optional holds = holds
+    at path (Tmp read_only no_exec no_suid) optional holds = holds
     at path (Bind own read_only recursive) optional holds = and_from _ _ (both (is_short_path path) (is_short_path own) holds).0 short
 
 -- ---- the entry that a mention asks for says the same
@@ -110,7 +110,7 @@ same_origin Rw = refl
 same_origin Exec = refl
 same_origin NoExec = refl
 same_origin Hide = refl
-same_origin (Tmp read_only no_exec) = refl
+same_origin (Tmp read_only no_exec no_suid) = refl
 same_origin (Bind source read_only true) = refl
 same_origin (Bind source read_only false) = refl
 
@@ -120,7 +120,7 @@ same_source Rw = refl
 same_source Exec = refl
 same_source NoExec = refl
 same_source Hide = refl
-same_source (Tmp read_only no_exec) = refl
+same_source (Tmp read_only no_exec no_suid) = refl
 same_source (Bind source read_only true) = refl
 same_source (Bind source read_only false) = refl
 

@@ -25,7 +25,7 @@ use Rattle.mount_settings.specs.Settings.{mentions_of, entries_by, mentions_in, 
 use Rattle.mount_settings.specs.System.{system_value}
 use Rattle.mount_settings.specs.Tmp.{tmp_value, tmp_by, tmp_notes_by, unit_tmp, unit_tmp_notes}
 use Rattle.mount_settings.specs.systemd.Keys.{flag_groups, groups_by, groups_notes_by, is_given, unit_groups, unit_groups_notes, unit_keys}
-use Rattle.mount_settings.specs.systemd.Mentions.{implied_of}
+use Rattle.mount_settings.specs.systemd.Mentions.{implied_of, sets_no_new_privs}
 use Rattle.mount_settings.proofs.EachMention.{both}
 use Rattle.mount_settings.specs.declared.systemd.words.OwnTmp.TheVariants as tmp
 use Rattle.mount_settings.specs.systemd.Words.{groups_value, is_on, mounts_value, network_value, preserve_value, proc_value, subset_value, own_tmp_value}
@@ -41,7 +41,7 @@ mount_keys =
     ∷ codes "ProtectProc" ∷ codes "ProcSubset" ∷ codes "MountAPIVFS" ∷ codes "PrivateMounts" ∷ codes "PrivateIPC" ∷ codes "PrivatePIDs"
     ∷ codes "LogNamespace" ∷ codes "BindLogSockets" ∷ codes "PrivateNetwork" ∷ codes "NetworkNamespacePath" ∷ codes "LoadCredential"
     ∷ codes "LoadCredentialEncrypted" ∷ codes "ImportCredential" ∷ codes "SetCredential" ∷ codes "SetCredentialEncrypted"
-    ∷ codes "ProtectHostname" ∷ codes "RuntimeDirectoryPreserve" ∷ []
+    ∷ codes "ProtectHostname" ∷ codes "RuntimeDirectoryPreserve" ∷ codes "NoNewPrivileges" ∷ []
 
 abbrev pub SameValues : Resolved → Resolved → Type 0
 SameValues unit other = AllByRecursion (λ key. values_of other key ≡ values_of unit key) mount_keys
@@ -128,6 +128,7 @@ module _ (unit other : Resolved) (systemd : other.systemd ≡ unit.systemd) (sam
       let s = last own_tmp_value tmp.No (codes "PrivateTmp") same.1.1.0 in
       let r = ap (λ value. value.is_kept)
       (last preserve_value (record { is_kept = false }) (codes "RuntimeDirectoryPreserve") credentials.1.1.1.1.1.1.0) in
+      let t = flag (codes "NoNewPrivileges") credentials.1.1.1.1.1.1.1.0 in
       cc
 
   mentions_same : (version : Option Version) (site : Site) (switches : Switches) (paths : List WrittenPath)
@@ -135,9 +136,10 @@ module _ (unit other : Resolved) (systemd : other.systemd ≡ unit.systemd) (sam
   mentions_same None site switches paths =
       ap (λ said. Base (mentions_of site switches (in_effect switches.dynamic_user said) paths)) same_unit_protections
   mentions_same (Some version) site switches paths =
-      ap (λ said. Systemd (entries_by version site switches (in_effect switches.dynamic_user said) (unit_keys other) paths))
-      same_unit_protections
-      ∙ ap (λ keys. Systemd (entries_by version site switches (protections_of unit switches) keys paths)) same_unit_keys
+      ap (λ said. Systemd (entries_by version site switches (in_effect switches.dynamic_user said) (unit_keys other) paths)
+      (sets_no_new_privs switches (unit_keys other))) same_unit_protections
+      ∙ ap (λ keys. Systemd (entries_by version site switches (protections_of unit switches) keys paths) (sets_no_new_privs switches keys))
+      same_unit_keys
 
   pub same_mentions : (site : Site) (switches : Switches) (paths : List WrittenPath)
       → all_mentions other site switches paths ≡ all_mentions unit site switches paths

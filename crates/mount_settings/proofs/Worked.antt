@@ -29,11 +29,11 @@ home_read_only : said (by_home HomeReadOnly) ≡ (codes "home" ∷ [], Ro) ∷ (
     (codes "run" ∷ codes "user" ∷ [], Ro) ∷ []
 home_read_only = refl
 
-home_tmpfs : said (by_home Tmpfs) ≡ (codes "home" ∷ [], Tmp true false) ∷ (codes "root" ∷ [], Tmp true false) ∷
-    (codes "run" ∷ codes "user" ∷ [], Tmp true false) ∷ []
+home_tmpfs : said (by_home Tmpfs) ≡ (codes "home" ∷ [], Tmp true false false) ∷ (codes "root" ∷ [], Tmp true false false) ∷
+    (codes "run" ∷ codes "user" ∷ [], Tmp true false false) ∷ []
 home_tmpfs = refl
 
-private_tmp : said (by_tmp true) ≡ (codes "tmp" ∷ [], Tmp false false) ∷ (codes "var" ∷ codes "tmp" ∷ [], Tmp false false) ∷ []
+private_tmp : said (by_tmp true) ≡ (codes "tmp" ∷ [], Tmp false false false) ∷ (codes "var" ∷ codes "tmp" ∷ [], Tmp false false false) ∷ []
 private_tmp = refl
 
 abbrev device : List ℕ → Path × Kind
@@ -41,7 +41,7 @@ device name = (codes "dev" ∷ name ∷ [], Bind (codes "dev" ∷ name ∷ []) f
 
 private_devices :
     said (by_devices true)
-    ≡ (codes "dev" ∷ [], Tmp true false) ∷ (codes "dev" ∷ [], NoExec) ∷ device (codes "null") ∷ device (codes "zero") ∷ device
+    ≡ (codes "dev" ∷ [], Tmp true false false) ∷ (codes "dev" ∷ [], NoExec) ∷ device (codes "null") ∷ device (codes "zero") ∷ device
     (codes "full") ∷ device (codes "random")
     ∷ device (codes "urandom") ∷ device (codes "tty") ∷ []
 private_devices = refl

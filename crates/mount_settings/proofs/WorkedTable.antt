@@ -150,10 +150,10 @@ empty_homes = record nothing { protect_home = home.Tmpfs }
 abbrev at_homes : MountMode → List (Path × MountMode)
 at_homes mode = (codes "home" ∷ [], mode) ∷ (below (codes "run") (codes "user"), mode) ∷ (codes "root" ∷ [], mode) ∷ no_credentials ∷ []
 
-homes_in_252 : said (by_table V252 off empty_homes no_keys) ≡ at_homes (Tmpfs false false)
+homes_in_252 : said (by_table V252 off empty_homes no_keys) ≡ at_homes (Tmpfs false false false)
 homes_in_252 = refl
 
-homes_in_257 : said (by_table V257 off empty_homes no_keys) ≡ at_homes (Tmpfs true false)
+homes_in_257 : said (by_table V257 off empty_homes no_keys) ≡ at_homes (Tmpfs true false false)
 homes_in_257 = refl
 
 -- ProtectHostname= is no reason for mounts; in systemd 257 a network is one

@@ -17,7 +17,7 @@ kind_at ReadOnly path = Ro
 kind_at Writable path = Rw
 kind_at NotExecutable path = NoExec
 kind_at Hidden path = Hide
-kind_at (Empty read_only) path = Tmp read_only false
+kind_at (Empty read_only) path = Tmp read_only false false
 kind_at Shown path = Bind path false true
 
 -- the mention is optional, and a text that is no path gives no mention

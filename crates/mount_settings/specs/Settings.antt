@@ -1,5 +1,5 @@
 -- All mentions of a unit's settings, in their order.
-use Rattle.std.specs.Prelude.{not, List, [], ◌++◌, map, filter, Option, Some, None}
+use Rattle.std.specs.Prelude.{false, not, List, [], ◌++◌, map, filter, Option, Some, None}
 use Rattle.path_settings.specs.abs_path.Paths.{Path}
 use Rattle.path_settings.specs.declared.mentioned.Mentioned.{Mentioned}
 use Rattle.path_settings.specs.declared.mentioned.Mentioned.TheVariants.{Base, Systemd}
@@ -17,7 +17,7 @@ use Rattle.mount_settings.specs.Protections.{unit_protections, in_effect}
 use Rattle.mount_settings.specs.declared.systemd.keys.FurtherKeys.{FurtherKeys}
 use Rattle.mount_settings.specs.Implied.{asked, implied}
 use Rattle.mount_settings.specs.systemd.Keys.{unit_keys}
-use Rattle.mount_settings.specs.systemd.Mentions.{asked_of, implied_of}
+use Rattle.mount_settings.specs.systemd.Mentions.{asked_of, implied_of, sets_no_new_privs}
 
 -- folders are implied; all other paths are in written order
 abbrev pub as_written : List WrittenPath → List Mention
@@ -41,6 +41,7 @@ abbrev pub mentions_in : Option Version → Resolved → Site → Switches → L
 mentions_in None unit site switches paths = Base (mentions_of site switches (protections_of unit switches) paths)
 mentions_in (Some version) unit site switches paths =
     Systemd (entries_by version site switches (protections_of unit switches) (unit_keys unit) paths)
+    (sets_no_new_privs switches (unit_keys unit))
 
 abbrev pub all_mentions : Resolved → Site → Switches → List WrittenPath → Mentioned
 all_mentions unit site switches paths = mentions_in unit.systemd unit site switches paths
@@ -48,7 +49,7 @@ all_mentions unit site switches paths = mentions_in unit.systemd unit site switc
 -- nothing is mentioned, by any rules
 abbrev pub nothing_in : Option Version → Mentioned
 nothing_in None = Base []
-nothing_in (Some version) = Systemd []
+nothing_in (Some version) = Systemd [] false
 
 -- the paths at which the rows of the site decide about the implied mentions
 abbrev pub deciding_in : Option Version → Resolved → Switches → List WrittenPath → List Path

@@ -31,6 +31,7 @@ fn kind_at(alloc: Global, effect: Effect, path: &AbsPath) -> Result<Kind, AllocE
         Effect::Empty { read_only } => Kind::Tmp {
             read_only,
             no_exec: false,
+            no_suid: false,
         },
         Effect::Shown => Kind::Bind {
             source: path.copy(alloc)?,

@@ -2,6 +2,7 @@
 ghost use Rattle.std.specs.Prelude.{◌≡◌, ◌↔◌, ◌<◌, ◌≤◌, None, Some, not, length, IfOk, IsErrOf, IsTrue};
 ghost use Rattle.mount_settings.specs.Protections.{protection_notes};
 ghost use Rattle.mount_settings.specs.Settings.{as_written, mentions_of, mentions_in, all_mentions, protections_of};
+ghost use Rattle.mount_settings.specs.systemd.Mentions.{sets_no_new_privs};
 ghost use Rattle.path_settings.specs.Mentioned.{leaves_the_root, AreShort};
 ghost use Rattle.mount_settings.specs.Roots.{root_key as first_root_key};
 
@@ -109,7 +110,10 @@ fn version_mentions(
 {
     let keys = further_keys(alloc, unit)?;
     let entries = entries_by(alloc, site, version, switches, protections, keys, paths)?;
-    Ok(Mentioned::Systemd(listed_entries(alloc, entries)?))
+    Ok(Mentioned::Systemd {
+        entries: listed_entries(alloc, entries)?,
+        no_new_privs: keys.no_new_privs || switches.dynamic_user,
+    })
 }
 
 // Returns the written and the implied mentions by the rules of the systemd that reads the unit.

@@ -1,5 +1,5 @@
 -- The entry that leads to a row shows it at a path that a call can name.
-use Rattle.std.proofs.Common.{◌≡◌, ℕ, [], ◌∷◌, ◌++◌, Option, Some, None, ap, ◌∙◌, sym, subst, arith, ◌≤◌, length}
+use Rattle.std.proofs.Common.{◌≡◌, ℕ, Bool, [], ◌∷◌, ◌++◌, Option, Some, None, ap, ◌∙◌, sym, subst, arith, ◌≤◌, length}
 use Rattle.std.specs.Prelude.{slice_get}
 use Rattle.std.specs.List.{AllByRecursion}
 use Rattle.ceilings.specs.abs_path.Paths.{Path, tail_of, text_of}
@@ -15,9 +15,9 @@ use Rattle.ceilings.proofs.OfKernMounts.Splits.{split_some}
 use Rattle.ceilings.proofs.OfKernMounts.Unmounting.{append_all}
 use Rattle.ceilings.specs.kernel_model.kernel_calls.Calls.{IsPath}
 use Rattle.ceilings.specs.kernel_laws.Launched.{Launch}
-use Rattle.ceilings.specs.kernel_laws.declared.question_types.wish.Wish.{Wish}
+use Rattle.ceilings.specs.kern_mounts.declared.step.Flags.{Flags}
 use Rattle.ceilings.specs.kernel_laws.declared.question_types.power.Power.TheVariants.{None as Nowise, Unmount as Unmounting}
-use Rattle.ceilings.specs.kernel_laws.Reach.{reach}
+use Rattle.ceilings.specs.kernel_laws.Reach.{reach_with}
 use Rattle.ceilings.specs.reach_paths.First.{LeadsBy, Shows, IsFirst}
 use Rattle.ceilings.proofs.OfReachPaths.Naming.{named_both, rest_short}
 use Rattle.ceilings.proofs.OfReachPaths.RowsOfSites.{found_row}
@@ -32,7 +32,7 @@ pub tail_short : (path : Path) → length (text_of path) ≤ 512 → length (tai
 tail_short [] h = omega arith
 tail_short (part ∷ path) h = h
 
-module _ (launch : Launch) (o : Offers launch) (target : Row) (there : IsKnown launch.site target) (wish : Wish) where
+module _ (launch : Launch) (o : Offers launch) (target : Row) (there : IsKnown launch.site target) (test : Flags → Bool) where
   led : (earlier later : Table) (entry : MountStep) (at : ℕ) (source rest : Path) → launch.table ≡ earlier ++ entry ∷ later
       → at ≡ length earlier → entry.what ≡ Host source → target.path ≡ source ++ rest → IsLead launch.table target.path at
   led earlier later entry at source rest whole number host row_is =
@@ -46,7 +46,7 @@ module _ (launch : Launch) (o : Offers launch) (target : Row) (there : IsKnown l
       let P : Path → Type 0 = λ r. length (tail_of (entry.place ++ r)) ≤ 512 in
       record { entry = entry; own = own; source = source; host = host; leads = ap (is_prefix source) row_is ∙ prefix-append source rest; short = subst P (sym same) (tail_short (entry.place ++ rest) named.short) }
 
-  nowise : (x : Option ℕ) → IsFirst (LeadsBy launch.table target.path wish) x → (at : ℕ) → x ≡ Some at → IsLead launch.table target.path at
+  nowise : (x : Option ℕ) → IsFirst (LeadsBy launch.table target.path test) x → (at : ℕ) → x ≡ Some at → IsLead launch.table target.path at
   nowise None first at e = cc
   nowise (Some own) first at e =
       let same : own ≡ at = cc in
@@ -56,7 +56,7 @@ module _ (launch : Launch) (o : Offers launch) (target : Row) (there : IsKnown l
       (led lead'.split.earlier lead'.split.later lead'.split.entry own lead'.source lead'.rest split.whole first.0.number lead'.host
       lead'.row_is)
 
-  unmounting : (x : Option ℕ) → IsFirst (Shows launch.table target.path wish) x → (at : ℕ) → x ≡ Some at
+  unmounting : (x : Option ℕ) → IsFirst (Shows launch.table target.path test) x → (at : ℕ) → x ≡ Some at
       → IsLead launch.table target.path at
   unmounting None first at e = cc
   unmounting (Some own) first at e =
@@ -64,9 +64,9 @@ module _ (launch : Launch) (o : Offers launch) (target : Row) (there : IsKnown l
       let s = first.0 in
       subst (IsLead launch.table target.path) same (led s.earlier s.later s.entry own s.source s.rest s.whole s.number s.host s.row_is)
 
-  pub leads_nowise : (at : ℕ) → reach Nowise launch.table target.path wish ≡ Some at → IsLead launch.table target.path at
-  leads_nowise at e = nowise (reach Nowise launch.table target.path wish) (first_by_power Nowise launch.table target.path wish) at e
+  pub leads_nowise : (at : ℕ) → reach_with Nowise launch.table target.path test ≡ Some at → IsLead launch.table target.path at
+  leads_nowise at e = nowise (reach_with Nowise launch.table target.path test) (first_by_power Nowise launch.table target.path test) at e
 
-  pub leads_unmounting : (at : ℕ) → reach Unmounting launch.table target.path wish ≡ Some at → IsLead launch.table target.path at
-  leads_unmounting at e = unmounting (reach Unmounting launch.table target.path wish)
-      (first_by_power Unmounting launch.table target.path wish) at e
+  pub leads_unmounting : (at : ℕ) → reach_with Unmounting launch.table target.path test ≡ Some at → IsLead launch.table target.path at
+  leads_unmounting at e = unmounting (reach_with Unmounting launch.table target.path test)
+      (first_by_power Unmounting launch.table target.path test) at e

@@ -1,11 +1,11 @@
 -- The calls that are chosen for a row show what is wished of it.
-use Rattle.std.proofs.Common.{◌≡◌, ℕ, Bool, true, false, List, [], ◌∷◌, ◌++◌, Some, refl, ap, ◌∙◌, sym, subst, cond, append_assoc, arith}
+use Rattle.std.proofs.Common.{◌≡◌, ℕ, Bool, true, false, List, [], ◌∷◌, ◌++◌, Some, refl, ap, ◌∙◌, sym, subst, cond, append_assoc}
 use Rattle.std.proofs.Common.{inl, inr}
 use Rattle.std.specs.Prelude.{slice_get, not, ◌&&◌}
 use Rattle.std.specs.Option.{option_map_or}
 use Rattle.std.proofs.lemmas.Bool.{and_parts, not-true}
 use Rattle.ceilings.specs.abs_path.Paths.{Path}
-use Rattle.ceilings.specs.cap_sets.Sets.{has, within}
+use Rattle.ceilings.specs.cap_sets.Sets.{has}
 use Rattle.ceilings.specs.linux_numbers.Capabilities.{cap_sys_admin}
 use Rattle.ceilings.specs.site_table.declared.row.Row.{Row}
 use Rattle.ceilings.specs.kern_creds.declared.creds.Creds.{Creds}
@@ -19,30 +19,31 @@ use Rattle.ceilings.specs.kernel_model.declared.kernel_calls.call.Call.{Call}
 use Rattle.ceilings.specs.kernel_model.declared.kernel_calls.payload.Payload.TheVariants.{OnePath}
 use Rattle.ceilings.specs.kernel_model.Effects.{SetCreds}
 use Rattle.ceilings.specs.kernel_model.World.{World}
-use Rattle.ceilings.specs.kernel_laws.Bound.{is_barred, is_to_exec, is_mounting, can_reach, caps_at, power_of}
+use Rattle.ceilings.specs.kernel_laws.Bound.{is_barred, is_to_exec, can_reach, caps_at, power_of, runs_plainly}
 use Rattle.ceilings.specs.kernel_laws.Denied.{Shows}
-use Rattle.ceilings.specs.kernel_laws.declared.question_types.kind.CallKind.TheVariants.{ForPath, ChangesMounts, RemovesMounts}
+use Rattle.ceilings.specs.kernel_laws.declared.question_types.kind.CallKind.TheVariants.{ForPath}
 use Rattle.ceilings.specs.kernel_laws.declared.question_types.wish.Wish.{Wish}
 use Rattle.ceilings.specs.kernel_laws.declared.question_types.wish.Wish.TheVariants.{See as ToSee, Read as ToRead, Write as ToWrite}
 use Rattle.ceilings.specs.kernel_laws.declared.question_types.wish.Wish.TheVariants.{Exec as ToExec}
 use Rattle.ceilings.specs.kernel_laws.declared.question_types.power.Power.{Power}
-use Rattle.ceilings.specs.kernel_laws.declared.question_types.power.Power.TheVariants.{None as Nowise, Unmount as Unmounting}
-use Rattle.ceilings.specs.kernel_laws.declared.question_types.power.Power.TheVariants.{Mount as Mounting}
+use Rattle.ceilings.specs.kernel_laws.declared.question_types.power.Power.TheVariants.{None as Nowise}
 use Rattle.ceilings.specs.kernel_laws.declared.question_types.question.Question.TheVariants as asking
 use Rattle.ceilings.specs.kernel_laws.Launched.{Launch, IsLaunched, lets, can_make_user}
 use Rattle.ceilings.specs.kernel_laws.Kinds.{path_payload}
-use Rattle.ceilings.specs.kernel_laws.Reach.{reaches}
+use Rattle.ceilings.specs.kernel_laws.Reach.{fits, reaches, runs_unmarked}
+use Rattle.ceilings.specs.kern_mounts.declared.step.Flags.{Flags}
 use Rattle.ceilings.specs.kernel_ways.Laws.{IsFit}
 use Rattle.ceilings.specs.kernel_ways.Offers.{Offers, RunsProgram}
 use Rattle.ceilings.specs.kernel_ways.Ways.{Way, here, IsSolo, place_of}
 use Rattle.ceilings.proofs.OfKernelWays.Solo.{way_join}
 use Rattle.ceilings.proofs.OfKernelWays.Lines.{first_by}
 use Rattle.ceilings.proofs.OfKernelWays.Operations.{PathCall, see_path, read_path, write_path, exec_path}
-use Rattle.ceilings.proofs.OfKernelWays.Exposing.{mounts_pass}
-use Rattle.ceilings.proofs.OfKernelWays.Gains.{Basis}
+use Rattle.ceilings.proofs.OfKernelWays.Exposing.{HasPower}
+use Rattle.ceilings.proofs.OfKernelWays.Gains.{Basis, not_refused}
 use Rattle.ceilings.proofs.OfKernelWays.Rows.{IsKnown, known_at}
 use Rattle.ceilings.proofs.OfKernelWays.Showing.{calls_show}
-use Rattle.open_calls.specs.chosen_calls.Chosen.{wish_payload, unmarked, operation_calls, row_calls, user_call, pid_inside, call_inside, inside_calls}
+use Rattle.open_calls.specs.chosen_calls.Chosen.{wish_payload, unmarked, held_off_calls, operation_calls, plain_run_calls, wished_calls, row_calls}
+use Rattle.open_calls.specs.chosen_calls.Chosen.{user_call, pid_inside, call_inside, inside_calls}
 use Rattle.open_calls.specs.chosen_calls.Chosen.{row_inside}
 use Rattle.open_calls.proofs.ChosenCallsInside.{user_called, inside_is, at_place}
 use Rattle.ceilings.specs.kernel_ways.Entering.{MakesIn}
@@ -55,7 +56,7 @@ use Rattle.open_calls.specs.chosen_calls.Exposing.{exposing_calls, exposing_path
 use Rattle.open_calls.specs.chosen_calls.First.{call_by}
 use Rattle.open_calls.specs.chosen_calls.Gaining.{CapWay, gain_calls, gain, at_once, cap_calls, gaining}
 use Rattle.open_calls.proofs.Complete.{admin_is, gain_is}
-use Rattle.open_calls.proofs.Exposed.{ExposedAt, marked, by_mounts}
+use Rattle.open_calls.proofs.Exposed.{ExposedAt, exposed_for, exposed_unmarked}
 use Rattle.open_calls.proofs.FirstLines.{ChosenLine, chosen, call_is, rule_is}
 use Rattle.open_calls.proofs.Gained.{GainedSo, gained_by, at_once_gained, basis_launch}
 
@@ -118,106 +119,111 @@ module _ (world : World) (launch : Launch) (l : IsLaunched launch) (o : Offers l
       ∙ ap (λ own. first_by (place_of c.line.line) c.line.args (path_payload wish own path)) (rule_is c)
 
   path_call : (wish : Wish) → IsFit launch.site (asking.Path wish place) → lets launch (ForPath wish) ≡ true
-      → (creds : Creds) (power : Power) (flags : ℕ) → (x : ExposedAt launch creds power flags target wish)
-      → Admits wish creds target (flags_at x.now (exposing_path launch power wish target.path)).no_suid
-      → PathCall launch creds x.now wish (exposing_path launch power wish target.path)
-      (call_by launch (ForPath wish) (wish_payload launch wish (exposing_path launch power wish target.path)))
-  path_call ToSee fit passes creds power flags x admitted =
+      → (creds : Creds) (power : Power) (flags : ℕ) (test : Flags → Bool) → (x : ExposedAt launch creds power flags target test)
+      → fits wish (flags_at x.now (exposing_path launch power test target.path)) ≡ true
+      → Admits wish creds target (flags_at x.now (exposing_path launch power test target.path)).no_suid
+      → PathCall launch creds x.now wish (exposing_path launch power test target.path)
+      (call_by launch (ForPath wish) (wish_payload launch wish (exposing_path launch power test target.path)))
+  path_call ToSee fit passes creds power flags test x allowed admitted =
       let c = chosen launch l (ForPath ToSee) passes in
-      let path = exposing_path launch power ToSee target.path in
+      let path = exposing_path launch power test target.path in
       let P : Call → Type 0 = λ call. PathCall launch creds x.now ToSee path call in
       subst P (sym (call_is c (OnePath path))) (see_path launch creds x.now path x.found.can_be_named target x.found.is_found c.line)
-  path_call ToRead fit passes creds power flags x admitted =
+  path_call ToRead fit passes creds power flags test x allowed admitted =
       let c = chosen launch l (ForPath ToRead) passes in
-      let path = exposing_path launch power ToRead target.path in
+      let path = exposing_path launch power test target.path in
       let P : Call → Type 0 = λ call. PathCall launch creds x.now ToRead path call in
       subst P (sym (wished ToRead c path)) (read_path launch creds x.now path x.found.can_be_named target x.found.is_found c.line)
-  path_call ToWrite fit passes creds power flags x admitted =
+  path_call ToWrite fit passes creds power flags test x allowed admitted =
       let c = chosen launch l (ForPath ToWrite) passes in
-      let path = exposing_path launch power ToWrite target.path in
+      let path = exposing_path launch power test target.path in
       let P : Call → Type 0 = λ call. PathCall launch creds x.now ToWrite path call in
       subst P (sym (wished ToWrite c path))
-      (write_path launch creds x.now path x.found.can_be_named target x.found.is_found (fit target listed) x.found.is_allowed c.line)
-  path_call ToExec fit passes creds power flags x admitted =
+      (write_path launch creds x.now path x.found.can_be_named target x.found.is_found (fit target listed) allowed c.line)
+  path_call ToExec fit passes creds power flags test x allowed admitted =
       let c = chosen launch l (ForPath ToExec) passes in
-      let path = exposing_path launch power ToExec target.path in
+      let path = exposing_path launch power test target.path in
       let P : Call → Type 0 = λ call. PathCall launch creds x.now ToExec path call in
-      let makes = exec_path launch creds x.now path x.found.can_be_named target x.found.is_found (fit target listed) x.found.is_allowed admitted c.line in
+      let makes = exec_path launch creds x.now path x.found.can_be_named target x.found.is_found (fit target listed) allowed admitted c.line in
       subst P (sym (call_is c (OnePath path))) (record { operation = d.Execve path; effect = SetCreds (exec_done creds (marks_of target) (flags_at x.now path).no_suid); makes = makes; doable = tt; wanted = refl })
 
   -- behind any calls that leave the launched table
   behind : (wish : Wish) → IsFit launch.site (asking.Path wish place) → lets launch (ForPath wish) ≡ true
       → {front : List Call} (creds : Creds) → Way launch launch.creds launch.table front creds launch.table
-      → (power : Power) (flags : ℕ) → (x : ExposedAt launch creds power flags target wish)
-      → Admits wish creds target (flags_at x.now (exposing_path launch power wish target.path)).no_suid
-      → Shows world (asking.Path wish place) (front ++ operation_calls launch power flags wish target)
-  behind wish fit passes {front = front} creds way power flags x admitted =
-      let path = exposing_path launch power wish target.path in
+      → (power : Power) (flags : ℕ) (test : Flags → Bool) → (x : ExposedAt launch creds power flags target test)
+      → fits wish (flags_at x.now (exposing_path launch power test target.path)) ≡ true
+      → Admits wish creds target (flags_at x.now (exposing_path launch power test target.path)).no_suid
+      → Shows world (asking.Path wish place) (front ++ operation_calls launch power flags test wish target)
+  behind wish fit passes {front = front} creds way power flags test x allowed admitted =
+      let path = exposing_path launch power test target.path in
       let call = call_by launch (ForPath wish) (wish_payload launch wish path) in
-      let calls = exposing_calls launch power flags wish target.path in
-      let c = path_call wish fit passes creds power flags x admitted in
+      let calls = exposing_calls launch power flags test target.path in
+      let c = path_call wish fit passes creds power flags test x allowed admitted in
       let shown = calls_show launch launch.creds creds launch.table x.now world (front ++ calls) (asking.Path wish place) c.operation call c.effect s (way_join way x.way) c.makes c.doable (path, target, c.wanted, listed, x.found.is_found) in
       subst (Shows world (asking.Path wish place)) (append_assoc front calls (call ∷ [])) shown
 
-  -- where marks are looked at, a row that is free is admitted
-  free_admits : (wish : Wish) → IsFree launch wish target → (creds : Creds) → Basis launch creds → (no_suid : Bool) → no_suid ≡ false
+  -- a row that is free is admitted, whether its marks are looked at or not
+  free_admits : (wish : Wish) → IsFree launch wish target → (creds : Creds) → Basis launch creds → (no_suid : Bool)
       → Admits wish creds target no_suid
-  free_admits ToSee free creds b no_suid e = tt
-  free_admits ToRead free creds b no_suid e = tt
-  free_admits ToWrite free creds b no_suid e = tt
-  free_admits ToExec free creds b no_suid e = ap (λ x. is_refused creds (marks_of target) x) e
-      ∙ ap (λ s. target.effective && not (within target.caps s)) b.bounding ∙ free
+  free_admits ToSee free creds b no_suid = tt
+  free_admits ToRead free creds b no_suid = tt
+  free_admits ToWrite free creds b no_suid = tt
+  free_admits ToExec free creds b no_suid = not_refused launch l o no_suid creds target b.bounding free
 
   -- on the launched table
   near : (wish : Wish) → IsFit launch.site (asking.Path wish place) → lets launch (ForPath wish) ≡ true → IsFree launch wish target
-      → reaches Nowise launch.table target.path wish ≡ true → Shows world (asking.Path wish place)
-      (operation_calls launch Nowise ms_remount_bind wish target)
+      → reaches Nowise launch.table target.path wish ≡ true → Shows world (asking.Path wish place) (wished_calls launch Nowise wish target)
   near wish fit passes free e =
-      let m = marked launch l o launch.creds target own_known wish Nowise (inl refl) e in
-      behind wish fit passes launch.creds here Nowise ms_remount_bind m.exposed
+      let x = exposed_for launch l o launch.creds target own_known wish Nowise (inl refl) e in
+      behind wish fit passes launch.creds here Nowise ms_remount_bind (fits wish) x x.found.is_allowed
       (free_admits wish free launch.creds (basis_launch launch l o)
-      (flags_at m.exposed.now (exposing_path launch Nowise wish target.path)).no_suid m.suid)
+      (flags_at x.now (exposing_path launch Nowise (fits wish) target.path)).no_suid)
 
   -- on what CAP_SYS_ADMIN makes of it
   far : (wish : Wish) → IsFit launch.site (asking.Path wish place) → lets launch (ForPath wish) ≡ true → IsFree launch wish target
       → (power_of launch ≡ Nowise → ⊥) → reaches (power_of launch) launch.table target.path wish ≡ true
-      → Shows world (asking.Path wish place)
-      (gaining launch program cap_sys_admin ++ operation_calls launch (power_of launch) ms_remount_bind wish target)
+      → Shows world (asking.Path wish place) (gaining launch program cap_sys_admin ++ wished_calls launch (power_of launch) wish target)
   far wish fit passes free some e =
       let a = admin_gained launch l o program p some in
-      let m = marked launch l o a.creds target own_known wish (power_of launch) (inr (a.holds, refl)) e in
-      behind wish fit passes a.creds a.way (power_of launch) ms_remount_bind m.exposed
+      let x = exposed_for launch l o a.creds target own_known wish (power_of launch) (inr (a.holds, refl)) e in
+      behind wish fit passes a.creds a.way (power_of launch) ms_remount_bind (fits wish) x x.found.is_allowed
       (free_admits wish free a.creds a.basis
-      (flags_at m.exposed.now (exposing_path launch (power_of launch) wish target.path)).no_suid m.suid)
+      (flags_at x.now (exposing_path launch (power_of launch) (fits wish) target.path)).no_suid)
 
   near_or_far : (wish : Wish) → IsFit launch.site (asking.Path wish place) → lets launch (ForPath wish) ≡ true → IsFree launch wish target
       → reaches (power_of launch) launch.table target.path wish ≡ true → (b : Bool) → reaches Nowise launch.table target.path wish ≡ b
       → Shows world (asking.Path wish place)
-      (cond b (operation_calls launch Nowise ms_remount_bind wish target)
-      (gaining launch program cap_sys_admin ++ operation_calls launch (power_of launch) ms_remount_bind wish target))
+      (cond b (wished_calls launch Nowise wish target)
+      (gaining launch program cap_sys_admin ++ wished_calls launch (power_of launch) wish target))
   near_or_far wish fit passes free e true n = near wish fit passes free n
   near_or_far wish fit passes free e false n = far wish fit passes free (λ none'. let yes : reaches Nowise launch.table target.path wish ≡ true = ap (λ power. reaches power launch.table target.path wish) (sym none') ∙ e in cc) e
 
   -- a barred row is run where marks are not looked at
-  far_unmarked : IsFit launch.site (asking.Path ToExec place) → lets launch (ForPath ToExec) ≡ true → (power : Power)
-      → power_of launch ≡ power → power ≡ Mounting → Shows world (asking.Path ToExec place)
-      (gaining launch program cap_sys_admin ++ operation_calls launch power unmarked ToExec target)
-  far_unmarked fit passes Nowise e m = cc
-  far_unmarked fit passes Unmounting e m = cc
-  far_unmarked fit passes Mounting e m =
-      let a = admin_gained launch l o program p (λ none'. let no : Mounting ≡ Nowise = sym e ∙ none' in cc) in
-      let pass = mounts_pass (has (caps_at launch Nowise) 21) (lets launch ChangesMounts) (lets launch RemovesMounts) e in
-      let x = by_mounts launch l o a.creds target own_known ToExec pass.1 a.holds unmarked (omega arith) refl refl refl in
-      behind ToExec fit passes a.creds a.way Mounting unmarked x.0 (ap (λ f. is_refused a.creds (marks_of target) f.no_suid) x.1)
+  plain_behind : IsFit launch.site (asking.Path ToExec place) → lets launch (ForPath ToExec) ≡ true
+      → {front : List Call} (creds : Creds) → Way launch launch.creds launch.table front creds launch.table
+      → (power : Power) → HasPower launch creds power → runs_plainly launch power target ≡ true
+      → Shows world (asking.Path ToExec place) (front ++ plain_run_calls launch power target)
+  plain_behind fit passes creds way power h e =
+      let x = exposed_unmarked launch l o creds target own_known power h e in
+      let flags = flags_at x.now (exposing_path launch power runs_unmarked target.path) in
+      let allowed = and_parts (not flags.no_exec) flags.no_suid x.found.is_allowed in
+      behind ToExec fit passes creds way power unmarked runs_unmarked x allowed.0 (ap (λ b. is_refused creds (marks_of target) b) allowed.1)
+
+  plain_far : IsFit launch.site (asking.Path ToExec place) → lets launch (ForPath ToExec) ≡ true → (power_of launch ≡ Nowise → ⊥)
+      → runs_plainly launch (power_of launch) target ≡ true → Shows world (asking.Path ToExec place)
+      (gaining launch program cap_sys_admin ++ plain_run_calls launch (power_of launch) target)
+  plain_far fit passes some e =
+      let a = admin_gained launch l o program p some in
+      plain_behind fit passes a.creds a.way (power_of launch) (inr (a.holds, refl)) e
 
   -- in a user namespace of its own
   inside_behind : IsFit launch.site (asking.Path ToExec place) → lets launch (ForPath ToExec) ≡ true → can_make_user launch ≡ true
       → {front : List Call} (creds : Creds) → Way launch launch.creds launch.table front creds launch.table
-      → (power : Power) → ExposedAt launch creds power ms_remount_bind target ToExec
+      → (power : Power) → ExposedAt launch creds power ms_remount_bind target (fits ToExec)
       → Shows world (asking.Path ToExec place) (front ++ inside_calls launch power target)
   inside_behind fit passes user {front = front} creds way power x =
-      let path = exposing_path launch power ToExec target.path in
-      let calls = exposing_calls launch power ms_remount_bind ToExec target.path in
+      let path = exposing_path launch power (fits ToExec) target.path in
+      let calls = exposing_calls launch power ms_remount_bind (fits ToExec) target.path in
       let u = user_called launch l user creds x.now in
       let c = chosen launch l (ForPath ToExec) passes in
       let P : Call → Type 0 = λ call. MakesIn launch (entered creds) x.now (pid_inside launch) (d.Execve path) call (SetCreds (after_run launch creds x.now (pid_inside launch) u.small path x.found.can_be_named target x.found.is_found (fit target listed) x.found.is_allowed known_caps)) in
@@ -236,44 +242,46 @@ module _ (world : World) (launch : Launch) (l : IsLaunched launch) (o : Offers l
       (cond b (inside_calls launch Nowise target)
       (gaining launch program cap_sys_admin ++ inside_calls launch (power_of launch) target))
   inside_shown fit passes user e true n =
-      let m = marked launch l o launch.creds target own_known ToExec Nowise (inl refl) n in
-      inside_behind fit passes user launch.creds here Nowise m.exposed
+      inside_behind fit passes user launch.creds here Nowise
+      (exposed_for launch l o launch.creds target own_known ToExec Nowise (inl refl) n)
   inside_shown fit passes user e false n =
       let a = admin_gained launch l o program p (λ none'. let yes : reaches Nowise launch.table target.path ToExec ≡ true = ap (λ power. reaches power launch.table target.path ToExec) (sym none') ∙ e in cc) in
-      let m = marked launch l o a.creds target own_known ToExec (power_of launch) (inr (a.holds, refl)) e in
-      inside_behind fit passes user a.creds a.way (power_of launch) m.exposed
-
-  mounting_is : (power : Power) → is_mounting power ≡ true → power ≡ Mounting
-  mounting_is Nowise e = cc
-  mounting_is Unmounting e = cc
-  mounting_is Mounting e = refl
+      inside_behind fit passes user a.creds a.way (power_of launch)
+      (exposed_for launch l o a.creds target own_known ToExec (power_of launch) (inr (a.holds, refl)) e)
 
   pub parts : (wish : Wish) → can_reach launch (power_of launch) wish target ≡ true
       → (lets launch (ForPath wish) ≡ true) × (reaches (power_of launch) launch.table target.path wish ≡ true) ×
-      ((((is_to_exec wish && not (is_mounting (power_of launch))) && is_barred launch target) && not (can_make_user launch)) ≡ false)
+      ((((is_to_exec wish && is_barred launch target) && not (runs_plainly launch (power_of launch) target)) && not (can_make_user launch)) ≡ false)
   parts wish e =
-      let both = and_parts (lets launch (ForPath wish) && reaches (power_of launch) launch.table target.path wish) (not (((is_to_exec wish && not (is_mounting (power_of launch))) && is_barred launch target) && not (can_make_user launch))) e in
+      let both = and_parts (lets launch (ForPath wish) && reaches (power_of launch) launch.table target.path wish) (not (((is_to_exec wish && is_barred launch target) && not (runs_plainly launch (power_of launch) target)) && not (can_make_user launch))) e in
       let inner = and_parts (lets launch (ForPath wish)) (reaches (power_of launch) launch.table target.path wish) both.0 in
-      (inner.0, inner.1, not-true (((is_to_exec wish && not (is_mounting (power_of launch))) && is_barred launch target) && not (can_make_user launch)) both.1)
+      (inner.0, inner.1, not-true (((is_to_exec wish && is_barred launch target) && not (runs_plainly launch (power_of launch) target)) && not (can_make_user launch)) both.1)
 
-  abbrev exec_calls : Bool → Bool → List Call
-  exec_calls b m = cond (b && not m) (row_inside launch program target)
-      (cond (not b && reaches Nowise launch.table target.path ToExec) (operation_calls launch Nowise ms_remount_bind ToExec target)
-      (gaining launch program cap_sys_admin ++ operation_calls launch (power_of launch) (cond b unmarked ms_remount_bind) ToExec target))
+  -- what execve holds off: on the launched table, on what CAP_SYS_ADMIN makes of it, or in a user namespace
+  held_shown : IsFit launch.site (asking.Path ToExec place) → lets launch (ForPath ToExec) ≡ true
+      → reaches (power_of launch) launch.table target.path ToExec ≡ true → (near' : Bool) → runs_plainly launch Nowise target ≡ near'
+      → (far' : Bool) → runs_plainly launch (power_of launch) target ≡ far' → (make : Bool) → can_make_user launch ≡ make
+      → (not far' && not make) ≡ false → Shows world (asking.Path ToExec place)
+      (cond near' (plain_run_calls launch Nowise target)
+      (cond far' (gaining launch program cap_sys_admin ++ plain_run_calls launch (power_of launch) target) (row_inside launch program target)))
+  held_shown fit passes e true n far' f make u held = plain_behind fit passes launch.creds here Nowise (inl refl) n
+  held_shown fit passes e false n true f make u held = plain_far fit passes (λ none'. let yes : runs_plainly launch Nowise target ≡ true = ap (λ power. runs_plainly launch power target) (sym none') ∙ f in cc) f
+  held_shown fit passes e false n false f true u held = inside_shown fit passes u e (reaches Nowise launch.table target.path ToExec) refl
+  held_shown fit passes e false n false f false u held = cc
 
   exec_shown : IsFit launch.site (asking.Path ToExec place) → lets launch (ForPath ToExec) ≡ true
-      → reaches (power_of launch) launch.table target.path ToExec ≡ true → (b : Bool) → is_barred launch target ≡ b → (m : Bool)
-      → is_mounting (power_of launch) ≡ m → (make : Bool) → can_make_user launch ≡ make
-      → ((not m && b) && not make) ≡ false → Shows world (asking.Path ToExec place) (exec_calls b m)
-  exec_shown fit passes e true bar true is make u held = far_unmarked fit passes (power_of launch) refl (mounting_is (power_of launch) is)
-  exec_shown fit passes e true bar false is true u held = inside_shown fit passes u e (reaches Nowise launch.table target.path ToExec) refl
-  exec_shown fit passes e true bar false is false u held = cc
-  exec_shown fit passes e false bar m is make u held = near_or_far ToExec fit passes bar e
-      (reaches Nowise launch.table target.path ToExec) refl
+      → reaches (power_of launch) launch.table target.path ToExec ≡ true → (b : Bool) → is_barred launch target ≡ b
+      → ((b && not (runs_plainly launch (power_of launch) target)) && not (can_make_user launch)) ≡ false
+      → Shows world (asking.Path ToExec place) (cond b (held_off_calls launch program target)
+      (cond (reaches Nowise launch.table target.path ToExec) (wished_calls launch Nowise ToExec target)
+      (gaining launch program cap_sys_admin ++ wished_calls launch (power_of launch) ToExec target)))
+  exec_shown fit passes e true bar held = held_shown fit passes e (runs_plainly launch Nowise target) refl
+      (runs_plainly launch (power_of launch) target) refl (can_make_user launch) refl held
+  exec_shown fit passes e false bar held = near_or_far ToExec fit passes bar e (reaches Nowise launch.table target.path ToExec) refl
 
   pub row_shown : (wish : Wish) → IsFit launch.site (asking.Path wish place) → can_reach launch (power_of launch) wish target ≡ true
       → Shows world (asking.Path wish place) (row_calls launch program wish target)
   row_shown ToSee fit e = let x = parts ToSee e in near_or_far ToSee fit x.0 tt x.1 (reaches Nowise launch.table target.path ToSee) refl
   row_shown ToRead fit e = let x = parts ToRead e in near_or_far ToRead fit x.0 tt x.1 (reaches Nowise launch.table target.path ToRead) refl
   row_shown ToWrite fit e = let x = parts ToWrite e in near_or_far ToWrite fit x.0 tt x.1 (reaches Nowise launch.table target.path ToWrite) refl
-  row_shown ToExec fit e = let x = parts ToExec e in exec_shown fit x.0 x.1 (is_barred launch target) refl (is_mounting (power_of launch)) refl (can_make_user launch) refl x.2
+  row_shown ToExec fit e = let x = parts ToExec e in exec_shown fit x.0 x.1 (is_barred launch target) refl x.2

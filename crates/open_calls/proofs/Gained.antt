@@ -20,17 +20,17 @@ use Rattle.ceilings.specs.kernel_model.kern_files.Executing.{marks_of}
 use Rattle.ceilings.specs.kernel_model.declared.kernel_calls.call.Call.{Call}
 use Rattle.ceilings.specs.kernel_laws.Bound.{is_owner, is_barred, can_run, power_of}
 use Rattle.ceilings.specs.kernel_laws.declared.question_types.kind.CallKind.TheVariants.{SetsCaps, TakesUid}
-use Rattle.ceilings.specs.kernel_laws.declared.question_types.wish.Wish.TheVariants.{Exec as ToExec}
 use Rattle.ceilings.specs.kernel_laws.declared.question_types.power.Power.{Power}
 use Rattle.ceilings.specs.kernel_laws.declared.question_types.power.Power.TheVariants.{None as Nowise}
 use Rattle.ceilings.specs.kernel_laws.Launched.{Launch, IsLaunched, lets}
-use Rattle.ceilings.specs.kernel_laws.Reach.{reaches}
+use Rattle.ceilings.specs.kernel_model.kern_files.Looking.{flags_at}
+use Rattle.ceilings.specs.kernel_laws.Reach.{reaches_with, runs_marked}
 use Rattle.ceilings.specs.kernel_ways.Offers.{Offers, RunsProgram}
 use Rattle.ceilings.specs.kernel_ways.Taking.{id_call, sets_call}
 use Rattle.ceilings.specs.kernel_ways.Ways.{Way, here, by_creds, place_of}
 use Rattle.ceilings.proofs.OfKernelWays.Solo.{way_join}
-use Rattle.ceilings.proofs.OfKernelWays.Attained.{IsRootlike, basis_uids, uids_after, stays_zero, unmarked}
-use Rattle.ceilings.proofs.OfKernelWays.Exposing.{HasPower, marks_count}
+use Rattle.ceilings.proofs.OfKernelWays.Attained.{IsRootlike, basis_uids, uids_after, runs_as_zero, unmarked}
+use Rattle.ceilings.proofs.OfKernelWays.Exposing.{HasPower}
 use Rattle.ceilings.proofs.OfKernelWays.Gains as gains
 use Rattle.ceilings.proofs.OfKernelWays.Gains.{Basis, common_small}
 use Rattle.ceilings.proofs.OfKernelWays.Privileged as privileged
@@ -41,7 +41,7 @@ use Rattle.open_calls.specs.chosen_calls.Gaining.{IsRunner, CanBeMade, CapCanBeM
 use Rattle.open_calls.specs.chosen_calls.Gaining.{ByFile, ByRoot, GainWay, AtOnce, Behind, gives_at_once, common, gives_by_capset, by_rows}
 use Rattle.open_calls.specs.chosen_calls.Gaining.{by_launch, takes_root, at_once, at_power, gain, run_call, run_calls, capset_call}
 use Rattle.open_calls.specs.chosen_calls.Gaining.{file_calls, last_path, root_call, cap_calls, gain_calls}
-use Rattle.open_calls.proofs.Exposed.{marked}
+use Rattle.open_calls.proofs.Exposed.{exposed_marked}
 use Rattle.open_calls.proofs.FirstLines.{chosen, place_is, rule_is}
 use Rattle.open_calls.proofs.Lists.{found_at}
 use Rattle.open_calls.proofs.Running.{RunnableAt, runs_at}
@@ -119,7 +119,9 @@ pub record FileGained (launch : Launch) (from : Creds) (power : Power) (calls : 
   pub basis : Basis launch creds
   pub holds : has creds.effective number ≡ true
   pub target : Row
-  pub again : RunnableAt launch now last target
+  -- the mount of the row has nosuid
+  pub no_suid : Bool
+  pub again : RunnableAt no_suid launch now last target
   pub rootlike : IsRootlike target
   pub still : power ≡ Nowise → now ≡ launch.table
 
@@ -139,26 +141,30 @@ module _ (launch : Launch) (l : IsLaunched launch) (o : Offers launch) where
   pub record RanAt (creds : Creds) (power : Power) (row : Row) : Type 0 where
     pub now : Table
     pub way : Way launch creds launch.table (run_calls launch power row) (exec_done creds (marks_of row) false) now
-    pub again : RunnableAt launch now (exposing_path launch power ToExec row.path) row
+    pub again : RunnableAt false launch now (exposing_path launch power runs_marked row.path) row
     pub still : power ≡ Nowise → now ≡ launch.table
 
   pub ran_at : (creds : Creds) → Basis launch creds → (power : Power) → HasPower launch creds power → (row : Row)
       → IsRunner launch power row → RanAt creds power row
   ran_at creds b power h row r =
-      let parts = and_parts (is_exe row.kind && reaches power launch.table row.path ToExec) (not (is_barred launch row)) r.runs in
-      let inner = and_parts (is_exe row.kind) (reaches power launch.table row.path ToExec) parts.0 in
-      let m = marked launch l o creds row r.known ToExec power h inner.1 in
-      let again : RunnableAt launch m.exposed.now (exposing_path launch power ToExec row.path) row = record { found = m.exposed.found; known = r.known; exe = inner.0; suid = m.suid; free = not-true (is_barred launch row) parts.1 } in
-      let makes = runs_at launch l o creds m.exposed.now (exposing_path launch power ToExec row.path) row b.bounding again in
-      record {
-        now = m.exposed.now;
-        way = way_join m.exposed.way (by_creds (run_call launch (exposing_path launch power ToExec row.path)) makes here);
-        again = again;
-        still = m.exposed.still;
-      }
+      let parts = and_parts (is_exe row.kind && reaches_with power launch.table row.path runs_marked) (not (is_barred launch row)) r.runs in
+      let inner = and_parts (is_exe row.kind) (reaches_with power launch.table row.path runs_marked) parts.0 in
+      let m = exposed_marked launch l o creds row r.known power h inner.1 in
+      let path = exposing_path launch power runs_marked row.path in
+      let flags = flags_at m.now path in
+      let allowed = and_parts (not flags.no_exec) (not flags.no_suid) m.found.is_allowed in
+      let again : RunnableAt false launch m.now path row = record {
+        found = record { can_be_named = m.found.can_be_named; is_found = m.found.is_found; is_allowed = allowed.0 };
+        known = r.known;
+        exe = inner.0;
+        suid = not-true flags.no_suid allowed.1;
+        free = not-true (is_barred launch row) parts.1;
+      } in
+      let makes = runs_at launch l o false creds m.now path row b.bounding again in
+      record { now = m.now; way = way_join m.way (by_creds (run_call launch path) makes here); again = again; still = m.still }
 
-  basis_exec : (creds : Creds) (row : Row) → Basis launch creds → Basis launch (exec_done creds (marks_of row) false)
-  basis_exec creds row b = record { bounding = b.bounding; inheritable = b.inheritable; mark = b.mark }
+  basis_exec : (creds : Creds) (row : Row) (no_suid : Bool) → Basis launch creds → Basis launch (exec_done creds (marks_of row) no_suid)
+  basis_exec creds row no_suid b = record { bounding = b.bounding; inheritable = b.inheritable; mark = b.mark }
 
   -- a row without an owner's bit whose set has a member
   unowned : (row : Row) → IsKnown launch.site row → (number : ℕ) → has row.caps number ≡ true → (owner : Option ℕ) → row.setuid ≡ owner
@@ -173,24 +179,24 @@ module _ (launch : Launch) (l : IsLaunched launch) (o : Offers launch) where
   -- by uid 0 at once
   gains_as_owner : (creds : Creds) → Basis launch creds → launch.creds.no_new_privs ≡ false → (power : Power) (row : Row) (number : ℕ)
       → RanAt creds power row → (owner : Option ℕ) → row.setuid ≡ owner → is_owner 0 owner ≡ true → has launch.creds.bounding number ≡ true
-      → FileGained launch creds power (run_calls launch power row) (exposing_path launch power ToExec row.path) number
+      → FileGained launch creds power (run_calls launch power row) (exposing_path launch power runs_marked row.path) number
   gains_as_owner creds b off power row number r None e z h = cc
   gains_as_owner creds b off power row number r (Some owner) e z h =
       let mark = b.mark ∙ off in
       let uid = ap (λ id. eqb id 0) (gains.uid_after creds (marks_of row) mark) ∙ ap (λ (w : Option ℕ). eqb (owner_or w creds.uids.effective) 0) e ∙ z in
       let w = gains.zero_gives creds (marks_of row) mark uid in
       let own : has creds.bounding number ≡ true = ap (λ s. has s number) b.bounding ∙ h in
-      record { now = r.now; creds = exec_done creds (marks_of row) false; way = r.way; basis = basis_exec creds row b; holds = w.each number own; target = row; again = r.again; rootlike = inl (ap (is_owner 0) e ∙ z); still = r.still }
+      record { now = r.now; creds = exec_done creds (marks_of row) false; way = r.way; basis = basis_exec creds row false b; holds = w.each number own; target = row; no_suid = false; again = r.again; rootlike = inl (ap (is_owner 0) e ∙ z); still = r.still }
 
   -- by the effective bit at once
   gains_by_bit : (creds : Creds) → Basis launch creds → launch.creds.no_new_privs ≡ false → (power : Power) (row : Row) (number : ℕ)
       → IsKnown launch.site row → RanAt creds power row → is_barred launch row ≡ false → row.effective ≡ true → has row.caps number ≡ true
-      → FileGained launch creds power (run_calls launch power row) (exposing_path launch power ToExec row.path) number
+      → FileGained launch creds power (run_calls launch power row) (exposing_path launch power runs_marked row.path) number
   gains_by_bit creds b off power row number there r free e h =
       let inside : within row.caps launch.creds.bounding ≡ true = not-false' (within row.caps launch.creds.bounding) (ap (λ x. x && not (within row.caps launch.creds.bounding)) (sym e) ∙ free) in
       let both : has (cut row.caps launch.creds.bounding) number ≡ true = common_has row number inside h in
       let own : has (cut row.caps creds.bounding) number ≡ true = ap (λ s. has (cut row.caps s) number) b.bounding ∙ both in
-      record { now = r.now; creds = exec_done creds (marks_of row) false; way = r.way; basis = basis_exec creds row b; holds = (gains.bit_gives creds (marks_of row) (b.mark ∙ off) e).each number own; target = row; again = r.again; rootlike = inr (unowned row there number h row.setuid refl); still = r.still }
+      record { now = r.now; creds = exec_done creds (marks_of row) false; way = r.way; basis = basis_exec creds row false b; holds = (gains.bit_gives creds (marks_of row) (b.mark ∙ off) e).each number own; target = row; no_suid = false; again = r.again; rootlike = inr (unowned row there number h row.setuid refl); still = r.still }
     where
       not-false' : (b : Bool) → not b ≡ false → b ≡ true
       not-false' true e = refl
@@ -203,18 +209,18 @@ module _ (launch : Launch) (l : IsLaunched launch) (o : Offers launch) where
 
   gains_at_once : (creds : Creds) → Basis launch creds → (power : Power) (row : Row) (number : ℕ) → IsRunner launch power row
       → RanAt creds power row → (gives_at_once launch number row) ≡ true
-      → FileGained launch creds power (run_calls launch power row) (exposing_path launch power ToExec row.path) number
+      → FileGained launch creds power (run_calls launch power row) (exposing_path launch power runs_marked row.path) number
   gains_at_once creds b power row number is r h =
       elim (or_cases (is_owner 0 row.setuid && has launch.creds.bounding number) (row.effective && has row.caps number) h) [
         | inl owner ↦ (let both = and_parts (is_owner 0 row.setuid) (has launch.creds.bounding number) owner in gains_as_owner creds b is.off power row number r row.setuid refl both.0 both.1)
-        | inr bit ↦ (let both = and_parts row.effective (has row.caps number) bit in gains_by_bit creds b is.off power row number is.known r (not-true (is_barred launch row) (and_parts (is_exe row.kind && reaches power launch.table row.path ToExec) (not (is_barred launch row)) is.runs).1) both.0 both.1)
+        | inr bit ↦ (let both = and_parts row.effective (has row.caps number) bit in gains_by_bit creds b is.off power row number is.known r (not-true (is_barred launch row) (and_parts (is_exe row.kind && reaches_with power launch.table row.path runs_marked) (not (is_barred launch row)) is.runs).1) both.0 both.1)
       ]
 
   -- by capset behind it
   gains_by_capset : (creds : Creds) → Basis launch creds → (power : Power) (row : Row) (number : ℕ) → IsRunner launch power row
       → RanAt creds power row → gives_by_capset launch number row ≡ true → lets launch SetsCaps ≡ true
       → FileGained launch creds power (run_calls launch power row ++ capset_call launch row ∷ [])
-      (exposing_path launch power ToExec row.path) number
+      (exposing_path launch power runs_marked row.path) number
   gains_by_capset creds b power row number is r h s =
       let both = and_parts (not row.effective) (has (common launch row) number) h in
       let mark = b.mark ∙ is.off in
@@ -238,6 +244,7 @@ module _ (launch : Launch) (l : IsLaunched launch) (o : Offers launch) where
         basis = record { bounding = b.bounding; inheritable = b.inheritable; mark = b.mark };
         holds = holds';
         target = row;
+        no_suid = false;
         again = r.again;
         rootlike = inr (unowned row is.known number in_caps.0 row.setuid refl);
         still = r.still;
@@ -253,23 +260,28 @@ module _ (launch : Launch) (l : IsLaunched launch) (o : Offers launch) where
       gains_by_capset creds b power row number f.0 (ran_at creds b power h row f.0) f.1 f.2
 
   -- the program of the launch can be executed again
-  program_at : (program : Path) → (p : RunsProgram launch program) → RunnableAt launch launch.table program p.0.program
+  -- whether its mount has nosuid
+  abbrev program_no_suid : Path → Bool
+  program_no_suid program = (flags_at launch.table program).no_suid
+
+  program_at : (program : Path) → (p : RunsProgram launch program)
+      → RunnableAt (program_no_suid program) launch launch.table program p.0.program
   program_at program p =
       let found = p.0.found in
       let there = known_found launch.site launch.table found.path p.0.program found.is_found in
       let marks = unmarked p.0.program.setuid p.0.program.setgid p.0.program.caps p.0.plain in
-      let P : Path → Type 0 = λ path. RunnableAt launch launch.table path p.0.program in
+      let P : Path → Type 0 = λ path. RunnableAt (program_no_suid path) launch launch.table path p.0.program in
       subst P p.1 (record {
         found = record { can_be_named = found.can_be_named; is_found = found.is_found; is_allowed = found.is_allowed };
         known = there;
         exe = p.0.exe;
-        suid = marks_count launch.table l.honours found.path;
+        suid = refl;
         free = ap (λ b. b && not (within p.0.program.caps launch.creds.bounding)) (no_bit launch.site p.0.program o.site there marks.1);
       })
 
   pub launch_gained : (program : Path) → RunsProgram launch program → (number : ℕ) (way : FileWay) → LaunchFacts launch number way
       → FileGained launch launch.creds Nowise (file_calls launch Nowise way) (last_path launch program Nowise way) number
-  launch_gained program p number Held f = record { now = launch.table; creds = launch.creds; way = here; basis = basis_launch; holds = f; target = p.0.program; again = program_at program p; rootlike = inr (unmarked p.0.program.setuid p.0.program.setgid p.0.program.caps p.0.plain).0; still = λ e. refl }
+  launch_gained program p number Held f = record { now = launch.table; creds = launch.creds; way = here; basis = basis_launch; holds = f; target = p.0.program; no_suid = program_no_suid program; again = program_at program p; rootlike = inr (unmarked p.0.program.setuid p.0.program.setgid p.0.program.caps p.0.plain).0; still = λ e. refl }
   launch_gained program p number (ByRun row) f = row_gained program launch.creds basis_launch Nowise (inl refl) number (ByRun row) f
   launch_gained program p number (ByCapset row) f = row_gained program launch.creds basis_launch Nowise (inl refl) number (ByCapset row) f
 
@@ -285,16 +297,16 @@ module _ (launch : Launch) (l : IsLaunched launch) (o : Offers launch) where
       let after = with_uids g.creds ids in
       let b = basis_uids launch g.creds ids g.basis in
       let mark = b.mark ∙ not-true launch.creds.no_new_privs inner.0 in
-      let run = runs_at launch l o after g.now last g.target b.bounding g.again in
+      let run = runs_at launch l o g.no_suid after g.now last g.target b.bounding g.again in
       let uid : eqb after.uids.effective 0 ≡ true = ap (λ (ids : Ids). eqb ids.effective 0) (uids_after g.creds ids) ∙ ap (λ id. eqb id 0) (privileged.effective_by c.line.own g.creds.uids 0) in
-      let root = ap (λ id. eqb id 0) (gains.uid_after after (marks_of g.target) mark) ∙ stays_zero g.target.setuid after.uids.effective g.rootlike uid in
-      let w = gains.zero_gives after (marks_of g.target) mark root in
+      let root = runs_as_zero after (marks_of g.target) g.no_suid g.rootlike uid in
+      let w = gains.root_gives after (marks_of g.target) g.no_suid mark root in
       let own : has after.bounding number ≡ true = ap (λ s. has s number) b.bounding ∙ parts.1 in
       let same : root_call launch ≡ id_call (place_of c.line.line) c.line.own 0 = ap (λ n. id_call n (own_rule (line_of launch TakesUid)) 0) (place_is c) ∙ ap (λ r. id_call (place_of c.line.line) r 0) (rule_is c) in
-      let end : Creds = exec_done after (marks_of g.target) false in
+      let end : Creds = exec_done after (marks_of g.target) g.no_suid in
       let Q : Call → Type 0 = λ call. Way launch g.creds g.now (call ∷ run_call launch last ∷ []) end g.now in
       let then : Q (root_call launch) = subst Q (sym same) (by_creds (id_call (place_of c.line.line) c.line.own 0) change.makes (by_creds (run_call launch last) run here)) in
-      record { now = g.now; creds = end; way = way_join g.way then; basis = basis_exec after g.target b; holds = w.each number own; still = g.still }
+      record { now = g.now; creds = end; way = way_join g.way then; basis = basis_exec after g.target g.no_suid b; holds = w.each number own; still = g.still }
 
   file_is : (from : Creds) (power : Power) (calls : List Call) (last : Path) (number : ℕ) → FileGained launch from power calls last number
       → Gained launch from power calls number

@@ -16,8 +16,8 @@ use Rattle.ceilings.specs.kernel_model.kernel_calls.Operation.{Clone, Does, aske
 use Rattle.ceilings.specs.kernel_model.declared.kernel_calls.call.Call.{Call}
 use Rattle.ceilings.specs.kernel_model.declared.kernel_calls.payload.Payload.TheVariants.{Nothing, Number, OnePath}
 use Rattle.ceilings.specs.kernel_model.declared.kernel_calls.rule.Rule.{Rule}
-use Rattle.ceilings.specs.kernel_laws.Bound.{is_barred, is_mounting, is_owner, is_to_exec, is_user, can_reach, ceiling, if_listed, is_open}
-use Rattle.ceilings.specs.kernel_laws.Bound.{power_of}
+use Rattle.ceilings.specs.kernel_laws.Bound.{is_barred, is_owner, is_to_exec, is_user, can_reach, ceiling, if_listed, is_open}
+use Rattle.ceilings.specs.kernel_laws.Bound.{power_of, runs_plainly}
 use Rattle.ceilings.specs.kernel_laws.declared.question_types.kind.CallKind.{CallKind}
 use Rattle.ceilings.specs.kernel_laws.declared.question_types.kind.CallKind.TheVariants.{ForFamily, ForPath, ForNamespace, RemovesMounts}
 use Rattle.ceilings.specs.kernel_laws.declared.question_types.kind.CallKind.TheVariants.{OpensMode, SchedulesRealtime, SetsMode, SetsRealtime, TakesUid, TakesGid}
@@ -34,13 +34,15 @@ use Rattle.ceilings.specs.kernel_laws.Kinds.{no_words, one_word, realtime_payloa
 use Rattle.ceilings.specs.kernel_laws.Launched.{Launch, IsLaunched, lets, can_make_user, launch_of}
 use Rattle.ceilings.specs.kernel_laws.PlainCalls.{bare_call}
 use Rattle.ceilings.specs.kernel_laws.Questions.{flag_of}
-use Rattle.ceilings.specs.kernel_laws.Reach.{reaches}
+use Rattle.ceilings.specs.kernel_laws.Reach.{fits, reaches, runs_marked, runs_unmarked}
+use Rattle.ceilings.specs.kern_mounts.declared.step.Flags.{Flags}
 use Rattle.ceilings.specs.kernel_ways.Entering.{pid_in}
 use Rattle.ceilings.specs.kernel_ways.Uncovering.{covering, umount_calls}
 use Rattle.ceilings.specs.kernel_ways.Ways.{CallAt, place_of, rule_there}
 use Rattle.ceilings.proofs.OfKernelWays.Choices as choices
 use Rattle.ceilings.proofs.OfKernelWays.Lines.{choice_of, first_by}
-use Rattle.open_calls.specs.chosen_calls.Chosen.{unmarked, is_held_off, operation_calls, user_call, pid_inside, call_inside, inside_calls}
+use Rattle.open_calls.specs.chosen_calls.Chosen.{unmarked, is_held_off, held_off_calls, operation_calls, plain_run_calls, wished_calls}
+use Rattle.open_calls.specs.chosen_calls.Chosen.{user_call, pid_inside, call_inside, inside_calls}
 use Rattle.open_calls.specs.chosen_calls.Chosen.{row_inside, row_calls, runner, taking, id_at_power, id_by_cap, id_by_row, id_calls}
 use Rattle.open_calls.specs.chosen_calls.Chosen.{uid_calls, gid_calls, plain_cap, plain_line, plain_calls, socket_payload, socket_calls}
 use Rattle.open_calls.specs.chosen_calls.Chosen.{own_payload, wish_payload, realtime_calls, space_calls, suid_calls, calls_for}
@@ -74,23 +76,25 @@ unmounts nr [] = tt
 unmounts nr (place ∷ places) = (refl, unmounts nr places)
 
 module _ (launch : Launch) where
-  exposing : (power : Power) (flags : ℕ) (wish : Wish) (row : Path) → AreFirst (exposing_calls launch power flags wish row)
-  exposing Nowise flags wish row = tt
-  exposing Unmounting flags wish row =
-      let at = lead Unmounting launch.table row wish in
+  exposing : (power : Power) (flags : ℕ) (test : Flags → Bool) (row : Path) → AreFirst (exposing_calls launch power flags test row)
+  exposing Nowise flags test row = tt
+  exposing Unmounting flags test row =
+      let at = lead Unmounting launch.table row test in
       unmounts (place_of (line_of launch RemovesMounts)) (covering (shown_at launch.table row at) (drop (at + 1) launch.table))
-  exposing Mounting flags wish row = (refl, (refl, tt))
+  exposing Mounting flags test row = (refl, (refl, tt))
 
-  operation : (power : Power) (flags : ℕ) (wish : Wish) (row : Row) → AreFirst (operation_calls launch power flags wish row)
-  operation power flags wish row =
-      join (exposing_calls launch power flags wish row.path)
-      (call_by launch (ForPath wish) (wish_payload launch wish (exposing_path launch power wish row.path)) ∷ []) (exposing power flags wish row.path)
+  operation : (power : Power) (flags : ℕ) (test : Flags → Bool) (wish : Wish) (row : Row)
+      → AreFirst (operation_calls launch power flags test wish row)
+  operation power flags test wish row =
+      join (exposing_calls launch power flags test row.path)
+      (call_by launch (ForPath wish) (wish_payload launch wish (exposing_path launch power test row.path)) ∷ []) (exposing power flags test row.path)
       (refl, tt)
 
   runs : (power : Power) (row : Row) → AreFirst (run_calls launch power row)
   runs power row =
-      join (exposing_calls launch power ms_remount_bind ToExec row.path)
-      (run_call launch (exposing_path launch power ToExec row.path) ∷ []) (exposing power ms_remount_bind ToExec row.path) (refl, tt)
+      join (exposing_calls launch power ms_remount_bind runs_marked row.path)
+      (run_call launch (exposing_path launch power runs_marked row.path) ∷ []) (exposing power ms_remount_bind runs_marked row.path)
+      (refl, tt)
 
   by_file : (power : Power) (way : FileWay) → AreFirst (file_calls launch power way)
   by_file power Held = tt
@@ -163,15 +167,15 @@ inside_by launch l user =
         let asks : asked_of launch.calls own ≡ Does (Clone (flag_of User)) = ap (λ r. asked_by r own) at in
         inr (ap pid_in rule, record { flags = flag_of User; asks = ap (asked_of launch.calls) call ∙ asks; newer = refl })
 
--- execve holds the row off on every mount that the service has: then it can make a user namespace
-held_inside : (exec mounting barred user rest : Bool) → (rest && not (((exec && not mounting) && barred) && not user)) ≡ true
-    → ((exec && barred) && not mounting) ≡ true → user ≡ true
-held_inside false mounting barred user rest h g = cc
-held_inside true mounting false user rest h g = cc
-held_inside true true true user rest h g = cc
-held_inside true false true true rest h g = refl
-held_inside true false true false true h g = cc
-held_inside true false true false false h g = cc
+-- execve holds the row off, and no mount is such that it does not: then the service can make a user namespace
+held_inside : (exec barred plain user rest : Bool) → (rest && not (((exec && barred) && not plain) && not user)) ≡ true
+    → (exec && barred) ≡ true → plain ≡ false → user ≡ true
+held_inside false barred plain user rest h g n = cc
+held_inside true false plain user rest h g n = cc
+held_inside true true true user rest h g n = cc
+held_inside true true false true rest h g n = refl
+held_inside true true false false true h g n = cc
+held_inside true true false false false h g n = cc
 
 module _ (launch : Launch) (entered : can_make_user launch ≡ true → IsInside launch) (program : Path) where
   abbrev Made : List Call → Type 0
@@ -192,9 +196,9 @@ module _ (launch : Launch) (entered : can_make_user launch ≡ true → IsInside
   -- rows
   inside_row : IsInside launch → (power : Power) (row : Row) → Made (inside_calls launch power row)
   inside_row i power row =
-      let last = call_inside launch (ForPath ToExec) (OnePath (exposing_path launch power ToExec row.path)) in
-      behind (exposing_calls launch power ms_remount_bind ToExec row.path) (user_call launch ∷ last ∷ [])
-      (exposing launch power ms_remount_bind ToExec row.path) (inside i last refl)
+      let last = call_inside launch (ForPath ToExec) (OnePath (exposing_path launch power (fits ToExec) row.path)) in
+      behind (exposing_calls launch power ms_remount_bind (fits ToExec) row.path) (user_call launch ∷ last ∷ [])
+      (exposing launch power ms_remount_bind (fits ToExec) row.path) (inside i last refl)
 
   held_row : IsInside launch → (row : Row) → Made (row_inside launch program row)
   held_row i row = by (reaches Nowise launch.table row.path ToExec)
@@ -205,34 +209,46 @@ module _ (launch : Launch) (entered : can_make_user launch ≡ true → IsInside
       by false = behind (gaining launch program cap_sys_admin) (inside_calls launch (power_of launch) row)
           (gains launch program cap_sys_admin) (inside_row i (power_of launch) row)
 
+  module _ (row : Row) where
+    abbrev plain_later : List Call
+    plain_later = gaining launch program cap_sys_admin ++ plain_run_calls launch (power_of launch) row
+
+    plain_later_first : AreFirst plain_later
+    plain_later_first = join (gaining launch program cap_sys_admin) (plain_run_calls launch (power_of launch) row)
+        (gains launch program cap_sys_admin) (operation launch (power_of launch) unmarked runs_unmarked ToExec row)
+
+    -- what execve holds off
+    held_off : (near far : Bool) → (far ≡ false → can_make_user launch ≡ true)
+        → Made (cond near (plain_run_calls launch Nowise row) (cond far plain_later (row_inside launch program row)))
+    held_off true far user = made (plain_run_calls launch Nowise row) (operation launch Nowise unmarked runs_unmarked ToExec row)
+    held_off false true user = made plain_later plain_later_first
+    held_off false false user = held_row (entered (user refl)) row
+
   module _ (wish : Wish) (row : Row) where
     abbrev at_first : List Call
-    at_first = operation_calls launch Nowise ms_remount_bind wish row
+    at_first = wished_calls launch Nowise wish row
 
     abbrev later : List Call
-    later = gaining launch program cap_sys_admin ++ operation_calls launch (power_of launch)
-        (cond (is_held_off launch wish row) unmarked ms_remount_bind) wish row
+    later = gaining launch program cap_sys_admin ++ wished_calls launch (power_of launch) wish row
 
     abbrev others : List Call
-    others = cond (not (is_held_off launch wish row) && reaches Nowise launch.table row.path wish) at_first later
+    others = cond (reaches Nowise launch.table row.path wish) at_first later
 
     others_first : AreFirst others
-    others_first =
-        let flags = cond (is_held_off launch wish row) unmarked ms_remount_bind in
-        either (not (is_held_off launch wish row) && reaches Nowise launch.table row.path wish) at_first later
-        (operation launch Nowise ms_remount_bind wish row)
-        (join (gaining launch program cap_sys_admin) (operation_calls launch (power_of launch) flags wish row)
-        (gains launch program cap_sys_admin) (operation launch (power_of launch) flags wish row))
+    others_first = either (reaches Nowise launch.table row.path wish) at_first later
+        (operation launch Nowise ms_remount_bind (fits wish) wish row)
+        (join (gaining launch program cap_sys_admin) (wished_calls launch (power_of launch) wish row)
+        (gains launch program cap_sys_admin) (operation launch (power_of launch) ms_remount_bind (fits wish) wish row))
 
     for_row : can_reach launch (power_of launch) wish row ≡ true → Made (row_calls launch program wish row)
-    for_row open' = by (is_held_off launch wish row && not (is_mounting (power_of launch))) refl
+    for_row open' = by (is_held_off launch wish row) refl
       where
-        by : (b : Bool) → (is_held_off launch wish row && not (is_mounting (power_of launch))) ≡ b
-            → Made (cond b (row_inside launch program row) others)
+        by : (b : Bool) → is_held_off launch wish row ≡ b → Made (cond b (held_off_calls launch program row) others)
         by true e =
             let passes = lets launch (ForPath wish) && reaches (power_of launch) launch.table row.path wish in
-            held_row (entered (held_inside (is_to_exec wish) (is_mounting (power_of launch)) (is_barred launch row)
-            (can_make_user launch) passes open' e)) row
+            held_off row (runs_plainly launch Nowise row) (runs_plainly launch (power_of launch) row)
+            (held_inside (is_to_exec wish) (is_barred launch row) (runs_plainly launch (power_of launch) row) (can_make_user launch)
+            passes open' e)
         by false e = made others others_first
 
   listed_row : (wish : Wish) (o : Option Row) → if_listed (can_reach launch (power_of launch) wish) o ≡ true

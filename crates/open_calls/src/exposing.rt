@@ -12,11 +12,13 @@ ghost use Rattle.open_calls.specs.chosen_calls.First.{line_of};
 ghost use Rattle.ceilings.specs.kernel_laws.declared.question_types.kind.CallKind.TheVariants.{ChangesMounts, ForPath, ForNamespace, RemovesMounts};
 ghost use Rattle.ceilings.specs.kernel_laws.declared.question_types.wish.Wish.TheVariants.{Exec as ToExec};
 ghost use Rattle.questions.specs.filter_settings.declared.filter_rules.namespace_types.NamespaceType.TheVariants.{User};
-ghost use Rattle.ceilings.specs.kernel_laws.declared.question_types.wish.Wish.{Wish as PathWish};
 ghost use Rattle.ceilings.specs.kernel_laws.declared.question_types.power.Power.{Power as MountPower};
 ghost use Rattle.ceilings.specs.kernel_laws.declared.question_types.power.Power.TheVariants.{Unmount as Unmounting};
 ghost use Rattle.ceilings.specs.kernel_laws.Launched.{IsLaunchedWorld, launch_of, lets};
-ghost use Rattle.ceilings.specs.kernel_laws.Reach.{reach, reaches};
+ghost use Rattle.ceilings.specs.kernel_laws.Reach.{reach_with, reaches_with};
+ghost use Rattle.ceilings.specs.kern_mounts.declared.step.Flags.{Flags};
+ghost use Rattle.ceilings.specs.reach_paths.Needs.{allows};
+ghost use Rattle.ceilings.specs.reach_paths.declared.needs.Need.TheVariants.{ForWish};
 ghost use Rattle.ceilings.specs.kernel_ways.Laws.{IsServedWorld};
 ghost use Rattle.ceilings.specs.kernel_ways.Uncovering.{covering, mount_call, mount_calls, umount_call, umount_calls};
 ghost use Rattle.ceilings.specs.kernel_ways.Ways.{place_of};
@@ -27,7 +29,7 @@ ghost use Rattle.open_calls.specs.Firsts.{place_in};
 use crate::first::FirstCall;
 use crate::service::{Made, Service};
 use abs_path::AbsPath;
-use ceilings::{MountTable, Row, What, launched_table, reach};
+use ceilings::{MountTable, Need, Row, What, launched_table, reach_for};
 use questions::{Call, CallKind, Payload, Power, Wish, World};
 use std::alloc::Global;
 
@@ -43,13 +45,13 @@ pub(crate) const REMOUNT: u64 = 0x1020;
 /// The same with MS_NOSUID, with which execve(2) does not look at the marks of programs.
 pub(crate) const REMOUNT_UNMARKED: u64 = 0x1022;
 
-/// What is wished of a row, and by which power over mount tables.
+/// What is needed of the mount of a row, and by which power over mount tables it is exposed there.
 #[derive(Drop)]
 pub(crate) struct Aim<'a> {
     /// The power.
     pub(crate) power: Power,
-    /// What is wished.
-    pub(crate) wish: Wish,
+    /// What is needed.
+    pub(crate) need: Need,
     /// Of which row.
     pub(crate) row: &'a Row,
     /// The number of the entry of the launched table that leads to it.
@@ -80,7 +82,7 @@ fn below_proc(alloc: Global, row: &AbsPath) -> Made<AbsPath>
 
 /// The number of the entry that leads to a row, by what is found.
 pub(crate) fn number_of(found: Option<usize>) -> usize
-    ensures { (power : MountPower) (table : Table) (row : Path) (wish : PathWish) → found ≡ reach power table row wish → result ≡ lead power table row wish }
+    ensures { (power : MountPower) (table : Table) (row : Path) (test : Flags → Bool) → found ≡ reach_with power table row test → result ≡ lead power table row test }
 {
     match found {
         Some(at) => at,
@@ -88,20 +90,20 @@ pub(crate) fn number_of(found: Option<usize>) -> usize
     }
 }
 
-/// The entry of the launched table that leads to the row by this power, if one does.
-pub(crate) fn reach_row(world: &World<'_>, power: Power, wish: Wish, row: &Row) -> Option<usize>
+/// The entry of the launched table that leads to the row by this power, on such a mount, if one does.
+pub(crate) fn reach_row(world: &World<'_>, power: Power, need: Need, row: &Row) -> Option<usize>
     requires launched { IsLaunchedWorld world.now }
-    ensures { result ≡ reach power (launch_of world.now).table row.now.path wish }
+    ensures { result ≡ reach_with power (launch_of world.now).table row.now.path (allows need) }
 {
-    reach(launched_table(world), &row.path, wish, power)
+    reach_for(launched_table(world), &row.path, need, power)
 }
 
 /// Returns the number of that entry, or 0 without one.
-pub(crate) fn lead(world: &World<'_>, power: Power, wish: Wish, row: &Row) -> usize
+pub(crate) fn lead(world: &World<'_>, power: Power, need: Need, row: &Row) -> usize
     requires launched { IsLaunchedWorld world.now }
-    ensures first { result ≡ lead power (launch_of world.now).table row.now.path wish }
+    ensures first { result ≡ lead power (launch_of world.now).table row.now.path (allows need) }
 {
-    number_of(reach_row(world, power, wish, row))
+    number_of(reach_row(world, power, need, row))
 }
 
 // umount2(2), which this is, by process 1 of a place.
@@ -146,7 +148,7 @@ impl Service<'_> {
     pub(crate) fn exposing_path(&self, aim: &Aim<'_>) -> Made<AbsPath>
         requires served { IsServedWorld self.now.world.now }
         requires aimed { IsAim self.now.world.now aim.now }
-        ensures { IfOk result (λ path. path ≡ exposing_path (launch_of self.now.world.now) aim.now.power aim.now.wish aim.now.row.now.path) }
+        ensures { IfOk result (λ path. path ≡ exposing_path (launch_of self.now.world.now) aim.now.power (allows aim.now.need) aim.now.row.now.path) }
     {
         match aim.power {
             Power::Mount => below_proc(self.alloc, &aim.row.path),
@@ -162,13 +164,13 @@ impl Service<'_> {
     }
 
     // Adds the calls that unmount what covers the path at which the entry of this number, the first that shows the row, shows it.
-    fn push_unmounts(&self, calls: &mut Vec<Call>, wish: Wish, row: &Row, at: usize) -> Made<()>
+    fn push_unmounts(&self, calls: &mut Vec<Call>, need: Need, row: &Row, at: usize) -> Made<()>
         requires served { IsServedWorld self.now.world.now }
         requires known { row_at self.now.world.now.site.rows row.now.path ≡ Some row.now }
-        requires reached { reaches Unmounting (launch_of self.now.world.now).table row.now.path wish ≡ true }
+        requires reached { reaches_with Unmounting (launch_of self.now.world.now).table row.now.path (allows need) ≡ true }
         requires passes { lets (launch_of self.now.world.now) RemovesMounts ≡ true }
-        requires number { at ≡ lead Unmounting (launch_of self.now.world.now).table row.now.path wish }
-        ensures { OnOk result (calls.new.items ≡ calls.old.items ++ exposing_calls (launch_of self.now.world.now) Unmounting 0 wish row.now.path) }
+        requires number { at ≡ lead Unmounting (launch_of self.now.world.now).table row.now.path (allows need) }
+        ensures { OnOk result (calls.new.items ≡ calls.old.items ++ exposing_calls (launch_of self.now.world.now) Unmounting 0 (allows need) row.now.path) }
     {
         let first = self.first(CallKind::RemovesMounts);
         let table = launched_table(self.world);
@@ -192,11 +194,11 @@ impl Service<'_> {
         requires served { IsServedWorld self.now.world.now }
         requires aimed { IsAim self.now.world.now aim.now }
         requires passes { PassesFor (launch_of self.now.world.now) aim.now.power }
-        ensures { OnOk result (calls.new.items ≡ calls.old.items ++ exposing_calls (launch_of self.now.world.now) aim.now.power flags aim.now.wish aim.now.row.now.path) }
+        ensures { OnOk result (calls.new.items ≡ calls.old.items ++ exposing_calls (launch_of self.now.world.now) aim.now.power flags (allows aim.now.need) aim.now.row.now.path) }
     {
         match aim.power {
             Power::None => Ok(()),
-            Power::Unmount => self.push_unmounts(calls, aim.wish, aim.row, aim.at),
+            Power::Unmount => self.push_unmounts(calls, aim.need, aim.row, aim.at),
             Power::Mount => self.push_mounts(calls, flags),
         }
     }
@@ -207,7 +209,7 @@ impl Service<'_> {
         requires served { IsServedWorld self.now.world.now }
         requires aimed { IsAim self.now.world.now aim.now }
         requires passes { PassesFor (launch_of self.now.world.now) aim.now.power }
-        requires to_execute { aim.now.wish ≡ ToExec }
+        requires to_execute { aim.now.need ≡ ForWish ToExec }
         requires some_passes { lets (launch_of self.now.world.now) (ForPath ToExec) ≡ true }
         requires user_passes { lets (launch_of self.now.world.now) (ForNamespace User) ≡ true }
         ensures { OnOk result (calls.new.items ≡ calls.old.items ++ inside_calls (launch_of self.now.world.now) aim.now.power aim.now.row.now) }
@@ -225,18 +227,19 @@ impl Service<'_> {
         &self,
         calls: &mut Vec<Call>,
         flags: u64,
+        wish: Wish,
         aim: &Aim<'_>,
     ) -> Made<()>
         requires served { IsServedWorld self.now.world.now }
         requires aimed { IsAim self.now.world.now aim.now }
         requires passes { PassesFor (launch_of self.now.world.now) aim.now.power }
-        requires some_passes { lets (launch_of self.now.world.now) (ForPath aim.now.wish) ≡ true }
-        ensures { OnOk result (calls.new.items ≡ calls.old.items ++ operation_calls (launch_of self.now.world.now) aim.now.power flags aim.now.wish aim.now.row.now) }
+        requires some_passes { lets (launch_of self.now.world.now) (ForPath wish) ≡ true }
+        ensures { OnOk result (calls.new.items ≡ calls.old.items ++ operation_calls (launch_of self.now.world.now) aim.now.power flags (allows aim.now.need) wish aim.now.row.now) }
     {
         self.push_exposing(calls, flags, aim)?;
         let path = self.exposing_path(aim)?;
-        let payload = self.wish_payload(aim.wish, path);
-        calls.push(self.call_by(CallKind::ForPath(aim.wish), payload))?;
+        let payload = self.wish_payload(wish, path);
+        calls.push(self.call_by(CallKind::ForPath(wish), payload))?;
         Ok(())
     }
 }

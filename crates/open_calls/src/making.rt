@@ -12,7 +12,7 @@ use crate::exposing::{Aim, REMOUNT, lead};
 use crate::service::{Made, Service};
 use crate::ways::{CapWay, FileWay, GainWay};
 use abs_path::AbsPath;
-use ceilings::{Row, launched_process};
+use ceilings::{Need, Row, launched_process};
 use questions::{Call, CallKind, Payload, Power, Wish};
 
 impl Service<'_> {
@@ -35,15 +35,15 @@ impl Service<'_> {
         requires runs { IsRunner (launch_of self.now.world.now) power row.now }
         ensures { OnOk result (calls.new.items ≡ calls.old.items ++ run_calls (launch_of self.now.world.now) power row.now) }
     {
-        let wish = Wish::Exec;
-        let at = lead(self.world, power, wish, row);
+        let need = Need::Marked;
+        let at = lead(self.world, power, need, row);
         let aim = Aim {
             power,
-            wish,
+            need,
             row,
             at,
         };
-        self.push_operation(calls, REMOUNT, &aim)
+        self.push_operation(calls, REMOUNT, Wish::Exec, &aim)
     }
 
     // Adds the calls of a way by a file.
@@ -73,11 +73,11 @@ impl Service<'_> {
         match way {
             FileWay::Held => self.program.copy(self.alloc),
             FileWay::Run(row) | FileWay::Capset(row) => {
-                let wish = Wish::Exec;
-                let at = lead(self.world, power, wish, row);
+                let need = Need::Marked;
+                let at = lead(self.world, power, need, row);
                 self.exposing_path(&Aim {
                     power,
-                    wish,
+                    need,
                     row,
                     at,
                 })

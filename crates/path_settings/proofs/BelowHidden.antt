@@ -105,7 +105,7 @@ kept_puts_nothing row_at beneath here more e hidden =
 
 origin_hides : (kind : Kind) → is_origin kind ≡ true → (is_tmp kind || is_bind kind) ≡ false → hides kind ≡ true
 origin_hides Hide says none = refl
-origin_hides (Tmp read_only no_exec) says none = absurd (false≢true (sym none))
+origin_hides (Tmp read_only no_exec no_suid) says none = absurd (false≢true (sym none))
 origin_hides (Bind source read_only recursive) says none = absurd (false≢true (sym none))
 origin_hides _ says none = absurd (false≢true says)
 

@@ -25,7 +25,7 @@ same_leading kept place path h =
 carries_by : (kind : Kind) (front place path : Path) → is_prefix front place ≡ true → is_prefix place path ≡ true →
     object_behind (object_by kind front place) (rest_of place path) ≡ object_by kind front path
 carries_by Hide front place path h leads = refl
-carries_by (Tmp read_only no_exec) front place path h leads = refl
+carries_by (Tmp read_only no_exec no_suid) front place path h leads = refl
 carries_by (Bind source read_only recursive) front place path h leads =
     ap on_host (append_assoc source (rest_of front place) (rest_of place path)
     ∙ ap (λ rest. source ++ rest) (sym (rest_through front place path h leads)))

@@ -75,7 +75,7 @@ not_below : seen_at (says a Ro ∷ says a Hide ∷ []) beside ≡ seen None fals
 not_below = refl
 
 -- an empty file system and a bind say whether they are read-only, and on a tie the first origin counts
-two_empty : seen_at (says a (Tmp false false) ∷ says a (Tmp true false) ∷ []) a_b ≡ seen (Some 0) true false
+two_empty : seen_at (says a (Tmp false false false) ∷ says a (Tmp true false false) ∷ []) a_b ≡ seen (Some 0) true false
 two_empty = refl
 
 bound : seen_at (says a (Bind beside true true) ∷ says a_b Rw ∷ []) a_b ≡ seen (Some 0) false false
@@ -88,11 +88,11 @@ bound_object = refl
 -- ---- kept mentions
 
 -- a hidden mention beats the others at its path, and nothing is kept below it
-hidden_above : kept_of row_at (says a_b Rw ∷ says a (Tmp false false) ∷ says a (Bind beside false true) ∷ says a Hide ∷ []) ≡ Ok (says a Hide ∷ [])
+hidden_above : kept_of row_at (says a_b Rw ∷ says a (Tmp false false false) ∷ says a (Bind beside false true) ∷ says a Hide ∷ []) ≡ Ok (says a Hide ∷ [])
 hidden_above = refl
 
 -- an empty file system beats a bind, and the last bind the earlier ones
-empty_beats : kept_of row_at (says a (Bind beside false true) ∷ says a (Tmp true false) ∷ []) ≡ Ok (says a (Tmp true false) ∷ [])
+empty_beats : kept_of row_at (says a (Bind beside false true) ∷ says a (Tmp true false false) ∷ []) ≡ Ok (says a (Tmp true false false) ∷ [])
 empty_beats = refl
 
 last_bind : kept_of row_at (says a (Bind beside false true) ∷ says a (Bind a_b true true) ∷ []) ≡ Ok (says a (Bind a_b true true) ∷ [])
@@ -117,7 +117,7 @@ optional_source = refl
 other_kind : kept_of row_at (may_say a (Bind file false true) ∷ []) ≡ Err (wrong_kind a)
 other_kind = refl
 
-empty_over_a_file : kept_of row_at (says file (Tmp false false) ∷ []) ≡ Err (wrong_kind file)
+empty_over_a_file : kept_of row_at (says file (Tmp false false false) ∷ []) ≡ Err (wrong_kind file)
 empty_over_a_file = refl
 
 -- a mention that covers nothing may put an object of any kind
@@ -126,11 +126,11 @@ put_at_no_row : kept_of row_at (says none (Bind file false true) ∷ says none N
 put_at_no_row = refl
 
 -- below an empty file system flags are dropped, unless something is put at their path; a hidden mention there is kept
-below_empty : kept_of row_at (says a (Tmp true false) ∷ says a_b Rw ∷ says a_b_c (Bind file false true) ∷ says a_b_c Ro ∷ [])
-    ≡ Ok (says a (Tmp true false) ∷ says a_b_c (Bind file false true) ∷ says a_b_c Ro ∷ [])
+below_empty : kept_of row_at (says a (Tmp true false false) ∷ says a_b Rw ∷ says a_b_c (Bind file false true) ∷ says a_b_c Ro ∷ [])
+    ≡ Ok (says a (Tmp true false false) ∷ says a_b_c (Bind file false true) ∷ says a_b_c Ro ∷ [])
 below_empty = refl
 
-hidden_below_empty : kept_of row_at (says a (Tmp true false) ∷ says a_b Hide ∷ []) ≡ Ok (says a (Tmp true false) ∷ says a_b Hide ∷ [])
+hidden_below_empty : kept_of row_at (says a (Tmp true false false) ∷ says a_b Hide ∷ []) ≡ Ok (says a (Tmp true false false) ∷ says a_b Hide ∷ [])
 hidden_below_empty = refl
 
 -- a path that does not exist is refused, and skipped if it is optional

@@ -73,10 +73,10 @@ no_plus : mention_of BindPaths (codes "+/srv/a") ≡ None
 no_plus = refl
 
 -- empty file systems
-writable : mention_of TemporaryFileSystem (codes "/srv:mode=0700,rox") ≡ at srv (Tmp false false) false
+writable : mention_of TemporaryFileSystem (codes "/srv:mode=0700,rox") ≡ at srv (Tmp false false false) false
 writable = refl
 
-read_only : mention_of TemporaryFileSystem (codes "/srv:mode=0700,ro") ≡ at srv (Tmp true false) false
+read_only : mention_of TemporaryFileSystem (codes "/srv:mode=0700,ro") ≡ at srv (Tmp true false false) false
 read_only = refl
 
 no_dash : mention_of TemporaryFileSystem (codes "-/srv") ≡ None

@@ -11,7 +11,7 @@ hides Hide = true
 hides _ = false
 
 abbrev pub is_tmp : Kind → Bool
-is_tmp (Tmp read_only no_exec) = true
+is_tmp (Tmp read_only no_exec no_suid) = true
 is_tmp _ = false
 
 abbrev pub is_bind : Kind → Bool
@@ -26,7 +26,7 @@ source_of _ = None
 -- the mention says which object is at the path: nothing that is visible, an empty file system, or the object of another path
 abbrev pub is_origin : Kind → Bool
 is_origin Hide = true
-is_origin (Tmp read_only no_exec) = true
+is_origin (Tmp read_only no_exec no_suid) = true
 is_origin (Bind source read_only recursive) = true
 is_origin _ = false
 

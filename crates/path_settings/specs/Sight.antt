@@ -6,3 +6,4 @@ pub record Sight : Type 0 where
   pub object : Object
   pub read_only : Bool
   pub no_exec : Bool
+  pub no_suid : Bool

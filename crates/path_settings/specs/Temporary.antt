@@ -15,9 +15,9 @@ is_colon byte = byte == ascii ":"
 abbrev pub asks_for : List ℕ → List ℕ → Bool
 asks_for name options = list_any (λ option. bytes_eq option name) (slice_split (λ byte. byte == ascii ",") options)
 
--- the options `ro` and `noexec` count, the latter only in systemd 252 and 257; the other options change nothing here
+-- the options `ro`, `noexec` and `nosuid` count, the last two only in systemd 252 and 257; the other options change nothing here
 abbrev pub tmp_with : List ℕ → Kind
-tmp_with options = Tmp (asks_for (codes "ro") options) (asks_for (codes "noexec") options)
+tmp_with options = Tmp (asks_for (codes "ro") options) (asks_for (codes "noexec") options) (asks_for (codes "nosuid") options)
 
 abbrev pub temporary_at : List ℕ → List ℕ → Option Mention
 temporary_at path options = option_map (λ place. record { path = place; kind = tmp_with options; optional = false })

@@ -12,7 +12,12 @@ pub enum Mentioned {
     /// By the rules of the base profile.
     Base(Mentions),
     /// By the rules of systemd 252 or 257.
-    Systemd(MountEntries),
+    Systemd {
+        entries: MountEntries,
+        /// Whether NoNewPrivileges= or DynamicUser= sets no_new_privs. Then programs on the mounts of the service have no set-id bits
+        /// and no capabilities.
+        no_new_privs: bool,
+    },
 }
 
 impl Mentioned {
@@ -22,7 +27,7 @@ impl Mentioned {
     {
         match self {
             Mentioned::Base(mentions) => mentions.leaves_the_root(),
-            Mentioned::Systemd(entries) => entries.leaves_the_root(),
+            Mentioned::Systemd { entries, .. } => entries.leaves_the_root(),
         }
     }
 }

@@ -27,10 +27,11 @@ pub enum Kind {
     NoExec,
     /// The service sees nothing at the path.
     Hide,
-    /// An empty file system is at the path. The base profile does not look at `no_exec`.
+    /// An empty file system is at the path. The base profile does not look at `no_exec` and `no_suid`.
     Tmp {
         read_only: bool,
         no_exec: bool,
+        no_suid: bool,
     },
     /// The object at another path of the host is also at this path. The base profile does not look at `recursive`.
     Bind {
@@ -98,9 +99,14 @@ impl Kind {
             Kind::Exec => Kind::Exec,
             Kind::NoExec => Kind::NoExec,
             Kind::Hide => Kind::Hide,
-            Kind::Tmp { read_only, no_exec } => Kind::Tmp {
+            Kind::Tmp {
+                read_only,
+                no_exec,
+                no_suid,
+            } => Kind::Tmp {
                 read_only: *read_only,
                 no_exec: *no_exec,
+                no_suid: *no_suid,
             },
             Kind::Bind {
                 source,

@@ -18,6 +18,6 @@ pub use chosen::{chosen_at, is_marked_at, nearest_above};
 pub use entries::{MountEntries, MountEntry};
 pub use listed::{is_live_node, listed_at};
 pub use making::fate_of;
-pub use modes::{Mark, MountMode};
+pub use modes::{Mark, MountMode, OwnFlags};
 pub use sight::{is_no_exec, is_read_only};
 pub use written::entry_of;

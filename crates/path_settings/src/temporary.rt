@@ -20,6 +20,7 @@ fn tmp_with(options: &str) -> Kind
     Kind::Tmp {
         read_only: asks_for("ro", options),
         no_exec: asks_for("noexec", options),
+        no_suid: asks_for("nosuid", options),
     }
 }
 
@@ -36,7 +37,7 @@ fn temporary_at(alloc: Global, path: &str, options: &str) -> Result<Option<Menti
 }
 
 /// Reads the mention of a word `PATH[:OPTIONS]`: an empty file system at PATH. It is read-only if one of the options is
-/// `ro`. `noexec` counts only in systemd 252 and 257. None if PATH is no path of a setting.
+/// `ro`. `noexec` and `nosuid` count only in systemd 252 and 257. None if PATH is no path of a setting.
 pub fn read_temporary(alloc: Global, word: &str) -> Result<Option<Mention>, AllocError>
     ensures mention_or_none { IfOk result (λ mention. mention ≡ temporary_mention word.now) }
 {

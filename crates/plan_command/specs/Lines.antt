@@ -18,9 +18,15 @@ abbrev pub executing : Bool → List ℕ
 executing true = codes "noexec"
 executing false = codes "exec"
 
--- whether the mount may be written and executed, each word after a space
+-- and whether set-id bits and capabilities of programs have no effect there, mount(2), MS_NOSUID
+abbrev pub unprivileged : Bool → List ℕ
+unprivileged true = codes " nosuid"
+unprivileged false = []
+
+-- whether the mount may be written and executed, each word after a space; and `nosuid` after them if it has this flag
 abbrev pub flags_words : Flags → List ℕ
-flags_words flags = codes " " ++ (writing flags.read_only ++ (codes " " ++ executing flags.no_exec))
+flags_words flags =
+    codes " " ++ (writing flags.read_only ++ (codes " " ++ (executing flags.no_exec ++ unprivileged flags.no_suid)))
 
 -- what a mount shows, and how that may be used; what is hidden nobody may use
 abbrev pub shown_words : What → Flags → List ℕ

@@ -1,6 +1,6 @@
 //! The lines of a table of mounts.
 ghost use Rattle.std.specs.Prelude.{◌≡◌, ◌++◌, IfOk, OnOk};
-ghost use Rattle.plan_command.specs.Lines.{count_line, executing, flags_words, mount_line, shown_words, writing};
+ghost use Rattle.plan_command.specs.Lines.{count_line, executing, flags_words, mount_line, shown_words, unprivileged, writing};
 
 use mount_plan::{Flags, MountStep, What};
 use std::alloc::{AllocError, Global};
@@ -18,6 +18,12 @@ fn executing(flags: Flags) -> &'static str
     if flags.no_exec { "noexec" } else { "exec" }
 }
 
+fn unprivileged(flags: Flags) -> &'static str
+    ensures { result.now ≡ unprivileged flags.no_suid }
+{
+    if flags.no_suid { " nosuid" } else { "" }
+}
+
 // Appends how what is shown may be used.
 fn push_flags(line: &mut Vec<u8>, flags: Flags) -> Result<(), AllocError>
     ensures { OnOk result (line.new.items ≡ line.old.items ++ flags_words flags) }
@@ -25,7 +31,8 @@ fn push_flags(line: &mut Vec<u8>, flags: Flags) -> Result<(), AllocError>
     line.push(b' ')?;
     line.extend_from_slice(writing(flags).as_bytes())?;
     line.push(b' ')?;
-    line.extend_from_slice(executing(flags).as_bytes())
+    line.extend_from_slice(executing(flags).as_bytes())?;
+    line.extend_from_slice(unprivileged(flags).as_bytes())
 }
 
 // Appends what a mount shows. Nobody may use what is hidden, so nothing is said of how.

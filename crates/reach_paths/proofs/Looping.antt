@@ -11,8 +11,8 @@ use Rattle.kernel_laws.specs.kern_mounts.declared.step.What.TheVariants.{Host}
 use Rattle.kernel_laws.proofs.OfAbsPath.Reading.{parts_behind}
 use Rattle.kernel_laws.specs.kern_mounts.declared.step.MountStep.{MountStep}
 use Rattle.kernel_laws.specs.kern_mounts.Split.{Table}
-use Rattle.kernel_laws.specs.declared.question_types.wish.Wish.{Wish}
-use Rattle.kernel_laws.specs.Reach.{fits, shows_row, serves, reach_from}
+use Rattle.kernel_laws.specs.kern_mounts.declared.step.Flags.{Flags}
+use Rattle.kernel_laws.specs.Reach.{shows_row, serves_with, first_with}
 
 pub from_here : (table : Table) (at : ℕ) (entry : MountStep) → slice_get table at ≡ Some entry → drop at table ≡ entry ∷ drop (at + 1) table
 from_here [] at entry e = cc
@@ -35,26 +35,26 @@ module _ (p : MountStep → Bool) (table : Table) (at : ℕ) where
   any_not_here entry e is = sym (ap (list_any p) (from_here table at entry e) ∙ ap (λ b. b || list_any p (drop (at + 1) table)) is)
 
 -- ---- the first entry that serves from here on
-module _ (uncover : Bool) (row : Path) (wish : Wish) (table : Table) (at : ℕ) where
-  step : (entry : MountStep) → slice_get table at ≡ Some entry → (b : Bool) → serves uncover row wish entry (drop (at + 1) table) ≡ b
-      → reach_from uncover row wish (drop at table) at ≡ cond b (Some at) (reach_from uncover row wish (drop (at + 1) table) (at + 1))
+module _ (uncover : Bool) (row : Path) (test : Flags → Bool) (table : Table) (at : ℕ) where
+  step : (entry : MountStep) → slice_get table at ≡ Some entry → (b : Bool) → serves_with uncover row test entry (drop (at + 1) table) ≡ b
+      → first_with uncover row test (drop at table) at ≡ cond b (Some at) (first_with uncover row test (drop (at + 1) table) (at + 1))
   step entry e b is =
-      ap (λ t. reach_from uncover row wish t at) (from_here table at entry e)
-      ∙ ap (λ s. cond s (Some at) (reach_from uncover row wish (drop (at + 1) table) (at + 1))) is
+      ap (λ t. first_with uncover row test t at) (from_here table at entry e)
+      ∙ ap (λ s. cond s (Some at) (first_with uncover row test (drop (at + 1) table) (at + 1))) is
 
-  pub serves_here : (entry : MountStep) → slice_get table at ≡ Some entry → fits wish entry.flags ≡ true
+  pub serves_here : (entry : MountStep) → slice_get table at ≡ Some entry → test entry.flags ≡ true
       → shows_row uncover entry (drop (at + 1) table) row entry.what ≡ true
-      → Some at ≡ reach_from uncover row wish (drop at table) at
+      → Some at ≡ first_with uncover row test (drop at table) at
   serves_here entry e f s =
-      sym (step entry e true (and_from (fits wish entry.flags) (shows_row uncover entry (drop (at + 1) table) row entry.what) f s))
+      sym (step entry e true (and_from (test entry.flags) (shows_row uncover entry (drop (at + 1) table) row entry.what) f s))
 
-  pub forbids_here : (entry : MountStep) → slice_get table at ≡ Some entry → fits wish entry.flags ≡ false
-      → reach_from uncover row wish (drop (at + 1) table) (at + 1) ≡ reach_from uncover row wish (drop at table) at
+  pub forbids_here : (entry : MountStep) → slice_get table at ≡ Some entry → test entry.flags ≡ false
+      → first_with uncover row test (drop (at + 1) table) (at + 1) ≡ first_with uncover row test (drop at table) at
   forbids_here entry e f = sym (step entry e false (ap (λ b. b && shows_row uncover entry (drop (at + 1) table) row entry.what) f))
 
-  pub hides_here : (entry : MountStep) → slice_get table at ≡ Some entry → fits wish entry.flags ≡ true
+  pub hides_here : (entry : MountStep) → slice_get table at ≡ Some entry → test entry.flags ≡ true
       → shows_row uncover entry (drop (at + 1) table) row entry.what ≡ false
-      → reach_from uncover row wish (drop (at + 1) table) (at + 1) ≡ reach_from uncover row wish (drop at table) at
+      → first_with uncover row test (drop (at + 1) table) (at + 1) ≡ first_with uncover row test (drop at table) at
   hides_here entry e f s = sym (step entry e false (ap (λ b. b && shows_row uncover entry (drop (at + 1) table) row entry.what) f ∙ s))
 
 -- ---- what an entry of the host shows

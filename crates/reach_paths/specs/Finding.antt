@@ -11,21 +11,20 @@ use Rattle.kernel_laws.specs.kern_mounts.Unmounts.{Unmounts}
 use Rattle.kernel_laws.specs.kernel_model.kern_files.Looking.{flags_at}
 use Rattle.kernel_laws.specs.kernel_model.kern_files.MountCall.{after_mount}
 use Rattle.kernel_laws.specs.kernel_model.kernel_calls.Calls.{IsPath}
-use Rattle.kernel_laws.specs.declared.question_types.wish.Wish.{Wish}
+use Rattle.kernel_laws.specs.kern_mounts.declared.step.Flags.{Flags}
 use Rattle.kernel_laws.specs.declared.question_types.power.Power.{Power}
 use Rattle.kernel_laws.specs.declared.question_types.power.Power.TheVariants.{None as Nowise, Unmount as Unmounting, Mount as Mounting}
-use Rattle.kernel_laws.specs.Reach.{fits}
 
 -- whether the site has a row at a path, and then whether it is a directory
 abbrev pub dirs_of : Site → Path → Option Bool
 dirs_of site path = option_map is_dir (kind_at site.rows path)
 
--- a path that a call can name finds the row, on a mount whose flags allow what is wished
-pub record FindsRow (rows : Path → Option Row) (table : Table) (wish : Wish) (target : Row) : Type 0 where
+-- a path that a call can name finds the row, on a mount whose flags pass the test
+pub record FindsRow (rows : Path → Option Row) (table : Table) (test : Flags → Bool) (target : Row) : Type 0 where
   pub path : Path
   pub can_be_named : IsPath path
   pub is_found : finds rows table path ≡ row target
-  pub is_allowed : fits wish (flags_at table path) ≡ true
+  pub is_allowed : test (flags_at table path) ≡ true
 
 -- what any calls of mount(2) make of a table of mounts that are not locked, each of them done
 pub data Mounts (rows : Path → Option Row) : Table → Table → Type 0 where
@@ -40,5 +39,5 @@ Makes Unmounting rows table now = Unmounts table now
 Makes Mounting rows table now = Mounts rows table now
 
 -- some path finds the row on some table that the power makes of this one
-abbrev pub CanBeFound : Power → (Path → Option Row) → Table → Wish → Row → Type 0
-CanBeFound power rows table wish target = (now : Table) × Makes power rows table now × FindsRow rows now wish target
+abbrev pub CanBeFound : Power → (Path → Option Row) → Table → (Flags → Bool) → Row → Type 0
+CanBeFound power rows table test target = (now : Table) × Makes power rows table now × FindsRow rows now test target

@@ -1,21 +1,21 @@
 -- Which entry of a mount table leads to a row of the host, by its number; and that it is the first.
-use Rattle.std.specs.Prelude.{◌≡◌, ℕ, ◌<◌, true, ◌∷◌, ◌++◌, length, Option, Some, None}
+use Rattle.std.specs.Prelude.{◌≡◌, ℕ, ◌<◌, Bool, true, ◌∷◌, ◌++◌, length, Option, Some, None}
 use Rattle.kernel_laws.specs.abs_path.Paths.{Path}
 use Rattle.kernel_laws.specs.kern_mounts.declared.step.What.TheVariants.{Host}
 use Rattle.kernel_laws.specs.kern_mounts.declared.step.MountStep.{MountStep}
 use Rattle.kernel_laws.specs.kern_mounts.Split.{Table}
-use Rattle.kernel_laws.specs.declared.question_types.wish.Wish.{Wish}
+use Rattle.kernel_laws.specs.kern_mounts.declared.step.Flags.{Flags}
 use Rattle.kernel_laws.specs.declared.question_types.power.Power.{Power}
 use Rattle.kernel_laws.specs.declared.question_types.power.Power.TheVariants.{None as Nowise, Unmount as Unmounting, Mount as Mounting}
-use Rattle.kernel_laws.specs.Reach.{fits, Leads}
+use Rattle.kernel_laws.specs.Reach.{LeadsWith}
 
--- a path of this very table belongs to the entry of this number and finds the row, with flags that allow the wish
-pub record LeadsBy (table : Table) (target : Path) (wish : Wish) (at : ℕ) : Type 0 where
-  pub lead : Leads table target wish
+-- a path of this very table belongs to the entry of this number and finds the row, with flags that pass the test
+pub record LeadsBy (table : Table) (target : Path) (test : Flags → Bool) (at : ℕ) : Type 0 where
+  pub lead : LeadsWith table target test
   pub number : at ≡ length lead.split.earlier
 
--- the entry of this number shows the host at or above the row, with flags that allow the wish, whatever covers it
-pub record Shows (table : Table) (target : Path) (wish : Wish) (at : ℕ) : Type 0 where
+-- the entry of this number shows the host at or above the row, with flags that pass the test, whatever covers it
+pub record Shows (table : Table) (target : Path) (test : Flags → Bool) (at : ℕ) : Type 0 where
   pub earlier : Table
   pub entry : MountStep
   pub later : Table
@@ -25,7 +25,7 @@ pub record Shows (table : Table) (target : Path) (wish : Wish) (at : ℕ) : Type
   pub host : entry.what ≡ Host source
   pub rest : Path
   pub row_is : target ≡ source ++ rest
-  pub flags : fits wish entry.flags ≡ true
+  pub flags : test entry.flags ≡ true
 
 -- the first number that is such, or none where no number is
 abbrev pub IsFirst : (ℕ → Type 0) → Option ℕ → Type 0
@@ -34,7 +34,7 @@ IsFirst P (Some at) = P at × ((other : ℕ) → other < at → ¬ P other)
 
 -- the first entry that leads there, by a power. What covers an entry's path can be unmounted, umount2(2); and the first
 -- entry can be bound anew, mount(2).
-abbrev pub IsFirstByPower : Power → Table → Path → Wish → Option ℕ → Type 0
-IsFirstByPower Nowise table target wish place = IsFirst (LeadsBy table target wish) place
-IsFirstByPower Unmounting table target wish place = IsFirst (Shows table target wish) place
-IsFirstByPower Mounting table target wish place = place ≡ Some 0
+abbrev pub IsFirstByPower : Power → Table → Path → (Flags → Bool) → Option ℕ → Type 0
+IsFirstByPower Nowise table target test place = IsFirst (LeadsBy table target test) place
+IsFirstByPower Unmounting table target test place = IsFirst (Shows table target test) place
+IsFirstByPower Mounting table target test place = place ≡ Some 0

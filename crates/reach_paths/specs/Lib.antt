@@ -1,4 +1,5 @@
 pub mod Finding
 pub mod First
+pub mod Needs
 pub mod Mounting
 pub mod Processes

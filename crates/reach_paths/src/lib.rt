@@ -10,7 +10,8 @@
 mod covers;
 mod first;
 pub mod laws;
-mod wish;
+mod needs;
 
 pub use covers::is_covered;
-pub use first::reach;
+pub use first::{reach, reach_for};
+pub use needs::Need;

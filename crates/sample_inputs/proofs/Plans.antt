@@ -83,7 +83,7 @@ sourceless row_at other m h = no_binds row_at other (sample_mentions m)
     by_kind Exec e = refl
     by_kind NoExec e = refl
     by_kind Hide e = refl
-    by_kind (Tmp read_only no_exec) e = refl
+    by_kind (Tmp read_only no_exec no_suid) e = refl
     by_kind (Bind source read_only recursive) e = cc
 
     no_binds : (row_at other : Host) (mentions : List Mention) → list_all (λ mention. not (is_bind mention.kind)) mentions ≡ true

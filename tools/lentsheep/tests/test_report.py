@@ -160,15 +160,16 @@ class Others(unittest.TestCase):
     """The texts of the other commands."""
 
     def test_plan(self):
-        text = "mount / host / ro exec\nmount /a%20b host /c rw noexec\nmount /tmp empty rw exec\nmount /x hidden\nmounts 4\n"
+        text = "mount / host / ro exec\nmount /a%20b host /c rw noexec\nmount /tmp empty rw exec nosuid\nmount /x hidden\nmounts 4\n"
         plan = parse(text)
         mounts = (
             Mount("/", "host", "/", False, True), Mount("/a b", "host", "/c", True, False),
-            Mount("/tmp", "empty", None, True, True), Mount("/x", "hidden"),
+            Mount("/tmp", "empty", None, True, True, True), Mount("/x", "hidden"),
         )  # fmt: skip
         self.assertEqual((mounts, 4, True, ()), (plan.mounts, plan.count, plan.whole, plan.unread))
         self.assertFalse(parse(text[:-1]).whole)
-        self.assertEqual(("mount /x hidden ro exec",), parse("mount /x hidden ro exec\nmounts 1\n").unread)
+        for line in ("mount /x hidden ro exec", "mount /x hidden nosuid"):
+            self.assertEqual((line,), parse(line + "\nmounts 1\n").unread)
 
     def test_filter(self):
         # code 0x20, the word at 4; code 0x15 jumps 7 and 0, with 0xc000003e; the second program is that of another ABI

@@ -1,14 +1,14 @@
 //! Makes the plan of the made entries.
 
 ghost use Rattle.std.specs.Prelude.{◌≡◌, ◌||◌, ◌++◌, true, not, nat_le, length, map, filter, find, IfOk, OnOk};
-ghost use Rattle.std.specs.List.{list_all, All};
+ghost use Rattle.std.specs.List.{list_all, list_any, All};
 ghost use Rattle.std.specs.Option.{option_map};
 ghost use Rattle.path_settings.specs.abs_path.Paths.{is_root, tail_of};
 ghost use Rattle.path_settings.specs.abs_path.Prefix.{is_prefix};
 ghost use Rattle.path_settings.specs.systemd.Entries.{is_whole, leaves_the_root};
 ghost use Rattle.path_settings.specs.systemd.Listed.{listed};
 ghost use Rattle.path_settings.specs.systemd.Made.{has_source, is_longest_such, longest_such, nodes, object_by, object_in};
-ghost use Rattle.path_settings.specs.systemd.View.{begins_for, begins_by};
+ghost use Rattle.path_settings.specs.systemd.View.{begins_for, begins_by, is_changed_over, set_no_suid};
 ghost use Rattle.site_table.specs.Table.{IsSite};
 ghost use Rattle.mount_plan.specs.Host.{host_of};
 ghost use Rattle.mount_plan.specs.Plan.{what_of};
@@ -22,14 +22,14 @@ use crate::systemd::listing::{listed, nodes};
 use crate::systemd::making::{ask_each, beneath_at, has_source, longest_beneath, made, putting};
 use abs_path::AbsPath;
 use kern_mounts::{Flags, MountStep, What};
-use path_settings::systemd::{MountEntry, MountMode, is_no_exec, is_read_only};
+use path_settings::systemd::{MountEntry, MountMode, OwnFlags, is_no_exec, is_read_only};
 use site_table::SiteTable;
 use std::alloc::{AllocError, Global};
 
 fn begins_for(path: &AbsPath, one: &MountEntry) -> bool
     ensures { result ≡ begins_for path.now one.now }
 {
-    one.path.is_prefix(path) && one.mode.begins_no_exec().is_some()
+    one.path.is_prefix(path) && one.mode.begins_with().is_some()
 }
 
 // Returns whether an entry has as long a path as another one, if that one begins so for the path.
@@ -63,14 +63,34 @@ fn longest_beginning<'a>(beginning: &[&'a MountEntry], path: &AbsPath) -> Option
         .find(|one| is_longest_beginning(beginning, path, *one))
 }
 
-// Returns whether nothing can be executed at a path before any flag is set.
-fn begins_at(beginning: &[&MountEntry], path: &AbsPath) -> bool
+// Returns the flags at a path before any is set.
+fn begins_at(beginning: &[&MountEntry], path: &AbsPath) -> OwnFlags
     ensures { result ≡ begins_by (longest_such (begins_for path.now) (map (λ one. one.now) beginning.now)) }
 {
     match longest_beginning(beginning, path) {
-        Some(one) => one.mode.begins_no_exec().unwrap_or(false),
-        None => false,
+        Some(one) => one.mode.begins_with().unwrap_or(OwnFlags::none()),
+        None => OwnFlags::none(),
     }
+}
+
+// Returns whether the mount of a made entry is at the path or above it, and is not left as it is.
+fn is_changed_over(path: &AbsPath, one: &MountEntry) -> bool
+    ensures { result ≡ is_changed_over path.now one.now }
+{
+    one.path.is_prefix(path) && !one.mode.is_left()
+}
+
+fn is_changed(made: &[&MountEntry], path: &AbsPath) -> bool
+    ensures { result ≡ list_any (is_changed_over path.now) (map (λ one. one.now) made.now) }
+{
+    made.iter().any(|one| is_changed_over(path, *one))
+}
+
+// Returns whether programs at a path give no privileges. `begins` says if they give none before any flag is set.
+fn is_no_suid(no_new_privs: bool, made: &[&MountEntry], path: &AbsPath, begins: bool) -> bool
+    ensures { result ≡ set_no_suid no_new_privs (map (λ one. one.now) made.now) path.now begins }
+{
+    begins || (no_new_privs && is_changed(made, path))
 }
 
 // Returns what an entry above a path, or the node at the path, shows there.
@@ -135,8 +155,15 @@ fn what_among(
 }
 
 // Returns how the service may use the object of a made entry.
-fn flags_among(entries: &[MountEntry], beginning: &[&MountEntry], one: &MountEntry) -> Flags
-    ensures { result ≡ flags_among entries.now (map (λ one. one.now) beginning.now) one.now }
+fn flags_among(
+    no_new_privs: bool,
+    entries: &[MountEntry],
+    beginning: &[&MountEntry],
+    made: &[&MountEntry],
+    one: &MountEntry,
+) -> Flags
+    ensures { result ≡ flags_among no_new_privs entries.now
+        (map (λ one. one.now) beginning.now) (map (λ one. one.now) made.now) one.now }
 {
     if one.mode.hides() {
         return Flags::default();
@@ -144,28 +171,30 @@ fn flags_among(entries: &[MountEntry], beginning: &[&MountEntry], one: &MountEnt
     let begins = begins_at(beginning, &one.path);
     Flags {
         read_only: is_read_only(entries, one),
-        no_exec: is_no_exec(entries, one, begins),
-        no_suid: false,
+        no_exec: is_no_exec(entries, one, begins.no_exec),
+        no_suid: is_no_suid(no_new_privs, made, &one.path, begins.no_suid),
     }
 }
 
 fn step_among(
     alloc: Global,
     site: &SiteTable,
+    no_new_privs: bool,
     entries: &[MountEntry],
     putting: &[&MountEntry],
     beginning: &[&MountEntry],
+    made: &[&MountEntry],
     one: &MountEntry,
 ) -> Result<MountStep, AllocError>
     requires { HasShortHost (object_among (map (λ one. one.now) putting.now) one.now) }
-    ensures { IfOk result (λ step. step ≡ step_among (host_of site.now) entries.now
-        (map (λ one. one.now) putting.now) (map (λ one. one.now) beginning.now) one.now) }
+    ensures { IfOk result (λ step. step ≡ step_among (host_of site.now) no_new_privs entries.now
+        (map (λ one. one.now) putting.now) (map (λ one. one.now) beginning.now) (map (λ one. one.now) made.now) one.now) }
 {
     let what = what_among(alloc, site, putting, one)?;
     Ok(MountStep {
         place: one.path.copy(alloc)?,
         what,
-        flags: flags_among(entries, beginning, one),
+        flags: flags_among(no_new_privs, entries, beginning, made, one),
     })
 }
 
@@ -177,12 +206,17 @@ fn root_entry<'a>(made: &[&'a MountEntry]) -> Option<&'a MountEntry>
 }
 
 // Returns how the service may use the root: as the entry that is made there says, if there is one.
-fn root_flags(entries: &[MountEntry], beginning: &[&MountEntry], made: &[&MountEntry]) -> Flags
-    ensures { result ≡ root_flags entries.now (map (λ one. one.now) beginning.now)
+fn root_flags(
+    no_new_privs: bool,
+    entries: &[MountEntry],
+    beginning: &[&MountEntry],
+    made: &[&MountEntry],
+) -> Flags
+    ensures { result ≡ root_flags no_new_privs entries.now (map (λ one. one.now) beginning.now) (map (λ one. one.now) made.now)
         (find (λ one. is_root one.path) (map (λ one. one.now) made.now)) }
 {
     match root_entry(made) {
-        Some(one) => flags_among(entries, beginning, one),
+        Some(one) => flags_among(no_new_privs, entries, beginning, made, one),
         None => Flags::default(),
     }
 }
@@ -190,37 +224,51 @@ fn root_flags(entries: &[MountEntry], beginning: &[&MountEntry], made: &[&MountE
 // Returns the first entry of a plan: the host's root, with the flags of the entry that is made there.
 fn root_step(
     alloc: Global,
+    no_new_privs: bool,
     entries: &[MountEntry],
     beginning: &[&MountEntry],
     made: &[&MountEntry],
 ) -> MountStep
-    ensures { result ≡ root_step entries.now (map (λ one. one.now) beginning.now) (map (λ one. one.now) made.now) }
+    ensures { result ≡ root_step no_new_privs entries.now (map (λ one. one.now) beginning.now) (map (λ one. one.now) made.now)
+        (map (λ one. one.now) made.now) }
 {
     MountStep {
         place: AbsPath::root(alloc),
         what: What::Host(AbsPath::root(alloc)),
-        flags: root_flags(entries, beginning, made),
+        flags: root_flags(no_new_privs, entries, beginning, made),
     }
 }
 
-// Adds the entries of a plan for the made entries that are not at the root.
+// Adds the entries of a plan for those of `rest`, which are made, that are not at the root.
 fn add_steps(
     alloc: Global,
     site: &SiteTable,
+    no_new_privs: bool,
     entries: &[MountEntry],
     putting: &[&MountEntry],
     beginning: &[&MountEntry],
     made: &[&MountEntry],
+    rest: &[&MountEntry],
     steps: &mut Vec<MountStep>,
 ) -> Result<(), AllocError>
-    requires { All (λ one. HasShortHost (object_among (map (λ one. one.now) putting.now) one.now)) made.now }
+    requires { All (λ one. HasShortHost (object_among (map (λ one. one.now) putting.now) one.now)) rest.now }
     ensures { OnOk result (steps.new.items ≡ steps.old.items
-        ++ map (step_among (host_of site.now) entries.now (map (λ one. one.now) putting.now) (map (λ one. one.now) beginning.now))
-        (filter (λ one. not (is_root one.path)) (map (λ one. one.now) made.now))) }
+        ++ map (step_among (host_of site.now) no_new_privs entries.now
+        (map (λ one. one.now) putting.now) (map (λ one. one.now) beginning.now) (map (λ one. one.now) made.now))
+        (filter (λ one. not (is_root one.path)) (map (λ one. one.now) rest.now))) }
 {
-    for one in made {
+    for one in rest {
         if !one.path.is_root() {
-            steps.push(step_among(alloc, site, entries, putting, beginning, *one)?)?;
+            steps.push(step_among(
+                alloc,
+                site,
+                no_new_privs,
+                entries,
+                putting,
+                beginning,
+                made,
+                *one,
+            )?)?;
         }
     }
     Ok(())
@@ -230,18 +278,29 @@ fn add_steps(
 fn steps_among(
     alloc: Global,
     site: &SiteTable,
+    no_new_privs: bool,
     entries: &[MountEntry],
     putting: &[&MountEntry],
     beginning: &[&MountEntry],
     made: &[&MountEntry],
 ) -> Result<Vec<MountStep>, AllocError>
     requires { All (λ one. HasShortHost (object_among (map (λ one. one.now) putting.now) one.now)) made.now }
-    ensures { IfOk result (λ steps. steps.items ≡ steps_among (host_of site.now) entries.now
+    ensures { IfOk result (λ steps. steps.items ≡ steps_among (host_of site.now) no_new_privs entries.now
         (map (λ one. one.now) putting.now) (map (λ one. one.now) beginning.now) (map (λ one. one.now) made.now)) }
 {
     let mut steps = Vec::new(alloc);
-    steps.push(root_step(alloc, entries, beginning, made))?;
-    add_steps(alloc, site, entries, putting, beginning, made, &mut steps)?;
+    steps.push(root_step(alloc, no_new_privs, entries, beginning, made))?;
+    add_steps(
+        alloc,
+        site,
+        no_new_privs,
+        entries,
+        putting,
+        beginning,
+        made,
+        made,
+        &mut steps,
+    )?;
     Ok(steps)
 }
 
@@ -292,6 +351,7 @@ fn beginning<'a>(
 fn plan_listed(
     alloc: Global,
     site: &SiteTable,
+    no_new_privs: bool,
     entries: &[MountEntry],
     list: &[&MountEntry],
     devices: &[&MountEntry],
@@ -301,27 +361,37 @@ fn plan_listed(
     requires sound { IsSite site.now }
     requires all_listed { map (λ one. one.now) list.now ≡ listed entries.now }
     requires all_nodes { map (λ one. one.now) devices.now ≡ nodes entries.now }
-    ensures { Tables (host_of site.now) entries.now result }
+    ensures { Tables (host_of site.now) no_new_privs entries.now result }
 {
     let putting = putting(alloc, site, list, devices)?;
     ask_each(alloc, site, &putting, list)?;
     let made = made(alloc, site, &putting, devices, list)?;
     let beginning = beginning(alloc, site, &made, devices)?;
-    Ok(steps_among(alloc, site, entries, &putting, &beginning, &made)?)
+    Ok(steps_among(
+        alloc,
+        site,
+        no_new_privs,
+        entries,
+        &putting,
+        &beginning,
+        &made,
+    )?)
 }
 
-/// Makes the plan for these entries, or returns the first refusal in byte order of their paths.
+/// Makes the plan for these entries, or returns the first refusal in byte order of their paths. `no_new_privs` says if
+/// NoNewPrivileges= or DynamicUser= is on.
 pub(crate) fn plan_entries(
     alloc: Global,
     site: &SiteTable,
+    no_new_privs: bool,
     entries: &[MountEntry],
 ) -> Result<Vec<MountStep>, PlanError>
     requires root_is_the_hosts { leaves_the_root entries.now ≡ true }
     requires whole { list_all is_whole entries.now ≡ true }
     requires sound { IsSite site.now }
-    ensures { Tables (host_of site.now) entries.now result }
+    ensures { Tables (host_of site.now) no_new_privs entries.now result }
 {
     let list = listed(alloc, entries)?;
     let devices = nodes(alloc, entries)?;
-    plan_listed(alloc, site, entries, &list, &devices)
+    plan_listed(alloc, site, no_new_privs, entries, &list, &devices)
 }

@@ -66,6 +66,7 @@ unit_keys unit = record {
   control_groups = unit_groups unit;
   keeps_runtime = (unit_last preserve_value (record { is_kept = false }) unit (codes "RuntimeDirectoryPreserve")).is_kept;
   own_tmp = unit_last own_tmp_value tmp.No unit (codes "PrivateTmp");
+  no_new_privs = unit_flag unit (codes "NoNewPrivileges");
 }
 
 -- the values of these keys if the unit gives none
@@ -85,4 +86,5 @@ no_keys = record {
   control_groups = groups.No;
   keeps_runtime = false;
   own_tmp = tmp.No;
+  no_new_privs = false;
 }

@@ -1,5 +1,5 @@
 -- All entries that a unit's settings ask systemd 252 and 257 to mount (systemd.exec(5), Sandboxing).
-use Rattle.std.specs.Prelude.{Bool, cond, List, [], ◌++◌, map, filter, flat_map, unwrap_or}
+use Rattle.std.specs.Prelude.{◌||◌, Bool, cond, List, [], ◌++◌, map, filter, flat_map, unwrap_or}
 use Rattle.path_settings.specs.abs_path.Paths.{Path}
 use Rattle.path_settings.specs.declared.systemd.entries.MountEntry.{MountEntry}
 use Rattle.path_settings.specs.systemd.Modes.{source_of}
@@ -38,6 +38,10 @@ brought version site switches protections keys paths =
 unfoldable pub implied_of : Version → Site → Switches → Protections → FurtherKeys → List WrittenPath → List MountEntry
 implied_of version site switches protections keys paths =
     cond (has_own_mounts version switches protections keys paths) (brought version site switches protections keys paths) []
+
+-- NoNewPrivileges= or DynamicUser= sets no_new_privs, and then takes the privileges of programs from the mounts too
+abbrev pub sets_no_new_privs : Switches → FurtherKeys → Bool
+sets_no_new_privs switches keys = keys.no_new_privs || switches.dynamic_user
 
 -- the paths at which the rows of the site decide about the implied entries
 abbrev pub asked_of : Version → Switches → Protections → FurtherKeys → List WrittenPath → List Path

@@ -132,8 +132,8 @@ system_rows on =
 -- ProtectHome=: the homes are inaccessible, read-only, or empty; systemd 257 makes the empty homes read-only
 abbrev pub home_rows : RowsOn → List Row
 home_rows on =
-    (on.homes_hidden, Hidden, homes) ∷ (on.homes_read, ReadOnly, homes) ∷ (on.homes_fresh, Tmpfs false false, homes)
-    ∷ (on.homes_empty, Tmpfs true false, homes) ∷ []
+    (on.homes_hidden, Hidden, homes) ∷ (on.homes_read, ReadOnly, homes) ∷ (on.homes_fresh, Tmpfs false false false, homes)
+    ∷ (on.homes_empty, Tmpfs true false false, homes) ∷ []
 
 -- PrivateDevices=: pseudo-devices, and the folders of terminals, of shared memory, of message queues and of huge pages
 abbrev pub devices_left : List (List ℕ)

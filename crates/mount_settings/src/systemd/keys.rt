@@ -41,6 +41,8 @@ pub(crate) struct FurtherKeys {
     pub(crate) keeps_runtime: bool,
     /// PrivateTmp=
     pub(crate) own_tmp: OwnTmp,
+    /// NoNewPrivileges=
+    pub(crate) no_new_privs: bool,
 }
 
 fn flag(alloc: Global, unit: &Resolved, key: &str) -> Result<bool, AllocError>
@@ -116,7 +118,7 @@ pub(crate) fn read_groups(alloc: Global, unit: &Resolved) -> Result<Said<Control
 }
 
 /// Reads further keys of a unit. It makes no notes: ProtectHostname=, ProtectControlGroups= and PrivateTmp= get theirs with
-/// the keys that protect, and the other keys are noted as keys that are not judged.
+/// the keys that protect, NoNewPrivileges= with the credentials, and the other keys are noted as keys that are not judged.
 #[tactic(auto, unfolding(crate::specs::systemd::Keys::unit_keys))]
 pub(crate) fn further_keys(alloc: Global, unit: &Resolved) -> Result<FurtherKeys, AllocError>
     ensures { IfOk result (λ keys. keys ≡ unit_keys unit.now) }
@@ -145,5 +147,6 @@ pub(crate) fn further_keys(alloc: Global, unit: &Resolved) -> Result<FurtherKeys
             .what
             .is_kept,
         own_tmp: last_of_key(alloc, unit, "PrivateTmp", OwnTmp::No)?.what,
+        no_new_privs: flag(alloc, unit, "NoNewPrivileges")?,
     })
 }

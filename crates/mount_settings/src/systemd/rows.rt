@@ -311,6 +311,7 @@ fn bring_rows(
             MountMode::Tmpfs {
                 read_only: false,
                 no_exec: false,
+                no_suid: false,
             },
             HOMES,
         ),
@@ -319,6 +320,7 @@ fn bring_rows(
             MountMode::Tmpfs {
                 read_only: true,
                 no_exec: false,
+                no_suid: false,
             },
             HOMES,
         ),

@@ -28,7 +28,7 @@ object_by DisconnectedTmp place path = empty
 object_by (RecursiveBind source read_only) place path = on_host (source ++ rest_of place path)
 object_by PrivateTmp place path = empty
 object_by PrivateDevices place path = empty
-object_by (Tmpfs read_only no_exec) place path = empty
+object_by (Tmpfs read_only no_exec no_suid) place path = empty
 object_by _ place path = on_host path
 
 -- the path on the host that an entry binds from
@@ -96,7 +96,7 @@ mode_fate source here optional Node = bind_fate source here optional
 mode_fate source here optional DisconnectedTmp = tmp_fate here
 mode_fate source here optional PrivateTmp = tmp_fate here
 mode_fate source here optional PrivateDevices = tmp_fate here
-mode_fate source here optional (Tmpfs read_only no_exec) = tmp_fate here
+mode_fate source here optional (Tmpfs read_only no_exec no_suid) = tmp_fate here
 mode_fate source here optional _ = there_fate here optional
 
 abbrev pub fate_of : Option Bool → Beneath → MountEntry → Fate

@@ -13,7 +13,7 @@ mode_of Rw = mode.ReadWrite
 mode_of Exec = mode.Exec
 mode_of NoExec = mode.NoExec
 mode_of Hide = mode.Hidden
-mode_of (Tmp read_only no_exec) = mode.Tmpfs read_only no_exec
+mode_of (Tmp read_only no_exec no_suid) = mode.Tmpfs read_only no_exec no_suid
 mode_of (Bind source read_only recursive) = cond recursive (mode.RecursiveBind source read_only) (mode.Bind source read_only)
 
 abbrev pub entry_of : Mention → MountEntry

@@ -15,7 +15,7 @@ pub data Object : Type 0 where
 -- the object that a mention of this kind gives at a path that its place leads to: a bind gives its source, followed by the rest
 abbrev pub object_by : Kind → Path → Path → Object
 object_by Hide place path = hidden
-object_by (Tmp read_only no_exec) place path = empty
+object_by (Tmp read_only no_exec no_suid) place path = empty
 object_by (Bind source read_only recursive) place path = on_host (source ++ rest_of place path)
 object_by _ place path = on_host path
 

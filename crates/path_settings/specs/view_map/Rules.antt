@@ -47,7 +47,7 @@ flag_fate here optional is_put = if is_put then fate.Kept else bare_flag_fate he
 
 abbrev pub seen_fate : Option Bool → Beneath → Bool → Bool → Kind → Fate
 seen_fate source here is_put optional (Bind at read_only recursive) = bind_fate source here optional
-seen_fate source here is_put optional (Tmp read_only no_exec) = tmp_fate here
+seen_fate source here is_put optional (Tmp read_only no_exec no_suid) = tmp_fate here
 seen_fate source here is_put optional Hide = hide_fate here optional
 seen_fate source here is_put optional _ = flag_fate here optional is_put
 

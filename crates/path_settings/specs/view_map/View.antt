@@ -13,13 +13,13 @@ use Rattle.path_settings.specs.declared.view_map.seen.Seen.{Seen}
 -- an empty file system and a bind say whether their own path is read-only
 abbrev pub says_read_only : Kind → Bool
 says_read_only Ro = true
-says_read_only (Tmp read_only no_exec) = read_only
+says_read_only (Tmp read_only no_exec no_suid) = read_only
 says_read_only (Bind source read_only recursive) = read_only
 says_read_only _ = false
 
 abbrev pub says_read_write : Kind → Bool
 says_read_write Rw = true
-says_read_write (Tmp read_only no_exec) = not read_only
+says_read_write (Tmp read_only no_exec no_suid) = not read_only
 says_read_write (Bind source read_only recursive) = not read_only
 says_read_write _ = false
 

@@ -17,9 +17,14 @@ fn mode_of(alloc: Global, kind: &Kind) -> Result<MountMode, AllocError>
         Kind::Exec => MountMode::Exec,
         Kind::NoExec => MountMode::NoExec,
         Kind::Hide => MountMode::Hidden,
-        Kind::Tmp { read_only, no_exec } => MountMode::Tmpfs {
+        Kind::Tmp {
+            read_only,
+            no_exec,
+            no_suid,
+        } => MountMode::Tmpfs {
             read_only: *read_only,
             no_exec: *no_exec,
+            no_suid: *no_suid,
         },
         Kind::Bind {
             source,

@@ -8,8 +8,10 @@ use Rattle.mount_plan.proofs.systemd.table.add_steps.Given as goal
 abbrev pub invariant-loop-one : goal.invariant-loop-one
 invariant-loop-one l =
     l.steps.items
-    ++ map (step_among (host_of l.site) l.entries (map (λ one. one.now) l.putting) (map (λ one. one.now) l.beginning))
-    (filter (λ one. not (is_root one.path)) (map (λ one. one.now) (drop l.one-index l.made)))
+    ++ map (step_among (host_of l.site) l.no_new_privs l.entries (map (λ one. one.now) l.putting) (map (λ one. one.now) l.beginning)
+    (map (λ one. one.now) l.made))
+    (filter (λ one. not (is_root one.path)) (map (λ one. one.now) (drop l.one-index l.rest)))
     ≡ l.initial.steps.items
-    ++ map (step_among (host_of l.site) l.entries (map (λ one. one.now) l.putting) (map (λ one. one.now) l.beginning))
-    (filter (λ one. not (is_root one.path)) (map (λ one. one.now) l.made))
+    ++ map (step_among (host_of l.site) l.no_new_privs l.entries (map (λ one. one.now) l.putting) (map (λ one. one.now) l.beginning)
+    (map (λ one. one.now) l.made))
+    (filter (λ one. not (is_root one.path)) (map (λ one. one.now) l.rest))

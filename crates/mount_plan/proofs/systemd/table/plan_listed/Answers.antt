@@ -22,7 +22,7 @@ returns-in_err-ask_each c =
     (map (λ one. one.now) c.deref.result.now) (ap (map (λ one. one.now)) c.deref.ensures.value ∙ c.in_ok-putting.ensures) in
     let told = err_from_is_err_and c.from_residual-in_err-ask_each.result c.from_residual-in_err-ask_each.ensures.1 in
     rw (told.1, told.2) (is_refused row_at c.args.entries.now list devices c.requires.all_listed c.requires.all_nodes
-    (map (λ one. one.now) c.deref.result.now) put c.in_err-ask_each.field-0.0 c.in_err-ask_each.ensures)
+    (map (λ one. one.now) c.deref.result.now) put c.args.no_new_privs c.in_err-ask_each.field-0.0 c.in_err-ask_each.ensures)
 
 pub steps_among-requires : goal.steps_among-requires
 steps_among-requires c =
@@ -60,7 +60,7 @@ returns c =
       made row_at entries,
       is_made_of row_at entries list devices c.requires.all_listed c.requires.all_nodes (map (λ one. one.now) c.deref.result.now)
           (put (map (λ one. one.now) c.deref.result.now) (ap (map (λ one. one.now)) c.deref.ensures.value)) c.in_ok-ask_each.ensures,
-      c.in_ok-steps_among.ensures ∙ is_table row_at entries (map (λ one. one.now) c.deref-4.result.now)
+      c.in_ok-steps_among.ensures ∙ is_table row_at c.args.no_new_privs entries (map (λ one. one.now) c.deref-4.result.now)
           (map (λ one. one.now) c.deref-5.result.now) (map (λ one. one.now) c.deref-6.result.now)
           (put (map (λ one. one.now) c.deref-4.result.now) (ap (map (λ one. one.now)) c.deref-4.ensures.value)) begun
           (found (map (λ one. one.now) c.deref-6.result.now) (ap (map (λ one. one.now)) c.deref-6.ensures.value)),

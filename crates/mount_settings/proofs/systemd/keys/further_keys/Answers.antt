@@ -6,7 +6,7 @@ use Rattle.mount_settings.proofs.systemd.keys.further_keys.Goals as goal
 pub returns : goal.returns
 unfolding unit_keys
 returns c =
-    keys_same _ _ _ _ _ _ _ _ _ _ _ _ _ _ _ _ _ _ _ _ _ _ _ _ _ _ _ _
+    keys_same _ _ _ _ _ _ _ _ _ _ _ _ _ _ _ _ _ _ _ _ _ _ _ _ _ _ _ _ _ _
     (ap (λ value. value.is_limited) c.in_ok-last_of_key.ensures.last_value_decides)
     (ap (λ value. value.is_limited) c.in_ok-last_of_key-2.ensures.last_value_decides)
     c.in_ok-flag.ensures
@@ -21,3 +21,4 @@ returns c =
     c.in_ok-read_groups.ensures.means
     (ap (λ value. value.is_kept) c.in_ok-last_of_key-4.ensures.last_value_decides)
     c.in_ok-last_of_key-5.ensures.last_value_decides
+    c.in_ok-flag-6.ensures

@@ -1,0 +1,40 @@
+//! What is needed of a mount at which a file of the host is found.
+
+ghost use Rattle.std.specs.Prelude.{◌≡◌};
+ghost use Rattle.kernel_laws.specs.Reach.{fits};
+ghost use Rattle.reach_paths.specs.Needs.{allows};
+
+use kernel_laws::Flags;
+use kernel_laws::question_types::Wish;
+
+/// What is needed of the mount at which a row is found.
+#[derive(Clone, Copy, Debug, PartialEq, Eq)]
+pub enum Need {
+    /// Flags that allow what is wished.
+    ForWish(Wish),
+    /// Programs can be executed, and execve(2) looks at their set-id bits and capabilities.
+    Marked,
+    /// Programs can be executed, and execve(2) does not look at these (mount(2), MS_NOSUID).
+    Unmarked,
+}
+
+fn fits(flags: Flags, wish: Wish) -> bool
+    ensures { result ≡ fits wish flags }
+{
+    match wish {
+        Wish::See | Wish::Read => true,
+        Wish::Write => !flags.read_only,
+        Wish::Exec => !flags.no_exec,
+    }
+}
+
+// Returns whether a mount with these flags is such, mount(2).
+pub(crate) fn allows(flags: Flags, need: Need) -> bool
+    ensures { result ≡ allows need flags }
+{
+    match need {
+        Need::ForWish(wish) => fits(flags, wish),
+        Need::Marked => !flags.no_exec && !flags.no_suid,
+        Need::Unmarked => !flags.no_exec && flags.no_suid,
+    }
+}
