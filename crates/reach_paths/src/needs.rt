@@ -8,7 +8,7 @@ use kernel_laws::Flags;
 use kernel_laws::question_types::Wish;
 
 /// What is needed of the mount at which a row is found.
-#[derive(Clone, Copy, Debug, PartialEq, Eq)]
+#[derive(Clone, Copy)]
 pub enum Need {
     /// Flags that allow what is wished.
     ForWish(Wish),
