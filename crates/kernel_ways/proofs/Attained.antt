@@ -317,7 +317,7 @@ module _ (launch : Launch) (l : IsLaunched launch) (o : Offers launch) where
           basis = basis_exec after target no_suid b;
           holds = w.each number has_own;
           target = target;
-          no_suid = false;
+          no_suid = no_suid;
           again = r;
           rootlike = like;
           no_uid = λ e. cc;
