@@ -239,7 +239,7 @@ fn root_step(
     }
 }
 
-// Adds the entries of a plan for those of `rest`, which are made, that are not at the root.
+// Adds the entries of a plan for the made entries that are not at the root.
 fn add_steps(
     alloc: Global,
     site: &SiteTable,
@@ -248,16 +248,15 @@ fn add_steps(
     putting: &[&MountEntry],
     beginning: &[&MountEntry],
     made: &[&MountEntry],
-    rest: &[&MountEntry],
     steps: &mut Vec<MountStep>,
 ) -> Result<(), AllocError>
-    requires { All (λ one. HasShortHost (object_among (map (λ one. one.now) putting.now) one.now)) rest.now }
+    requires { All (λ one. HasShortHost (object_among (map (λ one. one.now) putting.now) one.now)) made.now }
     ensures { OnOk result (steps.new.items ≡ steps.old.items
         ++ map (step_among (host_of site.now) no_new_privs entries.now
         (map (λ one. one.now) putting.now) (map (λ one. one.now) beginning.now) (map (λ one. one.now) made.now))
-        (filter (λ one. not (is_root one.path)) (map (λ one. one.now) rest.now))) }
+        (filter (λ one. not (is_root one.path)) (map (λ one. one.now) made.now))) }
 {
-    for one in rest {
+    for one in made {
         if !one.path.is_root() {
             steps.push(step_among(
                 alloc,
@@ -297,7 +296,6 @@ fn steps_among(
         entries,
         putting,
         beginning,
-        made,
         made,
         &mut steps,
     )?;

@@ -10,8 +10,8 @@ invariant-loop-one l =
     l.steps.items
     ++ map (step_among (host_of l.site) l.no_new_privs l.entries (map (λ one. one.now) l.putting) (map (λ one. one.now) l.beginning)
     (map (λ one. one.now) l.made))
-    (filter (λ one. not (is_root one.path)) (map (λ one. one.now) (drop l.one-index l.rest)))
+    (filter (λ one. not (is_root one.path)) (map (λ one. one.now) (drop l.one-index l.made)))
     ≡ l.initial.steps.items
     ++ map (step_among (host_of l.site) l.no_new_privs l.entries (map (λ one. one.now) l.putting) (map (λ one. one.now) l.beginning)
     (map (λ one. one.now) l.made))
-    (filter (λ one. not (is_root one.path)) (map (λ one. one.now) l.rest))
+    (filter (λ one. not (is_root one.path)) (map (λ one. one.now) l.made))
