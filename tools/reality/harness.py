@@ -189,7 +189,8 @@ class Harness:
             without[kind, row] = 0 if value >= 0 or (kind == "exec" and value == tries.FAULT) else -value
         numbers = {key: seen.results[key].steps.get(0, -1) for key in ("t999998", "t999999") if key in seen.results}
         own = [row for row in self.rows if os.path.islink(self.root + row) and _leads_to_proc(os.readlink(self.root + row))]
-        links = frozenset(row for row in self.rows if os.path.realpath(self.root + row) != self.root + row)
+        leads = {row: os.path.realpath(self.root + row).removeprefix(self.root) for row in self.rows}
+        links = {row: target for row, target in leads.items() if target != row}
         has_x32, has_i386 = (numbers.get(key, -1) > 0 for key in ("t999998", "t999999"))
         self.seen = found.Machine(identities, without, seen.mounts, own, links, has_x32, has_i386)
 
@@ -273,7 +274,8 @@ class Harness:
         self, comparison: found.Comparison, launch: Launched, held: list[str] | None, plan: Plan, started: service.Started, told: Told
     ) -> None:
         self._same_dynamic(started)
-        surroundings.plan_of(comparison, self.seen, plan.mounts, self.rows, started, told)
+        has_nosuid = self.host.profile is not None
+        surroundings.plan_of(comparison, self.seen, plan.mounts, self.rows, started, told, has_nosuid)
         surroundings.held_of(comparison, launch, held, started, told)
         native = [entry.program for entry in self.told("filter", comparison.unit).filters if entry.abi == 0]
         programs = [b"".join(bytes.fromhex(step.text) for step in program) for program in native]

@@ -14,9 +14,13 @@ from .tries import CAPABILITY
 
 
 def plan_of(
-    comparison: Comparison, machine: Machine, mounts: Sequence[PlannedMount], rows: Mapping[str, str], started: Started, told: Told
+    comparison: Comparison, machine: Machine, mounts: Sequence[PlannedMount], rows: Mapping[str, str], started: Started, told: Told,
+    has_nosuid: bool = False,
 ) -> None:
-    """The plan against mountinfo, row by row: what is there, whether it can be written, whether it can be executed."""
+    """Compares the plan with mountinfo, row by row: what is there, and whether it can be written and executed.
+
+    With `has_nosuid`, also whether its mount is nosuid: a plan of the base profile does not say this.
+    """
     entries = {entry.place: entry for entry in mounts}
     order = sorted(entries, key=len, reverse=True)
     differing: dict[tuple[str, str], list[str]] = {}
@@ -46,9 +50,15 @@ def plan_of(
             if entry.executable != is_executable:
                 key = (f"{_run(entry.executable)} here, {_run(is_executable)} there", "DENIED" if is_executable else "OPEN")
                 differing.setdefault(key, []).append(path)
+        is_nosuid = "nosuid" in there.options
+        # a mount that is nosuid for PID 1 stays so, whatever the plan says
+        if has_nosuid and "nosuid" not in here.options and entry.nosuid != is_nosuid:
+            differing.setdefault((f"{_privileges(entry.nosuid)} here, {_privileges(is_nosuid)} there", "DENIED"), []).append(path)
+    # systemd mounts at the target of a link, and the plan at the link
+    linked = {*machine.links, *(machine.links[place] for place in entries if place in machine.links)}
     for (what, direction), paths in sorted(differing.items()):
         for path in paths:
-            parting = told.of_plan(path, path in machine.links) if direction == "DENIED" else "open here"
+            parting = told.of_plan(path, path in linked) if direction == "DENIED" else "open here"
             comparison.plan.append((path, what, parting or "NEW"))
 
 
@@ -67,6 +77,10 @@ def _mode(is_writable: bool) -> str:
 
 def _run(is_executable: bool) -> str:
     return "exec" if is_executable else "noexec"
+
+
+def _privileges(is_nosuid: bool) -> str:
+    return "nosuid" if is_nosuid else "suid"
 
 
 def held_of(comparison: Comparison, launch: Launched, held: Sequence[str] | None, started: Started, told: Told) -> None:
