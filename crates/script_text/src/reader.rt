@@ -84,6 +84,15 @@ fn read_bytes(alloc: Global, calls: &CallTable, bytes: &[u8]) -> Result<Script, 
 /// | socketcall(2) | the number of the family, in decimal and below 2^32 |
 /// | seccomp(2) | the program in lower-case hex, 16 digits an instruction, or `-` without any |
 ///
+/// Where a version of systemd reads the unit, four calls more have one:
+///
+/// | Call | Payload |
+/// |---|---|
+/// | execveat(2) | an escaped path |
+/// | openat2(2) | an escaped path, and the flags by which it is opened, in decimal and below 2^32 |
+/// | clone3(2) | its flags, in decimal and below 2^32 |
+/// | sched_setattr(2) | the number of the policy, in decimal and below 2^32 |
+///
 /// A script is refused in this order:
 /// - `NotText` if the bytes are not UTF-8 or have a NUL.
 /// - `Line` for the first faulty line, with the first of its causes in the order of `ScriptCause`.
