@@ -1,5 +1,5 @@
 -- The calls for a thing that is listed are those that are chosen for it.
-use Rattle.std.proofs.Common.{◌≡◌, ℕ, true, [], Some, ap, ◌∙◌, sym}
+use Rattle.std.proofs.Common.{◌≡◌, ℕ, true, false, cond, [], ◌++◌, Some, ap, ◌∙◌, sym}
 use Rattle.std.specs.Prelude.{slice_get, Contains}
 use Rattle.std.specs.List.{list_any}
 use Rattle.std.specs.Option.{option_map_or}
@@ -9,7 +9,10 @@ use Rattle.ceilings.specs.call_table.Table.{every_call}
 use Rattle.ceilings.specs.call_table.declared.listed.CallLine.{CallLine}
 use Rattle.ceilings.specs.site_table.declared.row.Row.{Row}
 use Rattle.ceilings.specs.kernel_model.declared.kernel_calls.call.Call.{Call}
-use Rattle.ceilings.specs.kernel_laws.Bound.{can_have_for, ceiling, if_listed, is_call_open, is_open}
+use Rattle.ceilings.specs.linux_numbers.Capabilities.{cap_sys_admin}
+use Rattle.ceilings.specs.kernel_laws.Bound.{can_have_for, ceiling, if_listed, is_call_open, is_open, power_of}
+use Rattle.ceilings.specs.kernel_laws.Reach.{reaches}
+use Rattle.ceilings.specs.kernel_laws.declared.question_types.power.Power.TheVariants.{None as Nowise}
 use Rattle.ceilings.specs.kernel_model.kernel_calls.Rules.{rule_of}
 use Rattle.ceilings.specs.kernel_laws.Launched.{Launch}
 use Rattle.ceilings.specs.kernel_laws.declared.question_types.wish.Wish.{Wish}
@@ -20,13 +23,21 @@ use Rattle.ceilings.specs.kernel_model.World.{World}
 use Rattle.ceilings.specs.kernel_ways.Laws.{IsFit, IsServedWorld}
 use Rattle.ceilings.proofs.OfKernelWays.FitQuestions.{listed_are_fit}
 use Rattle.questions.proofs.Among.{has_contained, all_had}
-use Rattle.open_calls.specs.chosen_calls.Chosen.{calls_for, is_called, row_calls}
+use Rattle.open_calls.specs.chosen_calls.Chosen.{calls_for, held_off_calls, is_called, is_held_off, row_calls, wished_calls}
+use Rattle.open_calls.specs.chosen_calls.Gaining.{gaining}
 
 module _ (launch : Launch) (program : Path) (place : ℕ) where
   pub row_is : (wish : Wish) (row : Row) → slice_get launch.site.rows place ≡ Some row
       → row_calls launch program wish row ≡ calls_for launch program (asking.Path wish place)
   unfolding calls_for
   row_is wish row e = sym (ap (λ o. option_map_or (row_calls launch program wish) o []) e)
+
+  -- a row that is not held off and to which no launched entry leads
+  pub far_row : (wish : Wish) (row : Row) → is_held_off launch wish row ≡ false → reaches Nowise launch.table row.path wish ≡ false
+      → gaining launch program cap_sys_admin ++ wished_calls launch (power_of launch) wish row ≡ row_calls launch program wish row
+  far_row wish row free none = sym (
+      ap (λ b. cond b (held_off_calls launch program row) (cond (reaches Nowise launch.table row.path wish) (wished_calls launch Nowise wish row) (gaining launch program cap_sys_admin ++ wished_calls launch (power_of launch) wish row))) free
+      ∙ ap (λ b. cond b (wished_calls launch Nowise wish row) (gaining launch program cap_sys_admin ++ wished_calls launch (power_of launch) wish row)) none)
 
   pub open_call : (line : CallLine) → slice_get (every_call launch.calls) place ≡ Some line → is_open launch (asking.Call place) ≡ true
       → list_any (is_called launch line.name) (every_call launch.calls) ≡ true

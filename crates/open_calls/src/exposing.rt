@@ -1,7 +1,7 @@
 //! Makes the path that names a row of the site, the calls that expose the row there (mount(2), umount2(2)), and the
 //! call after them.
 
-ghost use Rattle.std.specs.Prelude.{◌≡◌, ◌≤◌, ◌<◌, ◌++◌, [], true, drop, length, IfOk, OnOk, Some};
+ghost use Rattle.std.specs.Prelude.{◌≡◌, ◌≤◌, ◌<◌, ◌++◌, [], Bool, true, drop, length, IfOk, OnOk, Some};
 ghost use Rattle.ceilings.specs.abs_path.Paths.{Path, tail_of, proc};
 ghost use Rattle.ceilings.specs.abs_path.Prefix.{is_prefix, rest_of};
 ghost use Rattle.ceilings.specs.kern_mounts.Split.{Table};
