@@ -31,7 +31,7 @@ fn know_mentions(mentions: &Mentioned)
         Mentioned::Base(mentions) => {
             let _list = mentions.list();
         }
-        Mentioned::Systemd(entries) => {
+        Mentioned::Systemd { entries, .. } => {
             let _list = entries.list();
         }
     }
